@@ -1,0 +1,5 @@
+pub mod KeyLaws
+pub mod KeyOrder
+pub mod KindLaws
+pub mod RowLaws
+pub mod TextLaws

@@ -1,0 +1,68 @@
+-- Bytes as text: one text for each string of bytes (this project's profile).
+use Rattle.std.specs.Prelude.{◌≡◌, ℕ, ◌+◌, ◌-◌, ◌*◌, ◌/◌, ◌%◌, List, [], ◌∷◌, Bool, ◌==◌, ◌&&◌, ◌||◌, not, nat_le, nat_lt, if◌then◌else◌, Option, Some, None, option_map, Result, Ok, Err, IsSome}
+use Rattle.std.specs.List.{flat_map}
+use Rattle.std.specs.Char.{digit_char}
+use Rattle.system_keys.specs.declared.refusal.RowFault.{RowFault}
+use Rattle.system_keys.specs.declared.refusal.RowFault.TheVariants as faults
+
+-- a byte that is its own character: printable ASCII but for the double quote and the backslash
+abbrev pub is_plain : ℕ → Bool
+is_plain byte = nat_le 33 byte && nat_le byte 126 && not (byte == 34) && not (byte == 92)
+
+-- a byte's text: its character, or `\x` and two lower-case hexadecimal digits
+abbrev pub byte_text : ℕ → List ℕ
+byte_text byte = if is_plain byte then byte ∷ [] else 92 ∷ 120 ∷ digit_char (byte / 16) ∷ digit_char (byte % 16) ∷ []
+
+-- the text of bytes, one after another
+abbrev pub text_of : List ℕ → List ℕ
+text_of bytes = flat_map byte_text bytes
+
+-- a lower-case hexadecimal digit
+abbrev pub is_digit : ℕ → Bool
+is_digit character = (nat_le 48 character && nat_le character 57) || (nat_le 97 character && nat_le character 102)
+
+-- the value of a lower-case hexadecimal digit
+abbrev pub digit_of : ℕ → ℕ
+digit_of character = if nat_lt character 97 then character - 48 else character - 87
+
+-- the byte that two digits write
+abbrev pub byte_of : ℕ → ℕ → ℕ
+byte_of high low = 16 * digit_of high + digit_of low
+
+-- four characters are the escape of a byte that is not its own character
+abbrev pub is_escape : ℕ → ℕ → ℕ → ℕ → Bool
+is_escape slash x high low = slash == 92 && x == 120 && is_digit high && is_digit low && not (is_plain (byte_of high low))
+
+abbrev pub with_byte : ℕ → Option (List ℕ) → Option (List ℕ)
+with_byte byte read = option_map (λ bytes. byte ∷ bytes) read
+
+-- the bytes that a text spells, or none
+unfoldable pub bytes_of : List ℕ → Option (List ℕ)
+bytes_of [] = Some []
+bytes_of (a ∷ []) = if is_plain a then with_byte a (bytes_of []) else None
+bytes_of (a ∷ b ∷ []) = if is_plain a then with_byte a (bytes_of (b ∷ [])) else None
+bytes_of (a ∷ b ∷ c ∷ []) = if is_plain a then with_byte a (bytes_of (b ∷ c ∷ [])) else None
+bytes_of (a ∷ b ∷ c ∷ d ∷ rest) =
+    if is_plain a then with_byte a (bytes_of (b ∷ c ∷ d ∷ rest))
+    else if is_escape a b c d then with_byte (byte_of c d) (bytes_of rest)
+    else None
+
+-- the first byte that a text spells, and the text behind it
+abbrev pub first_of : List ℕ → Option (ℕ × List ℕ)
+first_of [] = None
+first_of (a ∷ []) = if is_plain a then Some (a, []) else None
+first_of (a ∷ b ∷ []) = if is_plain a then Some (a, b ∷ []) else None
+first_of (a ∷ b ∷ c ∷ []) = if is_plain a then Some (a, b ∷ c ∷ []) else None
+first_of (a ∷ b ∷ c ∷ d ∷ rest) =
+    if is_plain a then Some (a, b ∷ c ∷ d ∷ rest)
+    else if is_escape a b c d then Some (byte_of c d, rest)
+    else None
+
+-- what a reader of text answered, seen by view, is what the text spells; memory is only wanted for a text that spells bytes
+abbrev pub Spells : {X : Type 0} → (X → List ℕ) → Result X RowFault → Option (List ℕ) → Type 0
+Spells view (Ok x) read = read ≡ Some (view x)
+Spells view (Err faults.BadText) read = read ≡ None
+Spells view (Err faults.OutOfMemory) read = IsSome read
+Spells view (Err faults.Truncated) read = ⊥
+Spells view (Err faults.NotRising) read = ⊥
+Spells view (Err faults.Trailing) read = ⊥

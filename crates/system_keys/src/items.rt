@@ -1,0 +1,44 @@
+//! A list that contracts see as the list of its elements.
+
+ghost use Rattle.std.specs.Prelude.{◌≡◌};
+
+use std::marker::Model;
+
+/// Owned elements in order. Made from a `Vec<T>`, and turned back into one, without taking memory.
+#[derive(Clone, Debug, Drop)]
+pub struct Items<T> {
+    items: Vec<T>,
+}
+
+impl<T> Model for Items<T> {
+    ghost use Rattle.std.specs.Prelude.{List};
+
+    ghost Value = { List T };
+
+    ghost view = { λ s. s.items.items };
+}
+
+impl<T> Items<T> {
+    /// The elements, lent.
+    pub fn as_slice(&self) -> &[T]
+        ensures { result.now ≡ self.now }
+    {
+        self.items.as_slice()
+    }
+}
+
+impl<T> From<Vec<T>> for Items<T> {
+    ghost from_gives = { λ items list. list ≡ items.items };
+
+    fn from(items: Vec<T>) -> Items<T> {
+        Items { items }
+    }
+}
+
+impl<T> From<Items<T>> for Vec<T> {
+    ghost from_gives = { λ list items. items.items ≡ list };
+
+    fn from(list: Items<T>) -> Vec<T> {
+        list.items
+    }
+}

@@ -1,0 +1,63 @@
+//! The kinds of keys.
+
+ghost use Rattle.std.specs.Prelude.{◌≡◌};
+ghost use Rattle.system_keys.specs.Families.{kind_of};
+
+/// What a key is to the metadata (release 7.1; that the four families are all that is kept is this
+/// project's profile).
+#[derive(Clone, Copy, Debug, PartialEq, Eq)]
+pub enum RowKind {
+    /// `\xff/keyServers/` and any key: the storage servers of the keys from there on.
+    KeyServers,
+    /// `\xff/serverTag/` and a server id of 16 bytes: the tag of that server.
+    ServerTag,
+    /// `\xff/dbLocked`: the database is locked where the row is there and not empty.
+    DatabaseLocked,
+    /// `\xff/metadataVersion`: a version of the metadata for clients.
+    MetadataVersion,
+    /// Any other key that starts with `\xff` and not with `\xff\x02`.
+    OtherSystem,
+    /// A key that starts with `\xff\x02`.
+    NonMetadata,
+    /// A key that does not start with `\xff`.
+    Normal,
+}
+
+/// How the keys of keyServers rows begin.
+pub const KEY_SERVERS_PREFIX: &[u8] = b"\xff/keyServers/";
+
+/// How the keys of serverTag rows begin.
+pub const SERVER_TAG_PREFIX: &[u8] = b"\xff/serverTag/";
+
+/// The key of the lock of the database.
+pub const LOCKED_KEY: &[u8] = b"\xff/dbLocked";
+
+/// The key of the version of the metadata.
+pub const METADATA_VERSION_KEY: &[u8] = b"\xff/metadataVersion";
+
+/// The bytes of a server id (this project's profile).
+pub const SERVER_ID_LENGTH: usize = 16;
+
+/// The kind of any bytes, as a key.
+#[tactic(auto, unfolding(crate::specs::Families::kind_of))]
+pub fn classify(key: &[u8]) -> RowKind
+    ensures { result ≡ kind_of key.now }
+{
+    if key.starts_with(KEY_SERVERS_PREFIX) {
+        RowKind::KeyServers
+    } else if key.starts_with(SERVER_TAG_PREFIX)
+        && key.len() == SERVER_TAG_PREFIX.len() + SERVER_ID_LENGTH
+    {
+        RowKind::ServerTag
+    } else if key == LOCKED_KEY {
+        RowKind::DatabaseLocked
+    } else if key == METADATA_VERSION_KEY {
+        RowKind::MetadataVersion
+    } else if key.starts_with(b"\xff\x02") {
+        RowKind::NonMetadata
+    } else if key.starts_with(b"\xff") {
+        RowKind::OtherSystem
+    } else {
+        RowKind::Normal
+    }
+}

@@ -1,0 +1,42 @@
+//! The lowest layer: keys and ranges of keys, changes of single rows and ranges, the values of the rows
+//! that the metadata keeps, and bytes as text.
+//!
+//! Sources: FoundationDB release 7.1 (the system keyspace, which mutations touch the metadata) and this
+//! project's profile (limits, the values of rows, the text of bytes).
+#![tactic(auto)]
+
+mod bytes;
+mod change;
+mod items;
+mod kind;
+mod laws;
+mod memory;
+mod order;
+mod range;
+mod refusal;
+mod rows;
+mod server;
+mod state;
+mod tag;
+mod teams;
+#[cfg(test)]
+mod tests;
+mod text;
+
+pub use bytes::Bytes;
+pub use change::{Change, VALUE_LIMIT};
+pub use items::Items;
+pub use kind::{
+    KEY_SERVERS_PREFIX, LOCKED_KEY, METADATA_VERSION_KEY, RowKind, SERVER_ID_LENGTH,
+    SERVER_TAG_PREFIX, classify,
+};
+pub use laws::{kind_law, row_law, text_law};
+pub use memory::OutOfMemory;
+pub use range::{END_LIMIT, KEY_LIMIT, KEY_SPACE_END, KeyRange};
+pub use refusal::{Refusal, RowFault};
+pub use rows::{decode_key_servers, decode_tag, encode_key_servers, encode_tag};
+pub use server::ServerId;
+pub use state::is_state;
+pub use tag::Tag;
+pub use teams::{SERVERS_LIMIT, Teams, TeamsFault};
+pub use text::{print_bytes, read_bytes};

@@ -1,0 +1,109 @@
+//! Half-open ranges of keys.
+
+ghost use Rattle.std.specs.Prelude.{◌≡◌, ◌↔◌, IsTrue, IfOk, MatchResult};
+
+use crate::bytes::Bytes;
+use crate::memory::OutOfMemory;
+use crate::order::{begin_below_ends, is_at_most, precedes};
+use crate::refusal::Refusal;
+use std::marker::Model;
+
+/// The greatest number of bytes of a key (this project's profile).
+pub const KEY_LIMIT: usize = 10_000;
+
+/// The greatest number of bytes of the end of a range (this project's profile).
+pub const END_LIMIT: usize = 10_001;
+
+/// The end of the key space (release 7.1): every key is below it, and a range may end at it.
+pub const KEY_SPACE_END: &[u8] = b"\xff\xff";
+
+/// The keys from `begin` up to `end`, without `end`. Never empty: `begin` is below `end`, and both are
+/// within the limits.
+#[derive(Clone, Debug, Drop)]
+pub struct KeyRange {
+    begin: Bytes,
+    end: Bytes,
+}
+
+impl Model for KeyRange {
+    ghost use Rattle.std.specs.Prelude.{◌≡◌, None};
+    ghost use Rattle.system_keys.specs.Keys.{Range};
+    ghost use Rattle.system_keys.specs.Limits.{range_fault};
+
+    ghost Value = { Range };
+
+    ghost view = { λ r. record { begin = r.begin; end = r.end } };
+
+    ghost invariant = { λ r. range_fault r.begin r.end ≡ None };
+}
+
+impl KeyRange {
+    ghost use Rattle.system_keys.specs.Keys.{holds, overlaps, Overlap};
+    ghost use Rattle.system_keys.specs.Limits.{range_fault};
+
+    /// The range from `begin` up to `end`. Takes no memory.
+    ///
+    /// Answers the first of: `KeyTooLong` (a begin of more than 10,000 bytes, an end of more than 10,001),
+    /// `KeyOutside` (the end is past `\xff\xff`, or the begin is at or past it), `EmptyRange` (the begin is
+    /// not below the end).
+    pub fn new(begin: Vec<u8>, end: Vec<u8>) -> Result<KeyRange, Refusal>
+        ensures { MatchResult result (λ range. (range_fault begin.items end.items ≡ None) × (range ≡ record { begin = begin.items; end = end.items })) (λ refusal. range_fault begin.items end.items ≡ Some refusal) }
+    {
+        if begin.len() > KEY_LIMIT || end.len() > END_LIMIT {
+            return Err(Refusal::KeyTooLong);
+        }
+        if !is_at_most(&end, KEY_SPACE_END) || !precedes(&begin, KEY_SPACE_END) {
+            return Err(Refusal::KeyOutside);
+        }
+        if !precedes(&begin, &end) {
+            return Err(Refusal::EmptyRange);
+        }
+        Ok(KeyRange {
+            begin: Bytes::from(begin),
+            end: Bytes::from(end),
+        })
+    }
+
+    /// The least key of the range.
+    pub fn begin(&self) -> &[u8]
+        ensures { result.now ≡ self.now.begin }
+    {
+        self.begin.as_slice()
+    }
+
+    /// The key at which the range ends: it is not in the range.
+    pub fn end(&self) -> &[u8]
+        ensures { result.now ≡ self.now.end }
+    {
+        self.end.as_slice()
+    }
+
+    /// Whether the key is in the range.
+    pub fn contains(&self, key: &[u8]) -> bool
+        ensures { result ≡ holds self.now key.now }
+    {
+        !precedes(key, self.begin.as_slice()) && precedes(key, self.end.as_slice())
+    }
+
+    /// Whether some key is in both ranges.
+    pub fn overlaps(&self, other: &KeyRange) -> bool
+        ensures shared { IsTrue result ↔ Overlap self.now other.now }
+        ensures test { result ≡ overlaps self.now other.now }
+    {
+        begin_below_ends(
+            self.begin.as_slice(),
+            self.end.as_slice(),
+            other.begin.as_slice(),
+            other.end.as_slice(),
+        )
+    }
+
+    /// An equal range of its own.
+    ///
+    /// Answers `OutOfMemory` where there is no memory for it.
+    pub fn copy(&self) -> Result<KeyRange, OutOfMemory>
+        ensures { IfOk result (λ copy. copy ≡ self.now) }
+    {
+        Ok(self.clone()?)
+    }
+}

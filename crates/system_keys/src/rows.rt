@@ -1,0 +1,199 @@
+//! The values of keyServers and serverTag rows, as bytes.
+//!
+//! A keyServers value is a count byte, that many source ids of 16 bytes, a count byte, that many
+//! destination ids, and nothing after. A serverTag value is a locality byte and two bytes of the id, the
+//! high one first (this project's profile). Each value has one spelling.
+
+ghost use Rattle.std.specs.Prelude.{◌≡◌, ◌≤◌, ◌*◌, ◌++◌, IfOk, OnOk, MatchResult, IsOk, Ok, Err, None, true, length};
+ghost use Rattle.std.specs.Option.{option_copied};
+ghost use Rattle.system_keys.specs.Families.{server_id_length};
+ghost use Rattle.system_keys.specs.Rows.{key_servers_value, tag_value, servers_at, tag_at, counted_ids, counted_ids_at, ids_at, ids_in, ids_listed, is_above, are_ids, servers_limit, is_row_value, Gives};
+
+use crate::kind::{RowKind, SERVER_ID_LENGTH};
+use crate::memory::OutOfMemory;
+use crate::order::precedes;
+use crate::refusal::RowFault;
+use crate::server::ServerId;
+use crate::tag::Tag;
+use crate::teams::Teams;
+use std::alloc::Global;
+
+/// The value of the keyServers row of these teams.
+///
+/// Answers `OutOfMemory` where there is no memory for it.
+pub fn encode_key_servers(alloc: Global, teams: &Teams) -> Result<Vec<u8>, OutOfMemory>
+    ensures value { IfOk result (λ bytes. bytes.items ≡ key_servers_value teams.now) }
+    ensures again { IfOk result (λ bytes. servers_at bytes.items ≡ Ok teams.now) }
+{
+    let ids = teams.sources().len() + teams.destinations().len();
+    let mut bytes = Vec::with_capacity(alloc, 2 + SERVER_ID_LENGTH * ids)?;
+    push_ids(&mut bytes, teams.sources())?;
+    push_ids(&mut bytes, teams.destinations())?;
+    Ok(bytes)
+}
+
+/// The teams that a keyServers value names.
+///
+/// Answers the first fault met from the front: `Truncated` (bytes are missing), `NotRising` (an id is not
+/// above the one before it), `Trailing` (bytes after the end). `OutOfMemory` only comes for a value without
+/// a fault.
+pub fn decode_key_servers(alloc: Global, bytes: &[u8]) -> Result<Teams, RowFault>
+    ensures value { Gives (λ teams. teams) result (servers_at bytes.now) }
+    ensures spelled { IfOk result (λ teams. key_servers_value teams ≡ bytes.now) }
+{
+    check_key_servers(bytes)?;
+    Ok(known_teams(alloc, bytes)?)
+}
+
+/// The value of the serverTag row of this tag.
+///
+/// Answers `OutOfMemory` where there is no memory for it.
+pub fn encode_tag(alloc: Global, tag: &Tag) -> Result<Vec<u8>, OutOfMemory>
+    ensures value { IfOk result (λ bytes. bytes.items ≡ tag_value tag.now) }
+    ensures again { IfOk result (λ bytes. tag_at bytes.items ≡ Ok tag.now) }
+{
+    let [high, low] = tag.id.to_be_bytes();
+    Ok(Vec::from_slice(alloc, &[tag.locality, high, low])?)
+}
+
+/// The tag that a serverTag value names. Takes no memory.
+///
+/// Answers the first fault: `Truncated` (fewer than three bytes) or `Trailing` (more).
+pub fn decode_tag(bytes: &[u8]) -> Result<Tag, RowFault>
+    ensures value { result ≡ tag_at bytes.now }
+    ensures spelled { IfOk result (λ tag. tag_value tag ≡ bytes.now) }
+{
+    match bytes {
+        [locality, high, low] => Ok(Tag {
+            locality: *locality,
+            id: u16::from_be_bytes([*high, *low]),
+        }),
+        [_, _, _, _, ..] => Err(RowFault::Trailing),
+        _ => Err(RowFault::Truncated),
+    }
+}
+
+/// Whether the value decodes, where rows of this kind have a form. Takes no memory.
+pub(crate) fn is_row_value(kind: RowKind, value: &[u8]) -> bool
+    ensures { result ≡ is_row_value kind value.now }
+{
+    match kind {
+        RowKind::KeyServers => check_key_servers(value).is_ok(),
+        RowKind::ServerTag => decode_tag(value).is_ok(),
+        _ => true,
+    }
+}
+
+/// Finds the first fault of a keyServers value. Takes no memory.
+pub(crate) fn check_key_servers(bytes: &[u8]) -> Result<(), RowFault>
+    ensures { MatchResult result (λ _. IsOk (servers_at bytes.now)) (λ fault. servers_at bytes.now ≡ Err fault) }
+{
+    let rest = behind_counted_ids(bytes)?;
+    let rest = behind_counted_ids(rest)?;
+    if rest.is_empty() {
+        Ok(())
+    } else {
+        Err(RowFault::Trailing)
+    }
+}
+
+/// The bytes behind a count byte and its ids.
+fn behind_counted_ids(bytes: &[u8]) -> Result<&[u8], RowFault>
+    ensures { MatchResult result (λ rest. counted_ids_at bytes.now ≡ Ok (ids_listed bytes.now, rest.now)) (λ fault. counted_ids_at bytes.now ≡ Err fault) }
+{
+    match bytes {
+        [count, rest @ ..] => behind_ids(*count, rest),
+        [] => Err(RowFault::Truncated),
+    }
+}
+
+/// The bytes behind `count` ids that rise.
+fn behind_ids(count: u8, bytes: &[u8]) -> Result<&[u8], RowFault>
+    ensures { MatchResult result (λ rest. ids_at count None bytes.now ≡ Ok (ids_in count bytes.now, rest.now)) (λ fault. ids_at count None bytes.now ≡ Err fault) }
+{
+    let mut before: Option<&[u8]> = None;
+    let mut rest = bytes;
+    for _ in 0..count {
+        if rest.len() < SERVER_ID_LENGTH {
+            return Err(RowFault::Truncated);
+        }
+        let (id, behind) = rest.split_at(SERVER_ID_LENGTH);
+        if !is_above(before, id) {
+            return Err(RowFault::NotRising);
+        }
+        before = Some(id);
+        rest = behind;
+    }
+    Ok(rest)
+}
+
+fn is_above(before: Option<&[u8]>, id: &[u8]) -> bool
+    ensures { result ≡ is_above (option_copied before.entry) id.now }
+{
+    match before {
+        Some(before) => precedes(before, id),
+        None => true,
+    }
+}
+
+/// The teams that a value without a fault names.
+fn known_teams(alloc: Global, bytes: &[u8]) -> Result<Teams, OutOfMemory>
+    requires { IsOk (servers_at bytes.now) }
+    ensures value { IfOk result (λ teams. servers_at bytes.now ≡ Ok teams) }
+    ensures spelled { IfOk result (λ teams. key_servers_value teams ≡ bytes.now) }
+{
+    let (sources, rest) = counted_server_ids(alloc, bytes)?;
+    let (destinations, _end) = counted_server_ids(alloc, rest)?;
+    Ok(Teams::known(sources, destinations))
+}
+
+/// The ids behind a count byte, and the bytes behind them.
+fn counted_server_ids(alloc: Global, bytes: &[u8]) -> Result<(Vec<ServerId>, &[u8]), OutOfMemory>
+    requires { IsOk (counted_ids_at bytes.now) }
+    ensures { IfOk result (λ read. counted_ids_at bytes.now ≡ Ok (read.0.items, read.1.now)) }
+{
+    match bytes {
+        [count, rest @ ..] => {
+            let (_ids, behind) = rest.split_at(SERVER_ID_LENGTH * usize::from(*count));
+            Ok((server_ids(alloc, *count, rest)?, behind))
+        }
+        [] => unreachable!(),
+    }
+}
+
+/// The first `count` ids of these bytes.
+fn server_ids(alloc: Global, count: u8, bytes: &[u8]) -> Result<Vec<ServerId>, OutOfMemory>
+    requires { server_id_length * count ≤ length bytes.now }
+    ensures { IfOk result (λ ids. ids.items ≡ ids_in count bytes.now) }
+{
+    let mut ids = Vec::with_capacity(alloc, usize::from(count))?;
+    let mut rest = bytes;
+    for _ in 0..count {
+        let (id, behind) = rest.split_at(SERVER_ID_LENGTH);
+        ids.push(server_id(id))?;
+        rest = behind;
+    }
+    Ok(ids)
+}
+
+fn server_id(bytes: &[u8]) -> ServerId
+    requires { length bytes.now ≡ server_id_length }
+    ensures { result ≡ bytes.now }
+{
+    let mut id = [0u8; 16];
+    id.copy_from_slice(bytes);
+    ServerId(id)
+}
+
+/// Appends a count byte and the ids.
+fn push_ids(bytes: &mut Vec<u8>, ids: &[ServerId]) -> Result<(), OutOfMemory>
+    requires { length ids.now ≤ servers_limit }
+    ensures value { OnOk result (bytes.new.items ≡ bytes.old.items ++ counted_ids ids.now) }
+    ensures wide { OnOk result (are_ids ids.now ≡ true) }
+{
+    bytes.push(ids.len() as u8)?;
+    for id in ids {
+        bytes.extend_from_slice(id.as_slice())?;
+    }
+    Ok(())
+}

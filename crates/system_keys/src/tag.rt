@@ -1,0 +1,25 @@
+//! Tags of storage servers, and the value of a serverTag row.
+
+ghost use Rattle.std.specs.Prelude.{◌≡◌, IfOk};
+
+use crate::memory::OutOfMemory;
+use crate::refusal::RowFault;
+use std::alloc::{AllocError, Global};
+
+/// The tag by which the logs keep the mutations for one storage server (release 7.1).
+#[derive(Clone, Copy, Debug, PartialEq, Eq, PartialOrd, Ord, Hash)]
+pub struct Tag {
+    /// The locality: a region or data center.
+    pub locality: u8,
+    /// The number of the server in its locality.
+    pub id: u16,
+}
+
+impl Tag {
+    /// An equal tag. Takes no memory, and does not fail.
+    pub fn copy(&self) -> Result<Tag, OutOfMemory>
+        ensures { result ≡ Ok self.now }
+    {
+        Ok(*self)
+    }
+}

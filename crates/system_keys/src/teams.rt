@@ -1,0 +1,143 @@
+//! The storage servers of a range of keys.
+
+ghost use Rattle.std.specs.Prelude.{◌≡◌, IfOk, MatchResult, Some, None};
+ghost use Rattle.std.specs.Prelude.{length, nat_lt};
+
+use crate::items::Items;
+use crate::memory::OutOfMemory;
+use crate::order::precedes;
+use crate::server::ServerId;
+use std::marker::Model;
+use thiserror::Error;
+
+/// The greatest number of servers in one list of a team (this project's profile).
+pub const SERVERS_LIMIT: usize = 255;
+
+/// Why two lists of servers are no teams (this project's profile).
+#[derive(Clone, Copy, Debug, PartialEq, Eq, Error)]
+pub enum TeamsFault {
+    /// A list has more than 255 servers.
+    #[error("a list has more than 255 servers")]
+    TooManyServers,
+    /// A server id is not above the one before it in its list.
+    #[error("server ids do not rise")]
+    NotRising,
+}
+
+/// The storage servers of a range of keys: the sources, which have it, and the destinations, which it moves
+/// to (release 7.1). Both lists rise strictly and have at most 255 servers.
+#[derive(Clone, Debug, Drop)]
+pub struct Teams {
+    sources: Items<ServerId>,
+    destinations: Items<ServerId>,
+}
+
+impl Model for Teams {
+    ghost use Rattle.std.specs.Prelude.{◌≡◌, None};
+    ghost use Rattle.system_keys.specs.Rows.{Servers, servers_fault};
+
+    ghost Value = { Servers };
+
+    ghost view = { λ t. record { sources = t.sources; destinations = t.destinations } };
+
+    ghost invariant = { λ t. servers_fault (record { sources = t.sources; destinations = t.destinations }) ≡ None };
+}
+
+impl Teams {
+    ghost use Rattle.system_keys.specs.Rows.{Servers, servers_fault};
+
+    /// The teams of these servers. Takes no memory.
+    ///
+    /// Answers the first fault, the sources being looked at first, and hands the lists back with it.
+    pub fn new(
+        sources: Vec<ServerId>,
+        destinations: Vec<ServerId>,
+    ) -> Result<Teams, (TeamsFault, Vec<ServerId>, Vec<ServerId>)>
+        ensures { let servers : Servers = record { sources = sources.items; destinations = destinations.items } in
+            MatchResult result (λ teams. (servers_fault servers ≡ None) × (teams ≡ servers)) (λ refused. (servers_fault servers ≡ Some refused.0) × (refused.1 ≡ sources) × (refused.2 ≡ destinations)) }
+    {
+        let fault = team_fault(&sources).or(team_fault(&destinations));
+        match fault {
+            Some(fault) => Err((fault, sources, destinations)),
+            None => Ok(Teams {
+                sources: Items::from(sources),
+                destinations: Items::from(destinations),
+            }),
+        }
+    }
+
+    /// The teams of servers that are known to have a spelling. Takes no memory.
+    pub(crate) fn known(sources: Vec<ServerId>, destinations: Vec<ServerId>) -> Teams
+        requires { servers_fault (record { sources = sources.items; destinations = destinations.items }) ≡ None }
+        ensures { result ≡ record { sources = sources.items; destinations = destinations.items } }
+    {
+        Teams {
+            sources: Items::from(sources),
+            destinations: Items::from(destinations),
+        }
+    }
+
+    /// The servers that have the range, rising.
+    pub fn sources(&self) -> &[ServerId]
+        ensures value { result.now ≡ self.now.sources }
+        ensures kept { servers_fault self.now ≡ None }
+    {
+        self.sources.as_slice()
+    }
+
+    /// The servers that the range moves to, rising.
+    pub fn destinations(&self) -> &[ServerId]
+        ensures value { result.now ≡ self.now.destinations }
+        ensures kept { servers_fault self.now ≡ None }
+    {
+        self.destinations.as_slice()
+    }
+
+    /// Equal teams of their own.
+    ///
+    /// Answers `OutOfMemory` where there is no memory for them.
+    pub fn copy(&self) -> Result<Teams, OutOfMemory>
+        ensures { IfOk result (λ copy. copy ≡ self.now) }
+    {
+        Ok(self.clone()?)
+    }
+}
+
+ghost use Rattle.system_keys.specs.Rows.{team_fault, are_rising};
+
+fn team_fault(ids: &[ServerId]) -> Option<TeamsFault>
+    ensures { result ≡ team_fault ids.now }
+{
+    if ids.len() > SERVERS_LIMIT {
+        Some(TeamsFault::TooManyServers)
+    } else if are_rising(ids) {
+        None
+    } else {
+        Some(TeamsFault::NotRising)
+    }
+}
+
+fn are_rising(ids: &[ServerId]) -> bool
+    ensures { result ≡ are_rising None ids.now }
+{
+    let mut before: Option<&ServerId> = None;
+    for id in ids {
+        if !is_above(before, id) {
+            return false;
+        }
+        before = Some(id);
+    }
+    true
+}
+
+ghost use Rattle.std.specs.Option.{option_copied};
+ghost use Rattle.system_keys.specs.Rows.{is_above};
+
+fn is_above(before: Option<&ServerId>, id: &ServerId) -> bool
+    ensures { result ≡ is_above (option_copied before.entry) id.now }
+{
+    match before {
+        Some(before) => precedes(before.as_slice(), id.as_slice()),
+        None => true,
+    }
+}

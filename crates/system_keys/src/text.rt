@@ -1,0 +1,155 @@
+//! Bytes as text: a byte from 0x21 to 0x7e, other than the double quote and the backslash, is its ASCII
+//! character, and every other byte is `\x` and two lower-case hexadecimal digits (this project's profile).
+
+ghost use Rattle.std.specs.Prelude.{◌≡◌, ◌+◌, ◌<◌, ◌≤◌, IfOk, IfSome, OnOk, IsSome, IsTrue, Some, ◌++◌, string_bytes, option_map, length};
+ghost use Rattle.std.specs.Char.{digit_char};
+ghost use Rattle.system_keys.specs.Text.{text_of, byte_text, bytes_of, first_of, is_plain, is_escape, is_digit, digit_of, byte_of, Spells};
+
+use crate::memory::OutOfMemory;
+use crate::refusal::RowFault;
+use std::alloc::Global;
+
+/// The text of the bytes.
+///
+/// Answers `OutOfMemory` where there is no memory for it.
+pub fn print_bytes(alloc: Global, bytes: &[u8]) -> Result<String, OutOfMemory>
+    ensures value { IfOk result (λ text. string_bytes text ≡ text_of bytes.now) }
+    ensures again { IfOk result (λ text. bytes_of (string_bytes text) ≡ Some bytes.now) }
+{
+    let mut text = String::with_capacity(alloc, text_length(bytes))?;
+    for byte in bytes {
+        push_byte(&mut text, *byte)?;
+    }
+    Ok(text)
+}
+
+/// How many characters the text of the bytes has, or the greatest number where they are more.
+fn text_length(bytes: &[u8]) -> usize {
+    let mut length = 0usize;
+    for byte in bytes {
+        length = length.saturating_add(if is_plain(*byte) { 1 } else { 4 });
+    }
+    length
+}
+
+fn is_plain(byte: u8) -> bool
+    ensures { result ≡ is_plain byte }
+{
+    33 <= byte && byte <= 126 && byte != b'"' && byte != b'\\'
+}
+
+fn push_byte(text: &mut String, byte: u8) -> Result<(), OutOfMemory>
+    ensures { OnOk result (string_bytes text.new ≡ string_bytes text.old ++ byte_text byte) }
+{
+    if is_plain(byte) {
+        text.push(char::from(byte))?;
+        Ok(())
+    } else {
+        text.push_str("\\x")?;
+        text.push(hex_digit(byte / 16))?;
+        text.push(hex_digit(byte % 16))?;
+        Ok(())
+    }
+}
+
+fn hex_digit(value: u8) -> char
+    requires { value < 16 }
+    ensures value { result ≡ digit_char value }
+    ensures ascii { result < 128 }
+{
+    char::from(if value < 10 {
+        b'0' + value
+    } else {
+        b'a' + (value - 10)
+    })
+}
+
+/// The bytes that the text spells.
+///
+/// Answers `BadText` where it spells none: another character, an escape with another letter, a missing or
+/// upper-case digit, or an escape of a byte that has its own character. `OutOfMemory` only comes for a text
+/// that spells bytes.
+pub fn read_bytes(alloc: Global, text: &str) -> Result<Vec<u8>, RowFault>
+    ensures value { Spells (λ bytes. bytes.items) result (bytes_of text.now) }
+    ensures spelled { IfOk result (λ bytes. text_of bytes.items ≡ text.now) }
+{
+    match spelled_length(text.as_bytes()) {
+        Some(length) => Ok(spelled(alloc, text.as_bytes(), length)?),
+        None => Err(RowFault::BadText),
+    }
+}
+
+/// How many bytes the text spells.
+fn spelled_length(text: &[u8]) -> Option<usize>
+    ensures { result ≡ option_map length (bytes_of text.now) }
+{
+    let mut length = 0usize;
+    let mut rest = text;
+    while !rest.is_empty() {
+        let (_byte, behind) = next_byte(rest)?;
+        length += 1;
+        rest = behind;
+    }
+    Some(length)
+}
+
+/// The bytes of a text that spells this many.
+fn spelled(alloc: Global, text: &[u8], length: usize) -> Result<Vec<u8>, OutOfMemory>
+    requires { IsSome (bytes_of text.now) }
+    ensures value { IfOk result (λ bytes. bytes_of text.now ≡ Some bytes.items) }
+    ensures spelled { IfOk result (λ bytes. text_of bytes.items ≡ text.now) }
+{
+    let mut bytes = Vec::with_capacity(alloc, length)?;
+    let mut rest = text;
+    while let Some((byte, behind)) = next_byte(rest) {
+        bytes.push(byte)?;
+        rest = behind;
+    }
+    Ok(bytes)
+}
+
+/// The first byte that the text spells, and the text behind it.
+fn next_byte(text: &[u8]) -> Option<(u8, &[u8])>
+    ensures value { option_map (λ next. (next.0, next.1.now)) result ≡ first_of text.now }
+    ensures shorter { IfSome result (λ next. length next.1.now + 1 ≤ length text.now) }
+{
+    match text {
+        [byte, rest @ ..] if is_plain(*byte) => Some((*byte, rest)),
+        [slash, x, high, low, rest @ ..] if is_escape(*slash, *x, *high, *low) => {
+            Some((byte_of(*high, *low), rest))
+        }
+        _ => None,
+    }
+}
+
+fn is_escape(slash: u8, x: u8, high: u8, low: u8) -> bool
+    ensures value { result ≡ is_escape slash x high low }
+{
+    slash == b'\\' && x == b'x' && is_digit(high) && is_digit(low) && !is_plain(byte_of(high, low))
+}
+
+fn is_digit(character: u8) -> bool
+    ensures { result ≡ is_digit character }
+{
+    (48 <= character && character <= 57) || (97 <= character && character <= 102)
+}
+
+fn byte_of(high: u8, low: u8) -> u8
+    requires high { IsTrue (is_digit high) }
+    requires low { IsTrue (is_digit low) }
+    ensures { result ≡ byte_of high low }
+{
+    16 * digit_of(high) + digit_of(low)
+}
+
+fn digit_of(character: u8) -> u8
+    requires { IsTrue (is_digit character) }
+    ensures value { result ≡ digit_of character }
+    ensures digit { result < 16 }
+{
+    if character < 97 {
+        character - 48
+    } else {
+        character - 87
+    }
+}
