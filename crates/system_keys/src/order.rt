@@ -17,14 +17,9 @@ pub(crate) fn is_at_most(a: &[u8], b: &[u8]) -> bool
     a.cmp(b).is_le()
 }
 
-/// Whether each of two ranges begins below the end of the other.
-pub(crate) fn begin_below_ends(
-    begin: &[u8],
-    end: &[u8],
-    other_begin: &[u8],
-    other_end: &[u8],
-) -> bool
-    ensures { result ≡ (is_key_below begin.now other_end.now && is_key_below other_begin.now end.now) }
+/// Whether `a` is below `b`, and `c` below `d`.
+pub(crate) fn both_precede(a: &[u8], b: &[u8], c: &[u8], d: &[u8]) -> bool
+    ensures { result ≡ (is_key_below a.now b.now && is_key_below c.now d.now) }
 {
-    precedes(begin, other_end) && precedes(other_begin, end)
+    precedes(a, b) && precedes(c, d)
 }

@@ -1,10 +1,10 @@
 //! Half-open ranges of keys.
 
-ghost use Rattle.std.specs.Prelude.{◌≡◌, ◌↔◌, IsTrue, IfOk, MatchResult};
+ghost use Rattle.std.specs.Prelude.{◌≡◌, ◌↔◌, IsTrue, IfOk, MatchResult, None};
 
 use crate::bytes::Bytes;
 use crate::memory::OutOfMemory;
-use crate::order::{begin_below_ends, is_at_most, precedes};
+use crate::order::{both_precede, is_at_most, precedes};
 use crate::refusal::Refusal;
 use std::marker::Model;
 
@@ -66,14 +66,16 @@ impl KeyRange {
 
     /// The least key of the range.
     pub fn begin(&self) -> &[u8]
-        ensures { result.now ≡ self.now.begin }
+        ensures value { result.now ≡ self.now.begin }
+        ensures kept { range_fault self.now.begin self.now.end ≡ None }
     {
         self.begin.as_slice()
     }
 
     /// The key at which the range ends: it is not in the range.
     pub fn end(&self) -> &[u8]
-        ensures { result.now ≡ self.now.end }
+        ensures value { result.now ≡ self.now.end }
+        ensures kept { range_fault self.now.begin self.now.end ≡ None }
     {
         self.end.as_slice()
     }
@@ -82,7 +84,7 @@ impl KeyRange {
     pub fn contains(&self, key: &[u8]) -> bool
         ensures { result ≡ holds self.now key.now }
     {
-        !precedes(key, self.begin.as_slice()) && precedes(key, self.end.as_slice())
+        !precedes(key, self.begin()) && precedes(key, self.end())
     }
 
     /// Whether some key is in both ranges.
@@ -90,12 +92,7 @@ impl KeyRange {
         ensures shared { IsTrue result ↔ Overlap self.now other.now }
         ensures test { result ≡ overlaps self.now other.now }
     {
-        begin_below_ends(
-            self.begin.as_slice(),
-            self.end.as_slice(),
-            other.begin.as_slice(),
-            other.end.as_slice(),
-        )
+        both_precede(self.begin(), other.end(), other.begin(), self.end())
     }
 
     /// An equal range of its own.

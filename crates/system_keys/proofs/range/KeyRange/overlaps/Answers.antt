@@ -1,13 +1,13 @@
--- Both clauses by the two comparisons of ends, at the fields of the two ranges.
+-- Both clauses by the two comparisons of ends.
 use Rattle.std.proofs.Common.{◌≡◌, sym}
 use Rattle.system_keys.specs.Keys.{overlaps}
 use Rattle.system_keys.proofs.KeyLaws.{ends_test, overlap_iff}
 use Rattle.system_keys.proofs.range.KeyRange.overlaps.Goals as goal
 
-same : (c : goal.After-begin_below_ends) → c.begin_below_ends.result ≡ overlaps c.args.self.now c.args.other.now
+same : (c : goal.After-both_precede) → c.both_precede.result ≡ overlaps c.args.self.now c.args.other.now
 same c =
-    rw (c.begin_below_ends.ensures, c.as_slice.ensures, c.as_slice-2.ensures, c.as_slice-3.ensures, c.as_slice-4.ensures, ← c.self.view_is, ← c.other.view_is)
-    (sym (ends_test (record { begin = c.self.inside.begin; end = c.self.inside.end }) (record { begin = c.other.inside.begin; end = c.other.inside.end }) c.self.invariant c.other.invariant))
+    rw (c.both_precede.ensures, c.begin.ensures.value, c.end.ensures.value, c.begin-2.ensures.value, c.end-2.ensures.value)
+    (sym (ends_test c.args.self.now c.args.other.now c.begin.ensures.kept c.end.ensures.kept))
 
 pub returns-clause-test : goal.returns-clause-test
 returns-clause-test c = same c
