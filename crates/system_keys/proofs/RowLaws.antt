@@ -307,6 +307,7 @@ servers_again servers team first second =
 -- the fault is one of content, and no want of memory
 abbrev IsContent : RowFault → Type 0
 IsContent faults.OutOfMemory = ⊥
+IsContent faults.BadText = ⊥
 IsContent _ = Unit {0}
 
 abbrev FaultsAreContent : {A : Type 0} → Result A RowFault → Type 0
@@ -348,7 +349,7 @@ gives_by view read faults.OutOfMemory content e = absurd (subst FaultsAreContent
 gives_by view read faults.Truncated content e = e
 gives_by view read faults.NotRising content e = e
 gives_by view read faults.Trailing content e = e
-gives_by view read faults.BadText content e = e
+gives_by view read faults.BadText content e = absurd (subst FaultsAreContent e content)
 
 -- a fault that reading meets is answered as it is
 pub gives_fault : {X : Type 0} (view : X → Servers) (bytes : List ℕ) (fault : RowFault) → servers_at bytes ≡ Err fault → Gives view (Err fault) (servers_at bytes)
@@ -367,7 +368,7 @@ both_spelled bytes sources rest destinations behind fits first second none =
     let a = counted bytes sources rest fits first in
     let b = counted rest destinations behind a.fits second in
     let last : counted_ids destinations ≡ rest = sym (b.parts ∙ ap (λ (r : List ℕ). counted_ids destinations ++ r) none ∙ append-nil (counted_ids destinations)) in
-    (ap (λ (r : List ℕ). counted_ids sources ++ r) last ∙ sym a.parts, record { rising = rw (a.team, b.team) refl; sources = a.wide; destinations = b.wide })
+    (ap (λ (r : List ℕ). counted_ids sources ++ r) last ∙ sym a.parts, record { without_fault = rw (a.team, b.team) refl; sources = a.wide; destinations = b.wide })
 
 pub servers_spelled : (bytes : List ℕ) (servers : Servers) → ((i : ℕ) → get_or bytes i 0 < 256) → servers_at bytes ≡ Ok servers → (key_servers_value servers ≡ bytes) × HaveSpelling servers
 servers_spelled bytes servers fits e =

@@ -42,6 +42,7 @@ locked_family = record { kind = kinds.DatabaseLocked; prefix = 255 ∷ codes "/d
 abbrev pub metadata_version_family : Family
 metadata_version_family = record { kind = kinds.MetadataVersion; prefix = 255 ∷ codes "/metadataVersion"; following = Nothing }
 
+-- the families that the metadata keeps, and no others
 abbrev pub kept_families : List Family
 kept_families = key_servers_family ∷ server_tag_family ∷ locked_family ∷ metadata_version_family ∷ []
 

@@ -70,14 +70,15 @@ team_fault ids =
 abbrev pub servers_fault : Servers → Option TeamsFault
 servers_fault servers = option_or (team_fault servers.sources) (team_fault servers.destinations)
 
--- two lists that have a spelling
+-- two lists that have a spelling: each rises and is short enough, and its ids have 16 bytes
 pub record HaveSpelling (servers : Servers) : Type 0 where
-  pub rising : servers_fault servers ≡ None
+  pub without_fault : servers_fault servers ≡ None
   pub sources : are_ids servers.sources ≡ true
   pub destinations : are_ids servers.destinations ≡ true
 
 -- ---- reading
 
+-- what is read behind a value, unless its reading met a fault
 infixl 10 ◌>>=◌
 abbrev pub ◌>>=◌ : {A B : Type 0} → Result A RowFault → (A → Result B RowFault) → Result B RowFault
 (Ok x) >>= f = f x
@@ -141,4 +142,4 @@ Gives view (Err faults.OutOfMemory) read = IsOk read
 Gives view (Err faults.Truncated) read = read ≡ Err faults.Truncated
 Gives view (Err faults.NotRising) read = read ≡ Err faults.NotRising
 Gives view (Err faults.Trailing) read = read ≡ Err faults.Trailing
-Gives view (Err faults.BadText) read = read ≡ Err faults.BadText
+Gives view (Err faults.BadText) read = ⊥

@@ -33,6 +33,7 @@ byte_of high low = 16 * digit_of high + digit_of low
 abbrev pub is_escape : ℕ → ℕ → ℕ → ℕ → Bool
 is_escape slash x high low = slash == 92 && x == 120 && is_digit high && is_digit low && not (is_plain (byte_of high low))
 
+-- a byte in front of those that were read, if they were
 abbrev pub with_byte : ℕ → Option (List ℕ) → Option (List ℕ)
 with_byte byte read = option_map (λ bytes. byte ∷ bytes) read
 

@@ -1,10 +1,8 @@
-//! Tags of storage servers, and the value of a serverTag row.
+//! Tags of storage servers.
 
-ghost use Rattle.std.specs.Prelude.{◌≡◌, IfOk};
+ghost use Rattle.std.specs.Prelude.{◌≡◌, Ok};
 
 use crate::memory::OutOfMemory;
-use crate::refusal::RowFault;
-use std::alloc::{AllocError, Global};
 
 /// The tag by which the logs keep the mutations for one storage server (release 7.1).
 #[derive(Clone, Copy, Debug, PartialEq, Eq, PartialOrd, Ord, Hash)]
