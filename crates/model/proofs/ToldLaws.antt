@@ -1,0 +1,102 @@
+-- What resolvers tell of the journal, and which rows a proxy has not seen.
+use Rattle.std.proofs.Common.{◌≡◌, refl, sym, ap, ◌∙◌, subst, ℕ, zero, suc, ◌<◌, ◌≤◌, List, [], ◌∷◌, ◌++◌, map, length, take, filter, Bool, true, false, cond, nat_lt, nat_le, if◌then◌else◌, slice_get, Option, Some, length-append, option_map, ◌⊎◌, inl, inr, append_assoc, leb-true, leb-false, lt-ltb, le-ltb, arith}
+use Rattle.std.proofs.Math.Seq.{take-append_seam}
+use Rattle.std.proofs.lemmas.Bool.{cases_order, lt-leb}
+use Rattle.std.specs.Prelude.{unwrap_or}
+use Rattle.std.proofs.lemmas.Option.{slice_get-map}
+use Rattle.model.specs.declared.config.Config.{Config}
+use Rattle.model.specs.declared.verdict.Verdict.{Verdict}
+use Rattle.model.specs.declared.verdict.Verdict.TheVariants.{Committed}
+use Rattle.model.specs.Transactions.{Transaction, is_state_transaction}
+use Rattle.model.specs.Records.{Record, IsHistory, Follows, last_version}
+use Rattle.model.specs.Shares.{each_below}
+use Rattle.model.specs.Journal.{Sayings, state_of, states_from, journal_row, journal, carried_by, told_from, told_row, told_of_state, told_of_row, is_after, unseen}
+use Rattle.model.specs.World.{up_to_version}
+use Rattle.model.proofs.ShareLaws.{slice_get-append_left}
+use Rattle.model.proofs.WorldLaws.{slice_get-push, last_version-push}
+
+-- ---- what one resolver tells is its part of the journal
+
+length-each_below : (n : ℕ) → length (each_below n) ≡ n
+length-each_below zero = refl
+length-each_below (suc n) = omega (arith, length-append (each_below n) (n ∷ []), length-each_below n)
+
+slice_get-each_below : (n r : ℕ) → r < n → slice_get (each_below n) r ≡ Some r
+slice_get-each_below zero r h = absurd (omega arith)
+slice_get-each_below (suc n) r h = by (cases_order r n) (slice_get-each_below n r)
+  where
+    by : (r ≡ n) ⊎ ((r < n) ⊎ (n < r)) → (r < n → slice_get (each_below n) r ≡ Some r) → slice_get (each_below n ++ n ∷ []) r ≡ Some r
+    by (inl e) rest = ap (slice_get (each_below n ++ n ∷ [])) (e ∙ sym (length-each_below n)) ∙ slice_get-push (each_below n) n ∙ ap (λ (k : ℕ). Some k) (sym e)
+    by (inr (inl below)) rest = slice_get-append_left (each_below n) (n ∷ []) r (omega (arith, length-each_below n)) ∙ rest below
+    by (inr (inr above)) rest = absurd (omega arith)
+
+said_by : (config : Config) (says : Sayings) (rec : Record) (n : ℕ) (t : Transaction) (r : ℕ) → r < config.resolvers → unwrap_or (slice_get (state_of config says rec n t).verdicts r) Committed ≡ says r rec.row n
+said_by config says rec n t r below =
+    ap (λ (found : Option Verdict). unwrap_or found Committed)
+    (slice_get-map (λ (s : ℕ). says s rec.row n) (each_below config.resolvers) r ∙ ap (option_map (λ (s : ℕ). says s rec.row n)) (slice_get-each_below config.resolvers r below))
+
+told_states : (config : Config) (says : Sayings) (rec : Record) (r : ℕ) → r < config.resolvers → (n : ℕ) (ts : List Transaction) → told_from says r rec n ts ≡ map (told_of_state r) (states_from config says rec n ts)
+told_states config says rec r below n [] = refl
+told_states config says rec r below n (t ∷ ts) = by (is_state_transaction t) (told_states config says rec r below (suc n) ts)
+  where
+    by : (b : Bool) → told_from says r rec (suc n) ts ≡ map (told_of_state r) (states_from config says rec (suc n) ts)
+        → (if b then (record { verdict = says r rec.row n; carried = carried_by r t }) ∷ told_from says r rec (suc n) ts else told_from says r rec (suc n) ts) ≡ map (told_of_state r) (if b then state_of config says rec n t ∷ states_from config says rec (suc n) ts else states_from config says rec (suc n) ts)
+    by true rest = λ i. (record { verdict = sym (said_by config says rec n t r below) i; carried = carried_by r t }) ∷ rest i
+    by false rest = rest
+
+pub told_row_is : (config : Config) (says : Sayings) (rec : Record) (r : ℕ) → r < config.resolvers → told_row says r rec ≡ told_of_row r (journal_row config says rec)
+unfolding told_row journal_row
+told_row_is config says rec r below = λ i. record { version = rec.version; states = told_states config says rec r below 0 rec.batch i }
+
+told_rows : (config : Config) (says : Sayings) (r : ℕ) → r < config.resolvers → (h : List Record) → map (told_row says r) h ≡ map (told_of_row r) (journal config says h)
+unfolding journal
+told_rows config says r below [] = refl
+told_rows config says r below (rec ∷ h) = λ i. told_row_is config says rec r below i ∷ told_rows config says r below h i
+
+pub unseen_is_told : (config : Config) (says : Sayings) (r : ℕ) (before : List Record) (rec : Record) → r < config.resolvers → unseen says r before rec ≡ map (told_of_row r) (journal config says (filter (is_after rec.own_previous) before))
+unfolding unseen
+unseen_is_told config says r before rec below = told_rows config says r below (filter (is_after rec.own_previous) before)
+
+-- ---- the rows up to a version, and those after it
+
+-- versions never go back, from this one on
+abbrev Rise : ℕ → List Record → Type 0
+Rise version [] = Unit {0}
+Rise version (rec ∷ h) = (version ≤ rec.version) × Rise rec.version h
+
+none_up_to : (version from : ℕ) (h : List Record) → version < from → Rise from h → (up_to_version version h ≡ []) × (filter (is_after version) h ≡ h)
+none_up_to version from [] above rise = (refl, refl)
+none_up_to version from (rec ∷ h) above rise =
+    let past : version < rec.version = omega (arith, rise.0) in
+    let rest = none_up_to version rec.version h past rise.1 in
+    let not_up_to : nat_le rec.version version ≡ false = lt-leb rec.version version past in
+    let after : nat_lt version rec.version ≡ true = lt-ltb version rec.version past in
+    (rw (not_up_to) rest.0, rw (after) (ap (λ (rs : List Record). rec ∷ rs) rest.1))
+
+split_from : (version from : ℕ) (h : List Record) → Rise from h → up_to_version version h ++ filter (is_after version) h ≡ h
+split_from version from [] rise = refl
+split_from version from (rec ∷ h) rise = by (nat_le rec.version version) refl (split_from version rec.version h rise.1)
+  where
+    by : (b : Bool) → nat_le rec.version version ≡ b → up_to_version version h ++ filter (is_after version) h ≡ h
+        → cond b (rec ∷ up_to_version version h) (up_to_version version h) ++ cond (nat_lt version rec.version) (rec ∷ filter (is_after version) h) (filter (is_after version) h) ≡ rec ∷ h
+    by true within rest =
+        let not_after : nat_lt version rec.version ≡ false = le-ltb version rec.version (leb-true rec.version version within) in
+        rw not_after (ap (λ (rs : List Record). rec ∷ rs) rest)
+    by false past rest =
+        let above : version < rec.version = leb-false rec.version version past in
+        let none = none_up_to version rec.version h above rise.1 in
+        let after : nat_lt version rec.version ≡ true = lt-ltb version rec.version above in
+        rw (none.0, after, none.1) refl
+
+rise_behind : (config : Config) (done h : List Record) → IsHistory config (done ++ h) → Rise (last_version done) h
+rise_behind config done [] chain = tt
+rise_behind config done (rec ∷ h) chain =
+    let at : slice_get (done ++ rec ∷ h) (length done) ≡ Some rec = ap (λ (all : List Record). slice_get all (length done)) (sym (append_assoc done (rec ∷ []) h)) ∙ slice_get-append_left (done ++ rec ∷ []) h (length done) (omega (arith, length-append done (rec ∷ []))) ∙ slice_get-push done rec in
+    let follows : Follows config (take (length done) (done ++ rec ∷ h)) rec = chain (length done) rec at in
+    let previous : rec.previous ≡ last_version done = follows.previous ∙ ap last_version (take-append_seam done (rec ∷ h)) in
+    let behind : Rise (last_version (done ++ rec ∷ [])) h = rise_behind config (done ++ rec ∷ []) h (subst (IsHistory config) (sym (append_assoc done (rec ∷ []) h)) chain) in
+    (omega (arith, follows.version, previous), subst (λ (version : ℕ). Rise version h) (last_version-push done rec) behind)
+
+-- the records of a history up to a version, and then those after it, are all of them
+pub split_at_version : (config : Config) (h : List Record) (version : ℕ) → IsHistory config h → up_to_version version h ++ filter (is_after version) h ≡ h
+split_at_version config h version chain = split_from version 0 h (rise_behind config [] h chain)

@@ -1,0 +1,5 @@
+use Rattle.model.proofs.RequestLaws.{request_verdicts_are, request_row_is}
+use Rattle.model.proofs.journal_laws.request_law.Goals as goal
+
+pub returns : goal.returns
+returns c = record { verdicts = request_verdicts_are; row = request_row_is }

@@ -1,0 +1,5 @@
+use Rattle.model.proofs.ToldLaws.{told_row_is, unseen_is_told}
+use Rattle.model.proofs.journal_laws.told_law.Goals as goal
+
+pub returns : goal.returns
+returns c = record { row = told_row_is; unseen = unseen_is_told }

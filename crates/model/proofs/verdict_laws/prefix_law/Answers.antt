@@ -1,0 +1,15 @@
+use Rattle.model.proofs.ShareLaws.{verdict_in_later}
+use Rattle.model.proofs.SayingLaws.{journal_later, metadata_later, outcomes_later}
+use Rattle.model.proofs.verdict_laws.prefix_law.Goals as goal
+
+pub returns-clause-verdicts : goal.returns-clause-verdicts
+returns-clause-verdicts c = verdict_in_later
+
+pub returns-clause-journal : goal.returns-clause-journal
+returns-clause-journal c = journal_later
+
+pub returns-clause-metadata : goal.returns-clause-metadata
+returns-clause-metadata c = metadata_later
+
+pub returns-clause-outcomes : goal.returns-clause-outcomes
+returns-clause-outcomes c = outcomes_later

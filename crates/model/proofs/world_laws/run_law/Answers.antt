@@ -1,0 +1,12 @@
+use Rattle.model.specs.World.{start, world_after}
+use Rattle.model.proofs.SerialLaw.{history_is_serial}
+use Rattle.model.proofs.WorldLaws.{happens_sound, run_sound}
+use Rattle.model.proofs.world_laws.run_law.Goals as goal
+
+pub returns : goal.returns
+returns c = record {
+  step = happens_sound;
+  sound = run_sound;
+  history = λ config events. (run_sound config events).history;
+  serial = λ config events limits. history_is_serial config (world_after config (start config) events).history limits (run_sound config events).history;
+}

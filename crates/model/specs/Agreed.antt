@@ -1,0 +1,27 @@
+-- What a holder of records and of columns of verdict cells knows, and a journal that says no more than that.
+use Rattle.std.specs.Prelude.{◌≡◌, ℕ, ◌<◌, ◌≤◌, List, length, take, slice_get, Some}
+use Rattle.model.specs.declared.config.Config.{Config}
+use Rattle.model.specs.declared.verdict.Verdict.{Verdict}
+use Rattle.model.specs.declared.journal.JournalRow.{JournalRow}
+use Rattle.model.specs.Records.{Record, IsHistory}
+use Rattle.model.specs.Verdicts.{share_verdicts}
+use Rattle.model.specs.Journal.{list_at, known_in, journal}
+
+-- a column of verdict cells for each resolver: a cell for each row known, and in it the verdicts of the resolver on its share
+abbrev pub Columns : Type 0
+Columns = List (List (List Verdict))
+
+-- the holder is agreed up to row n: the records known are a history of at least n rows, and the column of each resolver knows each of these rows (this project's profile)
+pub record IsAgreed (config : Config) (records : List Record) (columns : Columns) (n : ℕ) : Type 0 where
+  pub history : IsHistory config records
+  pub rows : n ≤ length records
+  pub cells : (r : ℕ) → r < config.resolvers → n ≤ length (list_at columns r)
+
+-- the journal is that of the first n records known, by what the columns say
+abbrev pub IsKnownJournal : Config → List Record → Columns → ℕ → List JournalRow → Type 0
+IsKnownJournal config records columns n rows = rows ≡ journal config (known_in config records columns) (take n records)
+
+-- each cell of the rows of the history has the verdicts of its resolver on its share
+abbrev pub AreVerdicts : Config → List Record → Columns → Type 0
+AreVerdicts config h columns =
+    (r i : ℕ) (rec : Record) → r < config.resolvers → slice_get h i ≡ Some rec → list_at (list_at columns r) i ≡ share_verdicts config r (take i h) rec

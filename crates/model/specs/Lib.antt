@@ -1,0 +1,15 @@
+pub mod Agreed
+pub mod Journal
+pub mod Metadata
+pub mod Outcomes
+pub mod Owners
+pub mod Records
+pub mod Requests
+pub mod Routes
+pub mod Serial
+pub mod Shares
+pub mod Stamps
+pub mod Transactions
+pub mod Verdicts
+pub mod WorkedRows
+pub mod World

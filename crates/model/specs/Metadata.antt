@@ -1,0 +1,165 @@
+-- The metadata: the kept rows as the fold of a journal, whether they are locked, and the tags of a change.
+use Rattle.std.specs.Prelude.{ℕ, List, [], ◌∷◌, ◌++◌, length, drop, map, Bool, true, false, ◌&&◌, ◌||◌, not, if◌then◌else◌, Option, Some, None, Result, Ok, Err, option_to_list, fold, filter, flat_map}
+use Rattle.std.specs.List.{list_all, last_or}
+use Rattle.std.specs.List.Sorted.{IsStrictlySortedBy}
+use Rattle.std.specs.Map.{lookup, keys_of}
+use Rattle.std.specs.BTreeMap.{insert_entry, is_at}
+use Rattle.std.specs.BTreeSet.{insert_key}
+use Rattle.std.specs.Ordering.{nat_cmp, ordering_then}
+use Rattle.std.specs.declared.cmp.Ordering.{Ordering}
+use Rattle.std.specs.Cmp.Lexicographic.{slice_cmp}
+use Rattle.system_keys.specs.declared.change.Change.{Change}
+use Rattle.system_keys.specs.declared.change.Change.TheVariants.{Set, Clear}
+use Rattle.system_keys.specs.declared.refusal.RowFault.{RowFault}
+use Rattle.system_keys.specs.declared.tag.Tag.{Tag}
+use Rattle.system_keys.specs.Keys.{Key, Range, is_key_below, is_key_up_to, holds}
+use Rattle.system_keys.specs.Families.{key_servers_family, server_tag_family, metadata_version_family, is_in, is_kept}
+use Rattle.system_keys.specs.Rows.{Id, Servers, servers_at, tag_at}
+use Rattle.model.specs.declared.journal.StateTxn.{StateTxn}
+use Rattle.model.specs.declared.journal.JournalRow.{JournalRow}
+use Rattle.model.specs.declared.routing.Route.{Route}
+use Rattle.model.specs.declared.routing.Routing.{Routing}
+use Rattle.model.specs.Transactions.{locked_key}
+use Rattle.model.specs.Verdicts.{is_committed}
+
+-- ---- the fold
+
+-- a row: its key, and its value
+abbrev pub Row : Type 0
+Row = Key × List ℕ
+
+-- the kept rows, in the order of their keys
+abbrev pub Rows : Type 0
+Rows = List Row
+
+-- the rows are in the strict order of their keys, so that no key has two
+abbrev pub IsInOrder : Rows → Type 0
+IsInOrder rows = IsStrictlySortedBy (slice_cmp nat_cmp) (keys_of rows)
+
+-- the value of the row at a key
+abbrev pub row_at : Rows → Key → Option (List ℕ)
+row_at rows key = lookup (is_at (slice_cmp nat_cmp key)) rows
+
+-- the row is there, and its value is not empty
+abbrev pub is_filled : Option (List ℕ) → Bool
+is_filled None = false
+is_filled (Some []) = false
+is_filled (Some (byte ∷ bytes)) = true
+
+-- the row `\xff/dbLocked` is there and not empty (release 7.1)
+abbrev pub is_locked : Rows → Bool
+is_locked rows = is_filled (row_at rows locked_key)
+
+-- the rows after a change: a Set of a kept row puts it, a Clear removes the rows of its range, and nothing else changes them (release 7.1)
+abbrev pub changed : Rows → Change → Rows
+changed rows (Set key value) = if is_kept key then insert_entry (slice_cmp nat_cmp) rows key value else rows
+changed rows (Clear range) = filter (λ (row : Row). not (holds range row.0)) rows
+
+-- the rows after some changes, one after another
+abbrev pub after_changes : Rows → List Change → Rows
+after_changes rows changes = fold changed rows changes
+
+-- every resolver committed the transaction, and it is lock aware or meets no lock (release 7.1; that the proxies test the lock for the transactions of others too is this project's profile)
+abbrev pub is_let_pass : Bool → StateTxn → Bool
+is_let_pass locked t = list_all is_committed t.verdicts && (t.lock_aware || not locked)
+
+-- the rows after a state transaction that met a lock or not: one that is not let pass changes nothing
+abbrev pub after_state : Bool → Rows → StateTxn → Rows
+after_state locked rows t = if is_let_pass locked t then after_changes rows t.mutations else rows
+
+-- the rows after one row of a journal: the lock is read once, before its first transaction (release 7.1)
+abbrev pub after_row : Rows → JournalRow → Rows
+after_row rows row = fold (after_state (is_locked rows)) rows row.states
+
+-- the changes of a journal's row that are let pass, where its transactions met a lock or not, in order
+abbrev pub let_pass : Bool → JournalRow → List Change
+let_pass locked row = flat_map (λ (t : StateTxn). t.mutations) (filter (is_let_pass locked) row.states)
+
+-- the metadata of a journal: its fold, from no rows (release 7.1)
+unfoldable pub metadata : List JournalRow → Rows
+metadata journal = fold after_row [] journal
+
+-- ---- the tags
+
+-- the row says which storage servers have a range of keys
+abbrev pub is_key_servers : Row → Bool
+is_key_servers row = is_in key_servers_family row.0
+
+-- the row under the key that follows the prefix
+abbrev pub behind_prefix : Row → Row
+behind_prefix row = (drop (length key_servers_family.prefix) row.0, row.1)
+
+-- the keyServers rows in the order of keys, each under the key that follows the prefix
+abbrev pub key_servers : Rows → Rows
+key_servers rows = map behind_prefix (filter is_key_servers rows)
+
+-- the row is at or before the key
+abbrev pub is_row_up_to : Key → Row → Bool
+is_row_up_to key row = is_key_up_to row.0 key
+
+-- the greatest of these rows at or before the key (release 7.1); they are in the order of keys
+abbrev pub row_of : Rows → Key → Option Row
+row_of rows key = last_or None (filter (is_row_up_to key) rows)
+
+-- the row is after the begin of the range, and before its end
+abbrev pub is_row_inside : Range → Row → Bool
+is_row_inside range row = is_key_below range.begin row.0 && is_key_below row.0 range.end
+
+-- those of these rows that a change meets: of a Set that of its key; of a Clear that of its begin, and each one after its begin and before its end (release 7.1)
+abbrev pub met_rows : Rows → Change → Rows
+met_rows rows (Set key value) = option_to_list (row_of rows key)
+met_rows rows (Clear range) = option_to_list (row_of rows range.begin) ++ filter (is_row_inside range) rows
+
+-- the sources, and then the destinations, of a value that decodes
+abbrev pub all_servers : Result Servers RowFault → List Id
+all_servers (Ok servers) = servers.sources ++ servers.destinations
+all_servers (Err fault) = []
+
+-- the sources and the destinations of a keyServers value (release 7.1); a value that does not decode names none (this project's profile)
+abbrev pub servers_of : List ℕ → List Id
+servers_of value = all_servers (servers_at value)
+
+-- the tag of a value that decodes
+abbrev pub one_tag : Result Tag RowFault → List Tag
+one_tag (Ok tag) = tag ∷ []
+one_tag (Err fault) = []
+
+-- the tag of a serverTag value, if it is there; one that does not decode gives none (this project's profile)
+abbrev pub tag_of : Option (List ℕ) → List Tag
+tag_of None = []
+tag_of (Some value) = one_tag (tag_at value)
+
+-- the tag of a server: none where it has no serverTag row (this project's profile)
+unfoldable pub server_tags : Rows → Id → List Tag
+server_tags rows id = tag_of (row_at rows (server_tag_family.prefix ++ id))
+
+-- the tags of the servers that a keyServers row names, in the order of the value
+unfoldable pub row_tags : Rows → Row → List Tag
+row_tags rows row = flat_map (server_tags rows) (servers_of row.1)
+
+-- tags are ordered by their locality, and then by their id
+abbrev pub tag_cmp : Tag → Tag → Ordering
+tag_cmp a b = ordering_then (nat_cmp a.locality b.locality) (nat_cmp a.id b.id)
+
+-- the tags of a list, rising and without repeats (the order is this project's profile)
+abbrev pub rising : List Tag → List Tag
+rising tags = fold (insert_key tag_cmp) [] tags
+
+-- the tags of a change: those of the servers in the keyServers rows that it meets (release 7.1)
+unfoldable pub tags : Rows → Change → List Tag
+tags rows change = rising (flat_map (row_tags rows) (met_rows (key_servers rows) change))
+
+-- ---- the routing
+
+-- the tags of a key: those of a Set of it, whose value does not matter
+abbrev pub tags_of_key : Rows → Key → List Tag
+tags_of_key rows key = tags rows (Set key [])
+
+-- a keyServers row, with the tags of its key
+abbrev pub route_of : Rows → Row → Route
+route_of rows row = record { key = row.0; tags = tags_of_key rows row.0 }
+
+-- what the rows say of the whole key space: the lock, the value of `\xff/metadataVersion` or none, and a route for each keyServers row, in the order of keys (this project's profile)
+unfoldable pub routing : ℕ → Rows → Routing
+routing version rows =
+    record { version = version; locked = is_locked rows; metadata_version = row_at rows metadata_version_family.prefix; routes = map (route_of rows) (key_servers rows) }

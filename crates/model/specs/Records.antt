@@ -1,0 +1,63 @@
+-- The history: the records that the sequencer gave out, and what each must be after those before it.
+use Rattle.std.specs.Prelude.{◌≡◌, ℕ, ◌+◌, ◌-◌, ◌^◌, ◌<◌, ◌≤◌, List, [], ◌∷◌, length, take, drop, nat_eq, if◌then◌else◌, slice_get, Some, All}
+use Rattle.model.specs.declared.config.Config.{Config}
+use Rattle.model.specs.declared.moves.Move.{Move}
+use Rattle.model.specs.Transactions.{Transaction}
+
+-- what the sequencer gives out with a batch: its row in the order of all batches, the version before and its own, the version of this proxy's record before (0 if none), and all moves so far; `batch` has its stamps in (release 7.1)
+pub record Record : Type 0 where
+  pub row : ℕ
+  pub previous : ℕ
+  pub version : ℕ
+  pub own_previous : ℕ
+  pub proxy : ℕ
+  pub moves : List Move
+  pub batch : List Transaction
+
+-- the version of the last record, or 0 of none
+abbrev pub last_version : List Record → ℕ
+last_version [] = 0
+last_version (rec ∷ []) = rec.version
+last_version (rec ∷ next ∷ rest) = last_version (next ∷ rest)
+
+-- the moves of the last record, or none
+abbrev pub last_moves : List Record → List Move
+last_moves [] = []
+last_moves (rec ∷ []) = rec.moves
+last_moves (rec ∷ next ∷ rest) = last_moves (next ∷ rest)
+
+-- the records of one proxy, in order
+abbrev pub of_proxy : ℕ → List Record → List Record
+of_proxy p [] = []
+of_proxy p (rec ∷ rest) = if nat_eq rec.proxy p then rec ∷ of_proxy p rest else of_proxy p rest
+
+-- a move made after version `previous` was given out and before the next one, to a resolver that is there (release 7.1)
+pub record IsMadeAfter (config : Config) (previous : ℕ) (m : Move) : Type 0 where
+  pub date : m.date ≡ previous + 1
+  pub destination : m.dest < config.resolvers
+
+-- the record may come after those before it (release 7.1; that versions lie one step apart, and end below 2^63, is this project's profile)
+pub record Follows (config : Config) (before : List Record) (rec : Record) : Type 0 where
+  pub row : rec.row ≡ length before
+  pub previous : rec.previous ≡ last_version before
+  pub version : rec.version ≡ rec.previous + config.step
+  pub representable : rec.version < 2 ^ 63
+  pub own_previous : rec.own_previous ≡ last_version (of_proxy rec.proxy before)
+  pub proxy : rec.proxy < config.proxies
+  pub kept_moves : take (length (last_moves before)) rec.moves ≡ last_moves before
+  pub further_moves : All (IsMadeAfter config rec.previous) (drop (length (last_moves before)) rec.moves)
+
+-- the records are a history: each follows those before it (release 7.1)
+abbrev pub IsHistory : Config → List Record → Type 0
+IsHistory config h = (i : ℕ) (rec : Record) → slice_get h i ≡ Some rec → Follows config (take i h) rec
+
+-- the version from which on owners are remembered for a record: the window before its previous version, at least 0 (this project's profile)
+abbrev pub oldest : Config → Record → ℕ
+oldest config rec = rec.previous - config.window
+
+-- the limits of a cluster's numbers (this project's profile)
+pub record IsConfig (config : Config) : Type 0 where
+  pub proxies : (1 ≤ config.proxies) × (config.proxies ≤ 64)
+  pub resolvers : (1 ≤ config.resolvers) × (config.resolvers ≤ 64)
+  pub window : (1 ≤ config.window) × (config.window ≤ 1000000000)
+  pub step : (1 ≤ config.step) × (config.step < 2 ^ 63)

@@ -1,0 +1,69 @@
+//! The laws of verdicts, and the rule of commit. Each function has no code: its contract is the law.
+
+ghost use Rattle.std.specs.Prelude.{◌≡◌, ℕ, ◌<◌, ◌↔◌, ◌++◌, List, [], fold, length, take, slice_get, Some, Contains, IsTrue};
+ghost use Rattle.model.specs.declared.config.Config.{Config};
+ghost use Rattle.model.specs.declared.verdict.Verdict.{Verdict};
+ghost use Rattle.model.specs.declared.verdict.Verdict.TheVariants.{Conflict, TooOld, Committed};
+ghost use Rattle.model.specs.Transactions.{Transaction};
+ghost use Rattle.model.specs.Records.{Record, IsConfig, IsHistory};
+ghost use Rattle.model.specs.Shares.{asks};
+ghost use Rattle.model.specs.Verdicts.{Judged, joined, verdict, HasConflict, IsTooOld, share_verdicts, verdicts_of_askers};
+ghost use Rattle.model.specs.Metadata.{is_locked, metadata, after_row};
+ghost use Rattle.model.specs.Journal.{Sayings, verdict_in, list_at, known_in, SaysAlike, journal_row, journal};
+ghost use Rattle.model.specs.Outcomes.{outcome, outcomes};
+ghost use Rattle.model.specs.Agreed.{Columns, AreVerdicts};
+ghost use Rattle.model.specs.Serial.{Place, verdict_at_place, HasConflictWith, IsSerial};
+
+/// The verdict is Conflict exactly where there is a conflict by all pairs, over the parts that a
+/// resolver judges and over the places of a history; it is Too old exactly where the part has a read
+/// and its snapshot and the window together are below its version; and else it is Committed.
+pub fn verdict_law()
+    ensures parts { (window : ℕ) (before : List Judged) (t : Judged) → (verdict window before t ≡ Conflict) ↔ HasConflict window before t }
+    ensures places { (config : Config) (r : ℕ) (h : List Record) (b : Place h) → IsConfig config → IsHistory config h → (verdict_at_place config r h b ≡ Conflict) ↔ HasConflictWith config r h b }
+    ensures too_old { (window : ℕ) (before : List Judged) (t : Judged) → (verdict window before t ≡ TooOld) ↔ IsTooOld window t }
+{}
+
+/// The joined verdict is Conflict exactly where some verdict is, and Committed exactly where all are.
+pub fn joined_law()
+    ensures conflict { (verdicts : List Verdict) → (joined verdicts ≡ Conflict) ↔ Contains verdicts Conflict }
+    ensures committed { (verdicts : List Verdict) → (joined verdicts ≡ Committed) ↔ ((v : Verdict) → Contains verdicts v → v ≡ Committed) }
+{}
+
+/// What a resolver says of its share of a record is its verdict on each transaction that asks it, in order.
+pub fn share_law()
+    ensures { (config : Config) (r : ℕ) (before : List Record) (rec : Record) → share_verdicts config r before rec ≡ verdicts_of_askers config r before rec [] rec.batch }
+{}
+
+/// Where a cell has the verdicts of its resolver on its share, what the cells say is the verdict of
+/// each transaction that asks it; and sayings that are alike on a record give it one journal row.
+pub fn saying_law()
+    ensures known { (config : Config) (h : List Record) (columns : Columns) (r i n : ℕ) (rec : Record) (t : Transaction) → slice_get h i ≡ Some rec → slice_get rec.batch n ≡ Some t → IsTrue (asks config rec r t) → list_at (list_at columns r) i ≡ share_verdicts config r (take i h) rec → known_in config h columns r i n ≡ verdict_in config h r i n }
+    ensures journal { (config : Config) (says told : Sayings) (rec : Record) → SaysAlike config says told rec → journal_row config says rec ≡ journal_row config told rec }
+{}
+
+/// The outcomes of a batch are those of its transactions, each at its number.
+pub fn outcome_law()
+    ensures { (config : Config) (says : Sayings) (before : List Record) (rec : Record) (n : ℕ) (t : Transaction) → slice_get rec.batch n ≡ Some t → slice_get (outcomes config says before rec) n ≡ Some (outcome config says (is_locked (metadata (journal config says before))) rec n t) }
+{}
+
+/// Where the cells of the first n rows of a history have the verdicts of their resolvers, the journal
+/// and the outcomes that they give are those of these rows, by their verdicts.
+pub fn cells_law()
+    ensures journal { (config : Config) (h : List Record) (columns : Columns) (n : ℕ) → IsHistory config h → AreVerdicts config (take n h) columns → journal config (known_in config h columns) (take n h) ≡ journal config (verdict_in config (take n h)) (take n h) }
+    ensures outcomes { (config : Config) (h : List Record) (columns : Columns) (n i : ℕ) (rec : Record) → IsHistory config h → AreVerdicts config (take n h) columns → slice_get (take n h) i ≡ Some rec → outcomes config (known_in config h columns) (take i h) rec ≡ outcomes config (verdict_in config (take n h)) (take i h) rec }
+{}
+
+/// Later records change no earlier verdict and no earlier outcome; the journal of a longer history
+/// begins with that of the shorter, and its metadata goes on from there.
+pub fn prefix_law()
+    ensures verdicts { (config : Config) (h later : List Record) (r i n : ℕ) → i < length h → verdict_in config (h ++ later) r i n ≡ verdict_in config h r i n }
+    ensures journal { (config : Config) (h later : List Record) → IsHistory config h → journal config (verdict_in config (h ++ later)) (h ++ later) ≡ journal config (verdict_in config h) h ++ journal config (verdict_in config (h ++ later)) later }
+    ensures metadata { (config : Config) (h later : List Record) → IsHistory config h → metadata (journal config (verdict_in config (h ++ later)) (h ++ later)) ≡ fold after_row (metadata (journal config (verdict_in config h) h)) (journal config (verdict_in config (h ++ later)) later) }
+    ensures outcomes { (config : Config) (h later : List Record) (i : ℕ) (rec : Record) → IsHistory config h → slice_get h i ≡ Some rec → outcomes config (verdict_in config (h ++ later)) (take i h) rec ≡ outcomes config (verdict_in config h) (take i h) rec }
+{}
+
+/// Every history obeys the rule of commit: no committed transaction read a range that another
+/// committed one wrote between its snapshot and itself.
+pub fn serial_law()
+    ensures { (config : Config) (h : List Record) → IsConfig config → IsHistory config h → IsSerial config h }
+{}
