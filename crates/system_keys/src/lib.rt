@@ -10,6 +10,7 @@ mod change;
 mod items;
 mod kind;
 mod laws;
+mod limits;
 mod memory;
 mod order;
 mod range;
@@ -24,15 +25,18 @@ mod tests;
 mod text;
 
 pub use bytes::Bytes;
-pub use change::{Change, VALUE_LIMIT};
+pub use change::Change;
 pub use items::Items;
 pub use kind::{
     KEY_SERVERS_PREFIX, LOCKED_KEY, METADATA_VERSION_KEY, RowKind, SERVER_ID_LENGTH,
     SERVER_TAG_PREFIX, classify,
 };
 pub use laws::{kind_law, row_law, text_law};
+pub use limits::{
+    END_LIMIT, KEY_LIMIT, KEY_SPACE_END, VALUE_LIMIT, check_range, check_set,
+};
 pub use memory::OutOfMemory;
-pub use range::{END_LIMIT, KEY_LIMIT, KEY_SPACE_END, KeyRange};
+pub use range::KeyRange;
 pub use refusal::{Refusal, RowFault};
 pub use rows::{decode_key_servers, decode_tag, encode_key_servers, encode_tag};
 pub use server::ServerId;

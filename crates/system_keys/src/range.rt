@@ -3,19 +3,11 @@
 ghost use Rattle.std.specs.Prelude.{◌≡◌, ◌↔◌, IsTrue, IfOk, MatchResult, None};
 
 use crate::bytes::Bytes;
+use crate::limits::check_range;
 use crate::memory::OutOfMemory;
-use crate::order::{both_precede, is_at_most, precedes};
+use crate::order::{both_precede, precedes};
 use crate::refusal::Refusal;
 use std::marker::Model;
-
-/// The greatest number of bytes of a key (this project's profile).
-pub const KEY_LIMIT: usize = 10_000;
-
-/// The greatest number of bytes of the end of a range (this project's profile).
-pub const END_LIMIT: usize = 10_001;
-
-/// The end of the key space (release 7.1): every key is below it, and a range may end at it.
-pub const KEY_SPACE_END: &[u8] = b"\xff\xff";
 
 /// The keys from `begin` up to `end`, without `end`. Never empty: `begin` is below `end`, and both are
 /// within the limits.
@@ -43,21 +35,11 @@ impl KeyRange {
 
     /// The range from `begin` up to `end`. Takes no memory.
     ///
-    /// Answers the first of: `KeyTooLong` (a begin of more than 10,000 bytes, an end of more than 10,001),
-    /// `KeyOutside` (the end is past `\xff\xff`, or the begin is at or past it), `EmptyRange` (the begin is
-    /// not below the end).
+    /// Answers the first fault, as `check_range` finds it.
     pub fn new(begin: Vec<u8>, end: Vec<u8>) -> Result<KeyRange, Refusal>
         ensures { MatchResult result (λ range. (range_fault begin.items end.items ≡ None) × (range ≡ record { begin = begin.items; end = end.items })) (λ refusal. range_fault begin.items end.items ≡ Some refusal) }
     {
-        if begin.len() > KEY_LIMIT || end.len() > END_LIMIT {
-            return Err(Refusal::KeyTooLong);
-        }
-        if !is_at_most(&end, KEY_SPACE_END) || !precedes(&begin, KEY_SPACE_END) {
-            return Err(Refusal::KeyOutside);
-        }
-        if !precedes(&begin, &end) {
-            return Err(Refusal::EmptyRange);
-        }
+        check_range(&begin, &end)?;
         Ok(KeyRange {
             begin: Bytes::from(begin),
             end: Bytes::from(end),

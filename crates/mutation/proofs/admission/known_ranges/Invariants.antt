@@ -1,0 +1,10 @@
+use Rattle.std.proofs.Common.{◌≡◌, ◌++◌, None, map, drop}
+use Rattle.mutation.specs.Faults.{first_fault, fault_of_range}
+use Rattle.mutation.specs.Transactions.{range_of}
+use Rattle.mutation.proofs.admission.known_ranges.Given as goal
+
+abbrev pub invariant-loop-range : goal.invariant-loop-range
+invariant-loop-range l = record {
+  read : l.known.items ++ map range_of (drop l.range-index l.ranges) ≡ map range_of l.ranges;
+  faultless : first_fault fault_of_range (map range_of (drop l.range-index l.ranges)) ≡ None;
+}

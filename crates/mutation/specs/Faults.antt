@@ -1,0 +1,63 @@
+-- The faults of a transaction as a client gives it, and the first of them (this project's profile).
+use Rattle.std.specs.Prelude.{ℕ, ◌+◌, List, [], ◌∷◌, ◌++◌, length, filter_map, Bool, true, false, ◌&&◌, nat_le, if◌then◌else◌, Option, Some, None, option_map}
+use Rattle.std.specs.Option.{option_or}
+use Rattle.system_keys.specs.declared.kind.RowKind.{RowKind}
+use Rattle.system_keys.specs.declared.kind.RowKind.TheVariants as kinds
+use Rattle.system_keys.specs.Keys.{Key, Range}
+use Rattle.system_keys.specs.Families.{kind_of}
+use Rattle.system_keys.specs.Limits.{range_fault, set_fault}
+use Rattle.model.specs.Stamps.{Mutation, Set, Clear, SetStamped, Given, text_of, offset_of}
+use Rattle.mutation.specs.declared.refusal.Refusal.{Refusal}
+use Rattle.mutation.specs.declared.refusal.Refusal.TheVariants.{BadRow, BadStamp}
+use Rattle.mutation.specs.Refusals.{from_key}
+
+-- the first fault among some elements, in their order
+abbrev pub first_fault : {X : Type 0} → (X → Option Refusal) → List X → Option Refusal
+first_fault fault_of [] = None
+first_fault fault_of (x ∷ xs) = option_or (fault_of x) (first_fault fault_of xs)
+
+-- the first fault of a range
+abbrev pub fault_of_range : Range → Option Refusal
+fault_of_range range = option_map from_key (range_fault range.begin range.end)
+
+-- the first fault of a Set
+abbrev pub fault_of_set : Key → List ℕ → Option Refusal
+fault_of_set key value = option_map from_key (set_fault key value)
+
+-- rows of this kind have values of a fixed form
+abbrev pub is_formed : RowKind → Bool
+is_formed kinds.KeyServers = true
+is_formed kinds.ServerTag = true
+is_formed kinds.DatabaseLocked = false
+is_formed kinds.MetadataVersion = false
+is_formed kinds.OtherSystem = false
+is_formed kinds.NonMetadata = false
+is_formed kinds.Normal = false
+
+-- the value has an offset of four bytes, and before them room for the ten bytes of a stamp at that offset
+abbrev pub has_place : List ℕ → Bool
+has_place value = nat_le 4 (length value) && nat_le (offset_of value + 10) (length (text_of value))
+
+-- why no stamp can go into this row: its values have a fixed form, or the value has no place for one
+abbrev pub fault_of_stamp : Key → List ℕ → Option Refusal
+fault_of_stamp key value =
+    if is_formed (kind_of key) then Some BadRow
+    else if has_place value then None
+    else Some BadStamp
+
+-- the first fault of a mutation: the value of a SetStamped counts as it is given
+abbrev pub fault_of_mutation : Mutation → Option Refusal
+fault_of_mutation (Set key value) = fault_of_set key value
+fault_of_mutation (Clear range) = fault_of_range range
+fault_of_mutation (SetStamped key value) = option_or (fault_of_set key value) (fault_of_stamp key value)
+
+-- the first fault of a transaction: of its reads, then of its writes, then of its mutations
+abbrev pub transaction_fault : Given → Option Refusal
+transaction_fault t =
+    option_or (first_fault fault_of_range t.reads)
+    (option_or (first_fault fault_of_range t.writes) (first_fault fault_of_mutation t.mutations))
+
+-- all faults of a transaction: those of its reads, then of its writes, then of its mutations, each in order
+abbrev pub faults_of : Given → List Refusal
+faults_of t =
+    filter_map fault_of_range t.reads ++ filter_map fault_of_range t.writes ++ filter_map fault_of_mutation t.mutations

@@ -1,0 +1,5 @@
+pub mod Admitted
+pub mod Faults
+pub mod Limits
+pub mod Refusals
+pub mod Transactions

@@ -1,0 +1,161 @@
+//! Transactions that are admitted: every limit holds.
+
+ghost use Rattle.std.specs.Prelude.{◌≡◌, None, IfOk};
+
+use crate::stamped::{Stamped, stamped_changes};
+use std::alloc::Global;
+use std::marker::Model;
+use system_keys::{Bytes, Items, KeyRange, OutOfMemory};
+
+/// A mutation of an admitted transaction (release 7.1). That its limits hold is kept by `Admitted`.
+#[derive(Clone, Debug, Drop)]
+pub enum AdmittedMutation {
+    /// Puts the value at the key.
+    Set {
+        /// The key of the row.
+        key: Bytes,
+        /// Its new value.
+        value: Bytes,
+    },
+    /// Removes every row of the range.
+    Clear {
+        /// The keys whose rows go.
+        range: KeyRange,
+    },
+    /// Puts the value at the key, with a stamp in it.
+    SetStamped {
+        /// The key of the row.
+        key: Bytes,
+        /// Its new value, with the offset of the stamp behind it.
+        value: Bytes,
+    },
+}
+
+impl AdmittedMutation {
+    /// An equal mutation of its own.
+    ///
+    /// Answers `OutOfMemory` where there is no memory for it.
+    pub fn copy(&self) -> Result<AdmittedMutation, OutOfMemory>
+        ensures { IfOk result (λ copy. copy ≡ self.now) }
+    {
+        Ok(self.clone()?)
+    }
+}
+
+/// A transaction as it was given, in which every limit holds: `admit` makes it (this project's profile).
+#[derive(Clone, Debug, Drop)]
+pub struct Admitted {
+    snapshot: u64,
+    reads: Items<KeyRange>,
+    writes: Items<KeyRange>,
+    mutations: Items<AdmittedMutation>,
+    lock_aware: bool,
+}
+
+impl Model for Admitted {
+    ghost use Rattle.std.specs.Prelude.{◌≡◌, None, map};
+    ghost use Rattle.model.specs.Stamps.{Given};
+
+    ghost Value = { Given };
+
+    ghost use Rattle.mutation.specs.Admitted.{mutation_of};
+    ghost use Rattle.mutation.specs.Faults.{transaction_fault};
+
+    ghost view = { λ t. record { snapshot = t.snapshot; reads = t.reads; writes = t.writes; mutations = map mutation_of t.mutations; lock_aware = t.lock_aware } };
+
+    ghost invariant = { λ t. transaction_fault (record { snapshot = t.snapshot; reads = t.reads; writes = t.writes; mutations = map mutation_of t.mutations; lock_aware = t.lock_aware }) ≡ None };
+}
+
+impl Admitted {
+    ghost use Rattle.std.specs.Prelude.{map};
+    ghost use Rattle.model.specs.Stamps.{Given, stamped};
+    ghost use Rattle.mutation.specs.Admitted.{mutation_of};
+    ghost use Rattle.mutation.specs.Faults.{transaction_fault};
+
+    /// The transaction of these parts. Takes no memory.
+    pub(crate) fn of_parts(
+        snapshot: u64,
+        reads: Vec<KeyRange>,
+        writes: Vec<KeyRange>,
+        mutations: Vec<AdmittedMutation>,
+        lock_aware: bool,
+    ) -> Admitted
+        requires { transaction_fault (record { snapshot = snapshot; reads = reads.items; writes = writes.items; mutations = map mutation_of mutations.items; lock_aware = lock_aware }) ≡ None }
+        ensures { result ≡ record { snapshot = snapshot; reads = reads.items; writes = writes.items; mutations = map mutation_of mutations.items; lock_aware = lock_aware } }
+    {
+        Admitted {
+            snapshot,
+            reads: Items::from(reads),
+            writes: Items::from(writes),
+            mutations: Items::from(mutations),
+            lock_aware,
+        }
+    }
+
+    /// The version that it read at.
+    pub fn snapshot(&self) -> u64
+        ensures { result ≡ self.now.snapshot }
+    {
+        self.snapshot
+    }
+
+    /// The ranges that it read.
+    pub fn reads(&self) -> &[KeyRange]
+        ensures { result.now ≡ self.now.reads }
+    {
+        self.reads.as_slice()
+    }
+
+    /// The ranges that it wants to write.
+    pub fn writes(&self) -> &[KeyRange]
+        ensures { result.now ≡ self.now.writes }
+    {
+        self.writes.as_slice()
+    }
+
+    /// What it wants to change, in order.
+    pub fn mutations(&self) -> &[AdmittedMutation]
+        ensures value { map mutation_of result.now ≡ self.now.mutations }
+        ensures limits { transaction_fault self.now ≡ None }
+    {
+        self.mutations.as_slice()
+    }
+
+    /// Whether it may commit while the database is locked.
+    pub fn lock_aware(&self) -> bool
+        ensures { result ≡ self.now.lock_aware }
+    {
+        self.lock_aware
+    }
+
+    /// The transaction with its stamps in, as transaction `number` of the batch of `version`: each
+    /// SetStamped becomes a Set (release 7.1). Of a number past 65,535, which no batch has, the lowest two
+    /// bytes go in.
+    ///
+    /// Answers `OutOfMemory` where there is no memory for it.
+    pub fn stamped(
+        &self,
+        alloc: Global,
+        version: u64,
+        number: usize,
+    ) -> Result<Stamped, OutOfMemory>
+        ensures { IfOk result (λ transaction. transaction ≡ stamped version number self.now) }
+    {
+        Ok(Stamped::of_parts(
+            self.snapshot,
+            self.reads.clone()?,
+            self.writes.clone()?,
+            stamped_changes(alloc, version, number, self.mutations.as_slice())?,
+            self.lock_aware,
+        ))
+    }
+
+    /// An equal transaction of its own.
+    ///
+    /// Answers `OutOfMemory` where there is no memory for it.
+    pub fn copy(&self) -> Result<Admitted, OutOfMemory>
+        ensures { IfOk result (λ copy. copy ≡ self.now) }
+    {
+        Ok(self.clone()?)
+    }
+}

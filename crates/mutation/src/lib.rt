@@ -1,0 +1,26 @@
+//! Transactions: as clients give them, admitted, in batches, and with their stamps in.
+//!
+//! What comes from outside is unchecked bytes; what goes on is admitted: every limit holds, by its type.
+//!
+//! Sources: FoundationDB release 7.1 (versionstamps) and this project's profile (limits, refusals).
+#![tactic(auto)]
+
+mod admission;
+mod admitted;
+mod batch;
+mod laws;
+mod limits;
+mod refusal;
+mod stamp;
+mod stamped;
+#[cfg(test)]
+mod tests;
+mod transaction;
+
+pub use admission::admit;
+pub use admitted::{Admitted, AdmittedMutation};
+pub use batch::{BATCH_LIMIT, Batch};
+pub use laws::{fault_law, limits_law, stamped_law};
+pub use refusal::Refusal;
+pub use stamped::Stamped;
+pub use transaction::{GivenRange, Mutation, Transaction};

@@ -1,0 +1,135 @@
+//! Transactions with their stamps in.
+
+ghost use Rattle.std.specs.Prelude.{◌≡◌, None, map, IfOk};
+ghost use Rattle.model.specs.Stamps.{stamped_mutation};
+ghost use Rattle.mutation.specs.Admitted.{mutation_of};
+ghost use Rattle.mutation.specs.Faults.{first_fault, fault_of_mutation};
+
+use crate::admitted::AdmittedMutation;
+use crate::stamp::stamped_value;
+use std::alloc::Global;
+use std::marker::Model;
+use system_keys::{Bytes, Change, Items, KeyRange, OutOfMemory};
+
+/// A transaction with its stamps in: changes alone (release 7.1).
+#[derive(Clone, Debug, Drop)]
+pub struct Stamped {
+    snapshot: u64,
+    reads: Items<KeyRange>,
+    writes: Items<KeyRange>,
+    changes: Items<Change>,
+    lock_aware: bool,
+}
+
+impl Model for Stamped {
+    ghost use Rattle.model.specs.Transactions.{Transaction};
+
+    ghost Value = { Transaction };
+
+    ghost view = { λ t. record { snapshot = t.snapshot; reads = t.reads; writes = t.writes; changes = t.changes; lock_aware = t.lock_aware } };
+}
+
+impl Stamped {
+    /// The transaction of these parts. Takes no memory.
+    pub(crate) fn of_parts(
+        snapshot: u64,
+        reads: Items<KeyRange>,
+        writes: Items<KeyRange>,
+        changes: Vec<Change>,
+        lock_aware: bool,
+    ) -> Stamped
+        ensures { result ≡ record { snapshot = snapshot; reads = reads; writes = writes; changes = changes.items; lock_aware = lock_aware } }
+    {
+        Stamped {
+            snapshot,
+            reads,
+            writes,
+            changes: Items::from(changes),
+            lock_aware,
+        }
+    }
+
+    /// The version that it read at.
+    pub fn snapshot(&self) -> u64
+        ensures { result ≡ self.now.snapshot }
+    {
+        self.snapshot
+    }
+
+    /// The ranges that it read.
+    pub fn reads(&self) -> &[KeyRange]
+        ensures { result.now ≡ self.now.reads }
+    {
+        self.reads.as_slice()
+    }
+
+    /// The ranges that it wants to write.
+    pub fn writes(&self) -> &[KeyRange]
+        ensures { result.now ≡ self.now.writes }
+    {
+        self.writes.as_slice()
+    }
+
+    /// What it wants to change, in order.
+    pub fn changes(&self) -> &[Change]
+        ensures { result.now ≡ self.now.changes }
+    {
+        self.changes.as_slice()
+    }
+
+    /// Whether it may commit while the database is locked.
+    pub fn lock_aware(&self) -> bool
+        ensures { result ≡ self.now.lock_aware }
+    {
+        self.lock_aware
+    }
+
+    /// An equal transaction of its own.
+    ///
+    /// Answers `OutOfMemory` where there is no memory for it.
+    pub fn copy(&self) -> Result<Stamped, OutOfMemory>
+        ensures { IfOk result (λ copy. copy ≡ self.now) }
+    {
+        Ok(self.clone()?)
+    }
+}
+
+/// The changes of some admitted mutations of transaction `number` in the batch of `version`.
+pub(crate) fn stamped_changes(
+    alloc: Global,
+    version: u64,
+    number: usize,
+    mutations: &[AdmittedMutation],
+) -> Result<Vec<Change>, OutOfMemory>
+    requires { first_fault fault_of_mutation (map mutation_of mutations.now) ≡ None }
+    ensures { IfOk result (λ changes. changes.items ≡ map (stamped_mutation version number) (map mutation_of mutations.now)) }
+{
+    let mut changes = Vec::with_capacity(alloc, mutations.len())?;
+    for mutation in mutations {
+        changes.push(stamped_change(alloc, version, number, mutation)?)?;
+    }
+    Ok(changes)
+}
+
+/// The change of an admitted mutation of transaction `number` in the batch of `version`.
+fn stamped_change(
+    alloc: Global,
+    version: u64,
+    number: usize,
+    mutation: &AdmittedMutation,
+) -> Result<Change, OutOfMemory>
+    requires { fault_of_mutation (mutation_of mutation.now) ≡ None }
+    ensures { IfOk result (λ change. change ≡ stamped_mutation version number (mutation_of mutation.now)) }
+{
+    Ok(match mutation {
+        AdmittedMutation::Set { key, value } => Change::Set {
+            key: key.copy()?,
+            value: value.copy()?,
+        },
+        AdmittedMutation::Clear { range } => Change::clear(range.copy()?),
+        AdmittedMutation::SetStamped { key, value } => Change::Set {
+            key: key.copy()?,
+            value: Bytes::from(stamped_value(alloc, version, number, value.as_slice())?),
+        },
+    })
+}
