@@ -1,0 +1,7 @@
+pub mod Joins
+pub mod KeptRows
+pub mod PassLaws
+pub mod RemovedRows
+pub mod RouteRows
+pub mod ServingRows
+pub mod Tags

@@ -1,0 +1,122 @@
+-- The rows of a range are gone once the row at each of their keys was removed.
+use Rattle.std.proofs.Common.{◌≡◌, refl, sym, ap, ap₂, ◌∙◌, ℕ, ◌+◌, ◌<◌, ◌≤◌, length, drop, get_or, add-one, Less, Greater, is_gt, is_lt, List, [], ◌∷◌, filter, Bool, true, false, cond, not, Ordering, Equal, nat_cmp, is_eq, ◌&&◌}
+use Rattle.std.specs.Global.{Vec}
+use Rattle.std.specs.declared.ops.Bound.TheVariants.{Included, Excluded}
+use Rattle.std.specs.BTreeMap.Range.{entries_between}
+use Rattle.std.proofs.Math.Seq.{drop-cons}
+use Rattle.std.proofs.lemmas.List.{drop_all}
+use Rattle.system_keys.proofs.KeyOrder.{up_to_is, up_to_below}
+use Rattle.std.specs.Map.{keys_of, remove_entry}
+use Rattle.std.specs.BTreeMap.{is_at}
+use Rattle.std.specs.Cmp.Lexicographic.{slice_cmp}
+use Rattle.std.proofs.lemmas.Cmp.{tied_itself, nat_list_cmp_total}
+use Rattle.std.proofs.lemmas.Map.Lookups.{exact_bytes}
+use Rattle.std.proofs.lemmas.Bool.{both_ways}
+use Rattle.system_keys.specs.Keys.{Key, Range, holds, is_key_below, is_key_up_to}
+use Rattle.model.specs.Metadata.{Row, Rows}
+use Rattle.proxy_state.specs.Kept.{row_from, rows_of, texts_of}
+use Rattle.proxy_state.proofs.KeptRows.{vec_cmp, filtered}
+use Rattle.proxy_state.proofs.ServingRows.{not_up_to}
+
+pub removed : (key : Key) (es : List (Vec ℕ × List ℕ)) → rows_of (remove_entry (is_at (λ (k : Vec ℕ). slice_cmp nat_cmp key k.items)) es) ≡ remove_entry (is_at (slice_cmp nat_cmp key)) (rows_of es)
+removed key [] = refl
+removed key (e ∷ es) = by (is_at (slice_cmp nat_cmp key) e.0.items) (removed key es)
+  where
+    by : (t : Bool) → rows_of (remove_entry (is_at (λ (k : Vec ℕ). slice_cmp nat_cmp key k.items)) es) ≡ remove_entry (is_at (slice_cmp nat_cmp key)) (rows_of es)
+        → rows_of (cond t es (e ∷ remove_entry (is_at (λ (k : Vec ℕ). slice_cmp nat_cmp key k.items)) es)) ≡ cond t (rows_of es) (row_from e ∷ remove_entry (is_at (slice_cmp nat_cmp key)) (rows_of es))
+    by true rest = refl
+    by false rest = ap (λ (rows : Rows). row_from e ∷ rows) rest
+
+-- the rows that pass a test of their keys, and the others
+abbrev pub passing : (Key → Bool) → Rows → Rows
+passing p rows = filter (λ (row : Row). p row.0) rows
+
+abbrev pub others : (Key → Bool) → Rows → Rows
+others p rows = filter (λ (row : Row). not (p row.0)) rows
+
+first_passes : (p : Key → Bool) (rows : Rows) (key : Key) (rest : List Key) → keys_of (passing p rows) ≡ key ∷ rest → p key ≡ true
+first_passes p [] key rest h = absurd (cc)
+first_passes p (row ∷ rows) key rest h = by (p row.0) refl (first_passes p rows key rest) h
+  where
+    by : (t : Bool) → p row.0 ≡ t → (keys_of (passing p rows) ≡ key ∷ rest → p key ≡ true) → keys_of (cond t (row ∷ passing p rows) (passing p rows)) ≡ key ∷ rest → p key ≡ true
+    by true e later k = let same : row.0 ≡ key = cc in ap p (sym same) ∙ e
+    by false e later k = later k
+
+-- the first row that passes is gone, and the others are as they were
+pub record IsStep (p : Key → Bool) (old new : Rows) (rest : List Key) : Type 0 where
+  pub left : keys_of (passing p new) ≡ rest
+  pub kept : others p new ≡ others p old
+
+at_itself : (key : Key) → is_at (slice_cmp nat_cmp key) key ≡ true
+at_itself key = ap is_eq (tied_itself nat_list_cmp_total key)
+
+equal_order : (r : Ordering) → is_eq r ≡ true → r ≡ Equal
+equal_order Equal h = refl
+equal_order _ h = absurd (cc)
+
+pub first_removed : (p : Key → Bool) (rows : Rows) (key : Key) (rest : List Key) → keys_of (passing p rows) ≡ key ∷ rest → IsStep p rows (remove_entry (is_at (slice_cmp nat_cmp key)) rows) rest
+first_removed p [] key rest h = absurd (cc)
+first_removed p (row ∷ rows) key rest h = by (p row.0) refl (is_at (slice_cmp nat_cmp key) row.0) refl (first_removed p rows key rest) (first_passes p rows key rest) h
+  where
+    gone : Rows
+    gone = remove_entry (is_at (slice_cmp nat_cmp key)) rows
+
+    by : (t : Bool) → p row.0 ≡ t → (s : Bool) → is_at (slice_cmp nat_cmp key) row.0 ≡ s → (keys_of (passing p rows) ≡ key ∷ rest → IsStep p rows gone rest) → (keys_of (passing p rows) ≡ key ∷ rest → p key ≡ true)
+        → keys_of (cond t (row ∷ passing p rows) (passing p rows)) ≡ key ∷ rest → IsStep p (row ∷ rows) (cond s rows (row ∷ gone)) rest
+    by true e true f later first k = record { left = cc; kept = rw e refl }
+    by true e false f later first k =
+        let same : row.0 ≡ key = cc in
+        absurd (both_ways (is_at (slice_cmp nat_cmp key) row.0) f (ap (λ (q : Key). is_at (slice_cmp nat_cmp key) q) same ∙ at_itself key))
+    by false e true f later first k =
+        let same : key ≡ row.0 = exact_bytes key row.0 (equal_order (slice_cmp nat_cmp key row.0) f) in
+        absurd (both_ways (p row.0) e (ap p (sym same) ∙ first k))
+    by false e false f later first k =
+        let step = later k in
+        record { left = rw e step.left; kept = rw e (ap (λ (later : Rows). row ∷ later) step.kept) }
+
+-- where no row passes, the others are all rows
+pub none_passes : (p : Key → Bool) (rows : Rows) → keys_of (passing p rows) ≡ [] → others p rows ≡ rows
+none_passes p [] h = refl
+none_passes p (row ∷ rows) h = by (p row.0) refl (none_passes p rows) h
+  where
+    by : (t : Bool) → p row.0 ≡ t → (keys_of (passing p rows) ≡ [] → others p rows ≡ rows) → keys_of (cond t (row ∷ passing p rows) (passing p rows)) ≡ [] → others p (row ∷ rows) ≡ row ∷ rows
+    by true e later k = absurd (cc)
+    by false e later k = rw e (ap (λ (rest : Rows). row ∷ rest) (later k))
+
+-- a loop over keys, which removes the row at each
+pub next_removed : (p : Key → Bool) (old : Rows) (es left : List (Vec ℕ × List ℕ)) (keys : List (Vec ℕ)) (d : Vec ℕ) (i : ℕ) → i < length keys
+    → left ≡ remove_entry (is_at (λ (k : Vec ℕ). slice_cmp nat_cmp (get_or keys i d).items k.items)) es → IsStep p old (rows_of es) (texts_of (drop i keys)) → IsStep p old (rows_of left) (texts_of (drop (i + 1) keys))
+next_removed p old es left keys d i within is before =
+    let split : drop i keys ≡ get_or keys i d ∷ drop (i + 1) keys = rw (add-one, drop-cons keys i d) in
+    let step = first_removed p (rows_of es) (get_or keys i d).items (texts_of (drop (i + 1) keys)) (before.left ∙ ap texts_of split) in
+    let rows : rows_of left ≡ remove_entry (is_at (slice_cmp nat_cmp (get_or keys i d).items)) (rows_of es) = ap rows_of is ∙ removed (get_or keys i d).items es in
+    record { left = ap (λ (r : Rows). keys_of (passing p r)) rows ∙ step.left; kept = ap (others p) rows ∙ step.kept ∙ before.kept }
+
+pub all_removed : (p : Key → Bool) (old : Rows) (es : List (Vec ℕ × List ℕ)) (keys : List (Vec ℕ)) (i : ℕ) → length keys ≤ i → IsStep p old (rows_of es) (texts_of (drop i keys)) → rows_of es ≡ others p old
+all_removed p old es keys i past step =
+    sym (none_passes p (rows_of es) (step.left ∙ ap texts_of (drop_all i keys past))) ∙ step.kept
+
+-- ---- the keys of a range
+
+pub none_held : (range : Range) (rows : Rows) → is_gt (slice_cmp nat_cmp range.begin range.end) ≡ true → keys_of (passing (holds range) rows) ≡ []
+none_held range [] h = refl
+none_held range (row ∷ rows) h = by (is_key_below row.0 range.begin) refl (is_key_below row.0 range.end) refl (none_held range rows h)
+  where
+    clash : (r : Ordering) → is_gt r ≡ true → is_lt r ≡ true → ⊥
+    clash Less g l = cc
+    clash Equal g l = cc
+    clash Greater g l = cc
+
+    by : (s : Bool) → is_key_below row.0 range.begin ≡ s → (t : Bool) → is_key_below row.0 range.end ≡ t → keys_of (passing (holds range) rows) ≡ [] → keys_of (passing (holds range) (row ∷ rows)) ≡ []
+    by true e t f rest = rw e rest
+    by false e true f rest = absurd (clash (slice_cmp nat_cmp range.begin range.end) h (up_to_below range.begin row.0 range.end e f))
+    by false e false f rest = rw (e, f) rest
+
+-- the keys of the map between the ends of a range are those of its rows in the range
+pub keys_held : (es : List (Vec ℕ × List ℕ)) (begin end : Vec ℕ) (range : Range) → begin.items ≡ range.begin → end.items ≡ range.end
+    → keys_of (rows_of (entries_between vec_cmp (Included begin) (Excluded end) es)) ≡ keys_of (passing (holds range) (rows_of es))
+keys_held es begin end range low high =
+    let same : (row : Row) → (is_key_up_to begin.items row.0 && not (is_key_up_to end.items row.0)) ≡ holds range row.0 =
+    λ row. rw (low, high) (ap₂ (λ (s t : Bool). s && t) (up_to_is range.begin row.0) (not_up_to range.end row.0)) in
+    ap keys_of (filtered (λ (row : Row). is_key_up_to begin.items row.0 && not (is_key_up_to end.items row.0)) es)
+    ∙ ap (λ (p : Row → Bool). keys_of (filter p (rows_of es))) (λ i row. same row i)

@@ -1,0 +1,154 @@
+-- The rows of the map between two keys of keyServers rows are the keyServers rows between what follows the prefix.
+use Rattle.std.proofs.Common.{◌≡◌, refl, sym, ap, ◌∙◌, ℕ, List, [], ◌∷◌, ◌++◌, map, flat_map, length, drop, Bool, true, false, cond, not, ◌&&◌, Option, Some, None, filter, Ordering, Less, Equal, Greater, nat_cmp, nat_eq, is_le, is_lt, is_eq}
+use Rattle.std.specs.Global.{Vec}
+use Rattle.std.specs.List.{last_or, starts_with}
+use Rattle.std.specs.Ordering.{ordering_then}
+use Rattle.std.specs.Cmp.{nat_cmp_total}
+use Rattle.std.specs.Cmp.Lexicographic.{slice_cmp}
+use Rattle.std.specs.declared.ops.Bound.TheVariants.{Included, Excluded}
+use Rattle.std.specs.BTreeMap.Range.{entries_between}
+use Rattle.std.proofs.lemmas.Bool.{eq-eqb, eqb-true, both_ways}
+use Rattle.std.proofs.lemmas.Cmp.{tied_itself}
+use Rattle.std.proofs.lemmas.Map.Lookups.{exact_unsigned}
+use Rattle.system_keys.specs.Keys.{Key, Range, is_key_below, is_key_up_to}
+use Rattle.system_keys.specs.declared.tag.Tag.{Tag}
+use Rattle.system_keys.specs.Families.{key_servers_family, is_in}
+use Rattle.model.specs.Metadata.{Row, Rows, key_servers, is_key_servers, behind_prefix, is_row_up_to, is_row_inside, row_of, row_tags}
+use Rattle.system_keys.proofs.KeyOrder.{up_to_is, below_trans}
+use Rattle.proxy_state.specs.Kept.{row_from, rows_of}
+use Rattle.proxy_state.proofs.KeptRows.{vec_cmp, filtered}
+
+abbrev key_cmp : Key → Key → Ordering
+key_cmp = slice_cmp nat_cmp
+
+-- ---- keys behind a prefix
+
+same_number : (x y : ℕ) → nat_eq x y ≡ is_eq (nat_cmp x y)
+same_number x y = by (nat_cmp x y) refl (nat_eq x y) refl
+  where
+    apart : (r : Ordering) → nat_cmp x y ≡ r → is_eq r ≡ false → (t : Bool) → nat_eq x y ≡ t → t ≡ false
+    apart r h k true e =
+        let same : x ≡ y = eqb-true x y e in
+        let tied : nat_cmp x y ≡ Equal = ap (λ (z : ℕ). nat_cmp x z) (sym same) ∙ tied_itself nat_cmp_total x in
+        let both : r ≡ Equal = sym h ∙ tied in
+        sym (ap is_eq both) ∙ k
+    apart r h k false e = refl
+
+    by : (r : Ordering) → nat_cmp x y ≡ r → (t : Bool) → nat_eq x y ≡ t → nat_eq x y ≡ is_eq r
+    by Less h t e = e ∙ apart Less h refl t e
+    by Equal h t e = eq-eqb x y (exact_unsigned x y h)
+    by Greater h t e = e ∙ apart Greater h refl t e
+
+pub not_up_to : (a b : Key) → not (is_key_up_to a b) ≡ is_key_below b a
+not_up_to a b = ap not (up_to_is a b) ∙ twice (is_key_below b a)
+  where
+    twice : (t : Bool) → not (not t) ≡ t
+    twice true = refl
+    twice false = refl
+
+-- from the prefix up to a key behind it
+up_to_behind : (p key k : Key) → (is_key_up_to p k && not (is_key_below (p ++ key) k)) ≡ (starts_with nat_eq k p && is_key_up_to (drop (length p) k) key)
+up_to_behind [] key [] = sym (up_to_is [] key)
+up_to_behind [] key (y ∷ k) = sym (up_to_is (y ∷ k) key)
+up_to_behind (x ∷ p) key [] = refl
+up_to_behind (x ∷ p) key (y ∷ k) =
+    by (nat_cmp x y) (up_to_behind p key k) ∙ ap (λ (t : Bool). (t && starts_with nat_eq k p) && is_key_up_to (drop (length p) k) key) (sym (same_number x y))
+  where
+    by : (r : Ordering) → (is_key_up_to p k && not (is_key_below (p ++ key) k)) ≡ (starts_with nat_eq k p && is_key_up_to (drop (length p) k) key)
+        → (is_le (ordering_then r (key_cmp p k)) && not (is_lt (ordering_then r (key_cmp (p ++ key) k)))) ≡ ((is_eq r && starts_with nat_eq k p) && is_key_up_to (drop (length p) k) key)
+    by Less rest = refl
+    by Equal rest = rest
+    by Greater rest = refl
+
+-- after a key behind the prefix, and before another
+inside_behind : (p begin end k : Key) → (is_key_below (p ++ begin) k && not (is_key_up_to (p ++ end) k)) ≡ (starts_with nat_eq k p && (is_key_below begin (drop (length p) k) && is_key_below (drop (length p) k) end))
+inside_behind [] begin end k = ap (λ (t : Bool). is_key_below begin k && t) (not_up_to end k)
+inside_behind (x ∷ p) begin end [] = refl
+inside_behind (x ∷ p) begin end (y ∷ k) =
+    by (nat_cmp x y) (inside_behind p begin end k)
+    ∙ ap (λ (t : Bool). (t && starts_with nat_eq k p) && (is_key_below begin (drop (length p) k) && is_key_below (drop (length p) k) end)) (sym (same_number x y))
+  where
+    by : (r : Ordering) → (is_key_below (p ++ begin) k && not (is_key_up_to (p ++ end) k)) ≡ (starts_with nat_eq k p && (is_key_below begin (drop (length p) k) && is_key_below (drop (length p) k) end))
+        → (is_lt (ordering_then r (key_cmp (p ++ begin) k)) && not (is_le (ordering_then r (key_cmp (p ++ end) k)))) ≡ ((is_eq r && starts_with nat_eq k p) && (is_key_below begin (drop (length p) k) && is_key_below (drop (length p) k) end))
+    by Less rest = refl
+    by Equal rest = rest
+    by Greater rest = refl
+
+-- ---- rows behind the prefix
+
+-- a test of keys that passes those which start with the prefix and pass another test behind it
+pub record PassesBehind (whole behind : Key → Bool) : Type 0 where
+  pub same : (k : Key) → whole k ≡ (is_in key_servers_family k && behind (drop (length key_servers_family.prefix) k))
+
+pub filter_behind : (whole behind : Key → Bool) → PassesBehind whole behind → (rows : Rows) → map behind_prefix (filter (λ (row : Row). whole row.0) rows) ≡ filter (λ (row : Row). behind row.0) (key_servers rows)
+filter_behind whole behind passes [] = refl
+filter_behind whole behind passes (row ∷ rows) =
+    by (whole row.0) (is_key_servers row) (behind (behind_prefix row).0) refl (passes.same row.0) (filter_behind whole behind passes rows)
+  where
+    kept : Rows
+    kept = filter (λ (r : Row). whole r.0) rows
+
+    by : (w s b : Bool) → behind (behind_prefix row).0 ≡ b → w ≡ (s && b) → map behind_prefix kept ≡ filter (λ (r : Row). behind r.0) (key_servers rows)
+        → map behind_prefix (cond w (row ∷ kept) kept) ≡ filter (λ (r : Row). behind r.0) (map behind_prefix (cond s (row ∷ filter is_key_servers rows) (filter is_key_servers rows)))
+    by w false b e h rest = rw h rest
+    by w true true e h rest = rw (h, e) (ap (λ (later : Rows). behind_prefix row ∷ later) rest)
+    by w true false e h rest = rw (h, e) rest
+
+-- the rows of the map from the prefix up to a key behind it
+pub between_up_to : (es : List (Vec ℕ × List ℕ)) (least greatest : Vec ℕ) (key : Key) → least.items ≡ key_servers_family.prefix ++ [] → greatest.items ≡ key_servers_family.prefix ++ key
+    → map behind_prefix (rows_of (entries_between vec_cmp (Included least) (Included greatest) es)) ≡ filter (is_row_up_to key) (key_servers (rows_of es))
+between_up_to es least greatest key low high =
+    ap (map behind_prefix) (filtered (λ (row : Row). is_key_up_to least.items row.0 && not (is_key_below greatest.items row.0)) es)
+    ∙ filter_behind (λ (k : Key). is_key_up_to least.items k && not (is_key_below greatest.items k)) (λ (k : Key). is_key_up_to k key)
+    (record { same = λ k. rw (low, high) (up_to_behind key_servers_family.prefix key k) }) (rows_of es)
+
+-- the rows of the map after a key behind the prefix, and before another
+pub between_inside : (es : List (Vec ℕ × List ℕ)) (begin end : Vec ℕ) (range : Range) → begin.items ≡ key_servers_family.prefix ++ range.begin → end.items ≡ key_servers_family.prefix ++ range.end
+    → map behind_prefix (rows_of (entries_between vec_cmp (Excluded begin) (Excluded end) es)) ≡ filter (is_row_inside range) (key_servers (rows_of es))
+between_inside es begin end range low high =
+    ap (map behind_prefix) (filtered (λ (row : Row). is_key_below begin.items row.0 && not (is_key_up_to end.items row.0)) es)
+    ∙ filter_behind (λ (k : Key). is_key_below begin.items k && not (is_key_up_to end.items k)) (λ (k : Key). is_key_below range.begin k && is_key_below k range.end)
+    (record { same = λ k. rw (low, high) (inside_behind key_servers_family.prefix range.begin range.end k) }) (rows_of es)
+
+-- ---- the last row
+
+last_behind : (first : Option Row) (es : List (Vec ℕ × List ℕ)) (e : Vec ℕ × List ℕ) → last_or first (map behind_prefix (rows_of (es ++ e ∷ []))) ≡ Some (behind_prefix (row_from e))
+last_behind first [] e = refl
+last_behind first (d ∷ es) e = last_behind (Some (behind_prefix (row_from d))) es e
+
+-- the last row of the map from the prefix up to a key behind it serves the key
+pub last_serves : (es : List (Vec ℕ × List ℕ)) (least greatest : Vec ℕ) (key : Key) (front : List (Vec ℕ × List ℕ)) (e : Vec ℕ × List ℕ) → least.items ≡ key_servers_family.prefix ++ [] → greatest.items ≡ key_servers_family.prefix ++ key
+    → entries_between vec_cmp (Included least) (Included greatest) es ≡ front ++ e ∷ [] → row_of (key_servers (rows_of es)) key ≡ Some (behind_prefix (row_from e))
+last_serves es least greatest key front e low high is =
+    ap (last_or None) (sym (between_up_to es least greatest key low high))
+    ∙ ap (λ (between : List (Vec ℕ × List ℕ)). last_or None (map behind_prefix (rows_of between))) is
+    ∙ last_behind None front e
+
+pub none_there : (es : List (Vec ℕ × List ℕ)) (least greatest : Vec ℕ) (key : Key) → least.items ≡ key_servers_family.prefix ++ [] → greatest.items ≡ key_servers_family.prefix ++ key
+    → entries_between vec_cmp (Included least) (Included greatest) es ≡ [] → row_of (key_servers (rows_of es)) key ≡ None
+none_there es least greatest key low high is =
+    ap (last_or None) (sym (between_up_to es least greatest key low high))
+    ∙ ap (λ (between : List (Vec ℕ × List ℕ)). last_or None (map behind_prefix (rows_of between))) is
+
+-- ---- the tags of the rows
+
+tags_behind : (all rows : Rows) → flat_map (row_tags all) (map behind_prefix rows) ≡ flat_map (row_tags all) rows
+unfolding row_tags
+tags_behind all [] = refl
+tags_behind all (row ∷ rows) = ap (λ (later : List Tag). row_tags all row ++ later) (tags_behind all rows)
+
+-- the tags of the rows of the map after a key behind the prefix, and before another
+pub tags_inside : (es : List (Vec ℕ × List ℕ)) (begin end : Vec ℕ) (range : Range) → begin.items ≡ key_servers_family.prefix ++ range.begin → end.items ≡ key_servers_family.prefix ++ range.end
+    → flat_map (row_tags (rows_of es)) (rows_of (entries_between vec_cmp (Excluded begin) (Excluded end) es)) ≡ flat_map (row_tags (rows_of es)) (filter (is_row_inside range) (key_servers (rows_of es)))
+tags_inside es begin end range low high =
+    sym (tags_behind (rows_of es) (rows_of (entries_between vec_cmp (Excluded begin) (Excluded end) es))) ∙ ap (flat_map (row_tags (rows_of es))) (between_inside es begin end range low high)
+
+-- no row is inside a range that does not begin below its end
+pub none_inside : (range : Range) (rows : Rows) → is_key_below range.begin range.end ≡ false → filter (is_row_inside range) rows ≡ []
+none_inside range [] h = refl
+none_inside range (row ∷ rows) h = by (is_key_below range.begin row.0) refl (is_key_below row.0 range.end) refl (none_inside range rows h)
+  where
+    by : (s : Bool) → is_key_below range.begin row.0 ≡ s → (t : Bool) → is_key_below row.0 range.end ≡ t → filter (is_row_inside range) rows ≡ [] → filter (is_row_inside range) (row ∷ rows) ≡ []
+    by true e true f rest = absurd (both_ways (is_key_below range.begin range.end) h (below_trans range.begin row.0 range.end e f))
+    by true e false f rest = rw (e, f) rest
+    by false e t f rest = rw e rest
