@@ -32,9 +32,7 @@ pub use kind::{
     SERVER_TAG_PREFIX, classify,
 };
 pub use laws::{kind_law, row_law, text_law};
-pub use limits::{
-    END_LIMIT, KEY_LIMIT, KEY_SPACE_END, VALUE_LIMIT, check_range, check_set,
-};
+pub use limits::{END_LIMIT, KEY_LIMIT, KEY_SPACE_END, VALUE_LIMIT, check_range, check_set};
 pub use memory::OutOfMemory;
 pub use range::KeyRange;
 pub use refusal::{Refusal, RowFault};
