@@ -1,0 +1,6 @@
+pub mod AnswerLemmas
+pub mod FoldLemmas
+pub mod GivenValue
+pub mod KnownWords
+pub mod OfferedModes
+pub mod RunLemmas

@@ -1,0 +1,14 @@
+use Rattle.std.proofs.Common.{◌≡◌, ◌+◌, ◌<◌, ◌^◌}
+use Rattle.std.specs.Io.KnownBytes.{Consumes}
+use Rattle.proxy_run.proofs.devices.read_all.Given as goal
+
+abbrev pub invariant-loop-call : goal.invariant-loop-call
+invariant-loop-call g l =
+    let remaining = g.S.Source.remaining in
+    let failed = g.S.Source.failed in
+    let reads = g.S.Source.reads in
+    record {
+      split : Consumes (remaining l.fn.source) (remaining l.source) l.bytes.items;
+      fine : failed l.source ≡ failed l.fn.source;
+      called : reads l.fn.source + 1048576 < 2 ^ 64 → reads l.source ≡ reads l.fn.source + l._call;
+    }

@@ -1,0 +1,13 @@
+pub mod CommandLine
+pub mod Devices
+pub mod FoldChecks
+pub mod FoldLimits
+pub mod FoldLines
+pub mod FoldScripts
+pub mod FoldShapes
+pub mod FoldText
+pub mod Modes
+pub mod Runs
+pub mod ScriptFaults
+pub mod Shapes
+pub mod Statuses

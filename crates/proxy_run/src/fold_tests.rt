@@ -1,0 +1,457 @@
+//! Tests of whole fold scripts against worked texts. Each call that takes memory is made again where it was
+//! refused memory, so that the tests also pass where any one allocation fails.
+
+use crate::answer::answer;
+use crate::fold_lines::{print_asked, print_routing};
+use crate::fold_reading::read_script;
+use crate::script_fault::ScriptFault;
+use model::Routing;
+use std::alloc::Global;
+use std::process::Abort;
+use std::test::Fail;
+use system_keys::{Items, OutOfMemory, Refusal, Tag};
+
+/// The call, made once more where it was refused memory.
+macro_rules! twice {
+    ($call:expr, $memory:pat) => {
+        match $call {
+            Err($memory) => $call,
+            answer => answer,
+        }
+    };
+}
+
+/// The text, made once more where it was refused memory.
+macro_rules! written {
+    ($alloc:expr; $($words:tt)*) => {
+        match format!(in $alloc; $($words)*) {
+            Err(_) => format!(in $alloc; $($words)*)?,
+            Ok(text) => text,
+        }
+    };
+}
+
+/// Two servers, each with its tag and its range of keys.
+const TWO_SERVERS: &[u8] = br#"{"resolvers":2,"rows":[{"version":10,"states":[{"lock_aware":true,
+"verdicts":["committed","committed"],"mutations":[
+{"set":["\\xff/serverTag/server0000000001","\\x00\\x00\\x01"]},
+{"set":["\\xff/serverTag/server0000000002","\\x00\\x00\\x02"]},
+{"set":["\\xff/keyServers/","\\x01server0000000001\\x00"]},
+{"set":["\\xff/keyServers/m","\\x01server0000000002\\x00"]}]}]}],
+"ask":["a","m","z"]}"#;
+
+const NOT_JSON: &str = "refused 70 NotJson\n";
+
+const BAD_SHAPE: &str = "refused 71 BadShape\n";
+
+/// The script is answered by this text and the status of this number.
+fn answers(rt: &(impl Abort + AllocGlobal), script: &[u8], text: &str, status: u8) {
+    let output = twice!(answer(rt.alloc(), script), OutOfMemory).expect(rt, "memory");
+    assert_eq!(rt; output.text.as_str(), text);
+    assert_eq!(rt; output.status.number(), status);
+}
+
+fn folds(rt: &(impl Abort + AllocGlobal), script: &[u8], text: &str) {
+    answers(rt, script, text, 0);
+}
+
+fn refuses(rt: &(impl Abort + AllocGlobal), script: &[u8], text: &str) {
+    answers(rt, script, text, 1);
+}
+
+/// A script of one transaction with these changes.
+fn changing(alloc: Global, changes: &str) -> Result<String, Fail> {
+    let front = "{\"resolvers\":1,\"rows\":[{\"version\":1,\"states\":[{\"lock_aware\":false,\
+                 \"verdicts\":[\"committed\"],\"mutations\":[";
+    Ok(written!(alloc; "{front}{changes}]}}]}}],\"ask\":[]}}"))
+}
+
+fn refuses_changes(rt: &(impl Abort + AllocGlobal), changes: &str, text: &str) -> Result<(), Fail> {
+    let script = changing(rt.alloc(), changes)?;
+    refuses(rt, script.as_bytes(), text);
+    Ok(())
+}
+
+/// This many times the letter.
+fn letters(alloc: Global, count: usize) -> Result<String, Fail> {
+    let mut text = match String::with_capacity(alloc, count) {
+        Err(_) => String::with_capacity(alloc, count)?,
+        Ok(text) => text,
+    };
+    for _ in 0..count {
+        text.push('a')?;
+    }
+    Ok(text)
+}
+
+#[test]
+fn without_rows_the_version_is_none(rt: HostRuntime) {
+    folds(
+        &rt,
+        br#"{"resolvers":2,"rows":[],"ask":["a"]}"#,
+        "version 0\nlocked no\nmetadata_version none\ntags \"a\" none\n",
+    );
+    folds(
+        &rt,
+        br#"{"ask":[],"rows":[],"resolvers":64}"#,
+        "version 0\nlocked no\nmetadata_version none\n",
+    );
+}
+
+#[test]
+fn the_boundary_belongs_to_the_right_row(rt: HostRuntime) {
+    folds(
+        &rt,
+        TWO_SERVERS,
+        "version 10\nlocked no\nmetadata_version none\nroute \"\" 0:1\nroute \"m\" 0:2\n\
+         tags \"a\" 0:1\ntags \"m\" 0:2\ntags \"z\" 0:2\n",
+    );
+}
+
+#[test]
+fn a_conflict_by_one_resolver_changes_nothing(rt: HostRuntime) {
+    folds(
+        &rt,
+        br#"{"resolvers":2,"rows":[{"version":10,"states":[{"lock_aware":false,
+        "verdicts":["committed","conflict"],"mutations":[
+        {"set":["\\xff/keyServers/","\\x01server0000000001\\x00"]}]}]}],"ask":["a"]}"#,
+        "version 10\nlocked no\nmetadata_version none\ntags \"a\" none\n",
+    );
+}
+
+#[test]
+fn the_lock_is_read_once_a_row(rt: HostRuntime) {
+    folds(
+        &rt,
+        br#"{"resolvers":1,"rows":[{"version":10,"states":[
+        {"lock_aware":true,"verdicts":["committed"],"mutations":[{"set":["\\xff/dbLocked","L"]}]},
+        {"lock_aware":false,"verdicts":["committed"],"mutations":[
+        {"set":["\\xff/serverTag/server0000000001","\\x00\\x00\\x01"]},
+        {"set":["\\xff/keyServers/","\\x01server0000000001\\x00"]}]}]},
+        {"version":20,"states":[{"lock_aware":false,"verdicts":["committed"],"mutations":[
+        {"set":["\\xff/metadataVersion","v"]}]}]}],"ask":["a"]}"#,
+        "version 20\nlocked yes\nmetadata_version none\nroute \"\" 0:1\ntags \"a\" 0:1\n",
+    );
+}
+
+/// Rows in which a server's tag comes behind the row that names the server.
+const TAGS_BEHIND: &str = r#"{"resolvers":1,"ask":["a","m"],"rows":[
+{"version":10,"states":[{"lock_aware":false,"verdicts":["committed"],"mutations":[
+{"set":["\\xff/keyServers/","\\x01server0000000001\\x00"]}]}]},
+{"version":20,"states":[{"lock_aware":false,"verdicts":["committed"],"mutations":[
+{"set":["\\xff/serverTag/server0000000001","\\x00\\x00\\x01"]}]}]},
+{"version":30,"states":[{"lock_aware":false,"verdicts":["committed"],"mutations":[
+{"set":["\\xff/keyServers/m","\\x01server0000000001\\x01server0000000002"]}]}]},
+{"version":40,"states":[{"lock_aware":false,"verdicts":["committed"],"mutations":[
+{"set":["\\xff/serverTag/server0000000002","\\x00\\x00\\x00"]}]}]}"#;
+
+#[test]
+fn tags_come_and_go_with_their_rows(rt: HostRuntime) -> Result<(), Fail> {
+    let script = written!(rt.alloc(); "{TAGS_BEHIND}]}}");
+    folds(
+        &rt,
+        script.as_bytes(),
+        "version 40\nlocked no\nmetadata_version none\nroute \"\" 0:1\nroute \"m\" 0:0 0:1\n\
+         tags \"a\" 0:1\ntags \"m\" 0:0 0:1\n",
+    );
+    let last = r#"{"version":50,"states":[{"lock_aware":false,"verdicts":["committed"],
+        "mutations":[{"clear":["\\xff/serverTag/","\\xff/serverTag0"]}]}]}"#;
+    let script = written!(rt.alloc(); "{TAGS_BEHIND},{last}]}}");
+    folds(
+        &rt,
+        script.as_bytes(),
+        "version 50\nlocked no\nmetadata_version none\nroute \"\" none\nroute \"m\" none\n\
+         tags \"a\" none\ntags \"m\" none\n",
+    );
+    Ok(())
+}
+
+#[test]
+fn the_metadata_version_is_printed(rt: HostRuntime) -> Result<(), Fail> {
+    let script = changing(
+        rt.alloc(),
+        r#"{"set":["\\xff/metadataVersion","\\x00v\\x22"]},{"set":["a","b"]}"#,
+    )?;
+    folds(
+        &rt,
+        script.as_bytes(),
+        "version 1\nlocked no\nmetadata_version \"\\x00v\\x22\"\n",
+    );
+    Ok(())
+}
+
+#[test]
+fn keys_values_and_ranges_are_checked(rt: HostRuntime) -> Result<(), Fail> {
+    for (changes, text) in [
+        (
+            r#"{"set":["\\xff/keyServers/","\\x01server0000000001"]}"#,
+            "refused 14 BadRow\n",
+        ),
+        (
+            r#"{"set":["\\xff/keyServers/","\\x02server0000000002server0000000001\\x00"]}"#,
+            "refused 14 BadRow\n",
+        ),
+        (r#"{"set":["\\xff\\xff","v"]}"#, "refused 12 KeyOutside\n"),
+        (r#"{"clear":["b","a"]}"#, "refused 13 EmptyRange\n"),
+        (r#"{"clear":["a","a"]}"#, "refused 13 EmptyRange\n"),
+        (
+            r#"{"clear":["a","\\xff\\xff\\x00"]}"#,
+            "refused 12 KeyOutside\n",
+        ),
+        (
+            r#"{"set":["a","b"]},{"clear":["b","a"]},{"set":["\\xff\\xff","v"]}"#,
+            "refused 13 EmptyRange\n",
+        ),
+    ] {
+        refuses_changes(&rt, changes, text)?;
+    }
+    Ok(())
+}
+
+#[test]
+fn long_keys_and_values_are_refused(rt: HostRuntime) -> Result<(), Fail> {
+    let alloc = rt.alloc();
+    let key = letters(alloc, 10_001)?;
+    let changes = written!(alloc; "{{\"set\":[\"{key}\",\"\"]}}");
+    refuses_changes(&rt, changes.as_str(), "refused 10 KeyTooLong\n")?;
+    let changes = written!(alloc; "{{\"clear\":[\"{key}\",\"b\"]}}");
+    refuses_changes(&rt, changes.as_str(), "refused 10 KeyTooLong\n")?;
+    let value = letters(alloc, 100_001)?;
+    let changes = written!(alloc; "{{\"set\":[\"b\",\"{value}\"]}}");
+    refuses_changes(&rt, changes.as_str(), "refused 11 ValueTooLong\n")?;
+    Ok(())
+}
+
+#[test]
+fn the_whole_shape_comes_before_keys(rt: HostRuntime) -> Result<(), Fail> {
+    refuses_changes(
+        &rt,
+        r#"{"set":["\\xff\\xff","v"]},{"set":["a"]}"#,
+        BAD_SHAPE,
+    )?;
+    refuses(
+        &rt,
+        br#"{"resolvers":1,"rows":[{"version":2,"states":[{"lock_aware":false,
+        "verdicts":["committed"],"mutations":[{"clear":["b","a"]}]}]},
+        {"version":2,"states":[]}],"ask":[]}"#,
+        BAD_SHAPE,
+    );
+    Ok(())
+}
+
+#[test]
+fn what_is_no_json_is_refused(rt: HostRuntime) {
+    let brackets = [b'['; 200];
+    let mut nested = [b']'; 400];
+    nested[..200].copy_from_slice(&brackets);
+    for script in [
+        br#"{"proxies":2"#.as_slice(),
+        b"",
+        b" ",
+        b"\xff{}",
+        b"{\"resolvers\":2,\"rows\":[],\"ask\":[\"\xff\"]}",
+        br#"{"resolvers":2,"rows":[],"ask":[]} 1"#,
+        br#"{"resolvers":2,"rows":[],"ask":[]}}"#,
+        br#"{"resolvers":2,"rows":[],"ask":[],}"#,
+        br#"{"resolvers":02,"rows":[],"ask":[]}"#,
+        &nested,
+    ] {
+        refuses(&rt, script, NOT_JSON);
+    }
+}
+
+#[test]
+fn no_beginning_of_a_script_is_json(rt: HostRuntime) {
+    for length in 0..TWO_SERVERS.len() {
+        refuses(&rt, &TWO_SERVERS[..length], NOT_JSON);
+    }
+}
+
+#[test]
+fn all_fields_are_there_and_none_other(rt: HostRuntime) -> Result<(), Fail> {
+    for script in [
+        "{}",
+        "[]",
+        "null",
+        "7",
+        r#"{"resolvers":1,"rows":[]}"#,
+        r#"{"rows":[],"ask":[]}"#,
+        r#"{"resolvers":1,"rows":[],"ask":[],"more":0}"#,
+        r#"{"resolvers":1,"rows":[],"asked":[]}"#,
+        r#"{"resolvers":1,"rows":{},"ask":[]}"#,
+        r#"{"resolvers":1,"rows":[{"version":1}],"ask":[]}"#,
+        r#"{"resolvers":1,"rows":[{"version":1,"states":[],"more":0}],"ask":[]}"#,
+        r#"{"resolvers":1,"rows":[{"version":1,"states":[{"lock_aware":false,"verdicts":["committed"]}]}],"ask":[]}"#,
+        r#"{"resolvers":1,"rows":[{"version":1,"states":[{"lock_aware":0,"verdicts":["committed"],"mutations":[]}]}],"ask":[]}"#,
+    ] {
+        refuses(&rt, script.as_bytes(), BAD_SHAPE);
+    }
+    for changes in [
+        "{}",
+        "7",
+        r#"{"set":["a"]}"#,
+        r#"{"set":["a","b","c"]}"#,
+        r#"{"set":"a"}"#,
+        r#"{"set":["a","b"],"clear":["a","b"]}"#,
+        r#"{"set_stamped":["a","b"]}"#,
+        r#"{"set":["a","b"],"more":0}"#,
+    ] {
+        refuses_changes(&rt, changes, BAD_SHAPE)?;
+    }
+    Ok(())
+}
+
+#[test]
+fn numbers_are_within_their_limits(rt: HostRuntime) -> Result<(), Fail> {
+    let alloc = rt.alloc();
+    for resolvers in [
+        "0",
+        "65",
+        "-1",
+        "-0",
+        "1.0",
+        "1e0",
+        "\"1\"",
+        "18446744073709551616",
+    ] {
+        let script = written!(alloc; "{{\"resolvers\":{resolvers},\"rows\":[],\"ask\":[]}}");
+        refuses(&rt, script.as_bytes(), BAD_SHAPE);
+    }
+    for rows in [
+        r#"{"version":0,"states":[]}"#,
+        r#"{"version":9223372036854775808,"states":[]}"#,
+        r#"{"version":5,"states":[]},{"version":5,"states":[]}"#,
+        r#"{"version":5,"states":[]},{"version":4,"states":[]}"#,
+    ] {
+        let script = written!(alloc; "{{\"resolvers\":1,\"ask\":[],\"rows\":[{rows}]}}");
+        refuses(&rt, script.as_bytes(), BAD_SHAPE);
+    }
+    folds(
+        &rt,
+        br#"{"resolvers":1,"ask":[],"rows":[{"version":1,"states":[]},{"version":9223372036854775807,"states":[]}]}"#,
+        "version 9223372036854775807\nlocked no\nmetadata_version none\n",
+    );
+    Ok(())
+}
+
+/// A script of one transaction, up to its verdicts.
+const BEFORE_VERDICTS: &str = r#"{"resolvers":2,"ask":[],"rows":[{"version":1,"states":[
+{"lock_aware":true,"mutations":[],"verdicts":["#;
+
+#[test]
+fn each_resolver_has_one_verdict(rt: HostRuntime) -> Result<(), Fail> {
+    let alloc = rt.alloc();
+    for verdicts in [
+        "",
+        "\"committed\"",
+        "\"committed\",\"conflict\",\"too_old\"",
+        "\"committed\",\"Committed\"",
+        "\"committed\",0",
+    ] {
+        let script = written!(alloc; "{BEFORE_VERDICTS}{verdicts}]}}]}}]}}");
+        refuses(&rt, script.as_bytes(), BAD_SHAPE);
+    }
+    Ok(())
+}
+
+#[test]
+fn texts_spell_bytes(rt: HostRuntime) -> Result<(), Fail> {
+    let alloc = rt.alloc();
+    for text in [
+        "\\\\xFF", "\\\\x61", "\\\\x0", "\\\\n00", " ", "\\\"", "\u{e9}", "\\n",
+    ] {
+        let script = written!(alloc; "{{\"resolvers\":1,\"rows\":[],\"ask\":[\"{text}\"]}}");
+        refuses(&rt, script.as_bytes(), BAD_SHAPE);
+    }
+    Ok(())
+}
+
+#[test]
+fn any_key_may_be_asked(rt: HostRuntime) -> Result<(), Fail> {
+    folds(
+        &rt,
+        br#"{"resolvers":1,"rows":[],"ask":["\\xff\\xff\\x00","","\u0061","a"]}"#,
+        "version 0\nlocked no\nmetadata_version none\ntags \"\\xff\\xff\\x00\" none\ntags \"\" none\n\
+         tags \"a\" none\ntags \"a\" none\n",
+    );
+    let alloc = rt.alloc();
+    let key = letters(alloc, 10_001)?;
+    let script = written!(alloc; "{{\"resolvers\":1,\"rows\":[],\"ask\":[\"{key}\"]}}");
+    let text = written!(alloc; "version 0\nlocked no\nmetadata_version none\ntags \"{key}\" none\n"
+    );
+    folds(&rt, script.as_bytes(), text.as_str());
+    Ok(())
+}
+
+#[test]
+fn the_last_of_a_doubled_field_is_read(rt: HostRuntime) {
+    folds(
+        &rt,
+        br#"{"ask":["a","b"],"resolvers":0,"rows":[],"ask":["c"],"resolvers":1}"#,
+        "version 0\nlocked no\nmetadata_version none\ntags \"c\" none\n",
+    );
+    refuses(
+        &rt,
+        br#"{"ask":[],"resolvers":1,"rows":[],"resolvers":0}"#,
+        BAD_SHAPE,
+    );
+}
+
+#[test]
+fn a_script_is_read(rt: HostRuntime) -> Result<(), Fail> {
+    let script = twice!(
+        read_script(rt.alloc(), TWO_SERVERS),
+        ScriptFault::OutOfMemory
+    )?;
+    assert_eq!(rt; script.rows.as_slice().len(), 1);
+    assert_eq!(rt; script.ask.as_slice().len(), 3);
+    assert_eq!(rt;
+        read_script(rt.alloc(), b"{}").err(),
+        Some(ScriptFault::BadShape)
+    );
+    Ok(())
+}
+
+#[test]
+fn routings_and_tags_are_printed(rt: HostRuntime) -> Result<(), Fail> {
+    let text = twice!(locked_text(rt.alloc()), OutOfMemory)?;
+    assert_eq!(rt;
+        text.as_str(),
+        "version 7\nlocked yes\nmetadata_version none\ntags \"\\xffk\" 0:1 255:65535\n"
+    );
+    Ok(())
+}
+
+/// The text of a locked routing without routes, and of a key with two tags.
+fn locked_text(alloc: Global) -> Result<String, OutOfMemory> {
+    let mut text = String::new(alloc);
+    let routing = Routing {
+        version: 7,
+        locked: true,
+        metadata_version: None,
+        routes: Items::from(Vec::new(alloc)),
+    };
+    print_routing(alloc, &mut text, &routing)?;
+    let tags = [
+        Tag { locality: 0, id: 1 },
+        Tag {
+            locality: 255,
+            id: 65535,
+        },
+    ];
+    print_asked(alloc, &mut text, b"\xffk", &tags)?;
+    Ok(text)
+}
+
+#[test]
+fn faults_have_their_numbers_and_names(rt: HostRuntime) {
+    for (fault, number, name) in [
+        (ScriptFault::NotJson, Some(70), "NotJson"),
+        (ScriptFault::BadShape, Some(71), "BadShape"),
+        (ScriptFault::Refused(Refusal::BadRow), Some(14), "BadRow"),
+        (ScriptFault::OutOfMemory, None, "OutOfMemory"),
+    ] {
+        assert_eq!(rt; fault.number(), number);
+        assert_eq!(rt; fault.name(), name);
+    }
+}

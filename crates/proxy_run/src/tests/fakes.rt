@@ -1,0 +1,183 @@
+//! Devices over memory that fail at one call, give or take a few bytes a call, or never end.
+ghost use Rattle.std.specs.Prelude.{◌≡◌, ◌++◌, Some, None, [], IsTrue, IsFalse};
+
+use crate::devices::{Failed, Sink, Source};
+use std::alloc::Global;
+
+/// A source over memory.
+#[derive(Drop)]
+pub struct Fed<'a> {
+    rest: &'a [u8],
+    most: usize,
+    fails_at: Option<u64>,
+    reads: u64,
+    failures: u64,
+}
+
+impl<'a> Fed<'a> {
+    /// A source that gives these bytes, at most `most` a call and at least one.
+    pub fn new(bytes: &'a [u8], most: usize) -> Fed<'a>
+        ensures { result.failures ≡ 0 }
+    {
+        Fed {
+            rest: bytes,
+            most,
+            fails_at: None,
+            reads: 0,
+            failures: 0,
+        }
+    }
+
+    /// The same, whose call of this number fails.
+    pub fn failing_at(mut self, call: u64) -> Fed<'a>
+        ensures { result.failures ≡ self.entry.failures }
+    {
+        self.fails_at = Some(call);
+        self
+    }
+
+    /// How many calls were made.
+    pub fn reads(&self) -> u64 {
+        self.reads
+    }
+}
+
+impl Source for Fed<'_> {
+    ghost remaining = { λ s. Some s.rest.now };
+
+    ghost failed = { λ s. s.failures };
+
+    ghost reads = { λ s. s.reads };
+
+    fn read(&mut self, buffer: &mut [u8]) -> Result<usize, Failed> {
+        self.reads = self.reads.saturating_add(1);
+        if self.fails_at == Some(self.reads) {
+            self.failures = self.failures.saturating_add(1);
+            return Err(Failed);
+        }
+        let count = self.rest.len().min(buffer.len()).min(self.most.max(1));
+        let (front, rest) = self.rest.split_at(count);
+        buffer[..count].copy_from_slice(front);
+        self.rest = rest;
+        Ok(count)
+    }
+
+    fn failures(&self) -> u64 {
+        self.failures
+    }
+}
+
+/// A source that gives one space a call, without end.
+#[derive(Drop)]
+pub struct Endless {
+    reads: u64,
+    failures: u64,
+}
+
+impl Endless {
+    pub fn new() -> Endless
+        ensures { result.failures ≡ 0 }
+    {
+        Endless {
+            reads: 0,
+            failures: 0,
+        }
+    }
+
+    /// How many calls were made.
+    pub fn reads(&self) -> u64 {
+        self.reads
+    }
+}
+
+impl Source for Endless {
+    ghost remaining = { λ _. None };
+
+    ghost failed = { λ s. s.failures };
+
+    ghost reads = { λ s. s.reads };
+
+    fn read(&mut self, buffer: &mut [u8]) -> Result<usize, Failed> {
+        self.reads = self.reads.saturating_add(1);
+        if buffer.is_empty() {
+            return Ok(0);
+        }
+        buffer[0] = b' ';
+        Ok(1)
+    }
+
+    fn failures(&self) -> u64 {
+        self.failures
+    }
+}
+
+/// A sink over memory.
+#[derive(Drop)]
+pub struct Kept {
+    bytes: Vec<u8>,
+    most: usize,
+    fails_at: Option<u64>,
+    writes: u64,
+    failures: u64,
+}
+
+impl Kept {
+    /// A sink that takes at most `most` bytes a call.
+    pub fn new(alloc: Global, most: usize) -> Kept
+        ensures { result.failures ≡ 0 }
+    {
+        Kept {
+            bytes: Vec::new(alloc),
+            most,
+            fails_at: None,
+            writes: 0,
+            failures: 0,
+        }
+    }
+
+    /// The same, whose call of this number fails.
+    pub fn failing_at(mut self, call: u64) -> Kept
+        ensures { result.failures ≡ self.failures }
+    {
+        self.fails_at = Some(call);
+        self
+    }
+
+    // Keeps the bytes, at the second try where the first one was refused memory.
+    fn keep(&mut self, bytes: &[u8]) -> bool
+        ensures kept { IsTrue result → self.new.bytes.items ≡ self.old.bytes.items ++ bytes.now }
+        ensures lost { IsFalse result → self.new.bytes.items ≡ self.old.bytes.items }
+        ensures failures { self.new.failures ≡ self.old.failures }
+    {
+        self.bytes.extend_from_slice(bytes).is_ok() || self.bytes.extend_from_slice(bytes).is_ok()
+    }
+
+    /// The bytes that it took.
+    pub fn bytes(&self) -> &[u8] {
+        &self.bytes
+    }
+}
+
+impl Sink for Kept {
+    ghost written = { λ s. Some s.bytes.items };
+
+    ghost failed = { λ s. s.failures };
+
+    fn write(&mut self, bytes: &[u8]) -> Result<usize, Failed> {
+        self.writes = self.writes.saturating_add(1);
+        let count = bytes.len().min(self.most);
+        let fails = self.fails_at == Some(self.writes);
+        if fails || !self.keep(&bytes[..count]) {
+            self.failures = self.failures.saturating_add(1);
+            return Err(Failed);
+        }
+        if count == 0 {
+            self.failures = self.failures.saturating_add(1);
+        }
+        Ok(count)
+    }
+
+    fn failures(&self) -> u64 {
+        self.failures
+    }
+}
