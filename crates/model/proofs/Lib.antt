@@ -1,4 +1,6 @@
 pub mod AskedLaws
+pub mod ChangeLaws
+pub mod HistoryLaws
 pub mod JoinLaws
 pub mod Members
 pub mod MetadataLaws

@@ -24,7 +24,7 @@ fold_keeps P f step b (x ∷ xs) h = fold_keeps P f step (f b x) xs (step b x h)
 
 -- ---- the order of the rows
 
-abbrev key_cmp : Key → Key → Ordering
+abbrev pub key_cmp : Key → Key → Ordering
 key_cmp = slice_cmp nat_cmp
 
 -- each key of the list is after this one
@@ -74,7 +74,7 @@ filter_in_order p (e ∷ rows) s = by (p e) (behind_filter e.0 p rows s.0) (filt
     by true first rest = (first, rest)
     by false first rest = rest
 
-changed_in_order : (rows : Rows) (change : Change) → IsInOrder rows → IsInOrder (changed rows change)
+pub changed_in_order : (rows : Rows) (change : Change) → IsInOrder rows → IsInOrder (changed rows change)
 changed_in_order rows (Set key value) s = by (is_kept key)
   where
     by : (t : Bool) → IsInOrder (if t then insert_entry key_cmp rows key value else rows)

@@ -6,7 +6,7 @@ use mathlib.Core.Logic.{inl, inr}
 use Rattle.model.specs.declared.config.Config.{Config}
 use Rattle.model.specs.declared.verdict.Verdict.TheVariants.{Conflict}
 use Rattle.model.specs.Records.{Record, IsConfig, IsHistory}
-use Rattle.model.specs.Verdicts.{Judged, is_after_snapshot, verdict}
+use Rattle.model.specs.Verdicts.{JudgedPart, is_after_snapshot, verdict}
 use Rattle.model.specs.Serial.{Place, IsBetween, seen_at, verdict_at_place, HasConflictWith}
 use Rattle.model.proofs.MoveLaws.{grows}
 use Rattle.model.proofs.VerdictLaws.{HasConflict-from_verdict, verdict-from_HasConflict}
@@ -51,11 +51,11 @@ HasConflictWith-from_verdict config r h b limits history e =
       a = p.a;
       asked = p.asking;
       committed = verdict_at_place_is config r h p.a ∙ (sym own ∙ c.committed);
-      between = between_from_after config r h p.a b limits history p.before (subst (λ (u : Judged). is_after_snapshot (seen_at config r b) u ≡ true) p.u_is c.after_snapshot);
+      between = between_from_after config r h p.a b limits history p.before (subst (λ (u : JudgedPart). is_after_snapshot (seen_at config r b) u ≡ true) p.u_is c.after_snapshot);
       read = c.read;
       write = c.write;
       read_in = c.read_in;
-      write_in = subst (λ (u : Judged). Contains u.part.writes c.write) p.u_is c.write_in;
+      write_in = subst (λ (u : JudgedPart). Contains u.part.writes c.write) p.u_is c.write_in;
       overlap = c.overlap;
     }
 

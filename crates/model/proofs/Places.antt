@@ -8,8 +8,8 @@ use mathlib.Core.Logic.{inl, inr}
 use Rattle.model.specs.declared.config.Config.{Config}
 use Rattle.model.specs.Transactions.{Transaction}
 use Rattle.model.specs.Records.{Record, IsHistory}
-use Rattle.model.specs.Shares.{share, part_of, parts_from, asks}
-use Rattle.model.specs.Verdicts.{Judged, judged_at, judged_before, verdict, verdict_of}
+use Rattle.model.specs.Shares.{share, share_back_to, part_of, parts_from, asks}
+use Rattle.model.specs.Verdicts.{JudgedPart, judged_at, judged_before, verdict, verdict_of}
 use Rattle.model.specs.Serial.{Place, seen_at, verdict_at_place}
 use Rattle.model.proofs.ShareLaws.{parts_from-append, seen}
 
@@ -96,7 +96,7 @@ flat_map_split {X} {Y} f (y ∷ ys) front u back e = go (append_split (f y) (fla
 -- ---- parts of a record
 
 -- a part of these transactions, numbered from m: the transaction that it is of
-pub record OfTransaction (config : Config) (r : ℕ) (rec : Record) (m : ℕ) (ts : List Transaction) (front : List Judged) (u : Judged) : Type 0 where
+pub record OfTransaction (config : Config) (r : ℕ) (rec : Record) (m : ℕ) (ts : List Transaction) (front : List JudgedPart) (u : JudgedPart) : Type 0 where
   pub k : ℕ
   pub t : Transaction
   pub at : slice_get ts k ≡ Some t
@@ -104,16 +104,16 @@ pub record OfTransaction (config : Config) (r : ℕ) (rec : Record) (m : ℕ) (t
   pub u_is : u ≡ seen config r rec (m + k) t
   pub front_is : front ≡ judged_at rec.version (parts_from config rec r m (take k ts))
 
-pub parts_from_split : (config : Config) (r : ℕ) (rec : Record) (m : ℕ) (ts : List Transaction) (front : List Judged) (u : Judged) (back : List Judged) → judged_at rec.version (parts_from config rec r m ts) ≡ front ++ u ∷ back → OfTransaction config r rec m ts front u
+pub parts_from_split : (config : Config) (r : ℕ) (rec : Record) (m : ℕ) (ts : List Transaction) (front : List JudgedPart) (u : JudgedPart) (back : List JudgedPart) → judged_at rec.version (parts_from config rec r m ts) ≡ front ++ u ∷ back → OfTransaction config r rec m ts front u
 parts_from_split config r rec m [] [] u back e = absurd (cc)
 parts_from_split config r rec m [] (x ∷ front) u back e = absurd (cc)
-parts_from_split config r rec m (t ∷ ts) front u back e = go (asks config rec r t) refl front e (λ (front' : List Judged). parts_from_split config r rec (suc m) ts front' u back)
+parts_from_split config r rec m (t ∷ ts) front u back e = go (asks config rec r t) refl front e (λ (front' : List JudgedPart). parts_from_split config r rec (suc m) ts front' u back)
   where
     goes_on : (k : ℕ) → suc m + k ≡ m + suc k
     goes_on k = omega arith
 
-    go : (b : Bool) → asks config rec r t ≡ b → (front : List Judged) → judged_at rec.version (if b then part_of config rec r m t ∷ parts_from config rec r (suc m) ts else parts_from config rec r (suc m) ts) ≡ front ++ u ∷ back →
-        ((front' : List Judged) → judged_at rec.version (parts_from config rec r (suc m) ts) ≡ front' ++ u ∷ back → OfTransaction config r rec (suc m) ts front' u) → OfTransaction config r rec m (t ∷ ts) front u
+    go : (b : Bool) → asks config rec r t ≡ b → (front : List JudgedPart) → judged_at rec.version (if b then part_of config rec r m t ∷ parts_from config rec r (suc m) ts else parts_from config rec r (suc m) ts) ≡ front ++ u ∷ back →
+        ((front' : List JudgedPart) → judged_at rec.version (parts_from config rec r (suc m) ts) ≡ front' ++ u ∷ back → OfTransaction config r rec (suc m) ts front' u) → OfTransaction config r rec m (t ∷ ts) front u
     go true asking [] whole later =
         let same : seen config r rec m t ≡ u = cc in
         let first : m + 0 ≡ m = omega arith in
@@ -121,7 +121,7 @@ parts_from_split config r rec m (t ∷ ts) front u back e = go (asks config rec 
     go true asking (x ∷ front) whole later =
         let same : seen config r rec m t ≡ x = cc in
         let one = later front (cc) in
-        record { k = suc one.k; t = one.t; at = one.at; asking = one.asking; u_is = rw (← goes_on one.k) one.u_is; front_is = rw asking (ap (λ (z : Judged). z ∷ front) (sym same) ∙ ap (λ (vs : List Judged). seen config r rec m t ∷ vs) one.front_is) }
+        record { k = suc one.k; t = one.t; at = one.at; asking = one.asking; u_is = rw (← goes_on one.k) one.u_is; front_is = rw asking (ap (λ (z : JudgedPart). z ∷ front) (sym same) ∙ ap (λ (vs : List JudgedPart). seen config r rec m t ∷ vs) one.front_is) }
     go false other front whole later =
         let one = later front whole in
         record { k = suc one.k; t = one.t; at = one.at; asking = one.asking; u_is = rw (← goes_on one.k) one.u_is; front_is = rw other one.front_is }
@@ -138,7 +138,7 @@ row_at config h i rec history at =
 abbrev pub IsBefore : {h : List Record} → Place h → Place h → Type 0
 IsBefore a b = ((a.i ≡ b.i) × (a.n < b.n)) ⊎ (a.i < b.i)
 
-abbrev pub judged_before_place : Config → ℕ → (h : List Record) → Place h → List Judged
+abbrev pub judged_before_place : Config → ℕ → (h : List Record) → Place h → List JudgedPart
 judged_before_place config r h a = judged_before config r (take a.i h) a.rec (take a.n a.rec.batch)
 
 pub same_record : {h : List Record} (a b : Place h) → a.i ≡ b.i → a.rec ≡ b.rec
@@ -160,21 +160,21 @@ verdict_at_place_is config r h a = ap (λ (n : ℕ). verdict config.window (judg
 
 -- the parts of a record with one of its transactions that asks
 pub parts_from_around : (config : Config) (r : ℕ) (rec : Record) (n : ℕ) (earlier rest : List Transaction) (t : Transaction) → length earlier ≡ n → asks config rec r t ≡ true →
-    (back : List Judged) × (judged_at rec.version (parts_from config rec r 0 (earlier ++ t ∷ rest)) ≡ judged_at rec.version (parts_from config rec r 0 earlier) ++ seen config r rec n t ∷ back)
+    (back : List JudgedPart) × (judged_at rec.version (parts_from config rec r 0 (earlier ++ t ∷ rest)) ≡ judged_at rec.version (parts_from config rec r 0 earlier) ++ seen config r rec n t ∷ back)
 parts_from_around config r rec n earlier rest t e asking =
     (judged_at rec.version (parts_from config rec r (suc n) rest), rw (parts_from-append config rec r 0 n earlier (t ∷ rest) (omega arith), asking, map-append))
 
 -- the share of a record, as it is judged
-abbrev pub shares : Config → ℕ → Record → List Judged
+abbrev pub shares : Config → ℕ → Record → List JudgedPart
 shares config r s = judged_at s.version (share config s r)
 
 -- a transaction that asks, and stands before another one, is judged before it
 pub record JudgedAround (config : Config) (r : ℕ) (h : List Record) (a b : Place h) : Type 0 where
-  pub back : List Judged
+  pub back : List JudgedPart
   pub whole : judged_before_place config r h b ≡ judged_before_place config r h a ++ seen_at config r a ∷ back
 
 pub judged_around : (config : Config) (r : ℕ) (h : List Record) (a b : Place h) → IsBefore a b → asks config a.rec r a.transaction ≡ true → JudgedAround config r h a b
-unfolding judged_before share
+unfolding judged_before share_back_to
 judged_around config r h a b (inl (same, earlier)) asking =
     let one = same_record a b same in
     let near = around a.rec.batch a.n b.n a.transaction a.transaction_is earlier in
@@ -191,15 +191,15 @@ judged_around config r h a b (inr earlier) asking =
     }
 
 -- a part judged before a transaction is of a transaction before it
-pub record JudgedPlace (config : Config) (r : ℕ) (h : List Record) (b : Place h) (front : List Judged) (u : Judged) : Type 0 where
+pub record JudgedPlace (config : Config) (r : ℕ) (h : List Record) (b : Place h) (front : List JudgedPart) (u : JudgedPart) : Type 0 where
   pub a : Place h
   pub before : IsBefore a b
   pub asking : asks config a.rec r a.transaction ≡ true
   pub u_is : u ≡ seen_at config r a
   pub front_is : front ≡ judged_before_place config r h a
 
-pub judged_place : (config : Config) (r : ℕ) (h : List Record) (b : Place h) (front : List Judged) (u : Judged) (back : List Judged) → judged_before_place config r h b ≡ front ++ u ∷ back → JudgedPlace config r h b front u
-unfolding judged_before share
+pub judged_place : (config : Config) (r : ℕ) (h : List Record) (b : Place h) (front : List JudgedPart) (u : JudgedPart) (back : List JudgedPart) → judged_before_place config r h b ≡ front ++ u ∷ back → JudgedPlace config r h b front u
+unfolding judged_before share_back_to
 judged_place config r h b front u back e = go (append_split (flat_map (shares config r) (take b.i h)) (judged_at b.rec.version (parts_from config b.rec r 0 (take b.n b.rec.batch))) front u back e)
   where
     from_zero : (k : ℕ) → 0 + k ≡ k
@@ -216,7 +216,7 @@ judged_place config r h b front u back e = go (append_split (flat_map (shares co
           before = inr there.0;
           asking = part.asking;
           u_is = part.u_is ∙ ap (λ (n : ℕ). seen config r one.y n part.t) number;
-          front_is = one.front_is ∙ (ap (λ (hs : List Record). flat_map (shares config r) hs ++ one.inner) (take-take_le h one.j b.i (omega (arith, there.0))) ∙ ap (λ (vs : List Judged). flat_map (shares config r) (take one.j h) ++ vs) part.front_is);
+          front_is = one.front_is ∙ (ap (λ (hs : List Record). flat_map (shares config r) hs ++ one.inner) (take-take_le h one.j b.i (omega (arith, there.0))) ∙ ap (λ (vs : List JudgedPart). flat_map (shares config r) (take one.j h) ++ vs) part.front_is);
         }
     go (inr s) =
         let part = parts_from_split config r b.rec 0 (take b.n b.rec.batch) s.rest u back s.second in
@@ -227,5 +227,5 @@ judged_place config r h b front u back e = go (append_split (flat_map (shares co
           before = inl (refl, there.0);
           asking = part.asking;
           u_is = part.u_is ∙ ap (λ (n : ℕ). seen config r b.rec n part.t) number;
-          front_is = s.front_is ∙ ap (λ (vs : List Judged). flat_map (shares config r) (take b.i h) ++ vs) (part.front_is ∙ ap (λ (ts : List Transaction). judged_at b.rec.version (parts_from config b.rec r 0 ts)) (take-take_le b.rec.batch part.k b.n (omega (arith, there.0))));
+          front_is = s.front_is ∙ ap (λ (vs : List JudgedPart). flat_map (shares config r) (take b.i h) ++ vs) (part.front_is ∙ ap (λ (ts : List Transaction). judged_at b.rec.version (parts_from config b.rec r 0 ts)) (take-take_le b.rec.batch part.k b.n (omega (arith, there.0))));
         }

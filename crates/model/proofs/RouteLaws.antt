@@ -1,6 +1,7 @@
 -- The row that serves a key is the greatest of the keyServers rows at or before it.
 use Rattle.std.proofs.Common.{◌≡◌, refl, sym, ap, ◌∙◌, subst, List, [], ◌∷◌, ◌++◌, map, length, take, drop, Bool, true, false, cond, not, Option, Some, None, filter, Contains, Ordering, Less, Equal, nat_cmp, is_lt, nat_eq, take-append-drop, ap₂, inl, inr}
 use Rattle.std.proofs.Math.Seq.{take-append_seam, drop-append_seam}
+use Rattle.std.specs.Prelude.{◌↔◌}
 use Rattle.std.specs.List.{AllByRecursion, last_or, starts_with}
 use Rattle.std.specs.List.Sorted.{IsStrictlySortedBy}
 use Rattle.std.specs.Map.{keys_of}
@@ -138,6 +139,12 @@ key_servers_in_order (e ∷ rows) s = by (is_key_servers e) refl (key_servers_in
     by : (t : Bool) → is_key_servers e ≡ t → IsInOrder (key_servers rows) → IsInOrder (map behind_prefix (cond t (e ∷ filter is_key_servers rows) (filter is_key_servers rows)))
     by true is rest = (stripped_behind e rows is s.0, rest)
     by false other rest = rest
+
+-- the row of a key is the one that serves it
+pub serves_iff : (rows : Rows) (key : Key) (row : Row) → IsInOrder rows → (row_of (key_servers rows) key ≡ Some row) ↔ Serves (key_servers rows) key row
+serves_iff rows key row s =
+    let order = key_servers_in_order rows s in
+    (serves_from (key_servers rows) key row order, from_serves (key_servers rows) key row order)
 
 -- ---- and they are rows of the map
 

@@ -1,23 +1,46 @@
 -- Journals and outcomes where sayings are alike: by a longer history, and by verdict cells.
-use Rattle.std.proofs.Common.{◌≡◌, refl, sym, ap, ◌∙◌, subst, ℕ, zero, suc, ◌+◌, ◌<◌, List, [], ◌∷◌, ◌++◌, map, length, take, drop, arith}
-use Rattle.std.proofs.lemmas.List.{map-append, take-append-drop}
+use Rattle.std.proofs.Common.{◌≡◌, refl, sym, ap, ◌∙◌, subst, ℕ, zero, suc, ◌+◌, ◌<◌, ◌≤◌, List, [], ◌∷◌, ◌++◌, map, length, take, drop, arith}
+use Rattle.std.proofs.lemmas.List.{map-append, take-append-drop, take-append-le}
 use Rattle.std.proofs.lemmas.List.Elements.{filter-append}
 use Rattle.std.proofs.lemmas.List.Sums.{fold-append}
 use Rattle.std.proofs.lemmas.Option.{slice_get_within}
-use Rattle.std.specs.Prelude.{Bool, true, false, ◌&&◌, not, slice_get, Some, filter, cond, fold}
+use mathlib.Core.Logic.{inl, inr}
+use Rattle.std.specs.Prelude.{Bool, true, false, ◌&&◌, not, if◌then◌else◌, slice_get, Option, Some, None, filter, cond, fold, nat_eq, Contains}
 use Rattle.model.specs.declared.config.Config.{Config}
+use Rattle.model.specs.declared.part.Part.{Part}
 use Rattle.model.specs.declared.verdict.Verdict.{Verdict}
+use Rattle.model.specs.declared.verdict.Verdict.TheVariants.{Committed}
 use Rattle.model.specs.declared.journal.JournalRow.{JournalRow}
-use Rattle.model.specs.Transactions.{Transaction}
+use Rattle.model.specs.declared.unseen.UnseenRow.{UnseenRow}
+use Rattle.model.specs.declared.reply.Reply.{Reply}
+use Rattle.model.specs.Transactions.{Transaction, is_state_transaction}
 use Rattle.model.specs.Records.{Record, Follows, IsHistory}
-use Rattle.model.specs.Shares.{asks, each_below}
-use Rattle.model.specs.Verdicts.{joined}
+use Rattle.model.specs.Shares.{share, asks, each_below}
+use Rattle.model.specs.Verdicts.{joined, share_verdicts}
 use Rattle.model.specs.Metadata.{is_locked, after_row, metadata}
-use Rattle.model.specs.Journal.{Sayings, SaysAlike, verdict_in, known_in, journal_row, journal}
-use Rattle.model.specs.Outcomes.{joined_verdict, outcome_by, outcome, outcomes_from, outcomes}
+use Rattle.model.specs.Journal.{Sayings, SaysAlike, verdict_in, verdict_in_row, verdict_in_record, verdict_at, list_at, known_in, known_in_row, journal_row, journal, carried_by, told_from, told_row, is_after, unseen}
+use Rattle.model.specs.Outcomes.{joined_verdict, outcome_by, outcome, outcomes_from, outcomes_after, outcomes}
+use Rattle.model.specs.World.{reply_of, tagged_all, finished_after, finished_batch}
 use Rattle.model.specs.Agreed.{Columns, AreVerdicts}
+use Rattle.model.proofs.Members.{Has, Contains-from_Has}
 use Rattle.model.proofs.Places.{row_at, slice_get-take, slice_get-take_back, take-take_le}
 use Rattle.model.proofs.ShareLaws.{known_in_is, slice_get-append_left, verdict_in_later, journal_row_alike}
+
+-- ---- the journal of more and of fewer records
+
+pub journal_append : (config : Config) (says : Sayings) (h later : List Record) → journal config says (h ++ later) ≡ journal config says h ++ journal config says later
+unfolding journal
+journal_append config says h later = map-append (journal_row config says) h later
+
+pub journal_push : (config : Config) (says : Sayings) (h : List Record) (rec : Record) → journal config says (h ++ rec ∷ []) ≡ journal config says h ++ journal_row config says rec ∷ []
+unfolding journal
+journal_push config says h rec = map-append (journal_row config says) h (rec ∷ [])
+
+pub journal_take : (config : Config) (says : Sayings) (h : List Record) (n : ℕ) → take n (journal config says h) ≡ journal config says (take n h)
+unfolding journal
+journal_take config says h zero = refl
+journal_take config says [] (suc n) = refl
+journal_take config says (rec ∷ h) (suc n) = ap (λ (rows : List JournalRow). journal_row config says rec ∷ rows) (journal_take config says h n)
 
 -- ---- sayings that are alike
 
@@ -59,7 +82,7 @@ outcomes_from_alike config says told locked rec n (t ∷ ts) alike at =
     later k u there = let same : suc n + k ≡ n + suc k = omega arith in rw same (at (suc k) u there)
 
 pub outcomes_alike : (config : Config) (says told : Sayings) (before : List Record) (rec : Record) → AllAlike config says told before → SaysAlike config says told rec → outcomes config says before rec ≡ outcomes config told before rec
-unfolding outcomes
+unfolding outcomes_after
 outcomes_alike config says told before rec all alike =
     rw (journal_alike config says told before all) (outcomes_from_alike config says told (is_locked (metadata (journal config told before))) rec 0 rec.batch alike (λ k t there. let same : 0 + k ≡ k = omega arith in rw same there))
 
@@ -72,9 +95,21 @@ outcomes_from_at config says locked rec m (u ∷ ts) zero n t number at =
     rw (same, here)
 outcomes_from_at config says locked rec m (u ∷ ts) (suc k) n t number at = outcomes_from_at config says locked rec (suc m) ts k n t (omega arith) at
 
+pub outcomes_after_at : (config : Config) (says : Sayings) (journal_before : List JournalRow) (rec : Record) (n : ℕ) (t : Transaction) → slice_get rec.batch n ≡ Some t → slice_get (outcomes_after config says journal_before rec) n ≡ Some (outcome config says (is_locked (metadata journal_before)) rec n t)
+unfolding outcomes_after
+outcomes_after_at config says journal_before rec n t at = outcomes_from_at config says (is_locked (metadata journal_before)) rec 0 rec.batch n n t (omega arith) at
+
 pub outcomes_at : (config : Config) (says : Sayings) (before : List Record) (rec : Record) (n : ℕ) (t : Transaction) → slice_get rec.batch n ≡ Some t → slice_get (outcomes config says before rec) n ≡ Some (outcome config says (is_locked (metadata (journal config says before))) rec n t)
-unfolding outcomes
-outcomes_at config says before rec n t at = outcomes_from_at config says (is_locked (metadata (journal config says before))) rec 0 rec.batch n n t (omega arith) at
+outcomes_at config says before rec n t at = outcomes_after_at config says (journal config says before) rec n t at
+
+-- a finished batch is the same by sayings that are alike
+pub finished_alike : (config : Config) (says told : Sayings) (before : List Record) (rec : Record) → AllAlike config says told before → SaysAlike config says told rec → finished_batch config says before rec ≡ finished_batch config told before rec
+unfolding finished_after
+finished_alike config says told before rec all alike =
+    let earlier : journal config says before ≡ journal config told before = journal_alike config says told before all in
+    let own : journal_row config says rec ≡ journal_row config told rec = journal_row_alike config says told rec alike in
+    let answers : outcomes config says before rec ≡ outcomes config told before rec = outcomes_alike config says told before rec all alike in
+    λ i. record { row = rec.row; version = rec.version; outcomes = answers i; tagged = tagged_all (metadata (earlier i ++ own i ∷ [])) rec.batch (answers i) }
 
 -- ---- beginnings of a history
 
@@ -103,6 +138,12 @@ pub outcomes_later : (config : Config) (h later : List Record) (i : ℕ) (rec : 
 outcomes_later config h later i rec history at =
     outcomes_alike config (verdict_in config (h ++ later)) (verdict_in config h) (take i h) rec (λ j s there. later_alike config h later history j s (slice_get-take h i j s there).1) (later_alike config h later history i rec at)
 
+pub finished_later : (config : Config) (h later : List Record) (i : ℕ) (rec : Record) → IsHistory config h → slice_get h i ≡ Some rec → finished_batch config (verdict_in config (h ++ later)) (take i (h ++ later)) rec ≡ finished_batch config (verdict_in config h) (take i h) rec
+finished_later config h later i rec history at =
+    let within = slice_get_within h i rec at in
+    ap (λ (before : List Record). finished_batch config (verdict_in config (h ++ later)) before rec) (take-append-le i h later (omega arith))
+    ∙ finished_alike config (verdict_in config (h ++ later)) (verdict_in config h) (take i h) rec (λ j s there. later_alike config h later history j s (slice_get-take h i j s there).1) (later_alike config h later history i rec at)
+
 -- ---- verdict cells
 
 known_in_later : (config : Config) (h later : List Record) (columns : Columns) (r i n : ℕ) → i < length h → known_in config (h ++ later) columns r i n ≡ known_in config h columns r i n
@@ -119,20 +160,123 @@ cells_alike config h columns n history cells i rec at =
     record {
       same = λ r m t resolver inside asking.
           subst (λ (whole : List Record). known_in config whole columns r rec.row m ≡ known_in config (take n h) columns r rec.row m) (take-append-drop n h) (known_in_later config (take n h) (drop n h) columns r rec.row m below)
-          ∙ known_in_is config (take n h) columns r rec.row m rec t there inside asking (cells r rec.row rec resolver there);
+          ∙ known_in_is config (take n h) columns r rec.row m rec t there inside asking (cells r resolver rec.row rec there);
     }
 
 pub journal_known : (config : Config) (h : List Record) (columns : Columns) (n : ℕ) → IsHistory config h → AreVerdicts config (take n h) columns → journal config (known_in config h columns) (take n h) ≡ journal config (verdict_in config (take n h)) (take n h)
 journal_known config h columns n history cells = journal_alike config (known_in config h columns) (verdict_in config (take n h)) (take n h) (cells_alike config h columns n history cells)
 
+-- the same of the records before one of them
+cells_alike_before : (config : Config) (h : List Record) (columns : Columns) (n i : ℕ) → i < n → IsHistory config h → AreVerdicts config (take n h) columns → AllAlike config (known_in config h columns) (verdict_in config (take n h)) (take i h)
+cells_alike_before config h columns n i below history cells j s there =
+    let both = slice_get-take h i j s there in
+    cells_alike config h columns n history cells j s (slice_get-take_back h n j s (omega (arith, below, both.0)) both.1)
+
 pub outcomes_known : (config : Config) (h : List Record) (columns : Columns) (n i : ℕ) (rec : Record) → IsHistory config h → AreVerdicts config (take n h) columns → slice_get (take n h) i ≡ Some rec → outcomes config (known_in config h columns) (take i h) rec ≡ outcomes config (verdict_in config (take n h)) (take i h) rec
 outcomes_known config h columns n i rec history cells at =
-    outcomes_alike config (known_in config h columns) (verdict_in config (take n h)) (take i h) rec
-    (λ j s there. cells_alike config h columns n history cells j s (inner j s (slice_get-take h i j s there)))
-    (cells_alike config h columns n history cells i rec at)
-  where
-    below : i < n
-    below = (slice_get-take h n i rec at).0
+    outcomes_alike config (known_in config h columns) (verdict_in config (take n h)) (take i h) rec (cells_alike_before config h columns n i (slice_get-take h n i rec at).0 history cells) (cells_alike config h columns n history cells i rec at)
 
-    inner : (j : ℕ) (s : Record) → (j < i) × (slice_get h j ≡ Some s) → slice_get (take n h) j ≡ Some s
-    inner j s both = slice_get-take_back h n j s (omega (arith, below, both.0)) both.1
+pub finished_known : (config : Config) (h : List Record) (columns : Columns) (n i : ℕ) (rec : Record) → IsHistory config h → AreVerdicts config (take n h) columns → slice_get (take n h) i ≡ Some rec → finished_batch config (known_in config h columns) (take i h) rec ≡ finished_batch config (verdict_in config (take n h)) (take i h) rec
+finished_known config h columns n i rec history cells at =
+    finished_alike config (known_in config h columns) (verdict_in config (take n h)) (take i h) rec (cells_alike_before config h columns n i (slice_get-take h n i rec at).0 history cells) (cells_alike config h columns n history cells i rec at)
+
+-- ---- what nobody said
+
+said_at : (parts : List Part) (verdicts : List Verdict) (n : ℕ) → verdict_at parts verdicts n ≡ Committed → Has verdicts Committed
+said_at [] verdicts n said = absurd (cc)
+said_at (part ∷ parts) [] n said = absurd (cc)
+said_at (part ∷ parts) (verdict ∷ verdicts) n said = by (nat_eq part.number n) said (said_at parts verdicts n)
+  where
+    by : (b : Bool) → (if b then verdict else verdict_at parts verdicts n) ≡ Committed → (verdict_at parts verdicts n ≡ Committed → Has verdicts Committed) → Has (verdict ∷ verdicts) Committed
+    by true here later = inl here
+    by false there later = inr (later there)
+
+-- what the cells say is Committed only where a cell says so
+pub said_by_cell : (config : Config) (h : List Record) (columns : Columns) (r i n : ℕ) → known_in config h columns r i n ≡ Committed → Contains (list_at (list_at columns r) i) Committed
+unfolding known_in
+said_by_cell config h columns r i n said = by (slice_get h i) said
+  where
+    by : (found : Option Record) → known_in_row config (list_at (list_at columns r) i) r n found ≡ Committed → Contains (list_at (list_at columns r) i) Committed
+    by None none = absurd (cc)
+    by (Some rec) there = Contains-from_Has (list_at (list_at columns r) i) Committed (said_at (share config rec r) (list_at (list_at columns r) i) n there)
+
+-- what a history says is Committed only where the transaction is there
+pub said_of_one : (config : Config) (h : List Record) (r i n : ℕ) → verdict_in config h r i n ≡ Committed → (rec : Record) × (t : Transaction) × (slice_get h i ≡ Some rec) × (slice_get rec.batch n ≡ Some t)
+unfolding verdict_in
+said_of_one config h r i n said = by (slice_get h i) refl said
+  where
+    among : (rec : Record) → slice_get h i ≡ Some rec → (found : Option Transaction) → slice_get rec.batch n ≡ found → verdict_in_record config r (take i h) rec n found ≡ Committed → (rec : Record) × (t : Transaction) × (slice_get h i ≡ Some rec) × (slice_get rec.batch n ≡ Some t)
+    among rec at None none said = absurd (cc)
+    among rec at (Some t) there said = (rec, t, at, there)
+
+    by : (found : Option Record) → slice_get h i ≡ found → verdict_in_row config h r i n found ≡ Committed → (rec : Record) × (t : Transaction) × (slice_get h i ≡ Some rec) × (slice_get rec.batch n ≡ Some t)
+    by None none said = absurd (cc)
+    by (Some rec) at said = among rec at (slice_get rec.batch n) refl said
+
+-- ---- two holders
+
+-- what a holder knows of a row hangs on its record and its cells alone
+known_alike : (config : Config) (h g : List Record) (mine theirs : Columns) (i : ℕ) (rec : Record) → rec.row ≡ i → slice_get h i ≡ Some rec → slice_get g i ≡ Some rec
+    → ((r : ℕ) → r < config.resolvers → list_at (list_at mine r) i ≡ list_at (list_at theirs r) i) → SaysAlike config (known_in config h mine) (known_in config g theirs) rec
+unfolding known_in
+known_alike config h g mine theirs i rec row in_h in_g cells =
+    record {
+      same = λ r n t resolver there asking.
+          let cell = cells r resolver in
+          subst (λ (k : ℕ). known_in config h mine r k n ≡ known_in config g theirs r k n) (sym row) (rw (in_h, in_g, cell));
+    }
+
+pub journals_meet : (config : Config) (h g : List Record) (mine theirs : Columns) (m n : ℕ) → IsHistory config h → m ≤ n → take m h ≡ take m g
+    → ((r i : ℕ) → r < config.resolvers → i < m → list_at (list_at mine r) i ≡ list_at (list_at theirs r) i)
+    → take m (journal config (known_in config h mine) (take n h)) ≡ journal config (known_in config g theirs) (take m g)
+journals_meet config h g mine theirs m n history fewer same cells =
+    journal_take config (known_in config h mine) (take n h) m ∙ ap (journal config (known_in config h mine)) (take-take_le h m n fewer ∙ same) ∙ journal_alike config (known_in config h mine) (known_in config g theirs) (take m g) alike
+  where
+    alike : AllAlike config (known_in config h mine) (known_in config g theirs) (take m g)
+    alike i rec at =
+        let in_g = slice_get-take g m i rec at in
+        let in_h = slice_get-take h m i rec (ap (λ (rs : List Record). slice_get rs i) same ∙ at) in
+        known_alike config h g mine theirs i rec (row_at config h i rec history in_h.1) in_h.1 in_g.1 (λ r resolver. cells r i resolver in_g.0)
+
+-- ---- replies
+
+told_from_alike : (says other : Sayings) (r : ℕ) (rec : Record) (n : ℕ) (ts : List Transaction) → ((k : ℕ) → says r rec.row k ≡ other r rec.row k) → told_from says r rec n ts ≡ told_from other r rec n ts
+told_from_alike says other r rec n [] same = refl
+told_from_alike says other r rec n (t ∷ ts) same = by (is_state_transaction t) (told_from_alike says other r rec (suc n) ts same)
+  where
+    by : (b : Bool) → told_from says r rec (suc n) ts ≡ told_from other r rec (suc n) ts
+        → (if b then (record { verdict = says r rec.row n; carried = carried_by r t }) ∷ told_from says r rec (suc n) ts else told_from says r rec (suc n) ts) ≡ (if b then (record { verdict = other r rec.row n; carried = carried_by r t }) ∷ told_from other r rec (suc n) ts else told_from other r rec (suc n) ts)
+    by true rest = λ i. (record { verdict = same n i; carried = carried_by r t }) ∷ rest i
+    by false rest = rest
+
+told_row_alike : (says other : Sayings) (r : ℕ) (rec : Record) → ((k : ℕ) → says r rec.row k ≡ other r rec.row k) → told_row says r rec ≡ told_row other r rec
+unfolding told_row
+told_row_alike says other r rec same = λ i. record { version = rec.version; states = told_from_alike says other r rec 0 rec.batch same i }
+
+map_passing : {X Y : Type 0} (f g : X → Y) (test : X → Bool) (xs : List X) → ((k : ℕ) (x : X) → slice_get xs k ≡ Some x → f x ≡ g x) → map f (filter test xs) ≡ map g (filter test xs)
+map_passing f g test [] same = refl
+map_passing {X} {Y} f g test (x ∷ xs) same = by (test x) (map_passing f g test xs (λ k y at. same (suc k) y at))
+  where
+    by : (b : Bool) → map f (filter test xs) ≡ map g (filter test xs) → map f (cond b (x ∷ filter test xs) (filter test xs)) ≡ map g (cond b (x ∷ filter test xs) (filter test xs))
+    by true rest = λ i. same 0 x refl i ∷ rest i
+    by false rest = rest
+
+unseen_later : (config : Config) (h later : List Record) (r i : ℕ) (rec : Record) → IsHistory config h → unseen (verdict_in config (h ++ later)) r (take i h) rec ≡ unseen (verdict_in config h) r (take i h) rec
+unfolding unseen
+unseen_later config h later r i rec history =
+    map_passing (told_row (verdict_in config (h ++ later)) r) (told_row (verdict_in config h) r) (is_after rec.own_previous) (take i h)
+    (λ k s at.
+    let there = (slice_get-take h i k s at).1 in
+    let within = slice_get_within h k s there in
+    let row = row_at config h k s history there in
+    told_row_alike (verdict_in config (h ++ later)) (verdict_in config h) r s (λ n. verdict_in_later config h later r s.row n (omega arith)))
+
+pub replies_later : (config : Config) (h later : List Record) (r i : ℕ) (rec : Record) → IsHistory config h → slice_get h i ≡ Some rec → reply_of config (verdict_in config (h ++ later)) r (take i (h ++ later)) rec ≡ reply_of config (verdict_in config h) r (take i h) rec
+replies_later config h later r i rec history at =
+    let within = slice_get_within h i rec at in
+    ap (λ (before : List Record). reply_of config (verdict_in config (h ++ later)) r before rec) (take-append-le i h later (omega arith))
+    ∙ ap (λ (rows : List UnseenRow). reply_by config r (take i h) rec rows) (unseen_later config h later r i rec history)
+  where
+    -- the reply with other rows
+    reply_by : Config → ℕ → List Record → Record → List UnseenRow → Reply
+    reply_by config r before rec rows = record { resolver = r; proxy = rec.proxy; row = rec.row; version = rec.version; verdicts = share_verdicts config r before rec; unseen = rows }

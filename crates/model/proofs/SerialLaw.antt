@@ -1,8 +1,8 @@
 -- Every history obeys the rule of commit.
-use Rattle.std.proofs.Common.{◌≡◌, refl, sym, ap, ◌∙◌, subst, ℕ, zero, suc, ◌-◌, ◌<◌, max, List, [], ◌∷◌, ◌++◌, map, take, arith}
+use Rattle.std.proofs.Common.{◌≡◌, refl, sym, ap, ◌∙◌, subst, ℕ, ◌-◌, ◌<◌, max, List, [], ◌∷◌, map, take, arith}
 use Rattle.std.specs.Prelude.{Bool, true, false, ◌&&◌, ◌||◌, not, ◌⊎◌, if◌then◌else◌, nat_lt, slice_get, Contains}
 use Rattle.std.specs.List.{list_any}
-use Rattle.std.proofs.lemmas.Bool.{lt-ltb, ltb-true, ltb-false, or_left, or_right, and_parts, and_from}
+use Rattle.std.proofs.lemmas.Bool.{lt-ltb, or_left, or_right, and_parts, and_from}
 use mathlib.Core.Logic.{inl, inr}
 use Rattle.system_keys.specs.Keys.{Key, Range, holds}
 use Rattle.model.specs.declared.config.Config.{Config}
@@ -13,16 +13,17 @@ use Rattle.model.specs.Transactions.{Transaction, is_state_transaction, all_read
 use Rattle.model.specs.Owners.{asks_write, asks_read, is_last, is_met, owners}
 use Rattle.model.specs.Records.{Record, IsConfig, IsHistory, oldest}
 use Rattle.model.specs.Shares.{asks, asked, each_below, read_bound}
-use Rattle.model.specs.Verdicts.{Judged, has_some, is_too_old, is_after_snapshot, reads_a_write, committed_after, joined}
+use Rattle.model.specs.Verdicts.{JudgedPart, has_some, is_too_old, is_after_snapshot, reads_a_write, committed_after, joined}
 use Rattle.model.specs.Metadata.{is_locked, metadata}
 use Rattle.model.specs.Journal.{verdict_in, verdict_in_row, journal}
 use Rattle.model.specs.Outcomes.{joined_verdict, outcome_by, outcome}
 use Rattle.model.specs.Serial.{Place, IsBetween, IsCommitted, IsSerial, seen_at, verdict_at_place}
+use Rattle.model.proofs.HistoryLaws.{Has-each_below}
 use Rattle.model.proofs.OwnerLaws.{asks_write_iff, asks_read_iff}
 use Rattle.model.proofs.MoveLaws.{grows}
 use Rattle.model.proofs.AskedLaws.{some_last, last_met, met_or_old}
 use Rattle.model.proofs.JoinLaws.{joined_committed}
-use Rattle.model.proofs.Members.{Has, Has-map, Has-from_Contains, Contains-from_Has, Has-append_left, Has-append_right, list_any-from_Has, Has-filter}
+use Rattle.model.proofs.Members.{Has, Has-map, Has-from_Contains, Contains-from_Has, list_any-from_Has, Has-filter}
 use Rattle.model.proofs.Places.{row_at, same_record, judged_before_place, verdict_at_place_is}
 use Rattle.model.proofs.PlaceLaws.{verdict-from_HasConflictWith}
 
@@ -35,14 +36,6 @@ outcome_by_committed : (v : Verdict) (refused : Bool) (version number : ℕ) →
 outcome_by_committed verdicts.Conflict refused version number e = absurd (cc)
 outcome_by_committed verdicts.TooOld refused version number e = absurd (cc)
 outcome_by_committed verdicts.Committed refused version number e = refl
-
-Has-each_below : (n r : ℕ) → r < n → Has (each_below n) r
-Has-each_below zero r below = absurd (omega arith)
-Has-each_below (suc n) r below = go (nat_lt r n) refl (λ (less : r < n). Has-each_below n r less)
-  where
-    go : (b : Bool) → nat_lt r n ≡ b → (r < n → Has (each_below n) r) → Has (each_below n ++ n ∷ []) r
-    go true less sooner = Has-append_left (each_below n) (n ∷ []) r (sooner (ltb-true r n less))
-    go false more sooner = Has-append_right (each_below n) (n ∷ []) r (inl (let above = ltb-false r n more in omega arith))
 
 verdict_in_at_place : (config : Config) (r : ℕ) (h : List Record) (a : Place h) → IsHistory config h → verdict_in config h r a.rec.row a.n ≡ verdict_at_place config r h a
 unfolding verdict_in
@@ -63,7 +56,7 @@ in_time_from_committed false hit e = refl
 
 committed_in_time : (config : Config) (r : ℕ) (h : List Record) (a : Place h) → verdict_at_place config r h a ≡ verdicts.Committed → is_too_old config.window (seen_at config r a) ≡ false
 committed_in_time config r h a committed =
-    in_time_from_committed (is_too_old config.window (seen_at config r a)) (list_any (λ (u : Judged). is_after_snapshot (seen_at config r a) u && reads_a_write (seen_at config r a) u) (committed_after config.window [] (judged_before_place config r h a))) (sym (verdict_at_place_is config r h a) ∙ committed)
+    in_time_from_committed (is_too_old config.window (seen_at config r a)) (list_any (λ (u : JudgedPart). is_after_snapshot (seen_at config r a) u && reads_a_write (seen_at config r a) u) (committed_after config.window [] (judged_before_place config r h a))) (sym (verdict_at_place_is config r h a) ∙ committed)
 
 -- ---- who is asked
 
@@ -71,17 +64,17 @@ asked_by_write : (config : Config) (r : ℕ) (rec : Record) (t : Transaction) (w
 asked_by_write config r rec t write key there inside owns =
     let test = (asks_write_iff rec.moves r write).1 (record { key = key; inside = inside; owns = owns }) in
     let some = list_any-from_Has (asks_write rec.moves r) t.writes write (Has-from_Contains t.writes write there) test in
-    (test, or_right (is_state_transaction t || list_any (asks_read rec.moves (read_bound config rec t) r) (all_reads t)) (list_any (asks_write rec.moves r) t.writes) some)
+    (test, or_right (is_state_transaction t || list_any (asks_read rec.moves (read_bound (oldest config rec) t) r) (all_reads t)) (list_any (asks_write rec.moves r) t.writes) some)
 
-asked_by_read : (config : Config) (r : ℕ) (rec : Record) (t : Transaction) (read : Range) (key : Key) → Contains (all_reads t) read → holds read key ≡ true → is_met (read_bound config rec t) r (owners rec.moves key) ≡ true → (asks_read rec.moves (read_bound config rec t) r read ≡ true) × (asks config rec r t ≡ true)
+asked_by_read : (config : Config) (r : ℕ) (rec : Record) (t : Transaction) (read : Range) (key : Key) → Contains (all_reads t) read → holds read key ≡ true → is_met (read_bound (oldest config rec) t) r (owners rec.moves key) ≡ true → (asks_read rec.moves (read_bound (oldest config rec) t) r read ≡ true) × (asks config rec r t ≡ true)
 asked_by_read config r rec t read key there inside met =
-    let test = (asks_read_iff rec.moves (read_bound config rec t) r read).1 (record { key = key; inside = inside; met = met }) in
-    let some = list_any-from_Has (asks_read rec.moves (read_bound config rec t) r) (all_reads t) read (Has-from_Contains (all_reads t) read there) test in
-    (test, or_left (is_state_transaction t || list_any (asks_read rec.moves (read_bound config rec t) r) (all_reads t)) (list_any (asks_write rec.moves r) t.writes) (or_right (is_state_transaction t) (list_any (asks_read rec.moves (read_bound config rec t) r) (all_reads t)) some))
+    let test = (asks_read_iff rec.moves (read_bound (oldest config rec) t) r read).1 (record { key = key; inside = inside; met = met }) in
+    let some = list_any-from_Has (asks_read rec.moves (read_bound (oldest config rec) t) r) (all_reads t) read (Has-from_Contains (all_reads t) read there) test in
+    (test, or_left (is_state_transaction t || list_any (asks_read rec.moves (read_bound (oldest config rec) t) r) (all_reads t)) (list_any (asks_write rec.moves r) t.writes) (or_right (is_state_transaction t) (list_any (asks_read rec.moves (read_bound (oldest config rec) t) r) (all_reads t)) some))
 
-read_seen : (config : Config) (r : ℕ) (h : List Record) (b : Place h) (read : Range) → Contains (all_reads b.transaction) read → asks_read b.rec.moves (read_bound config b.rec b.transaction) r read ≡ true → Contains (seen_at config r b).part.reads read
+read_seen : (config : Config) (r : ℕ) (h : List Record) (b : Place h) (read : Range) → Contains (all_reads b.transaction) read → asks_read b.rec.moves (read_bound (oldest config b.rec) b.transaction) r read ≡ true → Contains (seen_at config r b).part.reads read
 read_seen config r h b read there test =
-    Contains-from_Has (seen_at config r b).part.reads read (Has-filter (asks_read b.rec.moves (read_bound config b.rec b.transaction) r) (all_reads b.transaction) read (Has-from_Contains (all_reads b.transaction) read there) test)
+    Contains-from_Has (seen_at config r b).part.reads read (Has-filter (asks_read b.rec.moves (read_bound (oldest config b.rec) b.transaction) r) (all_reads b.transaction) read (Has-from_Contains (all_reads b.transaction) read there) test)
 
 write_seen : (config : Config) (r : ℕ) (h : List Record) (a : Place h) (write : Range) → Contains a.transaction.writes write → asks_write a.rec.moves r write ≡ true → Contains (seen_at config r a).part.writes write
 write_seen config r h a write there test =
@@ -105,7 +98,7 @@ record Pair (config : Config) (h : List Record) : Type 0 where
   pub inside_read : holds read key ≡ true
 
 -- the owner of the key at the first transaction is asked about the read: it finds the conflict
-refused_by_owner : (config : Config) (h : List Record) (p : Pair config h) (r : ℕ) → IsHistory config h → r < config.resolvers → is_last r (owners p.a.rec.moves p.key) ≡ true → is_met (read_bound config p.b.rec p.b.transaction) r (owners p.b.rec.moves p.key) ≡ true → ⊥
+refused_by_owner : (config : Config) (h : List Record) (p : Pair config h) (r : ℕ) → IsHistory config h → r < config.resolvers → is_last r (owners p.a.rec.moves p.key) ≡ true → is_met (read_bound (oldest config p.b.rec) p.b.transaction) r (owners p.b.rec.moves p.key) ≡ true → ⊥
 refused_by_owner config h p r history there last met =
     let write = asked_by_write config r p.a.rec p.a.transaction p.write p.key p.write_in p.inside_write last in
     let read = asked_by_read config r p.b.rec p.b.transaction p.read p.key p.read_in p.inside_read met in
@@ -133,7 +126,7 @@ has_some-from_Contains (x ∷ xs) range there = refl
 refused_by_age : (config : Config) (h : List Record) (p : Pair config h) → IsConfig config → IsHistory config h → p.b.transaction.snapshot < oldest config p.b.rec → ⊥
 refused_by_age config h p limits history old =
     let last = some_last config h p.b.i p.b.rec p.key (omega (arith, limits.resolvers.0)) history p.b.record_is in
-    let met = last_met (read_bound config p.b.rec p.b.transaction) last.resolver (owners p.b.rec.moves p.key) last.last in
+    let met = last_met (read_bound (oldest config p.b.rec) p.b.transaction) last.resolver (owners p.b.rec.moves p.key) last.last in
     let read = asked_by_read config last.resolver p.b.rec p.b.transaction p.read p.key p.read_in p.inside_read met in
     let said = committed_by_asked config last.resolver h p.b history p.committed_b last.there read.1 in
     let in_time = committed_in_time config last.resolver h p.b said in
@@ -148,7 +141,7 @@ refused config h p limits history (inl same) =
     let last = some_last config h p.a.i p.a.rec p.key (omega (arith, limits.resolvers.0)) history p.a.record_is in
     let one = same_record p.a p.b same.0 in
     let there : is_last last.resolver (owners p.b.rec.moves p.key) ≡ true = subst (λ (rec : Record). is_last last.resolver (owners rec.moves p.key) ≡ true) one last.last in
-    refused_by_owner config h p last.resolver history last.there last.last (last_met (read_bound config p.b.rec p.b.transaction) last.resolver (owners p.b.rec.moves p.key) there)
+    refused_by_owner config h p last.resolver history last.there last.last (last_met (read_bound (oldest config p.b.rec) p.b.transaction) last.resolver (owners p.b.rec.moves p.key) there)
 refused config h p limits history (inr later) =
     let last = some_last config h p.a.i p.a.rec p.key (omega (arith, limits.resolvers.0)) history p.a.record_is in
     let grown = grows config h p.a.i p.b.i p.a.rec p.b.rec history later.0 p.a.record_is p.b.record_is in

@@ -8,8 +8,8 @@ use Rattle.model.specs.declared.part.Part.{Part}
 use Rattle.model.specs.declared.verdict.Verdict.{Verdict}
 use Rattle.model.specs.Transactions.{Transaction, is_state_transaction}
 use Rattle.model.specs.Records.{Record}
-use Rattle.model.specs.Shares.{share, part_of, parts_from, asks, each_below}
-use Rattle.model.specs.Verdicts.{Judged, judged_at, judged_before, verdict_of, verdicts_after, share_verdicts, verdicts_of_askers}
+use Rattle.model.specs.Shares.{share_back_to, part_of, parts_from, asks, each_below}
+use Rattle.model.specs.Verdicts.{JudgedPart, judged_at, judged_before, verdict_of, verdicts_after, share_verdicts, verdicts_of_askers}
 use Rattle.model.specs.Journal.{Sayings, verdict_in, verdict_in_row, verdict_in_record, verdict_at, list_at, known_in, state_of, states_from, journal_row, SaysAlike}
 
 -- ---- parts
@@ -24,7 +24,7 @@ parts_from-append config rec r n m (x ∷ xs) ys e = go (asks config rec r x) (p
     go false later = later
 
 -- a part in the order of judging
-abbrev pub seen : Config → ℕ → Record → ℕ → Transaction → Judged
+abbrev pub seen : Config → ℕ → Record → ℕ → Transaction → JudgedPart
 seen config r rec n t = record { version = rec.version; part = part_of config rec r n t }
 
 -- what was judged, with one transaction more that asks the resolver
@@ -59,7 +59,7 @@ verdicts_after_share config r before rec earlier (t ∷ ts) n e =
 
 -- what a resolver says of its share
 pub share_verdicts_are : (config : Config) (r : ℕ) (before : List Record) (rec : Record) → share_verdicts config r before rec ≡ verdicts_of_askers config r before rec [] rec.batch
-unfolding share_verdicts share
+unfolding share_verdicts share_back_to
 share_verdicts_are config r before rec = verdicts_after_share config r before rec [] rec.batch 0 refl
 
 -- ---- verdict cells
@@ -83,7 +83,7 @@ verdict_at_asker config r before rec earlier (x ∷ ts) m (suc k) n t e number a
 
 pub known_in_is : (config : Config) (h : List Record) (columns : List (List (List Verdict))) (r i n : ℕ) (rec : Record) (t : Transaction) → slice_get h i ≡ Some rec → slice_get rec.batch n ≡ Some t → asks config rec r t ≡ true →
     list_at (list_at columns r) i ≡ share_verdicts config r (take i h) rec → known_in config h columns r i n ≡ verdict_in config h r i n
-unfolding known_in verdict_in share
+unfolding known_in verdict_in share_back_to
 known_in_is config h columns r i n rec t at there asking cell =
     rw (at, there, cell, share_verdicts_are config r (take i h) rec) (verdict_at_asker config r (take i h) rec [] rec.batch 0 n n t refl (omega arith) there asking)
 

@@ -2,18 +2,25 @@
 use Rattle.std.proofs.Common.{◌≡◌, refl, sym, ap, ◌∙◌, subst, ℕ, zero, suc, ◌<◌, ◌≤◌, List, [], ◌∷◌, ◌++◌, map, length, take, filter, Bool, true, false, cond, nat_lt, nat_le, if◌then◌else◌, slice_get, Option, Some, length-append, option_map, ◌⊎◌, inl, inr, append_assoc, leb-true, leb-false, lt-ltb, le-ltb, arith}
 use Rattle.std.proofs.Math.Seq.{take-append_seam}
 use Rattle.std.proofs.lemmas.Bool.{cases_order, lt-leb}
+use Rattle.std.proofs.lemmas.List.{length-map}
 use Rattle.std.specs.Prelude.{unwrap_or}
 use Rattle.std.proofs.lemmas.Option.{slice_get-map}
 use Rattle.model.specs.declared.config.Config.{Config}
 use Rattle.model.specs.declared.verdict.Verdict.{Verdict}
-use Rattle.model.specs.declared.verdict.Verdict.TheVariants.{Committed}
+use Rattle.model.specs.declared.verdict.Verdict.TheVariants.{Conflict}
+use Rattle.model.specs.declared.journal.StateTxn.{StateTxn}
+use Rattle.model.specs.declared.journal.JournalRow.{JournalRow}
+use Rattle.model.specs.declared.unseen.Carried.{Carried}
+use Rattle.model.specs.declared.unseen.UnseenState.{UnseenState}
+use Rattle.model.specs.declared.unseen.UnseenRow.{UnseenRow}
 use Rattle.model.specs.Transactions.{Transaction, is_state_transaction}
 use Rattle.model.specs.Records.{Record, IsHistory, Follows, last_version}
 use Rattle.model.specs.Shares.{each_below}
-use Rattle.model.specs.Journal.{Sayings, state_of, states_from, journal_row, journal, carried_by, told_from, told_row, told_of_state, told_of_row, is_after, unseen}
-use Rattle.model.specs.World.{up_to_version}
+use Rattle.model.specs.Journal.{Sayings, state_of, states_from, journal_row, journal, carried_by, told_from, told_row, told_of_state, told_of_row, HaveVerdicts, is_after, unseen}
+use Rattle.model.specs.World.{up_to_version, rows_up_to}
+use Rattle.model.proofs.Members.{Has, Has-from_Contains, Contains-from_Has}
 use Rattle.model.proofs.ShareLaws.{slice_get-append_left}
-use Rattle.model.proofs.WorldLaws.{slice_get-push, last_version-push}
+use Rattle.model.proofs.HistoryLaws.{slice_get-push, last_version-push}
 
 -- ---- what one resolver tells is its part of the journal
 
@@ -30,9 +37,9 @@ slice_get-each_below (suc n) r h = by (cases_order r n) (slice_get-each_below n 
     by (inr (inl below)) rest = slice_get-append_left (each_below n) (n ∷ []) r (omega (arith, length-each_below n)) ∙ rest below
     by (inr (inr above)) rest = absurd (omega arith)
 
-said_by : (config : Config) (says : Sayings) (rec : Record) (n : ℕ) (t : Transaction) (r : ℕ) → r < config.resolvers → unwrap_or (slice_get (state_of config says rec n t).verdicts r) Committed ≡ says r rec.row n
+said_by : (config : Config) (says : Sayings) (rec : Record) (n : ℕ) (t : Transaction) (r : ℕ) → r < config.resolvers → unwrap_or (slice_get (state_of config says rec n t).verdicts r) Conflict ≡ says r rec.row n
 said_by config says rec n t r below =
-    ap (λ (found : Option Verdict). unwrap_or found Committed)
+    ap (λ (found : Option Verdict). unwrap_or found Conflict)
     (slice_get-map (λ (s : ℕ). says s rec.row n) (each_below config.resolvers) r ∙ ap (option_map (λ (s : ℕ). says s rec.row n)) (slice_get-each_below config.resolvers r below))
 
 told_states : (config : Config) (says : Sayings) (rec : Record) (r : ℕ) → r < config.resolvers → (n : ℕ) (ts : List Transaction) → told_from says r rec n ts ≡ map (told_of_state r) (states_from config says rec n ts)
@@ -56,6 +63,55 @@ told_rows config says r below (rec ∷ h) = λ i. told_row_is config says rec r 
 pub unseen_is_told : (config : Config) (says : Sayings) (r : ℕ) (before : List Record) (rec : Record) → r < config.resolvers → unseen says r before rec ≡ map (told_of_row r) (journal config says (filter (is_after rec.own_previous) before))
 unfolding unseen
 unseen_is_told config says r before rec below = told_rows config says r below (filter (is_after rec.own_previous) before)
+
+-- ---- what all resolvers tell leaves no other row
+
+states_verdicts : (config : Config) (says : Sayings) (rec : Record) (n : ℕ) (ts : List Transaction) (t : StateTxn) → Has (states_from config says rec n ts) t → length t.verdicts ≡ config.resolvers
+states_verdicts config says rec n [] t has = absurd has
+states_verdicts config says rec n (u ∷ ts) t has = by (is_state_transaction u) has (states_verdicts config says rec (suc n) ts t)
+  where
+    own : state_of config says rec n u ≡ t → length t.verdicts ≡ config.resolvers
+    own same = ap (λ (s : StateTxn). length s.verdicts) (sym same) ∙ length-map (each_below config.resolvers) (λ (r : ℕ). says r rec.row n) ∙ length-each_below config.resolvers
+
+    by : (b : Bool) → Has (if b then state_of config says rec n u ∷ states_from config says rec (suc n) ts else states_from config says rec (suc n) ts) t → (Has (states_from config says rec (suc n) ts) t → length t.verdicts ≡ config.resolvers) → length t.verdicts ≡ config.resolvers
+    by true (inl same) rest = own same
+    by true (inr later) rest = rest later
+    by false later rest = rest later
+
+pub row_verdicts : (config : Config) (says : Sayings) (rec : Record) → HaveVerdicts config.resolvers (journal_row config says rec)
+unfolding journal_row
+row_verdicts config says rec t there = states_verdicts config says rec 0 rec.batch t (Has-from_Contains (states_from config says rec 0 rec.batch) t there)
+
+-- lists of one length with the same verdict at each place
+same_verdicts : (vs ws : List Verdict) → length vs ≡ length ws → ((r : ℕ) → r < length vs → unwrap_or (slice_get vs r) Conflict ≡ unwrap_or (slice_get ws r) Conflict) → vs ≡ ws
+same_verdicts [] [] same each = refl
+same_verdicts [] (w ∷ ws) same each = absurd (omega arith)
+same_verdicts (v ∷ vs) [] same each = absurd (omega arith)
+same_verdicts (v ∷ vs) (w ∷ ws) same each = λ i. each 0 (omega arith) i ∷ same_verdicts vs ws (omega arith) (λ r within. each (suc r) (omega arith)) i
+
+same_carried : (s t : Carried) → Some s ≡ Some t → s ≡ t
+same_carried s t same = cc
+
+same_state : (n : ℕ) (s t : StateTxn) → 0 < n → length s.verdicts ≡ n → length t.verdicts ≡ n → ((r : ℕ) → r < n → told_of_state r s ≡ told_of_state r t) → s ≡ t
+same_state n s t some in_s in_t each =
+    let carried : Some (record { mutations = s.mutations; lock_aware = s.lock_aware }) ≡ Some (record { mutations = t.mutations; lock_aware = t.lock_aware }) = ap (λ (u : UnseenState). u.carried) (each 0 some) in
+    let both = same_carried (record { mutations = s.mutations; lock_aware = s.lock_aware }) (record { mutations = t.mutations; lock_aware = t.lock_aware }) carried in
+    let verdicts : s.verdicts ≡ t.verdicts = same_verdicts s.verdicts t.verdicts (in_s ∙ sym in_t) (λ r within. ap (λ (u : UnseenState). u.verdict) (each r (omega (arith, within, in_s)))) in
+    λ i. record { mutations = (both i).mutations; lock_aware = (both i).lock_aware; verdicts = verdicts i }
+
+same_states : (n : ℕ) (xs ys : List StateTxn) → 0 < n → ((t : StateTxn) → Has xs t → length t.verdicts ≡ n) → ((t : StateTxn) → Has ys t → length t.verdicts ≡ n) → ((r : ℕ) → r < n → map (told_of_state r) xs ≡ map (told_of_state r) ys) → xs ≡ ys
+same_states n [] [] some in_xs in_ys each = refl
+same_states n [] (y ∷ ys) some in_xs in_ys each = let told = each 0 some in absurd (cc)
+same_states n (x ∷ xs) [] some in_xs in_ys each = let told = each 0 some in absurd (cc)
+same_states n (x ∷ xs) (y ∷ ys) some in_xs in_ys each =
+    λ i. same_state n x y some (in_xs x (inl refl)) (in_ys y (inl refl)) (λ r below. let told = each r below in cc) i
+    ∷ same_states n xs ys some (λ t has. in_xs t (inr has)) (λ t has. in_ys t (inr has)) (λ r below. let told = each r below in cc) i
+
+pub told_exact : (resolvers : ℕ) (a b : JournalRow) → 0 < resolvers → HaveVerdicts resolvers a → HaveVerdicts resolvers b → ((r : ℕ) → r < resolvers → told_of_row r a ≡ told_of_row r b) → a ≡ b
+told_exact resolvers a b some in_a in_b each =
+    let version : a.version ≡ b.version = ap (λ (row : UnseenRow). row.version) (each 0 some) in
+    let states : a.states ≡ b.states = same_states resolvers a.states b.states some (λ t has. in_a t (Contains-from_Has a.states t has)) (λ t has. in_b t (Contains-from_Has b.states t has)) (λ r below. ap (λ (row : UnseenRow). row.states) (each r below)) in
+    λ i. record { version = version i; states = states i }
 
 -- ---- the rows up to a version, and those after it
 
@@ -100,3 +156,8 @@ rise_behind config done (rec ∷ h) chain =
 -- the records of a history up to a version, and then those after it, are all of them
 pub split_at_version : (config : Config) (h : List Record) (version : ℕ) → IsHistory config h → up_to_version version h ++ filter (is_after version) h ≡ h
 split_at_version config h version chain = split_from version 0 h (rise_behind config [] h chain)
+
+-- and so the first ones are the first rows
+pub first_up_to : (config : Config) (h : List Record) (version : ℕ) → IsHistory config h → take (rows_up_to version h) h ≡ up_to_version version h
+first_up_to config h version chain =
+    ap (take (rows_up_to version h)) (sym (split_at_version config h version chain)) ∙ take-append_seam (up_to_version version h) (filter (is_after version) h)

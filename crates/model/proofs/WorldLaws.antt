@@ -1,55 +1,23 @@
--- Every run of events makes a history.
-use Rattle.std.proofs.Common.{◌≡◌, refl, sym, ap, ◌∙◌, subst, ℕ, suc, ◌+◌, ◌<◌, ◌≤◌, ◌⊎◌, inl, inr, List, [], ◌∷◌, ◌++◌, length, take, drop, Bool, true, false, nat_le, if◌then◌else◌, slice_get, slice_index, slice_set, Option, Some, None, length-append, leb-false, arith}
-use Rattle.std.proofs.Math.Seq.{take-append_seam}
-use Rattle.std.proofs.Math.ListN.{drop_of_length-le}
-use Rattle.std.proofs.lemmas.Bool.{cases_order}
-use Rattle.std.proofs.lemmas.List.{length-replicate, length-set, take_all, take-append-le, drop-append-le, length-take}
-use Rattle.std.proofs.lemmas.List.Elements.{All-nil, All-push, All-same}
-use Rattle.std.proofs.lemmas.Option.{slice_get_past}
+-- Every run of events makes a history, and no count of it runs ahead of the records.
+use Rattle.std.proofs.Common.{◌≡◌, refl, sym, ap, ◌∙◌, subst, ℕ, zero, suc, ◌+◌, ◌<◌, ◌≤◌, ◌⊎◌, inl, inr, List, [], ◌∷◌, ◌++◌, length, take, replicate, Bool, true, false, nat_le, nat_lt, if◌then◌else◌, slice_get, slice_index, slice_set, Option, Some, None, length-append, leb-false, arith}
+use Rattle.std.proofs.lemmas.Bool.{cases_order, ltb-false}
+use Rattle.std.proofs.lemmas.List.{length-replicate, length-set}
+use Rattle.std.proofs.lemmas.Option.{slice_get_within}
 use Rattle.system_keys.specs.Keys.{Range}
 use Rattle.model.specs.declared.config.Config.{Config}
 use Rattle.model.specs.declared.moves.Move.{Move}
 use Rattle.model.specs.declared.reply.Reply.{Reply}
 use Rattle.model.specs.Stamps.{Given}
-use Rattle.model.specs.Records.{Record, IsHistory, Follows, IsMadeAfter, last_version, last_moves, of_proxy}
+use Rattle.model.specs.Records.{Record, Follows, IsMadeAfter, version_limit, last_version, of_proxy}
 use Rattle.model.specs.Shares.{each_below}
 use Rattle.model.specs.Journal.{verdict_in}
-use Rattle.model.specs.World.{World, Event, Sequence, MoveRange, Offer, Finish, Happened, IsSound, start, next_record, version_limit, sequenced, moved, reply_of, acknowledged, repeated, offered_at, offered, missing, finishing, finished_next, happens, world_after, refuse, finished_version, Sequenced, Moved, NoSuchProxy, NoSuchResolver, VersionsEnd}
+use Rattle.model.specs.World.{World, Event, Sequence, MoveRange, Offer, Finish, Happened, IsSound, start, next_record, sequenced, moved, reply_of, acknowledged, repeated, offered_at, offered, missing, finishing, finished_next, happens, world_after, refuse, finished_version, Early, Judged, Sequenced, Moved, NoSuchProxy, NoSuchResolver, VersionsEnd}
+use Rattle.model.proofs.Members.{Has, Has-filter}
+use Rattle.model.proofs.HistoryLaws.{push_cases, index_there, set_cases, Has-each_below, no_moves, moves_follow_record, moves_follow_move, of_proxy-append, own_version_up_to}
+use Rattle.model.proofs.Places.{row_at}
 use Rattle.model.proofs.ShareLaws.{slice_get-append_left}
 
--- ---- a record more
-
-pub slice_get-push : {X : Type 0} (xs : List X) (x : X) → slice_get (xs ++ x ∷ []) (length xs) ≡ Some x
-slice_get-push [] x = refl
-slice_get-push (y ∷ ys) x = slice_get-push ys x
-
-pub last_version-push : (h : List Record) (rec : Record) → last_version (h ++ rec ∷ []) ≡ rec.version
-last_version-push [] rec = refl
-last_version-push (x ∷ []) rec = refl
-last_version-push (x ∷ y ∷ h) rec = last_version-push (y ∷ h) rec
-
-pub last_moves-push : (h : List Record) (rec : Record) → last_moves (h ++ rec ∷ []) ≡ rec.moves
-last_moves-push [] rec = refl
-last_moves-push (x ∷ []) rec = refl
-last_moves-push (x ∷ y ∷ h) rec = last_moves-push (y ∷ h) rec
-
--- a history, and a record that may follow it, are a history
-pub history_push : (config : Config) (h : List Record) (rec : Record) → IsHistory config h → Follows config h rec → IsHistory config (h ++ rec ∷ [])
-history_push config h rec chain follows i found at = go (cases_order i (length h))
-  where
-    go : (i ≡ length h) ⊎ ((i < length h) ⊎ (length h < i)) → Follows config (take i (h ++ rec ∷ [])) found
-    go (inl here) =
-        let is : Some found ≡ Some rec = sym at ∙ ap (slice_get (h ++ rec ∷ [])) here ∙ slice_get-push h rec in
-        let same : rec ≡ found = cc in
-        let front : take i (h ++ rec ∷ []) ≡ h = ap (λ (k : ℕ). take k (h ++ rec ∷ [])) here ∙ take-append_seam h (rec ∷ []) in
-        subst (λ (before : List Record). Follows config before found) (sym front) (subst (Follows config h) same follows)
-    go (inr (inl within)) =
-        subst (λ (before : List Record). Follows config before found) (sym (take-append-le i h (rec ∷ []) (omega arith))) (chain i found (sym (slice_get-append_left h (rec ∷ []) i within) ∙ at))
-    go (inr (inr past)) =
-        let end : slice_get (h ++ rec ∷ []) i ≡ None = slice_get_past (h ++ rec ∷ []) i (omega (arith, length-append h (rec ∷ []))) in
-        absurd (cc)
-
--- ---- each event
+-- ---- a batch gets its record
 
 within_limit : (n limit : ℕ) → nat_le limit n ≡ false → n < limit
 within_limit n limit h = leb-false limit n h
@@ -63,9 +31,36 @@ next_follows config w p batch sound there below =
       representable = within_limit (next_record config w p batch).version version_limit below;
       own_previous = refl;
       proxy = within_limit p config.proxies there;
-      kept_moves = sound.kept_moves;
-      further_moves = sound.further_moves;
+      kept_moves = sound.sequencer.kept_moves;
+      further_moves = sound.sequencer.further_moves;
     }
+
+-- the records of a proxy stay where they are
+of_proxy_at : (q : ℕ) (h : List Record) (rec : Record) (k : ℕ) (s : Record) → k < length (of_proxy q h) → slice_get (of_proxy q (h ++ rec ∷ [])) k ≡ Some s → slice_get (of_proxy q h) k ≡ Some s
+of_proxy_at q h rec k s within at = sym (ap (λ (rs : List Record). slice_get rs k) (of_proxy-append q h (rec ∷ [])) ∙ slice_get-append_left (of_proxy q h) (of_proxy q (rec ∷ [])) k within) ∙ at
+
+of_proxy_longer : (q : ℕ) (h : List Record) (rec : Record) → length (of_proxy q h) ≤ length (of_proxy q (h ++ rec ∷ []))
+of_proxy_longer q h rec = omega (arith, ap length (of_proxy-append q h (rec ∷ [])), length-append (of_proxy q h) (of_proxy q (rec ∷ [])))
+
+with_record : (config : Config) (w : World) (rec : Record) (received : ℕ) → IsSound config w → Follows config w.history rec → rec.moves ≡ w.moves → received ≤ rec.previous → IsSound config (record w { history = w.history ++ rec ∷ []; received = w.received ++ received ∷ [] })
+with_record config w rec received sound follows all below =
+    record {
+      sequencer = moves_follow_record config w.history rec w.moves sound.sequencer follows all;
+      received = length-append w.received (received ∷ []) ∙ ap (λ (k : ℕ). k + 1) sound.received ∙ sym (length-append w.history (rec ∷ []));
+      fronts = sound.fronts;
+      finished = sound.finished;
+      received_before = λ i n s is told. before i n s (push_cases w.history rec i s is) (push_cases w.received received i n told);
+      judged_there = λ r front is. omega (arith, sound.judged_there r front is, length-append w.history (rec ∷ []));
+      finished_there = λ q done is. omega (arith, sound.finished_there q done is, of_proxy_longer q w.history rec);
+      judged_first = λ q done k r front s is below_done at front_is.
+          sound.judged_first q done k r front s is below_done (of_proxy_at q w.history rec k s (omega (arith, sound.finished_there q done is, below_done)) at) front_is;
+    }
+  where
+    before : (i n : ℕ) (s : Record) → ((i ≡ length w.history) × (rec ≡ s)) ⊎ ((i < length w.history) × (slice_get w.history i ≡ Some s)) → ((i ≡ length w.received) × (received ≡ n)) ⊎ ((i < length w.received) × (slice_get w.received i ≡ Some n)) → n ≤ s.previous
+    before i n s (inl last) (inl told) = subst (λ (k : ℕ). k ≤ s.previous) told.1 (subst (λ (other : Record). received ≤ other.previous) last.1 below)
+    before i n s (inl last) (inr told) = absurd (omega (arith, last.0, told.0, sound.received))
+    before i n s (inr there) (inl told) = absurd (omega (arith, there.0, told.0, sound.received))
+    before i n s (inr there) (inr told) = sound.received_before i n s there.1 told.1
 
 sequenced_sound : (config : Config) (w : World) (p : ℕ) (batch : List Given) → IsSound config w → IsSound config (sequenced config w p batch).world
 sequenced_sound config w p batch sound = by (nat_le config.proxies p) refl (nat_le version_limit (next_record config w p batch).version) refl
@@ -75,22 +70,9 @@ sequenced_sound config w p batch sound = by (nat_le config.proxies p) refl (nat_
     by true unknown t limit = sound
     by false known true limit = sound
     by false known false limit =
-        let r : Record = next_record config w p batch in
-        let all : last_moves (w.history ++ r ∷ []) ≡ w.moves = last_moves-push w.history r in
-        let last : last_version (w.history ++ r ∷ []) ≡ r.version = last_version-push w.history r in
-        let none : drop (length w.moves) w.moves ≡ [] = drop_of_length-le w.moves (omega arith) in
-        record {
-          history = history_push config w.history r sound.history (next_follows config w p batch sound known limit);
-          kept_moves = ap (λ (known : List Move). take (length known) w.moves) all ∙ take_all (length w.moves) w.moves (omega arith) ∙ sym all;
-          further_moves = All-same (IsMadeAfter config (last_version (w.history ++ r ∷ []))) (drop (length (last_moves (w.history ++ r ∷ []))) w.moves) [] (ap (λ (known : List Move). drop (length known) w.moves) all ∙ none) (All-nil (IsMadeAfter config (last_version (w.history ++ r ∷ []))));
-          received = length-append w.received (finished_version w p ∷ []) ∙ ap (λ (k : ℕ). k + 1) sound.received ∙ sym (length-append w.history (r ∷ []));
-          fronts = sound.fronts;
-          finished = sound.finished;
-        }
+        with_record config w (next_record config w p batch) (finished_version w p) sound (next_follows config w p batch sound known limit) refl (own_version_up_to config w.history p (slice_index w.finished p) sound.sequencer.history)
 
--- as many moves as the last record has are there
-moves_reach : (config : Config) (w : World) → IsSound config w → length (last_moves w.history) ≤ length w.moves
-moves_reach config w sound = omega (arith, length-take (length (last_moves w.history)) w.moves, ap length sound.kept_moves)
+-- ---- a range moves
 
 moved_sound : (config : Config) (w : World) (range : Range) (destination : ℕ) → IsSound config w → IsSound config (moved config w range destination).world
 moved_sound config w range destination sound = by (nat_le config.resolvers destination) refl
@@ -100,50 +82,132 @@ moved_sound config w range destination sound = by (nat_le config.resolvers desti
     by true unknown = sound
     by false known =
         let m : Move = record { range = range; date = last_version w.history + 1; dest = destination } in
-        let reach : length (last_moves w.history) ≤ length w.moves = moves_reach config w sound in
         let made : IsMadeAfter config (last_version w.history) m = record { date = refl; destination = within_limit destination config.resolvers known } in
         record {
-          history = sound.history;
-          kept_moves = take-append-le (length (last_moves w.history)) w.moves (m ∷ []) reach ∙ sound.kept_moves;
-          further_moves = All-same (IsMadeAfter config (last_version w.history)) (drop (length (last_moves w.history)) (w.moves ++ m ∷ [])) (drop (length (last_moves w.history)) w.moves ++ m ∷ []) (drop-append-le (length (last_moves w.history)) w.moves (m ∷ []) reach)
-              (All-push (IsMadeAfter config (last_version w.history)) (drop (length (last_moves w.history)) w.moves) m sound.further_moves made);
+          sequencer = moves_follow_move config w.history w.moves m sound.sequencer made;
           received = sound.received;
           fronts = sound.fronts;
           finished = sound.finished;
+          received_before = sound.received_before;
+          judged_there = sound.judged_there;
+          finished_there = sound.finished_there;
+          judged_first = sound.judged_first;
         }
 
-with_fronts : (config : Config) (w : World) (fronts : List ℕ) → IsSound config w → length fronts ≡ length w.fronts → IsSound config (record w { fronts = fronts })
-with_fronts config w fronts sound same =
-    record { history = sound.history; kept_moves = sound.kept_moves; further_moves = sound.further_moves; received = sound.received; fronts = same ∙ sound.fronts; finished = sound.finished }
-
-with_finished : (config : Config) (w : World) (finished : List ℕ) → IsSound config w → length finished ≡ length w.finished → IsSound config (record w { finished = finished })
-with_finished config w finished sound same =
-    record { history = sound.history; kept_moves = sound.kept_moves; further_moves = sound.further_moves; received = sound.received; fronts = sound.fronts; finished = same ∙ sound.finished }
+-- ---- a resolver judges a row
 
 -- where both ways of a test are sound, so is the way taken
-either_sound : (config : Config) (t : Bool) (first second : Happened) → IsSound config first.world → IsSound config second.world → IsSound config (if t then first else second).world
-either_sound config true first second one other = one
-either_sound config false first second one other = other
+either_sound : (config : Config) (t : Bool) (first second : Happened) → (t ≡ true → IsSound config first.world) → (t ≡ false → IsSound config second.world) → IsSound config (if t then first else second).world
+either_sound config true first second one other = one refl
+either_sound config false first second one other = other refl
+
+with_front : (config : Config) (w : World) (r : ℕ) → IsSound config w → r < config.resolvers → slice_index w.fronts r < length w.history → IsSound config (record w { fronts = slice_set w.fronts r (suc (slice_index w.fronts r)) })
+with_front config w r sound there more =
+    record {
+      sequencer = sound.sequencer;
+      received = sound.received;
+      fronts = length-set w.fronts r (suc (slice_index w.fronts r)) ∙ sound.fronts;
+      finished = sound.finished;
+      received_before = sound.received_before;
+      judged_there = λ s front is. up_to s front (set_cases w.fronts r (suc (slice_index w.fronts r)) s front is);
+      finished_there = sound.finished_there;
+      judged_first = λ p done k s front rec is below at front_is. first p done k s front rec is below at (set_cases w.fronts r (suc (slice_index w.fronts r)) s front front_is);
+    }
+  where
+    own : slice_get w.fronts r ≡ Some (slice_index w.fronts r)
+    own = index_there w.fronts r (omega (arith, there, sound.fronts))
+
+    up_to : (s front : ℕ) → ((s ≡ r) × (front ≡ suc (slice_index w.fronts r))) ⊎ (slice_get w.fronts s ≡ Some front) → front ≤ length w.history
+    up_to s front (inl here) = omega (arith, here.1, more)
+    up_to s front (inr old) = sound.judged_there s front old
+
+    first : (p done k s front : ℕ) (rec : Record) → slice_get w.finished p ≡ Some done → k < done → slice_get (of_proxy p w.history) k ≡ Some rec → ((s ≡ r) × (front ≡ suc (slice_index w.fronts r))) ⊎ (slice_get w.fronts s ≡ Some front) → rec.row < front
+    first p done k s front rec is below at (inl here) = omega (arith, here.1, sound.judged_first p done k r (slice_index w.fronts r) rec is below at own)
+    first p done k s front rec is below at (inr old) = sound.judged_first p done k s front rec is below at old
 
 repeated_sound : (config : Config) (w : World) (reply : Reply) (received : ℕ) → IsSound config w → IsSound config (repeated w reply received).world
-repeated_sound config w reply received sound = either_sound config _ _ _ sound sound
+repeated_sound config w reply received sound = either_sound config (nat_le reply.version received) _ _ (λ given_up. sound) (λ again. sound)
 
-offered_at_sound : (config : Config) (w : World) (front r : ℕ) (reply : Reply) → IsSound config w → IsSound config (offered_at w front r reply).world
-offered_at_sound config w front r reply sound =
-    either_sound config _ _ _ sound (either_sound config _ _ _ (repeated_sound config w reply (acknowledged w front reply.proxy) sound) (with_fronts config w _ sound (length-set w.fronts r (suc front))))
+offered_at_sound : (config : Config) (w : World) (r : ℕ) (reply : Reply) → reply.row < length w.history → r < config.resolvers → IsSound config w → IsSound config (offered_at w (slice_index w.fronts r) r reply).world
+offered_at_sound config w r reply within there sound =
+    by (nat_lt (slice_index w.fronts r) reply.row) (nat_lt reply.row (slice_index w.fronts r)) refl
+  where
+    by : (s t : Bool) → nat_lt reply.row (slice_index w.fronts r) ≡ t →
+        IsSound config (if s then refuse w (Early (last_version (take (slice_index w.fronts r) w.history))) else if t then repeated w reply (acknowledged w (slice_index w.fronts r) reply.proxy) else record { world = record w { fronts = slice_set w.fronts r (suc (slice_index w.fronts r)) }; answer = Judged reply }).world
+    by true t is = sound
+    by false true again = repeated_sound config w reply (acknowledged w (slice_index w.fronts r) reply.proxy) sound
+    by false false turn = let up : slice_index w.fronts r ≤ reply.row = ltb-false reply.row (slice_index w.fronts r) turn in with_front config w r sound there (omega (arith, within, up))
 
-offered_sound : (config : Config) (w : World) (row r : ℕ) (found : Option Record) → IsSound config w → IsSound config (offered config w row r found).world
-offered_sound config w row r None sound = sound
-offered_sound config w row r (Some rec) sound =
-    either_sound config _ _ _ sound (offered_at_sound config w (slice_index w.fronts r) r (reply_of config (verdict_in config w.history) r (take row w.history) rec) sound)
+offered_sound : (config : Config) (w : World) (row r : ℕ) (found : Option Record) → slice_get w.history row ≡ found → IsSound config w → IsSound config (offered config w row r found).world
+offered_sound config w row r None is sound = sound
+offered_sound config w row r (Some rec) is sound =
+    either_sound config (nat_le config.resolvers r) _ _ (λ unknown. sound)
+    (λ known. offered_at_sound config w r (reply_of config (verdict_in config w.history) r (take row w.history) rec) (omega (arith, row_at config w.history row rec sound.sequencer.history is, slice_get_within w.history row rec is)) (within_limit r config.resolvers known) sound)
 
-finishing_sound : (config : Config) (w : World) (p : ℕ) (rec : Record) (waiting : List ℕ) → IsSound config w → IsSound config (finishing config w p rec waiting).world
-finishing_sound config w p rec [] sound = with_finished config w (slice_set w.finished p (suc (slice_index w.finished p))) sound (length-set w.finished p (suc (slice_index w.finished p)))
-finishing_sound config w p rec (r ∷ rs) sound = sound
+-- ---- a proxy finishes a record
 
-finished_sound : (config : Config) (w : World) (p : ℕ) (found : Option Record) → IsSound config w → IsSound config (finished_next config w p found).world
-finished_sound config w p None sound = sound
-finished_sound config w p (Some rec) sound = finishing_sound config w p rec (missing w rec.row (each_below config.resolvers)) sound
+-- a resolver that is not missing has judged the row
+none_missing : (config : Config) (w : World) (row r : ℕ) → missing w row (each_below config.resolvers) ≡ [] → r < config.resolvers → row < slice_index w.fronts r
+none_missing config w row r none there = within_limit row (slice_index w.fronts r) (by (nat_le (slice_index w.fronts r) row) refl)
+  where
+    by : (t : Bool) → nat_le (slice_index w.fronts r) row ≡ t → t ≡ false
+    by true lacks = absurd (subst (λ (rs : List ℕ). Has rs r) none (Has-filter (λ (s : ℕ). nat_le (slice_index w.fronts s) row) (each_below config.resolvers) r (Has-each_below config.resolvers r there) lacks))
+    by false has = refl
+
+with_finished : (config : Config) (w : World) (p : ℕ) (rec : Record) → IsSound config w → p < config.proxies → slice_get (of_proxy p w.history) (slice_index w.finished p) ≡ Some rec → missing w rec.row (each_below config.resolvers) ≡ []
+    → IsSound config (record w { finished = slice_set w.finished p (suc (slice_index w.finished p)) })
+with_finished config w p rec sound there at none =
+    record {
+      sequencer = sound.sequencer;
+      received = sound.received;
+      fronts = sound.fronts;
+      finished = length-set w.finished p (suc (slice_index w.finished p)) ∙ sound.finished;
+      received_before = sound.received_before;
+      judged_there = sound.judged_there;
+      finished_there = λ q done is. up_to q done (set_cases w.finished p (suc (slice_index w.finished p)) q done is);
+      judged_first = λ q done k r front s is below s_is front_is. first q done k r front s (set_cases w.finished p (suc (slice_index w.finished p)) q done is) below s_is front_is;
+    }
+  where
+    own : slice_get w.finished p ≡ Some (slice_index w.finished p)
+    own = index_there w.finished p (omega (arith, there, sound.finished))
+
+    up_to : (q done : ℕ) → ((q ≡ p) × (done ≡ suc (slice_index w.finished p))) ⊎ (slice_get w.finished q ≡ Some done) → done ≤ length (of_proxy q w.history)
+    up_to q done (inl here) = omega (arith, here.1, slice_get_within (of_proxy p w.history) (slice_index w.finished p) rec at, ap (λ (s : ℕ). length (of_proxy s w.history)) here.0)
+    up_to q done (inr old) = sound.finished_there q done old
+
+    front_of : (r front : ℕ) → slice_get w.fronts r ≡ Some front → rec.row < front
+    front_of r front is =
+        let within = slice_get_within w.fronts r front is in
+        let same : Some front ≡ Some (slice_index w.fronts r) = sym is ∙ index_there w.fronts r within in
+        let here : front ≡ slice_index w.fronts r = cc in
+        omega (arith, here, none_missing config w rec.row r none (omega (arith, within, sound.fronts)))
+
+    last : (k r front : ℕ) (s : Record) → slice_get (of_proxy p w.history) k ≡ Some s → slice_get w.fronts r ≡ Some front → k ≡ slice_index w.finished p → s.row < front
+    last k r front s s_is front_is here =
+        let both : Some s ≡ Some rec = sym s_is ∙ ap (slice_get (of_proxy p w.history)) here ∙ at in
+        let same : rec ≡ s = cc in
+        subst (λ (other : Record). other.row < front) same (front_of r front front_is)
+
+    own_first : (k r front : ℕ) (s : Record) → k < suc (slice_index w.finished p) → slice_get (of_proxy p w.history) k ≡ Some s → slice_get w.fronts r ≡ Some front → s.row < front
+    own_first k r front s below s_is front_is = go (cases_order k (slice_index w.finished p))
+      where
+        go : (k ≡ slice_index w.finished p) ⊎ ((k < slice_index w.finished p) ⊎ (slice_index w.finished p < k)) → s.row < front
+        go (inl here) = last k r front s s_is front_is here
+        go (inr (inl sooner)) = sound.judged_first p (slice_index w.finished p) k r front s own sooner s_is front_is
+        go (inr (inr past)) = absurd (omega (arith, below, past))
+
+    first : (q done k r front : ℕ) (s : Record) → ((q ≡ p) × (done ≡ suc (slice_index w.finished p))) ⊎ (slice_get w.finished q ≡ Some done) → k < done → slice_get (of_proxy q w.history) k ≡ Some s → slice_get w.fronts r ≡ Some front → s.row < front
+    first q done k r front s (inl here) below s_is front_is =
+        own_first k r front s (subst (λ (n : ℕ). k < n) here.1 below) (subst (λ (o : ℕ). slice_get (of_proxy o w.history) k ≡ Some s) here.0 s_is) front_is
+    first q done k r front s (inr old) below s_is front_is = sound.judged_first q done k r front s old below s_is front_is
+
+finishing_sound : (config : Config) (w : World) (p : ℕ) (rec : Record) (waiting : List ℕ) → missing w rec.row (each_below config.resolvers) ≡ waiting → p < config.proxies → slice_get (of_proxy p w.history) (slice_index w.finished p) ≡ Some rec → IsSound config w → IsSound config (finishing config w p rec waiting).world
+finishing_sound config w p rec [] none there at sound = with_finished config w p rec sound there at none
+finishing_sound config w p rec (r ∷ rs) some there at sound = sound
+
+finished_sound : (config : Config) (w : World) (p : ℕ) (found : Option Record) → slice_get (of_proxy p w.history) (slice_index w.finished p) ≡ found → p < config.proxies → IsSound config w → IsSound config (finished_next config w p found).world
+finished_sound config w p None at there sound = sound
+finished_sound config w p (Some rec) at there sound = finishing_sound config w p rec (missing w rec.row (each_below config.resolvers)) refl there at sound
 
 -- ---- all events
 
@@ -151,18 +215,26 @@ pub happens_sound : (config : Config) (w : World) (event : Event) → IsSound co
 unfolding happens
 happens_sound config w (Sequence p batch) sound = sequenced_sound config w p batch sound
 happens_sound config w (MoveRange range destination) sound = moved_sound config w range destination sound
-happens_sound config w (Offer row r) sound = offered_sound config w row r (slice_get w.history row) sound
-happens_sound config w (Finish p) sound = either_sound config _ _ _ sound (finished_sound config w p (slice_get (of_proxy p w.history) (slice_index w.finished p)) sound)
+happens_sound config w (Offer row r) sound = offered_sound config w row r (slice_get w.history row) refl sound
+happens_sound config w (Finish p) sound = either_sound config (nat_le config.proxies p) _ _ (λ unknown. sound) (λ known. finished_sound config w p (slice_get (of_proxy p w.history) (slice_index w.finished p)) refl (within_limit p config.proxies known) sound)
+
+-- nothing stands in a list of zeros but zeros
+zeros : (n i k : ℕ) → slice_get (replicate n 0) i ≡ Some k → k ≡ 0
+zeros zero i k at = absurd (cc)
+zeros (suc n) zero k at = cc
+zeros (suc n) (suc i) k at = zeros n i k at
 
 pub start_sound : (config : Config) → IsSound config (start config)
 start_sound config =
     record {
-      history = λ i rec at. absurd (cc);
-      kept_moves = refl;
-      further_moves = All-nil (IsMadeAfter config 0);
+      sequencer = no_moves config;
       received = refl;
       fronts = length-replicate config.resolvers 0;
       finished = length-replicate config.proxies 0;
+      received_before = λ i received rec at told. absurd (cc);
+      judged_there = λ r front is. let none = zeros config.resolvers r front is in omega arith;
+      finished_there = λ p done is. let none = zeros config.proxies p done is in omega arith;
+      judged_first = λ p done k r front rec is below at front_is. let none = zeros config.proxies p done is in absurd (omega arith);
     }
 
 pub world_after_sound : (config : Config) (w : World) (events : List Event) → IsSound config w → IsSound config (world_after config w events)

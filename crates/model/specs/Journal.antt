@@ -1,10 +1,10 @@
 -- The journal of some records, by what the resolvers say of their transactions; what each resolver tells of it, and remembers.
-use Rattle.std.specs.Prelude.{◌≡◌, ℕ, zero, suc, ◌<◌, min, List, [], ◌∷◌, take, map, filter, Bool, nat_eq, nat_lt, IsTrue, if◌then◌else◌, slice_get, Option, Some, None, unwrap_or}
+use Rattle.std.specs.Prelude.{◌≡◌, ℕ, zero, suc, ◌<◌, min, List, [], ◌∷◌, take, map, filter, Bool, nat_eq, nat_lt, IsTrue, if◌then◌else◌, slice_get, Option, Some, None, unwrap_or, length, Contains}
 use Rattle.system_keys.specs.Changes.{is_state}
 use Rattle.model.specs.declared.config.Config.{Config}
 use Rattle.model.specs.declared.part.Part.{Part}
 use Rattle.model.specs.declared.verdict.Verdict.{Verdict}
-use Rattle.model.specs.declared.verdict.Verdict.TheVariants.{Committed}
+use Rattle.model.specs.declared.verdict.Verdict.TheVariants.{Conflict}
 use Rattle.model.specs.declared.journal.StateTxn.{StateTxn}
 use Rattle.model.specs.declared.journal.JournalRow.{JournalRow}
 use Rattle.model.specs.declared.unseen.Carried.{Carried}
@@ -21,24 +21,24 @@ use Rattle.model.specs.Verdicts.{verdict_of}
 abbrev pub Sayings : Type 0
 Sayings = ℕ → ℕ → ℕ → Verdict
 
--- the verdict of resolver r on transaction n of a record, if it is there, after the records before
+-- the verdict of resolver r on transaction n of a record, if it is there, after the records before; what is not there counts as refused
 abbrev pub verdict_in_record : Config → ℕ → List Record → Record → ℕ → Option Transaction → Verdict
-verdict_in_record config r before rec n None = Committed
+verdict_in_record config r before rec n None = Conflict
 verdict_in_record config r before rec n (Some t) = verdict_of config r before rec (take n rec.batch) t
 
--- the verdict of resolver r on transaction n of row i of a history, whose record is given if it is there
+-- the verdict of resolver r on transaction n of row i of a history, whose record is given if it is there; what is not there counts as refused
 abbrev pub verdict_in_row : Config → List Record → ℕ → ℕ → ℕ → Option Record → Verdict
-verdict_in_row config h r i n None = Committed
+verdict_in_row config h r i n None = Conflict
 verdict_in_row config h r i n (Some rec) = verdict_in_record config r (take i h) rec n (slice_get rec.batch n)
 
--- what the resolvers say by a history: the verdict of resolver r on transaction n of row i, and Committed where there is none (release 7.1)
+-- what the resolvers say by a history: the verdict of resolver r on transaction n of row i (release 7.1), and Conflict where there is none
 unfoldable pub verdict_in : Config → List Record → Sayings
 verdict_in config h r i n = verdict_in_row config h r i n (slice_get h i)
 
--- the verdict at the part with number n, in a list with one verdict for each part of a share; Committed where there is none
+-- the verdict at the part with number n, in a list with one verdict for each part of a share; what nobody said counts as refused: Conflict where there is none
 abbrev pub verdict_at : List Part → List Verdict → ℕ → Verdict
-verdict_at [] verdicts n = Committed
-verdict_at (part ∷ parts) [] n = Committed
+verdict_at [] verdicts n = Conflict
+verdict_at (part ∷ parts) [] n = Conflict
 verdict_at (part ∷ parts) (verdict ∷ verdicts) n = if nat_eq part.number n then verdict else verdict_at parts verdicts n
 
 -- the list at a place, or the empty one
@@ -47,22 +47,22 @@ list_at [] i = []
 list_at (list ∷ lists) zero = list
 list_at (list ∷ lists) (suc i) = list_at lists i
 
--- what resolver r says of transaction n of a record, if it is there, by the verdicts in its cell
+-- what resolver r says of transaction n of a record, if it is there, by the verdicts in its cell; what is not there counts as refused
 abbrev pub known_in_row : Config → List Verdict → ℕ → ℕ → Option Record → Verdict
-known_in_row config verdicts r n None = Committed
+known_in_row config verdicts r n None = Conflict
 known_in_row config verdicts r n (Some rec) = verdict_at (share config rec r) verdicts n
 
--- what the resolvers say by the verdict cells: a column of cells for each resolver, a cell for each row, and in it a verdict for each part of the resolver's share
+-- what the resolvers say by the verdict cells: a column of cells for each resolver, a cell for each row, and in it a verdict for each part of the resolver's share; Conflict where a cell is missing or too short
 unfoldable pub known_in : Config → List Record → List (List (List Verdict)) → Sayings
 known_in config h columns r i n = known_in_row config (list_at (list_at columns r) i) r n (slice_get h i)
 
 -- two sayings are alike on a record: of each of its transactions, each resolver asked says the same
-pub record SaysAlike (config : Config) (says told : Sayings) (rec : Record) : Type 0 where
-  pub same : (r n : ℕ) (t : Transaction) → r < config.resolvers → slice_get rec.batch n ≡ Some t → IsTrue (asks config rec r t) → says r rec.row n ≡ told r rec.row n
+pub record SaysAlike (config : Config) (says other : Sayings) (rec : Record) : Type 0 where
+  pub same : (r n : ℕ) (t : Transaction) → r < config.resolvers → slice_get rec.batch n ≡ Some t → IsTrue (asks config rec r t) → says r rec.row n ≡ other r rec.row n
 
 -- ---- the journal
 
--- a state transaction, number n of the record: its state mutations, its mark, and what every resolver says of it (release 7.1)
+-- a state transaction, number n of the record: its state mutations, its lock-aware flag, and what every resolver says of it (release 7.1)
 abbrev pub state_of : Config → Sayings → Record → ℕ → Transaction → StateTxn
 state_of config says rec n t =
     record { mutations = filter is_state t.changes; lock_aware = t.lock_aware; verdicts = map (λ (r : ℕ). says r rec.row n) (each_below config.resolvers) }
@@ -83,7 +83,7 @@ journal config says h = map (journal_row config says) h
 
 -- ---- what a resolver tells of it
 
--- what a resolver is sent of a state transaction, and passes on: resolver 0 its state mutations and its mark, the others nothing (release 7.1)
+-- what a resolver is sent of a state transaction, and passes on: resolver 0 its state mutations and its lock-aware flag, the others nothing (release 7.1)
 abbrev pub carried_by : ℕ → Transaction → Option Carried
 carried_by r t = if nat_eq r 0 then Some (record { mutations = filter is_state t.changes; lock_aware = t.lock_aware }) else None
 
@@ -97,20 +97,24 @@ told_from says r rec n (t ∷ ts) =
 unfoldable pub told_row : Sayings → ℕ → Record → UnseenRow
 told_row says r rec = record { version = rec.version; states = told_from says r rec 0 rec.batch }
 
--- what is left of a state transaction where resolver r tells it: its own verdict, and from resolver 0 the mutations and the mark
+-- what is left of a state transaction where resolver r tells it: its own verdict (Conflict if it has none), and from resolver 0 the mutations and the lock-aware flag
 abbrev pub told_of_state : ℕ → StateTxn → UnseenState
 told_of_state r t =
-    record { verdict = unwrap_or (slice_get t.verdicts r) Committed; carried = if nat_eq r 0 then Some (record { mutations = t.mutations; lock_aware = t.lock_aware }) else None }
+    record { verdict = unwrap_or (slice_get t.verdicts r) Conflict; carried = if nat_eq r 0 then Some (record { mutations = t.mutations; lock_aware = t.lock_aware }) else None }
 
 -- what is left of a journal's row where resolver r tells it
 abbrev pub told_of_row : ℕ → JournalRow → UnseenRow
 told_of_row r row = record { version = row.version; states = map (told_of_state r) row.states }
 
+-- each state transaction of the row has so many verdicts
+abbrev pub HaveVerdicts : ℕ → JournalRow → Type 0
+HaveVerdicts resolvers row = (t : StateTxn) → Contains row.states t → length t.verdicts ≡ resolvers
+
 -- the record is after the version
 abbrev pub is_after : ℕ → Record → Bool
 is_after version rec = nat_lt version rec.version
 
--- the rows that the record's proxy has not seen, as resolver r tells of them: those after that proxy's record before, and before this one (release 7.1)
+-- the rows that the record's proxy has not seen, as resolver r tells of them: those after that proxy's record before, and before this one (release 7.1; that those without state transactions are told too, as empty ones, is this project's profile)
 unfoldable pub unseen : Sayings → ℕ → List Record → Record → List UnseenRow
 unseen says r before rec = map (told_row says r) (filter (is_after rec.own_previous) before)
 
@@ -120,10 +124,10 @@ least [] = 0
 least (n ∷ []) = n
 least (n ∷ m ∷ ns) = min n (least (m ∷ ns))
 
--- the version that every proxy has reached with its requests: the least of their last records' versions, and 0 while some proxy has none (release 7.1)
+-- the version that every proxy has reached with its requests: the least of their last records' versions, and 0 while some proxy has none (release 7.1, in effect: it keeps a map of the proxies' last versions)
 abbrev pub reached : Config → List Record → ℕ
 reached config judged = least (map (λ (p : ℕ). last_version (of_proxy p judged)) (each_below config.proxies))
 
--- the records whose rows a resolver remembers after it judged these: those that some proxy has not reached (release 7.1)
+-- the records whose rows a resolver remembers after it judged these: those that some proxy has not reached (release 7.1, in effect: it trims its rows at each request)
 unfoldable pub remembered : Config → List Record → List Record
 remembered config judged = filter (is_after (reached config judged)) judged

@@ -1,5 +1,5 @@
 -- The metadata: the kept rows as the fold of a journal, whether they are locked, and the tags of a change.
-use Rattle.std.specs.Prelude.{ℕ, List, [], ◌∷◌, ◌++◌, length, drop, map, Bool, true, false, ◌&&◌, ◌||◌, not, if◌then◌else◌, Option, Some, None, Result, Ok, Err, option_to_list, fold, filter, flat_map}
+use Rattle.std.specs.Prelude.{ℕ, List, [], ◌∷◌, ◌++◌, length, drop, map, Bool, true, false, ◌&&◌, ◌||◌, not, if◌then◌else◌, Option, Some, None, Result, Ok, Err, option_to_list, fold, filter, flat_map, Contains, IsTrue}
 use Rattle.std.specs.List.{list_all, last_or}
 use Rattle.std.specs.List.Sorted.{IsStrictlySortedBy}
 use Rattle.std.specs.Map.{lookup, keys_of}
@@ -36,11 +36,15 @@ Rows = List Row
 abbrev pub IsInOrder : Rows → Type 0
 IsInOrder rows = IsStrictlySortedBy (slice_cmp nat_cmp) (keys_of rows)
 
+-- each row has a kept key
+abbrev pub AreKept : Rows → Type 0
+AreKept rows = (row : Row) → Contains rows row → IsTrue (is_kept row.0)
+
 -- the value of the row at a key
 abbrev pub row_at : Rows → Key → Option (List ℕ)
 row_at rows key = lookup (is_at (slice_cmp nat_cmp key)) rows
 
--- the row is there, and its value is not empty
+-- the row is there, and its value is not empty: an empty value is no lock (release 7.1)
 abbrev pub is_filled : Option (List ℕ) → Bool
 is_filled None = false
 is_filled (Some []) = false
@@ -52,12 +56,12 @@ is_locked rows = is_filled (row_at rows locked_key)
 
 -- the rows after a change: a Set of a kept row puts it, a Clear removes the rows of its range, and nothing else changes them (release 7.1)
 abbrev pub changed : Rows → Change → Rows
-changed rows (Set key value) = if is_kept key then insert_entry (slice_cmp nat_cmp) rows key value else rows
-changed rows (Clear range) = filter (λ (row : Row). not (holds range row.0)) rows
+changed kept (Set key value) = if is_kept key then insert_entry (slice_cmp nat_cmp) kept key value else kept
+changed kept (Clear range) = filter (λ (row : Row). not (holds range row.0)) kept
 
 -- the rows after some changes, one after another
 abbrev pub after_changes : Rows → List Change → Rows
-after_changes rows changes = fold changed rows changes
+after_changes kept changes = fold changed kept changes
 
 -- every resolver committed the transaction, and it is lock aware or meets no lock (release 7.1; that the proxies test the lock for the transactions of others too is this project's profile)
 abbrev pub is_let_pass : Bool → StateTxn → Bool
@@ -65,11 +69,11 @@ is_let_pass locked t = list_all is_committed t.verdicts && (t.lock_aware || not 
 
 -- the rows after a state transaction that met a lock or not: one that is not let pass changes nothing
 abbrev pub after_state : Bool → Rows → StateTxn → Rows
-after_state locked rows t = if is_let_pass locked t then after_changes rows t.mutations else rows
+after_state locked kept t = if is_let_pass locked t then after_changes kept t.mutations else kept
 
 -- the rows after one row of a journal: the lock is read once, before its first transaction (release 7.1)
 abbrev pub after_row : Rows → JournalRow → Rows
-after_row rows row = fold (after_state (is_locked rows)) rows row.states
+after_row kept row = fold (after_state (is_locked kept)) kept row.states
 
 -- the changes of a journal's row that are let pass, where its transactions met a lock or not, in order
 abbrev pub let_pass : Bool → JournalRow → List Change
@@ -81,11 +85,11 @@ metadata journal = fold after_row [] journal
 
 -- ---- the tags
 
--- the row says which storage servers have a range of keys
+-- the row is a keyServers row, which says which storage servers have a range of keys (release 7.1)
 abbrev pub is_key_servers : Row → Bool
 is_key_servers row = is_in key_servers_family row.0
 
--- the row under the key that follows the prefix
+-- the row under the key that follows the prefix `\xff/keyServers/`
 abbrev pub behind_prefix : Row → Row
 behind_prefix row = (drop (length key_servers_family.prefix) row.0, row.1)
 
@@ -97,7 +101,7 @@ key_servers rows = map behind_prefix (filter is_key_servers rows)
 abbrev pub is_row_up_to : Key → Row → Bool
 is_row_up_to key row = is_key_up_to row.0 key
 
--- the greatest of these rows at or before the key (release 7.1); they are in the order of keys
+-- the greatest of these rows at or before the key (release 7.1), and none where there is none (this project's profile); they are in the order of keys
 abbrev pub row_of : Rows → Key → Option Row
 row_of rows key = last_or None (filter (is_row_up_to key) rows)
 
@@ -105,12 +109,12 @@ row_of rows key = last_or None (filter (is_row_up_to key) rows)
 abbrev pub is_row_inside : Range → Row → Bool
 is_row_inside range row = is_key_below range.begin row.0 && is_key_below row.0 range.end
 
--- those of these rows that a change meets: of a Set that of its key; of a Clear that of its begin, and each one after its begin and before its end (release 7.1)
+-- those of these rows that a change meets: of a Set that of its key, of a Clear that of its begin and each one after its begin and before its end (release 7.1); where a key has no row, it adds none (this project's profile)
 abbrev pub met_rows : Rows → Change → Rows
 met_rows rows (Set key value) = option_to_list (row_of rows key)
 met_rows rows (Clear range) = option_to_list (row_of rows range.begin) ++ filter (is_row_inside range) rows
 
--- the sources, and then the destinations, of a value that decodes
+-- the sources and then the destinations of a value that decodes, and none of one that does not
 abbrev pub all_servers : Result Servers RowFault → List Id
 all_servers (Ok servers) = servers.sources ++ servers.destinations
 all_servers (Err fault) = []
@@ -119,7 +123,7 @@ all_servers (Err fault) = []
 abbrev pub servers_of : List ℕ → List Id
 servers_of value = all_servers (servers_at value)
 
--- the tag of a value that decodes
+-- the tag of a value that decodes, and none of one that does not
 abbrev pub one_tag : Result Tag RowFault → List Tag
 one_tag (Ok tag) = tag ∷ []
 one_tag (Err fault) = []
@@ -145,7 +149,7 @@ tag_cmp a b = ordering_then (nat_cmp a.locality b.locality) (nat_cmp a.id b.id)
 abbrev pub rising : List Tag → List Tag
 rising tags = fold (insert_key tag_cmp) [] tags
 
--- the tags of a change: those of the servers in the keyServers rows that it meets (release 7.1)
+-- the tags of a change: those of the servers named by the keyServers rows that it meets (release 7.1); the order, and that a key without a row and a server without a tag add none, is this project's profile
 unfoldable pub tags : Rows → Change → List Tag
 tags rows change = rising (flat_map (row_tags rows) (met_rows (key_servers rows) change))
 

@@ -3,6 +3,7 @@ use Rattle.std.specs.Prelude.{ℕ, suc, List, [], ◌∷◌, map, Bool, ◌&&◌
 use Rattle.model.specs.declared.config.Config.{Config}
 use Rattle.model.specs.declared.verdict.Verdict.{Verdict}
 use Rattle.model.specs.declared.verdict.Verdict.TheVariants as verdicts
+use Rattle.model.specs.declared.journal.JournalRow.{JournalRow}
 use Rattle.model.specs.declared.outcome.Outcome.{Outcome}
 use Rattle.model.specs.declared.outcome.Outcome.TheVariants.{Committed, Conflict, TooOld, Locked}
 use Rattle.model.specs.Transactions.{Transaction}
@@ -35,6 +36,10 @@ abbrev pub outcomes_from : Config → Sayings → Bool → Record → ℕ → Li
 outcomes_from config says locked rec n [] = []
 outcomes_from config says locked rec n (t ∷ ts) = outcome config says locked rec n t ∷ outcomes_from config says locked rec (suc n) ts
 
--- the outcomes of a record's batch, after the records before it; the lock is read once, before its first transaction (release 7.1)
-unfoldable pub outcomes : Config → Sayings → List Record → Record → List Outcome
-outcomes config says before rec = outcomes_from config says (is_locked (metadata (journal config says before))) rec 0 rec.batch
+-- the outcomes of a record's batch, after a journal of the records before it; the lock is read once, before its first transaction (release 7.1)
+unfoldable pub outcomes_after : Config → Sayings → List JournalRow → Record → List Outcome
+outcomes_after config says journal_before rec = outcomes_from config says (is_locked (metadata journal_before)) rec 0 rec.batch
+
+-- the outcomes of a record's batch, after the records before it
+abbrev pub outcomes : Config → Sayings → List Record → Record → List Outcome
+outcomes config says before rec = outcomes_after config says (journal config says before) rec

@@ -31,6 +31,10 @@ abbrev pub of_proxy : ℕ → List Record → List Record
 of_proxy p [] = []
 of_proxy p (rec ∷ rest) = if nat_eq rec.proxy p then rec ∷ of_proxy p rest else of_proxy p rest
 
+-- the limit that versions stay below (this project's profile)
+abbrev pub version_limit : ℕ
+version_limit = 2 ^ 63
+
 -- a move made after version `previous` was given out and before the next one, to a resolver that is there (release 7.1)
 pub record IsMadeAfter (config : Config) (previous : ℕ) (m : Move) : Type 0 where
   pub date : m.date ≡ previous + 1
@@ -41,7 +45,7 @@ pub record Follows (config : Config) (before : List Record) (rec : Record) : Typ
   pub row : rec.row ≡ length before
   pub previous : rec.previous ≡ last_version before
   pub version : rec.version ≡ rec.previous + config.step
-  pub representable : rec.version < 2 ^ 63
+  pub representable : rec.version < version_limit
   pub own_previous : rec.own_previous ≡ last_version (of_proxy rec.proxy before)
   pub proxy : rec.proxy < config.proxies
   pub kept_moves : take (length (last_moves before)) rec.moves ≡ last_moves before
@@ -50,6 +54,12 @@ pub record Follows (config : Config) (before : List Record) (rec : Record) : Typ
 -- the records are a history: each follows those before it (release 7.1)
 abbrev pub IsHistory : Config → List Record → Type 0
 IsHistory config h = (i : ℕ) (rec : Record) → slice_get h i ≡ Some rec → Follows config (take i h) rec
+
+-- what the sequencer keeps: its records are a history, and its moves begin with those of the last record and go on with moves made since, to resolvers that are there (release 7.1)
+pub record MovesFollow (config : Config) (h : List Record) (moves : List Move) : Type 0 where
+  pub history : IsHistory config h
+  pub kept_moves : take (length (last_moves h)) moves ≡ last_moves h
+  pub further_moves : All (IsMadeAfter config (last_version h)) (drop (length (last_moves h)) moves)
 
 -- the version from which on owners are remembered for a record: the window before its previous version, at least 0 (this project's profile)
 abbrev pub oldest : Config → Record → ℕ
@@ -60,4 +70,4 @@ pub record IsConfig (config : Config) : Type 0 where
   pub proxies : (1 ≤ config.proxies) × (config.proxies ≤ 64)
   pub resolvers : (1 ≤ config.resolvers) × (config.resolvers ≤ 64)
   pub window : (1 ≤ config.window) × (config.window ≤ 1000000000)
-  pub step : (1 ≤ config.step) × (config.step < 2 ^ 63)
+  pub step : (1 ≤ config.step) × (config.step < version_limit)

@@ -7,7 +7,7 @@ use Rattle.model.specs.declared.verdict.Verdict.TheVariants.{Committed as SaysCo
 use Rattle.model.specs.Transactions.{Transaction, all_reads}
 use Rattle.model.specs.Records.{Record}
 use Rattle.model.specs.Shares.{part_of, asks}
-use Rattle.model.specs.Verdicts.{Judged, is_too_old, verdict_of}
+use Rattle.model.specs.Verdicts.{JudgedPart, is_too_old, verdict_of}
 use Rattle.model.specs.Metadata.{is_locked, metadata}
 use Rattle.model.specs.Journal.{verdict_in, journal}
 use Rattle.model.specs.declared.outcome.Outcome.TheVariants.{Committed}
@@ -22,7 +22,7 @@ pub record Place (h : List Record) : Type 0 where
   pub record_is : slice_get h i ≡ Some rec
   pub transaction_is : slice_get rec.batch n ≡ Some transaction
 
--- a stands before b: in b's batch, or in an earlier record whose version is above b's snapshot
+-- a stands before b and is not in b's snapshot: it is earlier in b's batch, or in an earlier record whose version is above b's snapshot (the rule of commit of the 2021 paper)
 abbrev pub IsBetween : {h : List Record} → Place h → Place h → Type 0
 IsBetween a b = ((a.i ≡ b.i) × (a.n < b.n)) ⊎ ((a.i < b.i) × (b.transaction.snapshot < a.rec.version))
 
@@ -43,7 +43,7 @@ IsSerial config h =
 -- ---- the verdict of a resolver, by the places of a history
 
 -- what resolver r sees of the transaction in that place
-abbrev pub seen_at : Config → ℕ → {h : List Record} → Place h → Judged
+abbrev pub seen_at : Config → ℕ → {h : List Record} → Place h → JudgedPart
 seen_at config r a = record { version = a.rec.version; part = part_of config a.rec r a.n a.transaction }
 
 -- the verdict of resolver r on the transaction in that place

@@ -11,7 +11,7 @@ pub data Mutation : Type 0 where
   Clear : (range : Range) → Mutation
   SetStamped : (key : Key) (value : List ℕ) → Mutation
 
--- a transaction as a client gives it: it read at version `snapshot` what is in `reads`, and wants to write `writes` by its `mutations` (release 7.1)
+-- a transaction as a client gives it: the ranges `reads` that it read at version `snapshot`, the ranges `writes` that count as written by it, and its mutations, which add no range to either (release 7.1)
 pub record Given : Type 0 where
   pub snapshot : ℕ
   pub reads : List Range

@@ -6,7 +6,7 @@ use Rattle.system_keys.specs.Keys.{Key, Range, only}
 use Rattle.system_keys.specs.Families.{locked_family}
 use Rattle.system_keys.specs.Changes.{is_state}
 
--- a transaction that read at version `snapshot` what is in `reads`, and wants to write `writes` by its `changes`; a lock-aware one may commit under the lock of the database (release 7.1)
+-- a transaction: the ranges `reads` that it read at version `snapshot`, the ranges `writes` that count as written by it, and its mutations `changes`, which add no range to either; a lock-aware one may commit under the lock of the database (release 7.1)
 pub record Transaction : Type 0 where
   pub snapshot : ℕ
   pub reads : List Range

@@ -6,7 +6,7 @@ use Rattle.system_keys.specs.declared.change.Change.TheVariants as changes
 use Rattle.system_keys.specs.declared.tag.Tag.{Tag}
 use Rattle.system_keys.specs.Keys.{Key, Range, only}
 use Rattle.system_keys.specs.Changes.{is_state}
-use Rattle.system_keys.specs.Families.{locked_family, metadata_version_family, key_servers_family, server_tag_family}
+use Rattle.system_keys.specs.Families.{metadata_version_family, key_servers_family, server_tag_family}
 use Rattle.model.specs.declared.config.Config.{Config}
 use Rattle.model.specs.declared.moves.Move.{Move}
 use Rattle.model.specs.declared.part.Part.{Part}
@@ -20,10 +20,11 @@ use Rattle.model.specs.declared.outcome.Outcome.{Outcome}
 use Rattle.model.specs.declared.outcome.Outcome.TheVariants as outcomes
 use Rattle.model.specs.declared.outcome.Tagged.{Tagged}
 use Rattle.model.specs.Stamps.{Mutation, Set, Clear, SetStamped, Given, stamped_value}
+use Rattle.model.specs.Transactions.{locked_key}
 use Rattle.model.specs.Records.{Record}
 use Rattle.model.specs.Owners.{Owner, asks_write, asks_read, some_key, is_met, without_front}
 use Rattle.model.specs.Shares.{asked, each_below}
-use Rattle.model.specs.Verdicts.{Judged, verdicts_after}
+use Rattle.model.specs.Verdicts.{JudgedPart, verdicts_after}
 use Rattle.model.specs.Metadata.{metadata, tags_of_key, routing}
 use Rattle.model.specs.World.{World, Event, Sequence, MoveRange, Offer, Finish, Refusal, NoSuchResolver, Early, GivenUp, NoSuchProxy, WrongResolver, NoSuchRow, OutOfTurn, MissingReply, VersionsEnd, Answer, Sequenced, Moved, Again, Completed, Refused, start, answers, world_after, proxy_journal, proxy_metadata, proxy_routing, remembered_by}
 use Rattle.model.specs.World as world
@@ -131,7 +132,7 @@ s3 = codes "server0000000003"
 abbrev pub s4 : Key
 s4 = codes "server0000000004"
 
--- the values that name one source, two of them, and a source with a destination
+-- the values that name one source, and one source with one destination
 abbrev pub one_source : Key → List ℕ
 one_source s = 1 ∷ s ++ 0 ∷ []
 
@@ -147,9 +148,6 @@ tag_bytes id = 0 ∷ 0 ∷ id ∷ []
 
 abbrev pub servers_row : Key → Key
 servers_row key = key_servers_family.prefix ++ key
-
-abbrev pub lock_row : Key
-lock_row = locked_family.prefix
 
 abbrev pub version_row : Key
 version_row = metadata_version_family.prefix
@@ -174,7 +172,7 @@ AnEmptyJournal =
 
 abbrev pub two_routes : List JournalRow
 two_routes =
-    journal_row_of 10 (committed_by 2 false (changes.Set (tag_row s1) (tag_bytes 1) ∷ changes.Set (tag_row s2) (tag_bytes 2) ∷ changes.Set (servers_row []) (one_source s1) ∷ changes.Set (servers_row m) (one_source s2) ∷ []) ∷ []) ∷ []
+    journal_row_of 10 (committed_by 2 true (changes.Set (tag_row s1) (tag_bytes 1) ∷ changes.Set (tag_row s2) (tag_bytes 2) ∷ changes.Set (servers_row []) (one_source s1) ∷ changes.Set (servers_row m) (one_source s2) ∷ []) ∷ []) ∷ []
 
 -- two keyServers rows: the boundary belongs to the right one
 abbrev pub TheBoundaryBelongsToTheRightRow : Type 0
@@ -193,7 +191,7 @@ OneResolverRefuses =
 
 abbrev pub locked_once_a_row : List JournalRow
 locked_once_a_row =
-    journal_row_of 10 (committed_by 1 true (changes.Set lock_row (codes "L") ∷ []) ∷ committed_by 1 false (changes.Set (tag_row s1) (tag_bytes 1) ∷ changes.Set (servers_row []) (one_source s1) ∷ []) ∷ [])
+    journal_row_of 10 (committed_by 1 true (changes.Set locked_key (codes "L") ∷ []) ∷ committed_by 1 false (changes.Set (tag_row s1) (tag_bytes 1) ∷ changes.Set (servers_row []) (one_source s1) ∷ []) ∷ [])
     ∷ journal_row_of 20 (committed_by 1 false (changes.Set version_row (codes "v") ∷ []) ∷ [])
     ∷ []
 
@@ -329,11 +327,12 @@ readers bound ranges = filter (λ (r : ℕ). asks_read two_moves bound r ranges)
 abbrev pub writers : Range → List ℕ
 writers ranges = filter (λ (r : ℕ). asks_write two_moves r ranges) (each_below 3)
 
--- the same readers, where the fronts of all lists were dropped by some oldest versions, one after another
+-- what remains of a list whose front was dropped by some oldest versions, one after another
 abbrev pub remaining : List ℕ → List Owner → List Owner
 remaining [] list = list
 remaining (oldest ∷ rest) list = remaining rest (without_front oldest list)
 
+-- the same readers, where the fronts of all lists were dropped by these oldest versions
 abbrev pub readers_after : List ℕ → ℕ → Range → List ℕ
 readers_after forgotten bound ranges = filter (λ (r : ℕ). some_key two_moves (λ (list : List Owner). is_met bound r (remaining forgotten list)) ranges) (each_below 3)
 
@@ -411,13 +410,13 @@ AFalseConflictThroughTwoResolvers =
 abbrev pub part : ℕ → ℕ → List Range → List Range → Part
 part number snapshot reads writes = record { number = number; snapshot = snapshot; reads = reads; writes = writes }
 
-abbrev pub at_version : ℕ → Part → Judged
+abbrev pub at_version : ℕ → Part → JudgedPart
 at_version version p = record { version = version; part = p }
 
-abbrev pub first_share : List Judged
+abbrev pub first_share : List JudgedPart
 first_share = at_version 10 (part 0 0 [] (range a (codes "c") ∷ [])) ∷ []
 
-abbrev pub second_share : List Judged
+abbrev pub second_share : List JudgedPart
 second_share =
     map (at_version 20)
     (part 0 10 (only b ∷ []) []
@@ -438,13 +437,13 @@ SharesJudged =
 
 -- a lock-aware transaction locks the database, and a plain one stands behind it in the batch
 abbrev pub locking : List Given
-locking = lock_aware (putting lock_row (codes "L")) ∷ putting a (codes "1") ∷ []
+locking = lock_aware (putting locked_key (codes "L")) ∷ putting a (codes "1") ∷ []
 
 abbrev pub lock_over_two_proxies : List Event
 lock_over_two_proxies = Sequence 0 locking ∷ Sequence 1 (putting b (codes "1") ∷ []) ∷ to_both 0 ++ to_both 1 ++ Finish 0 ∷ Finish 1 ∷ []
 
 abbrev pub locking_row_by_0 : UnseenRow
-locking_row_by_0 = record { version = 10; states = (record { verdict = Committed; carried = Some (record { mutations = changes.Set lock_row (codes "L") ∷ []; lock_aware = true }) }) ∷ [] }
+locking_row_by_0 = record { version = 10; states = (record { verdict = Committed; carried = Some (record { mutations = changes.Set locked_key (codes "L") ∷ []; lock_aware = true }) }) ∷ [] }
 
 -- the lock lets its own batch pass, and refuses the other proxy's
 abbrev pub TheLockOverTwoProxies : Type 0
@@ -456,7 +455,7 @@ TheLockOverTwoProxies =
     ∷ judged 0 0 10 1 (Committed ∷ []) []
     ∷ judged 1 1 20 0 (Committed ∷ []) (locking_row_by_0 ∷ [])
     ∷ judged 1 1 20 1 [] (set_row_by_1 10 Committed ∷ [])
-    ∷ completed 0 10 (outcomes.Committed 10 0 ∷ outcomes.Committed 10 1 ∷ []) (tagged 0 0 (changes.Set lock_row (codes "L")) [] ∷ tagged 1 0 (changes.Set a (codes "1")) [] ∷ [])
+    ∷ completed 0 10 (outcomes.Committed 10 0 ∷ outcomes.Committed 10 1 ∷ []) (tagged 0 0 (changes.Set locked_key (codes "L")) [] ∷ tagged 1 0 (changes.Set a (codes "1")) [] ∷ [])
     ∷ completed 1 20 (outcomes.Locked ∷ []) []
     ∷ []
 
@@ -477,7 +476,7 @@ told_under_the_lock verdict_of_0 outcome =
     ∷ judged 1 1 20 1 (Committed ∷ []) (set_row_by_1 10 Committed ∷ [])
     ∷ judged 0 2 30 0 [] (set_row_by_0 20 verdict_of_0 (changes.Set (tag_row s1) (tag_bytes 1)) ∷ [])
     ∷ judged 0 2 30 1 [] (set_row_by_1 20 Committed ∷ [])
-    ∷ completed 0 10 (outcomes.Committed 10 0 ∷ outcomes.Committed 10 1 ∷ []) (tagged 0 0 (changes.Set lock_row (codes "L")) [] ∷ tagged 1 0 (changes.Set a (codes "1")) [] ∷ [])
+    ∷ completed 0 10 (outcomes.Committed 10 0 ∷ outcomes.Committed 10 1 ∷ []) (tagged 0 0 (changes.Set locked_key (codes "L")) [] ∷ tagged 1 0 (changes.Set a (codes "1")) [] ∷ [])
     ∷ completed 1 20 (outcome ∷ []) []
     ∷ completed 2 30 [] []
     ∷ []
@@ -486,16 +485,16 @@ told_under_the_lock verdict_of_0 outcome =
 abbrev pub AStateTransactionUnderTheLock : Type 0
 AStateTransactionUnderTheLock =
     (told cluster (under_the_lock 10) ≡ told_under_the_lock Committed outcomes.Locked)
-    × (map (proxy_metadata cluster (after cluster (under_the_lock 10))) (0 ∷ 1 ∷ []) ≡ ((lock_row, codes "L") ∷ []) ∷ ((lock_row, codes "L") ∷ []) ∷ [])
+    × (map (proxy_metadata cluster (after cluster (under_the_lock 10))) (0 ∷ 1 ∷ []) ≡ ((locked_key, codes "L") ∷ []) ∷ ((locked_key, codes "L") ∷ []) ∷ [])
     × (told cluster (under_the_lock 9) ≡ told_under_the_lock Conflict outcomes.Conflict)
 
 abbrev pub unlocking : List Event
 unlocking =
-    Sequence 0 locking ∷ Sequence 1 (lock_aware (mutating (Clear (only lock_row) ∷ [])) ∷ []) ∷ Sequence 0 (putting b (codes "1") ∷ [])
+    Sequence 0 locking ∷ Sequence 1 (lock_aware (mutating (Clear (only locked_key) ∷ [])) ∷ []) ∷ Sequence 0 (putting b (codes "1") ∷ [])
     ∷ to_both 0 ++ to_both 1 ++ to_both 2 ++ Finish 0 ∷ Finish 1 ∷ Finish 0 ∷ []
 
 abbrev pub unlocking_row : ℕ → UnseenRow
-unlocking_row r = record { version = 20; states = (record { verdict = Committed; carried = if nat_eq r 0 then Some (record { mutations = changes.Clear (only lock_row) ∷ []; lock_aware = true }) else None }) ∷ [] }
+unlocking_row r = record { version = 20; states = (record { verdict = Committed; carried = if nat_eq r 0 then Some (record { mutations = changes.Clear (only locked_key) ∷ []; lock_aware = true }) else None }) ∷ [] }
 
 -- a lock-aware transaction passes the lock and takes it off, and the next plain one passes
 abbrev pub TheLockIsTakenOff : Type 0
@@ -510,8 +509,8 @@ TheLockIsTakenOff =
     ∷ judged 1 1 20 1 (Committed ∷ []) (set_row_by_1 10 Committed ∷ [])
     ∷ judged 0 2 30 0 (Committed ∷ []) (unlocking_row 0 ∷ [])
     ∷ judged 0 2 30 1 [] (unlocking_row 1 ∷ [])
-    ∷ completed 0 10 (outcomes.Committed 10 0 ∷ outcomes.Committed 10 1 ∷ []) (tagged 0 0 (changes.Set lock_row (codes "L")) [] ∷ tagged 1 0 (changes.Set a (codes "1")) [] ∷ [])
-    ∷ completed 1 20 (outcomes.Committed 20 0 ∷ []) (tagged 0 0 (changes.Clear (only lock_row)) [] ∷ [])
+    ∷ completed 0 10 (outcomes.Committed 10 0 ∷ outcomes.Committed 10 1 ∷ []) (tagged 0 0 (changes.Set locked_key (codes "L")) [] ∷ tagged 1 0 (changes.Set a (codes "1")) [] ∷ [])
+    ∷ completed 1 20 (outcomes.Committed 20 0 ∷ []) (tagged 0 0 (changes.Clear (only locked_key)) [] ∷ [])
     ∷ completed 2 30 (outcomes.Committed 30 0 ∷ []) (tagged 0 0 (changes.Set b (codes "1")) [] ∷ [])
     ∷ [])
     × (map (proxy_metadata cluster (after cluster unlocking)) (0 ∷ 1 ∷ []) ≡ [] ∷ [] ∷ [])
@@ -629,7 +628,17 @@ finished_out_of_order = Sequence 0 (versioning 0 ∷ []) ∷ Sequence 1 (version
 -- the later record is finished first: the earlier one's journal is the beginning of the later one's
 abbrev pub TwoProxiesMeet : Type 0
 TwoProxiesMeet =
-    (map (λ (p : ℕ). proxy_journal cluster (after cluster finished_out_of_order) p) (0 ∷ 1 ∷ [])
+    (told cluster finished_out_of_order
+    ≡ Sequenced 0 10
+    ∷ Sequenced 1 20
+    ∷ judged 0 0 10 0 (Committed ∷ []) []
+    ∷ judged 0 0 10 1 (Committed ∷ []) []
+    ∷ judged 1 1 20 0 (Committed ∷ []) (versioning_row 10 0 ∷ [])
+    ∷ judged 1 1 20 1 (Committed ∷ []) (set_row_by_1 10 Committed ∷ [])
+    ∷ completed 1 20 (outcomes.Committed 20 0 ∷ []) (tagged 0 0 (changes.Set version_row (1 ∷ [])) [] ∷ [])
+    ∷ completed 0 10 (outcomes.Committed 10 0 ∷ []) (tagged 0 0 (changes.Set version_row (0 ∷ [])) [] ∷ [])
+    ∷ [])
+    × (map (λ (p : ℕ). proxy_journal cluster (after cluster finished_out_of_order) p) (0 ∷ 1 ∷ [])
     ≡ (journal_row_of 10 (committed_by 2 false (changes.Set version_row (0 ∷ []) ∷ []) ∷ []) ∷ [])
     ∷ (journal_row_of 10 (committed_by 2 false (changes.Set version_row (0 ∷ []) ∷ []) ∷ []) ∷ journal_row_of 20 (committed_by 2 false (changes.Set version_row (1 ∷ []) ∷ []) ∷ []) ∷ [])
     ∷ [])
@@ -692,31 +701,41 @@ AClearOfEverything =
 -- ---- refusals
 
 abbrev pub refusals : List Event
-refusals =
-    MoveRange m_to_t 2 ∷ Finish 0 ∷ Sequence 0 [] ∷ Offer 0 0 ∷ Finish 0 ∷ Offer 9 0 ∷ Offer 9 2 ∷ Offer 0 2 ∷ Sequence 2 [] ∷ Finish 2
-    ∷ Offer 0 1 ∷ Finish 0 ∷ []
+refusals = MoveRange m_to_t 2 ∷ Finish 0 ∷ Sequence 0 [] ∷ Offer 0 0 ∷ Finish 0 ∷ Offer 9 0 ∷ Offer 0 1 ∷ Finish 0 ∷ []
 
--- a refused event changes nothing, and the run goes on; a row that is not there is noticed before a resolver that is not there
+-- a refused event changes nothing, and the run goes on
 abbrev pub RefusalsInOrder : Type 0
 RefusalsInOrder =
     told cluster refusals
     ≡ Refused NoSuchResolver
-    ∷ Refused OutOfTurn
+    ∷ Refused (OutOfTurn None)
     ∷ Sequenced 0 10
     ∷ judged 0 0 10 0 [] []
     ∷ Refused (MissingReply 1)
     ∷ Refused NoSuchRow
+    ∷ judged 0 0 10 1 [] []
+    ∷ completed 0 10 [] []
+    ∷ []
+
+abbrev pub checks : List Event
+checks = Sequence 0 [] ∷ Sequence 0 [] ∷ Offer 9 2 ∷ Offer 0 2 ∷ Sequence 2 [] ∷ Finish 2 ∷ Offer 1 1 ∷ []
+
+-- a row that is not there is noticed before a resolver that is not there; proxies that are not there are refused; and a resolver that has judged nothing yet stands at version 0
+abbrev pub WhatIsCheckedFirst : Type 0
+WhatIsCheckedFirst =
+    told cluster checks
+    ≡ Sequenced 0 10
+    ∷ Sequenced 1 20
     ∷ Refused NoSuchRow
     ∷ Refused WrongResolver
     ∷ Refused NoSuchProxy
     ∷ Refused NoSuchProxy
-    ∷ judged 0 0 10 1 [] []
-    ∷ completed 0 10 [] []
+    ∷ Refused (Early 0)
     ∷ []
 
 abbrev pub greatest_steps : Config
 greatest_steps = record cluster { step = 4611686018427387904 }
 
--- the first batch gets half of the greatest version, and a second one would pass it
+-- the first batch gets half of the limit of versions, and a second one would reach it; a proxy that is not there is noticed before that
 abbrev pub TheLastVersion : Type 0
-TheLastVersion = told greatest_steps (Sequence 0 [] ∷ Sequence 0 [] ∷ []) ≡ Sequenced 0 4611686018427387904 ∷ Refused VersionsEnd ∷ []
+TheLastVersion = told greatest_steps (Sequence 0 [] ∷ Sequence 0 [] ∷ Sequence 2 [] ∷ []) ≡ Sequenced 0 4611686018427387904 ∷ Refused VersionsEnd ∷ Refused NoSuchProxy ∷ []

@@ -1,11 +1,12 @@
 -- The world without threads: a history, the moves so far, and how far each resolver and each proxy has come; its events and their answers.
-use Rattle.std.specs.Prelude.{◌≡◌, ℕ, suc, ◌+◌, ◌^◌, max, List, [], ◌∷◌, ◌++◌, length, take, drop, replicate, filter, nat_eq, nat_lt, nat_le, if◌then◌else◌, slice_get, slice_index, slice_set, Option, Some, None, All}
+use Rattle.std.specs.Prelude.{◌≡◌, ℕ, suc, ◌+◌, ◌<◌, ◌≤◌, max, List, [], ◌∷◌, ◌++◌, length, take, replicate, filter, nat_eq, nat_lt, nat_le, if◌then◌else◌, slice_get, slice_index, slice_set, Option, Some, None}
 use Rattle.system_keys.specs.declared.change.Change.{Change}
 use Rattle.system_keys.specs.Keys.{Range}
 use Rattle.model.specs.declared.config.Config.{Config}
 use Rattle.model.specs.declared.moves.Move.{Move}
 use Rattle.model.specs.declared.journal.JournalRow.{JournalRow}
 use Rattle.model.specs.declared.routing.Routing.{Routing}
+use Rattle.model.specs.declared.verdict.Verdict.{Verdict}
 use Rattle.model.specs.declared.reply.Reply.{Reply}
 use Rattle.model.specs.declared.outcome.Outcome.{Outcome}
 use Rattle.model.specs.declared.outcome.Outcome.TheVariants as outcomes
@@ -13,12 +14,12 @@ use Rattle.model.specs.declared.outcome.Tagged.{Tagged}
 use Rattle.model.specs.declared.outcome.Finished.{Finished}
 use Rattle.model.specs.Stamps.{Given, stamped_from}
 use Rattle.model.specs.Transactions.{Transaction}
-use Rattle.model.specs.Records.{Record, IsHistory, IsMadeAfter, last_version, last_moves, of_proxy}
+use Rattle.model.specs.Records.{Record, MovesFollow, version_limit, last_version, of_proxy}
 use Rattle.model.specs.Shares.{each_below}
 use Rattle.model.specs.Verdicts.{share_verdicts}
 use Rattle.model.specs.Metadata.{Rows, metadata, tags, routing}
-use Rattle.model.specs.Journal.{Sayings, verdict_in, journal, unseen, remembered}
-use Rattle.model.specs.Outcomes.{outcomes as outcomes_of}
+use Rattle.model.specs.Journal.{Sayings, verdict_in, journal_row, journal, unseen, remembered}
+use Rattle.model.specs.Outcomes.{outcomes_after}
 
 -- the history, the moves so far, for each record the version of the last record that its proxy had finished, for each resolver how many rows it has judged, and for each proxy how many of its records are finished (this project's profile)
 pub record World : Type 0 where
@@ -35,7 +36,7 @@ pub data Event : Type 0 where
   Offer : (row resolver : ℕ) → Event
   Finish : (proxy : ℕ) → Event
 
--- why an event is refused
+-- why an event is refused; an early request with the version of the last row judged, 0 if none, and a finish out of turn with the row awaited, if one is
 pub data Refusal : Type 0 where
   NoSuchResolver : Refusal
   Early : (version : ℕ) → Refusal
@@ -43,7 +44,7 @@ pub data Refusal : Type 0 where
   NoSuchProxy : Refusal
   WrongResolver : Refusal
   NoSuchRow : Refusal
-  OutOfTurn : Refusal
+  OutOfTurn : (expected : Option ℕ) → Refusal
   MissingReply : (resolver : ℕ) → Refusal
   VersionsEnd : Refusal
 
@@ -89,11 +90,7 @@ next_record config w p batch =
       batch = stamped_from (previous + config.step) 0 batch;
     }
 
--- the limit that versions stay below (this project's profile)
-abbrev pub version_limit : ℕ
-version_limit = 2 ^ 63
-
--- a batch gets the next record, of all moves so far: refused are a proxy that is not there, and a version past the limit (release 7.1)
+-- a batch gets the next record, of all moves so far (release 7.1); refused are first a proxy that is not there, and then a version that reaches the limit (this project's profile)
 abbrev pub sequenced : Config → World → ℕ → List Given → Happened
 sequenced config w p batch =
     let rec = next_record config w p batch in
@@ -103,7 +100,7 @@ sequenced config w p batch =
 
 -- ---- a range moves
 
--- a range moves to a resolver from the version after the last one given out (release 7.1); refused is a resolver that is not there
+-- a range moves to a resolver from the version after the last one given out (release 7.1); refused is a resolver that is not there (this project's profile)
 abbrev pub moved : Config → World → Range → ℕ → Happened
 moved config w range destination =
     let date = last_version w.history + 1 in
@@ -112,10 +109,14 @@ moved config w range destination =
 
 -- ---- a request comes to a resolver
 
--- the reply of resolver r to a record, after the records before it: its verdicts on its share, and the rows that the proxy has not seen (release 7.1)
+-- the reply of resolver r to a record, after the records before it: these verdicts on its share, and the rows that the proxy has not seen (release 7.1)
+abbrev pub reply_with : List Verdict → Sayings → ℕ → List Record → Record → Reply
+reply_with verdicts says r before rec =
+    record { resolver = r; proxy = rec.proxy; row = rec.row; version = rec.version; verdicts = verdicts; unseen = unseen says r before rec }
+
+-- the reply of resolver r to a record, with its own verdicts
 abbrev pub reply_of : Config → Sayings → ℕ → List Record → Record → Reply
-reply_of config says r before rec =
-    record { resolver = r; proxy = rec.proxy; row = rec.row; version = rec.version; verdicts = share_verdicts config r before rec; unseen = unseen says r before rec }
+reply_of config says r before rec = reply_with (share_verdicts config r before rec) says r before rec
 
 -- the greatest number of a list, or 0
 abbrev pub greatest : List ℕ → ℕ
@@ -137,14 +138,14 @@ abbrev pub repeated : World → Reply → ℕ → Happened
 repeated w reply received =
     if nat_le reply.version received then refuse w (GivenUp received) else record { world = w; answer = Again reply }
 
--- the row comes to a resolver that has judged `front` rows: too early, again, or in its turn (release 7.1)
+-- the row comes to a resolver that has judged `front` rows: again, or in its turn (release 7.1), or too early, which this call refuses with the version of the last row judged, 0 if none, where release 7.1 holds the request back
 abbrev pub offered_at : World → ℕ → ℕ → Reply → Happened
 offered_at w front r reply =
     if nat_lt front reply.row then refuse w (Early (last_version (take front w.history)))
     else if nat_lt reply.row front then repeated w reply (acknowledged w front reply.proxy)
     else record { world = record w { fronts = slice_set w.fronts r (suc front) }; answer = Judged reply }
 
--- the request for a row comes to resolver r: refused are a row that is not there, and then a resolver that is not there
+-- the request for a row comes to resolver r: refused are first a row that is not there, and then a resolver that is not there (this project's profile)
 abbrev pub offered : Config → World → ℕ → ℕ → Option Record → Happened
 offered config w row r None = refuse w NoSuchRow
 offered config w row r (Some rec) =
@@ -153,7 +154,7 @@ offered config w row r (Some rec) =
 
 -- ---- a proxy finishes
 
--- the mutations of transaction `number`, from place n on, each with its tags in these rows
+-- the mutations of transaction `number`, from place n on, each with its tags in these rows (release 7.1)
 abbrev pub tagged_from : Rows → ℕ → ℕ → List Change → List Tagged
 tagged_from rows number n [] = []
 tagged_from rows number n (change ∷ changes) = record { number = number; place = n; change = change; tags = tags rows change } ∷ tagged_from rows number (suc n) changes
@@ -171,25 +172,29 @@ tagged_all rows [] outcomes = []
 tagged_all rows (t ∷ ts) [] = []
 tagged_all rows (t ∷ ts) (outcome ∷ outcomes) = tagged_one rows t outcome ++ tagged_all rows ts outcomes
 
--- a finished record, after the records before it: its outcomes, and its mutations with the tags of the metadata after the whole batch (release 7.1)
-unfoldable pub finished_batch : Config → Sayings → List Record → Record → Finished
-finished_batch config says before rec =
-    let told = outcomes_of config says before rec in
-    record { row = rec.row; version = rec.version; outcomes = told; tagged = tagged_all (metadata (journal config says (before ++ rec ∷ []))) rec.batch told }
+-- a finished record, after a journal of the records before it: its outcomes, and its mutations with the tags of the metadata after the whole batch (release 7.1)
+unfoldable pub finished_after : Config → Sayings → List JournalRow → Record → Finished
+finished_after config says journal_before rec =
+    let told = outcomes_after config says journal_before rec in
+    record { row = rec.row; version = rec.version; outcomes = told; tagged = tagged_all (metadata (journal_before ++ journal_row config says rec ∷ [])) rec.batch told }
 
--- of some resolvers, those that have not judged the row
+-- a finished record, after the records before it
+abbrev pub finished_batch : Config → Sayings → List Record → Record → Finished
+finished_batch config says before rec = finished_after config says (journal config says before) rec
+
+-- of some resolvers, those that have not judged the row, whose replies the proxy cannot have (release 7.1)
 abbrev pub missing : World → ℕ → List ℕ → List ℕ
 missing w row rs = filter (λ (r : ℕ). nat_le (slice_index w.fronts r) row) rs
 
--- the proxy finishes a record for which these resolvers are missing: the least of them is named
+-- the proxy finishes a record for which the replies of these resolvers are missing: refused with the first of them, else finished (this project's profile)
 abbrev pub finishing : Config → World → ℕ → Record → List ℕ → Happened
 finishing config w p rec (r ∷ rs) = refuse w (MissingReply r)
 finishing config w p rec [] =
     record { world = record w { finished = slice_set w.finished p (suc (slice_index w.finished p)) }; answer = Completed (finished_batch config (verdict_in config w.history) (take rec.row w.history) rec) }
 
--- the proxy's earliest record that is not finished, if there is one, is finished once every resolver has judged it (release 7.1)
+-- the proxy's earliest record that is not finished, if there is one, is finished once every resolver has judged it (release 7.1); where there is none, it is nobody's turn (this project's profile)
 abbrev pub finished_next : Config → World → ℕ → Option Record → Happened
-finished_next config w p None = refuse w OutOfTurn
+finished_next config w p None = refuse w (OutOfTurn None)
 finished_next config w p (Some rec) = finishing config w p rec (missing w rec.row (each_below config.resolvers))
 
 -- ---- all events
@@ -219,6 +224,10 @@ world_after config w (event ∷ events) = world_after config (happens config w e
 abbrev pub up_to_version : ℕ → List Record → List Record
 up_to_version version h = filter (λ (rec : Record). nat_le rec.version version) h
 
+-- how many rows there are up to a version: the row of that version plus one, and 0 at version 0
+abbrev pub rows_up_to : ℕ → List Record → ℕ
+rows_up_to version h = length (up_to_version version h)
+
 -- the journal of a proxy: that of the records up to its version, the last that it finished (release 7.1)
 unfoldable pub proxy_journal : Config → World → ℕ → List JournalRow
 proxy_journal config w p = journal config (verdict_in config w.history) (up_to_version (finished_version w p) w.history)
@@ -235,11 +244,13 @@ proxy_routing config w p = routing (finished_version w p) (proxy_metadata config
 abbrev pub remembered_by : Config → World → ℕ → List Record
 remembered_by config w r = remembered config (take (slice_index w.fronts r) w.history)
 
--- what every world keeps: its records are a history, and its moves begin with those of the last record and go on with moves made since, to resolvers that are there
+-- what every world keeps: what the sequencer keeps; a number received with each record, up to its previous version; a number of judged rows for each resolver, and of finished records for each proxy, no more than are there; and each finished record is judged by every resolver
 pub record IsSound (config : Config) (w : World) : Type 0 where
-  pub history : IsHistory config w.history
-  pub kept_moves : take (length (last_moves w.history)) w.moves ≡ last_moves w.history
-  pub further_moves : All (IsMadeAfter config (last_version w.history)) (drop (length (last_moves w.history)) w.moves)
+  pub sequencer : MovesFollow config w.history w.moves
   pub received : length w.received ≡ length w.history
   pub fronts : length w.fronts ≡ config.resolvers
   pub finished : length w.finished ≡ config.proxies
+  pub received_before : (i received : ℕ) (rec : Record) → slice_get w.history i ≡ Some rec → slice_get w.received i ≡ Some received → received ≤ rec.previous
+  pub judged_there : (r front : ℕ) → slice_get w.fronts r ≡ Some front → front ≤ length w.history
+  pub finished_there : (p done : ℕ) → slice_get w.finished p ≡ Some done → done ≤ length (of_proxy p w.history)
+  pub judged_first : (p done k r front : ℕ) (rec : Record) → slice_get w.finished p ≡ Some done → k < done → slice_get (of_proxy p w.history) k ≡ Some rec → slice_get w.fronts r ≡ Some front → rec.row < front

@@ -2,6 +2,7 @@
 #![tactic(auto)]
 
 mod config;
+mod history_laws;
 mod journal;
 mod journal_laws;
 mod metadata_laws;
@@ -20,9 +21,10 @@ mod worked_rows;
 mod world_laws;
 
 pub use config::Config;
+pub use history_laws::history_law;
 pub use journal::{JournalRow, StateTxn};
-pub use journal_laws::{request_law, told_law, unseen_law};
-pub use metadata_laws::{fold_law, lock_law, route_law, tags_law};
+pub use journal_laws::{journal_law, request_law, told_law, unseen_law};
+pub use metadata_laws::{change_law, fold_law, lock_law, route_law, tags_law};
 pub use moves::Move;
 pub use outcome::{Finished, Outcome, Tagged};
 pub use owner_laws::{asked_law, overlap_law, owner_law, walk_law};

@@ -15,9 +15,9 @@ pub enum Outcome {
         /// Its number in the batch, from 0.
         number: usize,
     },
-    /// Something that it read was written after its snapshot.
+    /// Some resolver said Conflict.
     Conflict,
-    /// Its snapshot lies further back than the window.
+    /// No resolver said Conflict, and some said Too old.
     TooOld,
     /// The database is locked, and it is not lock aware.
     Locked,

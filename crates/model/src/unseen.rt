@@ -31,7 +31,7 @@ impl Carried {
 pub struct StateMark {
     /// The number of the transaction in its batch, from 0.
     pub number: usize,
-    /// Its mutations and its mark in the request to resolver 0, and nothing in the others.
+    /// Its mutations and its lock-aware flag in the request to resolver 0, and nothing in the others.
     pub carried: Option<Carried>,
 }
 
@@ -51,7 +51,7 @@ impl StateMark {
 pub struct UnseenState {
     /// The verdict of this resolver.
     pub verdict: Verdict,
-    /// Its mutations and its mark from resolver 0, and nothing from the others.
+    /// Its mutations and its lock-aware flag from resolver 0, and nothing from the others.
     pub carried: Option<Carried>,
 }
 

@@ -1,6 +1,6 @@
 //! Worked rows: small stories of a cluster that the definitions tell with exactly these answers. No code.
 
-ghost use Rattle.model.specs.WorkedRows.{AnEmptyJournal, TheBoundaryBelongsToTheRightRow, OneResolverRefuses, TheLockIsReadOnceARow, TagsComeAndGoWithTheirRows, TheMetadataVersionIsStamped, AStampInAText, WhatAStateMutationIs, ReadsAfterAMoveAskBothOwners, TheOldOwnerSaysConflict, DatedOwnersOfThreeResolvers, TheEdgeOfTheWindow, TwoOrdersInABatch, AFalseConflictThroughTwoResolvers, SharesJudged, TheLockOverTwoProxies, AStateTransactionUnderTheLock, TheLockIsTakenOff, RowsAreRememberedForAProxyThatIsLate, RepeatsAndRepliesGivenUp, TwoRecordsBegunAtOnce, TwoProxiesMeet, TheTagsOfAClear, AClearOfEverything, RefusalsInOrder, TheLastVersion};
+ghost use Rattle.model.specs.WorkedRows.{AnEmptyJournal, TheBoundaryBelongsToTheRightRow, OneResolverRefuses, TheLockIsReadOnceARow, TagsComeAndGoWithTheirRows, TheMetadataVersionIsStamped, AStampInAText, WhatAStateMutationIs, ReadsAfterAMoveAskBothOwners, TheOldOwnerSaysConflict, DatedOwnersOfThreeResolvers, TheEdgeOfTheWindow, TwoOrdersInABatch, AFalseConflictThroughTwoResolvers, SharesJudged, TheLockOverTwoProxies, AStateTransactionUnderTheLock, TheLockIsTakenOff, RowsAreRememberedForAProxyThatIsLate, RepeatsAndRepliesGivenUp, TwoRecordsBegunAtOnce, TwoProxiesMeet, TheTagsOfAClear, AClearOfEverything, RefusalsInOrder, WhatIsCheckedFirst, TheLastVersion};
 
 /// The fold of a journal, the lock, and the tags of keys.
 pub fn fold_rows()
@@ -54,8 +54,9 @@ pub fn clear_rows()
     ensures everything { AClearOfEverything }
 {}
 
-/// Refusals, in the order of their checks, and the last version.
+/// Refused events change nothing; which check comes first; and the last version.
 pub fn refusal_rows()
     ensures in_order { RefusalsInOrder }
+    ensures checks { WhatIsCheckedFirst }
     ensures last_version { TheLastVersion }
 {}

@@ -1,5 +1,14 @@
-use Rattle.model.proofs.MetadataLaws.{metadata_in_order, metadata_append}
+use Rattle.model.proofs.MetadataLaws.{metadata_in_order, metadata_append, changed_in_order, after_row_in_order}
+use Rattle.model.proofs.ChangeLaws.{metadata_kept, kept_after_change, kept_after_row}
 use Rattle.model.proofs.metadata_laws.fold_law.Goals as goal
 
 pub returns : goal.returns
-returns c = record { order = metadata_in_order; longer = metadata_append }
+returns c = record {
+  order = metadata_in_order;
+  kept = metadata_kept;
+  longer = metadata_append;
+  order_after_change = changed_in_order;
+  order_after_row = after_row_in_order;
+  kept_after_change = kept_after_change;
+  kept_after_row = kept_after_row;
+}

@@ -1,4 +1,4 @@
-use Rattle.model.proofs.SayingLaws.{journal_known, outcomes_known}
+use Rattle.model.proofs.SayingLaws.{journal_known, outcomes_known, finished_known, journals_meet}
 use Rattle.model.proofs.verdict_laws.cells_law.Goals as goal
 
 pub returns-clause-journal : goal.returns-clause-journal
@@ -6,3 +6,9 @@ returns-clause-journal c = journal_known
 
 pub returns-clause-outcomes : goal.returns-clause-outcomes
 returns-clause-outcomes c = outcomes_known
+
+pub returns-clause-meet : goal.returns-clause-meet
+returns-clause-meet c = journals_meet
+
+pub returns-clause-finished : goal.returns-clause-finished
+returns-clause-finished c = finished_known

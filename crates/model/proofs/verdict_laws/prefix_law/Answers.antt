@@ -1,5 +1,5 @@
 use Rattle.model.proofs.ShareLaws.{verdict_in_later}
-use Rattle.model.proofs.SayingLaws.{journal_later, metadata_later, outcomes_later}
+use Rattle.model.proofs.SayingLaws.{journal_later, metadata_later, outcomes_later, finished_later, replies_later}
 use Rattle.model.proofs.verdict_laws.prefix_law.Goals as goal
 
 pub returns-clause-verdicts : goal.returns-clause-verdicts
@@ -13,3 +13,9 @@ returns-clause-metadata c = metadata_later
 
 pub returns-clause-outcomes : goal.returns-clause-outcomes
 returns-clause-outcomes c = outcomes_later
+
+pub returns-clause-replies : goal.returns-clause-replies
+returns-clause-replies c = replies_later
+
+pub returns-clause-finished : goal.returns-clause-finished
+returns-clause-finished c = finished_later

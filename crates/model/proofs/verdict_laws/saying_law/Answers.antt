@@ -1,4 +1,5 @@
 use Rattle.model.proofs.ShareLaws.{known_in_is, journal_row_alike}
+use Rattle.model.proofs.SayingLaws.{said_by_cell, said_of_one}
 use Rattle.model.proofs.verdict_laws.saying_law.Goals as goal
 
 pub returns-clause-known : goal.returns-clause-known
@@ -6,3 +7,9 @@ returns-clause-known c = known_in_is
 
 pub returns-clause-journal : goal.returns-clause-journal
 returns-clause-journal c = journal_row_alike
+
+pub returns-clause-said : goal.returns-clause-said
+returns-clause-said c = said_by_cell
+
+pub returns-clause-there : goal.returns-clause-there
+returns-clause-there c = said_of_one

@@ -7,6 +7,6 @@ pub returns : goal.returns
 returns c = record {
   step = happens_sound;
   sound = run_sound;
-  history = λ config events. (run_sound config events).history;
-  serial = λ config events limits. history_is_serial config (world_after config (start config) events).history limits (run_sound config events).history;
+  history = λ config events. (run_sound config events).sequencer.history;
+  serial = λ config events limits. history_is_serial config (world_after config (start config) events).history limits (run_sound config events).sequencer.history;
 }
