@@ -1,7 +1,7 @@
 """Fold scripts that are wrong in one way each, or in two, with the line that each must be answered.
 
-What a case must be answered follows from the fault that it plants, by docs/FORMATS.md: a text that is no
-JSON is 70; a value without the form is 71, also where other faults stand before it; and otherwise the first
+What a case must be answered follows from the fault that it plants, by docs/FORMATS.md: a text of which
+`serde_json` reads no value is 70; a value without the form is 71, also where other faults stand before it; and otherwise the first
 fault of a key, a value or a range in the order of the script.
 """
 import copy
@@ -264,7 +264,10 @@ def syntax_faults():
                 yield "without the %s at %d" % (character, place), cut, NOT_JSON
     for name, added in (("x", "x"), ("a comma", ","), ("a brace", "}"), ("a second value", "1")):
         yield "%s after the end" % name, whole + added, NOT_JSON
-    yield "200 lists in each other", "[" * 200 + "]" * 200, NOT_JSON
+    for depth, answer in ((127, BAD_SHAPE), (128, NOT_JSON), (200, NOT_JSON)):
+        yield "%d lists in each other" % depth, "[" * depth + "]" * depth, answer
+    for number, answer in (("1e308", BAD_SHAPE), ("1e999", NOT_JSON)):
+        yield "the number %s" % number, whole.replace('"version": 20', '"version": ' + number), answer
     for word in ("nul", "True", "NaN", "Infinity", "01", "+1", ".5", "1.", "'a'", '"\\x41"', '"\\u12"', '"\t"', '"\\ud800"'):
         yield "the word %s" % word, word, NOT_JSON
 

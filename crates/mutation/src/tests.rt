@@ -68,7 +68,11 @@ fn transaction(
 /// What admission says of a transaction of one mutation: `None` where it is admitted.
 fn refusal_of(alloc: Global, mutation: Mutation) -> Result<Option<Refusal>, OutOfMemory> {
     let given = transaction(alloc, None, None, Some(mutation))?;
-    Ok(admit(alloc, &given).err())
+    match admit(alloc, &given) {
+        Ok(_admitted) => Ok(None),
+        Err(Refusal::OutOfMemory) => Err(OutOfMemory),
+        Err(refusal) => Ok(Some(refusal)),
+    }
 }
 
 /// The value that a SetStamped of `m` sets, as transaction `number` of the batch of `version`.

@@ -33,6 +33,7 @@ pub fold_text-fault : (bytes : List ℕ) (fault : ScriptFault) (result : Result 
 fold_text-fault bytes faults.NotJson result fails numbered is = rw (fold_text-script bytes _ fails) is
 fold_text-fault bytes faults.BadShape result fails numbered is = rw (fold_text-script bytes _ fails) is
 fold_text-fault bytes (faults.Refused refusal) result fails numbered is = rw (fold_text-script bytes _ fails) is
+fold_text-fault bytes (faults.RefusedBatch refusal) result fails numbered is = rw (fold_text-script bytes _ fails) is
 fold_text-fault bytes faults.OutOfMemory (Ok output) fails numbered is =
     let none : IsSome {T = ℕ} None = numbered in cc
 fold_text-fault bytes faults.OutOfMemory (Err memory) fails numbered is = tt

@@ -1,4 +1,5 @@
 pub mod AnswerLemmas
+pub mod BatchLemmas
 pub mod FoldLemmas
 pub mod GivenValue
 pub mod KnownWords

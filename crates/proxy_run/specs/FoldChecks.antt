@@ -64,6 +64,7 @@ abbrev pub FailsCheck : {X : Type 0} → ScriptFault → Result X Refusal → Ty
 FailsCheck faults.NotJson said = ⊥
 FailsCheck faults.BadShape said = ⊥
 FailsCheck (faults.Refused refusal) said = said ≡ Err refusal
+FailsCheck (faults.RefusedBatch refusal) said = ⊥
 FailsCheck faults.OutOfMemory said = Unit {0}
 
 -- a checker answers what was checked, or its first fault, or want of memory

@@ -7,7 +7,7 @@ use Rattle.system_keys.specs.declared.refusal.Refusal.{Refusal}
 use Rattle.proxy_run.specs.declared.fold_script.FoldScript.{FoldScript}
 use Rattle.proxy_run.specs.declared.fold_script.RawScript.{RawScript}
 use Rattle.proxy_run.specs.declared.script_fault.ScriptFault.{ScriptFault}
-use Rattle.proxy_run.specs.declared.script_fault.ScriptFault.TheVariants.{NotJson, BadShape, Refused, OutOfMemory}
+use Rattle.proxy_run.specs.declared.script_fault.ScriptFault.TheVariants.{NotJson, BadShape, Refused, RefusedBatch, OutOfMemory}
 use Rattle.proxy_run.specs.FoldLimits.{script_shape}
 use Rattle.proxy_run.specs.FoldChecks.{checked_script}
 
@@ -28,13 +28,14 @@ script_of_data (Some d) = script_of_raw (script_shape d)
 unfoldable pub script_of : List ℕ → Result FoldScript ScriptFault
 script_of bytes = if is_utf8 bytes then script_of_data (read bytes) else Err NotJson
 
-abbrev pub FailsScript : ScriptFault → Result FoldScript ScriptFault → Type 0
+abbrev pub FailsScript : {X : Type 0} → ScriptFault → Result X ScriptFault → Type 0
 FailsScript NotJson said = said ≡ Err NotJson
 FailsScript BadShape said = said ≡ Err BadShape
 FailsScript (Refused refusal) said = said ≡ Err (Refused refusal)
+FailsScript (RefusedBatch refusal) said = said ≡ Err (RefusedBatch refusal)
 FailsScript OutOfMemory said = Unit {0}
 
 -- a reader of scripts answers the script that was said, or its fault, or want of memory
-abbrev pub GivesScript : Result FoldScript ScriptFault → Result FoldScript ScriptFault → Type 0
+abbrev pub GivesScript : {X : Type 0} → Result X ScriptFault → Result X ScriptFault → Type 0
 GivesScript (Ok script) said = said ≡ Ok script
 GivesScript (Err fault) said = FailsScript fault said

@@ -1,3 +1,6 @@
+pub mod BatchChecks
+pub mod BatchScripts
+pub mod BatchShapes
 pub mod CommandLine
 pub mod Devices
 pub mod FoldChecks

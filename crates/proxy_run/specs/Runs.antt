@@ -1,6 +1,6 @@
 -- What a run of the program leaves, by the bytes that the source had and those that the sink holds,
 -- where they are known.
-use Rattle.std.specs.Prelude.{◌≡◌, ◌≢◌, ◌⊎◌, ◌∷◌, ℕ, List, [], Option, Some, IfSome, codes}
+use Rattle.std.specs.Prelude.{◌≡◌, ◌≢◌, ◌⊎◌, ◌∷◌, ◌+◌, ◌<◌, ◌≤◌, ◌^◌, length, ℕ, List, [], Option, Some, IfSome, codes}
 use Rattle.std.specs.Io.KnownBytes.{Appends}
 use Rattle.clap.specs.Words.{Text, fault_of, matches_of}
 use Rattle.proxy_run.specs.CommandLine.{ModeNames, command_line, mode_of}
@@ -30,6 +30,11 @@ Folds input old new ScriptRefused = WritesAnswer input old new ScriptRefused
 Folds input old new (CommandLineRefused text) = ⊥
 Folds input old new DeviceFailed = BeginsAnswer input old new
 Folds input old new OutOfMemory = BeginsAnswer input old new
+
+-- the limit on read calls was passed: so many calls were made, and the source had a byte for each of them
+pub record PassesLimit (input : Option (List ℕ)) (old new limit : ℕ) : Type 0 where
+  pub calls : old + limit < 2 ^ 64 → new ≡ old + limit
+  pub bytes : IfSome input (λ bytes. limit ≤ length bytes)
 
 -- what a run in a mode leaves; no words give another mode for now
 abbrev pub RunsMode : Option Mode → Type 0 → Type 0

@@ -103,6 +103,7 @@ abbrev pub Fails : {X : Type 0} → ScriptFault → Option X → Type 0
 Fails faults.NotJson said = ⊥
 Fails faults.BadShape said = said ≡ None
 Fails (faults.Refused refusal) said = ⊥
+Fails (faults.RefusedBatch refusal) said = ⊥
 Fails faults.OutOfMemory said = Unit {0}
 
 -- a reader answers what the value stands for; BadShape only where it does not have the shape, and else want of memory

@@ -1,5 +1,5 @@
 //! What the program reads from and writes to: one read call, one write call, and a count of failures.
-ghost use Rattle.std.specs.Prelude.{◌≡◌, ◌+◌, ◌-◌, ◌^◌, ◌<◌, ℕ, List, Option, IfOk, IfSome};
+ghost use Rattle.std.specs.Prelude.{◌≡◌, ◌+◌, ◌-◌, ◌^◌, ◌<◌, ◌≤◌, length, ℕ, List, Option, IfOk, IfSome};
 ghost use Rattle.std.specs.Prelude.{IsErrOf, OnErr, OnOk};
 ghost use Rattle.std.specs.Io.{ReadsAtMost, WritesAtMost};
 ghost use Rattle.std.specs.Io.KnownBytes.{Appends, ReadConsumes, WriteAppends};
@@ -182,8 +182,11 @@ pub fn read_all<S: Source>(alloc: Global, source: &mut S) -> Result<Vec<u8>, Rea
         IfSome (S.remaining source.old) (λ input. bytes.items ≡ input)) }
     ensures device { IsErrOf result ReadFault.Device
         → S.failed source.new ≡ S.failed source.old + 1 }
+    ensures fine { OnOk result (S.failed source.new ≡ S.failed source.old) }
     ensures limit { IsErrOf result ReadFault.Limit → S.reads source.old + READ_LIMIT < 2 ^ 64
         → S.reads source.new ≡ S.reads source.old + READ_LIMIT }
+    ensures long { IsErrOf result ReadFault.Limit
+        → IfSome (S.remaining source.old) (λ input. READ_LIMIT ≤ length input) }
 {
     let mut bytes = Vec::new(alloc);
     let mut chunk = [0u8; CHUNK];
@@ -204,6 +207,7 @@ pub fn write_all<T: Sink>(sink: &mut T, bytes: &[u8]) -> Result<(), Failed>
     ensures err { OnErr result
         (AppendsBeginning (T.written sink.old) (T.written sink.new) bytes.now) }
     ensures counted { OnErr result (T.failed sink.new ≡ T.failed sink.old + 1) }
+    ensures fine { OnOk result (T.failed sink.new ≡ T.failed sink.old) }
 {
     let mut rest = bytes;
     while !rest.is_empty() {

@@ -2,6 +2,11 @@
 #![tactic(auto)]
 
 mod answer;
+mod batch_checks;
+mod batch_reading;
+mod batch_shapes;
+#[cfg(test)]
+mod batch_tests;
 mod command_line;
 mod devices;
 mod fold_checks;

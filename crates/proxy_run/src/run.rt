@@ -2,8 +2,8 @@
 ghost use Rattle.std.specs.Prelude.{◌≡◌, ◌⊎◌, ◌+◌, ◌-◌, ◌^◌, ◌<◌, map};
 ghost use Rattle.clap.specs.Words.{kind_of};
 ghost use Rattle.clap.specs.declared.error.kind.ErrorKind.TheVariants as kinds;
-ghost use Rattle.proxy_run.specs.Runs.{Folds, IsFoldLine, IsOtherModeLine, RunsWords};
-ghost use Rattle.proxy_run.specs.Statuses.{IsTurnedAway};
+ghost use Rattle.proxy_run.specs.Runs.{Folds, IsFoldLine, IsOtherModeLine, PassesLimit, RunsWords};
+ghost use Rattle.proxy_run.specs.Statuses.{IsAnswered, IsTurnedAway};
 
 use crate::answer::answer;
 use crate::command_line::read_mode;
@@ -24,8 +24,9 @@ pub fn run_fold<S: Source, T: Sink>(alloc: Global, source: &mut S, sink: &mut T)
     ensures device { result ≡ Status.DeviceFailed
         → (S.failed source.new ≡ S.failed source.old + 1)
         ⊎ (T.failed sink.new ≡ T.failed sink.old + 1)
-        ⊎ (S.reads source.old + READ_LIMIT < 2 ^ 64
-        → S.reads source.new ≡ S.reads source.old + READ_LIMIT) }
+        ⊎ PassesLimit (S.remaining source.old) (S.reads source.old) (S.reads source.new) READ_LIMIT }
+    ensures fine { IsAnswered result
+        → (S.failed source.new ≡ S.failed source.old) × (T.failed sink.new ≡ T.failed sink.old) }
 {
     let bytes = match read_all(alloc, source) {
         Ok(bytes) => bytes,
@@ -63,8 +64,9 @@ pub fn run_words<'a, W: AsStr, S: Source, T: Sink>(
     ensures device { result ≡ Status.DeviceFailed
         → (S.failed source.new ≡ S.failed source.old + 1)
         ⊎ (T.failed sink.new ≡ T.failed sink.old + 1)
-        ⊎ (S.reads source.old + READ_LIMIT < 2 ^ 64
-        → S.reads source.new ≡ S.reads source.old + READ_LIMIT) }
+        ⊎ PassesLimit (S.remaining source.old) (S.reads source.old) (S.reads source.new) READ_LIMIT }
+    ensures fine { IsAnswered result
+        → (S.failed source.new ≡ S.failed source.old) × (T.failed sink.new ≡ T.failed sink.old) }
 {
     match read_mode(alloc, words) {
         Ok(Some(Mode::Fold)) => run_fold(alloc, source, sink),

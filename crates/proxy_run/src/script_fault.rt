@@ -20,6 +20,9 @@ pub enum ScriptFault {
     /// A key, a value or a range of the script is refused.
     #[error("{0}")]
     Refused(Refusal),
+    /// A transaction of a batch is refused, or the batch is.
+    #[error("{0}")]
+    RefusedBatch(mutation::Refusal),
     /// There was no memory for the answer.
     #[error("out of memory")]
     OutOfMemory,
@@ -36,6 +39,7 @@ impl ScriptFault {
             ScriptFault::NotJson => Some(70),
             ScriptFault::BadShape => Some(71),
             ScriptFault::Refused(refusal) => refusal.number(),
+            ScriptFault::RefusedBatch(refusal) => refusal.number(),
             ScriptFault::OutOfMemory => None,
         }
     }
@@ -48,6 +52,7 @@ impl ScriptFault {
             ScriptFault::NotJson => "NotJson",
             ScriptFault::BadShape => "BadShape",
             ScriptFault::Refused(refusal) => refusal.name(),
+            ScriptFault::RefusedBatch(refusal) => refusal.name(),
             ScriptFault::OutOfMemory => "OutOfMemory",
         }
     }

@@ -1,4 +1,4 @@
-use Rattle.std.proofs.Common.{◌≡◌, ◌+◌, ◌<◌, ◌^◌}
+use Rattle.std.proofs.Common.{◌≡◌, ◌+◌, ◌<◌, ◌≤◌, ◌^◌, length}
 use Rattle.std.specs.Io.KnownBytes.{Consumes}
 use Rattle.proxy_run.proofs.devices.read_all.Given as goal
 
@@ -10,5 +10,6 @@ invariant-loop-call g l =
     record {
       split : Consumes (remaining l.fn.source) (remaining l.source) l.bytes.items;
       fine : failed l.source ≡ failed l.fn.source;
+      many : l._call ≤ length l.bytes.items;
       called : reads l.fn.source + 1048576 < 2 ^ 64 → reads l.source ≡ reads l.fn.source + l._call;
     }
