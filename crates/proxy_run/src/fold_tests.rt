@@ -1,10 +1,11 @@
 //! Tests of whole fold scripts against worked texts. Each call that takes memory is made again where it was
 //! refused memory, so that the tests also pass where any one allocation fails.
 
-use crate::answer::answer;
 use crate::fold_lines::{print_asked, print_routing};
 use crate::fold_reading::read_script;
+use crate::run::run_words;
 use crate::script_fault::ScriptFault;
+use crate::tests::fakes::{Fed, Kept};
 use model::Routing;
 use std::alloc::Global;
 use std::process::Abort;
@@ -44,11 +45,22 @@ const NOT_JSON: &str = "refused 70 NotJson\n";
 
 const BAD_SHAPE: &str = "refused 71 BadShape\n";
 
+/// What `proxy_run fold` writes for the script, and the number of its status.
+fn fold_once(alloc: Global, script: &[u8]) -> (u8, Kept) {
+    let mut source = Fed::new(script, 4_096);
+    let mut sink = Kept::new(alloc, 4_096);
+    let status = run_words(alloc, &["fold"], &mut source, &mut sink);
+    (status.number(), sink)
+}
+
 /// The script is answered by this text and the status of this number.
 fn answers(rt: &(impl Abort + AllocGlobal), script: &[u8], text: &str, status: u8) {
-    let output = twice!(answer(rt.alloc(), script), OutOfMemory).expect(rt, "memory");
-    assert_eq!(rt; output.text.as_str(), text);
-    assert_eq!(rt; output.status.number(), status);
+    let (mut ended, mut sink) = fold_once(rt.alloc(), script);
+    if ended == 4 {
+        (ended, sink) = fold_once(rt.alloc(), script);
+    }
+    assert_eq!(rt; sink.bytes(), text.as_bytes());
+    assert_eq!(rt; ended, status);
 }
 
 fn folds(rt: &(impl Abort + AllocGlobal), script: &[u8], text: &str) {

@@ -1,6 +1,6 @@
 //! What no clause says: that runs succeed with ample memory, and `clap`'s texts. A run that was refused memory
 //! is made again, so that the tests also pass where any one allocation fails.
-mod fakes;
+pub(crate) mod fakes;
 
 use crate::devices::{READ_LIMIT, Reader, Sink, Source, Writer};
 use crate::run::run_words;
