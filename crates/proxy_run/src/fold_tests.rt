@@ -417,10 +417,8 @@ fn a_script_is_read(rt: HostRuntime) -> Result<(), Fail> {
     )?;
     assert_eq!(rt; script.rows.as_slice().len(), 1);
     assert_eq!(rt; script.ask.as_slice().len(), 3);
-    assert_eq!(rt;
-        read_script(rt.alloc(), b"{}").err(),
-        Some(ScriptFault::BadShape)
-    );
+    let refused = twice!(read_script(rt.alloc(), b"{}"), ScriptFault::OutOfMemory);
+    assert_eq!(rt; refused.err(), Some(ScriptFault::BadShape));
     Ok(())
 }
 
