@@ -3,7 +3,7 @@ use Rattle.std.proofs.Common.{◌≡◌, ℕ, ◌<◌, max, ◌⊎◌, inl, inr,
 use Rattle.std.proofs.lemmas.Bool.{and_from, or_right, or_left, eq-eqb, ltb-true}
 use Rattle.std.proofs.lemmas.List.Elements.{All-head, All-tail}
 use Rattle.system_keys.specs.Keys.{Key, Range, holds}
-use Rattle.model.specs.declared.config.Config.{Config}
+use Rattle.model.specs.Configs.{Config}
 use Rattle.model.specs.declared.moves.Move.{Move}
 use Rattle.model.specs.Owners.{Owner, later_owners, owners, is_last, none_dated_below, is_met}
 use Rattle.model.specs.Records.{Record, oldest, IsHistory}

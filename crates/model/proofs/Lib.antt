@@ -1,8 +1,17 @@
+pub mod AcknowledgedLaws
+pub mod AgreedLaws
+pub mod AlikeLaws
 pub mod AskedLaws
+pub mod ChainLaws
 pub mod ChangeLaws
 pub mod HistoryLaws
 pub mod JoinLaws
+pub mod JudgingLaws
+pub mod KnownLaws
+pub mod MadeMoves
 pub mod Members
+pub mod MemoryLaws
+pub mod MetLaws
 pub mod MetadataLaws
 pub mod MoveLaws
 pub mod OwnerLaws
@@ -10,6 +19,7 @@ pub mod PlaceLaws
 pub mod Places
 pub mod RequestLaws
 pub mod RouteLaws
+pub mod RunLaws
 pub mod SayingLaws
 pub mod SerialLaw
 pub mod ShareLaws
@@ -17,5 +27,6 @@ pub mod TagLaws
 pub mod ToldLaws
 pub mod VerdictLaws
 pub mod WalkLaws
+pub mod WorkedEdges
 pub mod WorkedRows
 pub mod WorldLaws

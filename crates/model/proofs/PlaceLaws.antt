@@ -3,9 +3,9 @@ use Rattle.std.proofs.Common.{◌≡◌, sym, ap, ◌∙◌, subst, ℕ, ◌<◌
 use Rattle.std.specs.Prelude.{true, ◌⊎◌, ◌↔◌, nat_eq, nat_lt, slice_get, Some, Contains}
 use Rattle.std.proofs.lemmas.Bool.{eqb-true, eq-eqb, ltb-true, lt-ltb, or_cases, or_left, or_right}
 use mathlib.Core.Logic.{inl, inr}
-use Rattle.model.specs.declared.config.Config.{Config}
+use Rattle.model.specs.Configs.{Config, IsConfig}
 use Rattle.model.specs.declared.verdict.Verdict.TheVariants.{Conflict}
-use Rattle.model.specs.Records.{Record, IsConfig, IsHistory}
+use Rattle.model.specs.Records.{Record, IsHistory}
 use Rattle.model.specs.Verdicts.{JudgedPart, is_after_snapshot, verdict}
 use Rattle.model.specs.Serial.{Place, IsBetween, seen_at, verdict_at_place, HasConflictWith}
 use Rattle.model.proofs.MoveLaws.{grows}

@@ -5,7 +5,7 @@ use Rattle.std.proofs.lemmas.Grind.{flat_map-append}
 use Rattle.std.proofs.lemmas.Option.{slice_get_within}
 use Rattle.std.specs.Prelude.{Bool, true, false, if◌then◌else◌, slice_get, Some, flat_map, ◌⊎◌}
 use mathlib.Core.Logic.{inl, inr}
-use Rattle.model.specs.declared.config.Config.{Config}
+use Rattle.model.specs.Configs.{Config}
 use Rattle.model.specs.Transactions.{Transaction}
 use Rattle.model.specs.Records.{Record, IsHistory}
 use Rattle.model.specs.Shares.{share, share_back_to, part_of, parts_from, asks}

@@ -22,10 +22,10 @@ key_cmp = slice_cmp nat_cmp
 
 -- ---- the last of rows in order is the greatest
 
-up_to_itself : (a : Key) → is_key_up_to a a ≡ true
+pub up_to_itself : (a : Key) → is_key_up_to a a ≡ true
 up_to_itself a = up_to_is a a ∙ ap not (not_below_itself a)
 
-not_true : (t : Bool) → not t ≡ true → t ≡ false
+pub not_true : (t : Bool) → not t ≡ true → t ≡ false
 not_true true h = absurd (cc)
 not_true false h = refl
 

@@ -4,9 +4,9 @@ use Rattle.std.proofs.lemmas.List.{map-append, take-append-drop, take-append-le}
 use Rattle.std.proofs.lemmas.List.Elements.{filter-append}
 use Rattle.std.proofs.lemmas.List.Sums.{fold-append}
 use Rattle.std.proofs.lemmas.Option.{slice_get_within}
-use mathlib.Core.Logic.{inl, inr}
-use Rattle.std.specs.Prelude.{Bool, true, false, ◌&&◌, not, if◌then◌else◌, slice_get, Option, Some, None, filter, cond, fold, nat_eq, Contains}
-use Rattle.model.specs.declared.config.Config.{Config}
+use Rattle.std.proofs.lemmas.Bool.{eqb-true}
+use Rattle.std.specs.Prelude.{Bool, true, false, ◌&&◌, not, if◌then◌else◌, slice_get, Option, Some, None, filter, cond, fold, nat_eq}
+use Rattle.model.specs.Configs.{Config}
 use Rattle.model.specs.declared.part.Part.{Part}
 use Rattle.model.specs.declared.verdict.Verdict.{Verdict}
 use Rattle.model.specs.declared.verdict.Verdict.TheVariants.{Committed}
@@ -18,13 +18,12 @@ use Rattle.model.specs.Records.{Record, Follows, IsHistory}
 use Rattle.model.specs.Shares.{share, asks, each_below}
 use Rattle.model.specs.Verdicts.{joined, share_verdicts}
 use Rattle.model.specs.Metadata.{is_locked, after_row, metadata}
-use Rattle.model.specs.Journal.{Sayings, SaysAlike, verdict_in, verdict_in_row, verdict_in_record, verdict_at, list_at, known_in, known_in_row, journal_row, journal, carried_by, told_from, told_row, is_after, unseen}
+use Rattle.model.specs.Journal.{Sayings, SaysAlike, verdict_in, verdict_in_row, verdict_in_record, verdict_at, list_at, known_in, known_in_row, journal_row, journal, CellCommits, carried_by, told_from, told_row, is_after, unseen}
 use Rattle.model.specs.Outcomes.{joined_verdict, outcome_by, outcome, outcomes_from, outcomes_after, outcomes}
 use Rattle.model.specs.World.{reply_of, tagged_all, finished_after, finished_batch}
 use Rattle.model.specs.Agreed.{Columns, AreVerdicts}
-use Rattle.model.proofs.Members.{Has, Contains-from_Has}
 use Rattle.model.proofs.Places.{row_at, slice_get-take, slice_get-take_back, take-take_le}
-use Rattle.model.proofs.ShareLaws.{known_in_is, slice_get-append_left, verdict_in_later, journal_row_alike}
+use Rattle.model.proofs.ShareLaws.{share_part, known_in_is, slice_get-append_left, verdict_in_later, journal_row_alike}
 
 -- ---- the journal of more and of fewer records
 
@@ -70,7 +69,7 @@ outcome_alike config says told locked rec n t alike at =
     ap (λ (vs : List Verdict). outcome_by (joined vs) (not t.lock_aware && locked) rec.version n)
     (map_asked (λ (r : ℕ). says r rec.row n) (λ (r : ℕ). told r rec.row n) (λ r. asks config rec r t) config.resolvers (λ r within asking. alike.same r n t within at asking))
 
-outcomes_from_alike : (config : Config) (says told : Sayings) (locked : Bool) (rec : Record) (n : ℕ) (ts : List Transaction) → SaysAlike config says told rec → ((k : ℕ) (t : Transaction) → slice_get ts k ≡ Some t → slice_get rec.batch (n + k) ≡ Some t) → outcomes_from config says locked rec n ts ≡ outcomes_from config told locked rec n ts
+pub outcomes_from_alike : (config : Config) (says told : Sayings) (locked : Bool) (rec : Record) (n : ℕ) (ts : List Transaction) → SaysAlike config says told rec → ((k : ℕ) (t : Transaction) → slice_get ts k ≡ Some t → slice_get rec.batch (n + k) ≡ Some t) → outcomes_from config says locked rec n ts ≡ outcomes_from config told locked rec n ts
 outcomes_from_alike config says told locked rec n [] alike at = refl
 outcomes_from_alike config says told locked rec n (t ∷ ts) alike at =
     rw (outcome_alike config says told locked rec n t alike here, outcomes_from_alike config says told locked rec (suc n) ts alike later)
@@ -182,23 +181,49 @@ finished_known config h columns n i rec history cells at =
 
 -- ---- what nobody said
 
-said_at : (parts : List Part) (verdicts : List Verdict) (n : ℕ) → verdict_at parts verdicts n ≡ Committed → Has verdicts Committed
+-- a part of a number, and the verdict Committed at its place
+record SaidAt (parts : List Part) (verdicts : List Verdict) (n : ℕ) : Type 0 where
+  place : ℕ
+  part : Part
+  part_there : slice_get parts place ≡ Some part
+  number : part.number ≡ n
+  committed : slice_get verdicts place ≡ Some Committed
+
+said_at : (parts : List Part) (verdicts : List Verdict) (n : ℕ) → verdict_at parts verdicts n ≡ Committed → SaidAt parts verdicts n
 said_at [] verdicts n said = absurd (cc)
 said_at (part ∷ parts) [] n said = absurd (cc)
-said_at (part ∷ parts) (verdict ∷ verdicts) n said = by (nat_eq part.number n) said (said_at parts verdicts n)
+said_at (part ∷ parts) (verdict ∷ verdicts) n said = by (nat_eq part.number n) refl said (λ there. later (said_at parts verdicts n there))
   where
-    by : (b : Bool) → (if b then verdict else verdict_at parts verdicts n) ≡ Committed → (verdict_at parts verdicts n ≡ Committed → Has verdicts Committed) → Has (verdict ∷ verdicts) Committed
-    by true here later = inl here
-    by false there later = inr (later there)
+    later : SaidAt parts verdicts n → SaidAt (part ∷ parts) (verdict ∷ verdicts) n
+    later found = record { place = suc found.place; part = found.part; part_there = found.part_there; number = found.number; committed = found.committed }
+
+    by : (b : Bool) → nat_eq part.number n ≡ b → (if b then verdict else verdict_at parts verdicts n) ≡ Committed → (verdict_at parts verdicts n ≡ Committed → SaidAt (part ∷ parts) (verdict ∷ verdicts) n) → SaidAt (part ∷ parts) (verdict ∷ verdicts) n
+    by true same here rest = record { place = 0; part = part; part_there = refl; number = eqb-true part.number n same; committed = ap (λ (v : Verdict). Some v) here }
+    by false other there rest = rest there
 
 -- what the cells say is Committed only where a cell says so
-pub said_by_cell : (config : Config) (h : List Record) (columns : Columns) (r i n : ℕ) → known_in config h columns r i n ≡ Committed → Contains (list_at (list_at columns r) i) Committed
+pub said_by_cell : (config : Config) (h : List Record) (columns : Columns) (r i n : ℕ) → known_in config h columns r i n ≡ Committed → (rec : Record) × (slice_get h i ≡ Some rec) × CellCommits config rec r n (list_at (list_at columns r) i)
 unfolding known_in
-said_by_cell config h columns r i n said = by (slice_get h i) said
+said_by_cell config h columns r i n said = by (slice_get h i) refl said
   where
-    by : (found : Option Record) → known_in_row config (list_at (list_at columns r) i) r n found ≡ Committed → Contains (list_at (list_at columns r) i) Committed
-    by None none = absurd (cc)
-    by (Some rec) there = Contains-from_Has (list_at (list_at columns r) i) Committed (said_at (share config rec r) (list_at (list_at columns r) i) n there)
+    by : (found : Option Record) → slice_get h i ≡ found → known_in_row config (list_at (list_at columns r) i) r n found ≡ Committed → (rec : Record) × (slice_get h i ≡ Some rec) × CellCommits config rec r n (list_at (list_at columns r) i)
+    by None at none = absurd (cc)
+    by (Some rec) at there =
+        let found = said_at (share config rec r) (list_at (list_at columns r) i) n there in
+        let (t, among, asking, _) = share_part config rec r found.place found.part found.part_there in (
+          rec,
+          at,
+          record {
+            transaction = t;
+            there = subst (λ (k : ℕ). slice_get rec.batch k ≡ Some t) found.number among;
+            asking = asking;
+            place = found.place;
+            part = found.part;
+            part_there = found.part_there;
+            number = found.number;
+            committed = found.committed;
+          },
+        )
 
 -- what a history says is Committed only where the transaction is there
 pub said_of_one : (config : Config) (h : List Record) (r i n : ℕ) → verdict_in config h r i n ≡ Committed → (rec : Record) × (t : Transaction) × (slice_get h i ≡ Some rec) × (slice_get rec.batch n ≡ Some t)
@@ -216,7 +241,7 @@ said_of_one config h r i n said = by (slice_get h i) refl said
 -- ---- two holders
 
 -- what a holder knows of a row hangs on its record and its cells alone
-known_alike : (config : Config) (h g : List Record) (mine theirs : Columns) (i : ℕ) (rec : Record) → rec.row ≡ i → slice_get h i ≡ Some rec → slice_get g i ≡ Some rec
+pub known_alike : (config : Config) (h g : List Record) (mine theirs : Columns) (i : ℕ) (rec : Record) → rec.row ≡ i → slice_get h i ≡ Some rec → slice_get g i ≡ Some rec
     → ((r : ℕ) → r < config.resolvers → list_at (list_at mine r) i ≡ list_at (list_at theirs r) i) → SaysAlike config (known_in config h mine) (known_in config g theirs) rec
 unfolding known_in
 known_alike config h g mine theirs i rec row in_h in_g cells =
@@ -253,7 +278,7 @@ told_row_alike : (says other : Sayings) (r : ℕ) (rec : Record) → ((k : ℕ) 
 unfolding told_row
 told_row_alike says other r rec same = λ i. record { version = rec.version; states = told_from_alike says other r rec 0 rec.batch same i }
 
-map_passing : {X Y : Type 0} (f g : X → Y) (test : X → Bool) (xs : List X) → ((k : ℕ) (x : X) → slice_get xs k ≡ Some x → f x ≡ g x) → map f (filter test xs) ≡ map g (filter test xs)
+pub map_passing : {X Y : Type 0} (f g : X → Y) (test : X → Bool) (xs : List X) → ((k : ℕ) (x : X) → slice_get xs k ≡ Some x → f x ≡ g x) → map f (filter test xs) ≡ map g (filter test xs)
 map_passing f g test [] same = refl
 map_passing {X} {Y} f g test (x ∷ xs) same = by (test x) (map_passing f g test xs (λ k y at. same (suc k) y at))
   where

@@ -5,13 +5,13 @@ use Rattle.std.specs.List.{list_any}
 use Rattle.std.proofs.lemmas.Bool.{lt-ltb, or_left, or_right, and_parts, and_from}
 use mathlib.Core.Logic.{inl, inr}
 use Rattle.system_keys.specs.Keys.{Key, Range, holds}
-use Rattle.model.specs.declared.config.Config.{Config}
+use Rattle.model.specs.Configs.{Config, IsConfig}
 use Rattle.model.specs.declared.verdict.Verdict.{Verdict}
 use Rattle.model.specs.declared.verdict.Verdict.TheVariants as verdicts
 use Rattle.model.specs.declared.outcome.Outcome.TheVariants.{Committed}
 use Rattle.model.specs.Transactions.{Transaction, is_state_transaction, all_reads}
 use Rattle.model.specs.Owners.{asks_write, asks_read, is_last, is_met, owners}
-use Rattle.model.specs.Records.{Record, IsConfig, IsHistory, oldest}
+use Rattle.model.specs.Records.{Record, IsHistory, oldest}
 use Rattle.model.specs.Shares.{asks, asked, each_below, read_bound}
 use Rattle.model.specs.Verdicts.{JudgedPart, has_some, is_too_old, is_after_snapshot, reads_a_write, committed_after, joined}
 use Rattle.model.specs.Metadata.{is_locked, metadata}

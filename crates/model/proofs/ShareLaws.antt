@@ -1,14 +1,14 @@
 -- What a resolver says of its share is its verdict on each transaction that asks it; cells that hold its verdicts say the same.
-use Rattle.std.proofs.Common.{◌≡◌, refl, ap, ℕ, zero, suc, ◌+◌, ◌<◌, ◌≤◌, List, [], ◌∷◌, ◌++◌, map, length, take, arith, append_assoc}
+use Rattle.std.proofs.Common.{◌≡◌, refl, sym, ap, ◌∙◌, subst, ℕ, zero, suc, ◌+◌, ◌<◌, ◌≤◌, List, [], ◌∷◌, ◌++◌, map, length, take, arith, append_assoc}
 use Rattle.std.proofs.lemmas.List.{append-nil, map-append, length-append, take-append-le}
 use Rattle.std.specs.Prelude.{Bool, true, false, if◌then◌else◌, slice_get, Some, None, Option}
 use Rattle.std.proofs.lemmas.Bool.{eq-eqb, ne_eqb}
-use Rattle.model.specs.declared.config.Config.{Config}
+use Rattle.model.specs.Configs.{Config}
 use Rattle.model.specs.declared.part.Part.{Part}
 use Rattle.model.specs.declared.verdict.Verdict.{Verdict}
 use Rattle.model.specs.Transactions.{Transaction, is_state_transaction}
 use Rattle.model.specs.Records.{Record}
-use Rattle.model.specs.Shares.{share_back_to, part_of, parts_from, asks, each_below}
+use Rattle.model.specs.Shares.{share_back_to, share, part_of, parts_from, asks, each_below}
 use Rattle.model.specs.Verdicts.{JudgedPart, judged_at, judged_before, verdict_of, verdicts_after, share_verdicts, verdicts_of_askers}
 use Rattle.model.specs.Journal.{Sayings, verdict_in, verdict_in_row, verdict_in_record, verdict_at, list_at, known_in, state_of, states_from, journal_row, SaysAlike}
 
@@ -61,6 +61,37 @@ verdicts_after_share config r before rec earlier (t ∷ ts) n e =
 pub share_verdicts_are : (config : Config) (r : ℕ) (before : List Record) (rec : Record) → share_verdicts config r before rec ≡ verdicts_of_askers config r before rec [] rec.batch
 unfolding share_verdicts share_back_to
 share_verdicts_are config r before rec = verdicts_after_share config r before rec [] rec.batch 0 refl
+
+-- a part of a list of transactions stands for one that asks the resolver, by its number
+abbrev StandsIn : Config → Record → ℕ → ℕ → List Transaction → Part → Type 0
+StandsIn config rec r n ts part = (k : ℕ) × (t : Transaction) × (slice_get ts k ≡ Some t) × (asks config rec r t ≡ true) × (part ≡ part_of config rec r (n + k) t)
+
+part_stands : (config : Config) (rec : Record) (r n : ℕ) (ts : List Transaction) (place : ℕ) (part : Part) → slice_get (parts_from config rec r n ts) place ≡ Some part → StandsIn config rec r n ts part
+part_stands config rec r n [] place part at = absurd (cc)
+part_stands config rec r n (x ∷ ts) place part at = go (asks config rec r x) refl place at (λ p there. later (part_stands config rec r (suc n) ts p part there))
+  where
+    later : StandsIn config rec r (suc n) ts part → StandsIn config rec r n (x ∷ ts) part
+    later found =
+        let (k, t, there, asking, is) = found in
+        let same : suc n + k ≡ n + suc k = omega arith in
+        (suc k, t, there, asking, is ∙ ap (λ (m : ℕ). part_of config rec r m t) same)
+
+    go : (b : Bool) → asks config rec r x ≡ b → (place : ℕ) → slice_get (if b then part_of config rec r n x ∷ parts_from config rec r (suc n) ts else parts_from config rec r (suc n) ts) place ≡ Some part → ((p : ℕ) → slice_get (parts_from config rec r (suc n) ts) p ≡ Some part → StandsIn config rec r n (x ∷ ts) part) → StandsIn config rec r n (x ∷ ts) part
+    go true asking zero at rest =
+        let here : part_of config rec r n x ≡ part = cc in
+        let same : n ≡ n + 0 = omega arith in
+        (0, x, refl, asking, sym here ∙ ap (λ (k : ℕ). part_of config rec r k x) same)
+    go true asking (suc place) at rest = rest place at
+    go false other place at rest = rest place at
+
+-- each part of a share stands for a transaction that asks the resolver, by its number
+pub share_part : (config : Config) (rec : Record) (r place : ℕ) (part : Part) → slice_get (share config rec r) place ≡ Some part → (t : Transaction) × (slice_get rec.batch part.number ≡ Some t) × (asks config rec r t ≡ true) × (part ≡ part_of config rec r part.number t)
+unfolding share_back_to
+share_part config rec r place part at =
+    let (k, t, there, asking, is) = part_stands config rec r 0 rec.batch place part at in
+    let same : 0 + k ≡ k = omega arith in
+    let number : part.number ≡ k = ap (λ (p : Part). p.number) is ∙ same in
+    (t, subst (λ (m : ℕ). slice_get rec.batch m ≡ Some t) (sym number) there, asking, is ∙ ap (λ (m : ℕ). part_of config rec r m t) (same ∙ sym number))
 
 -- ---- verdict cells
 

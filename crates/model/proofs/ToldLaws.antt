@@ -5,7 +5,7 @@ use Rattle.std.proofs.lemmas.Bool.{cases_order, lt-leb}
 use Rattle.std.proofs.lemmas.List.{length-map}
 use Rattle.std.specs.Prelude.{unwrap_or}
 use Rattle.std.proofs.lemmas.Option.{slice_get-map}
-use Rattle.model.specs.declared.config.Config.{Config}
+use Rattle.model.specs.Configs.{Config}
 use Rattle.model.specs.declared.verdict.Verdict.{Verdict}
 use Rattle.model.specs.declared.verdict.Verdict.TheVariants.{Conflict}
 use Rattle.model.specs.declared.journal.StateTxn.{StateTxn}

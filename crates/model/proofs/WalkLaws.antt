@@ -96,7 +96,7 @@ same_met bound oldest r o date (p ∷ list) h k =
     ap₂ (λ s t. (nat_eq o.resolver r && s) || t) (same_none bound oldest date (p ∷ list) h k) (same_met bound oldest r p p.date list later k.1)
 
 -- an owner in front of one whose date is below the bound is not met
-not_met_before : (bound r : ℕ) (o p : Owner) (list : List Owner) → p.date < bound → is_met bound r (o ∷ p ∷ list) ≡ is_met bound r (p ∷ list)
+pub not_met_before : (bound r : ℕ) (o p : Owner) (list : List Owner) → p.date < bound → is_met bound r (o ∷ p ∷ list) ≡ is_met bound r (p ∷ list)
 not_met_before bound r o p list h = by (nat_lt p.date bound) (nat_eq o.resolver r) (lt-ltb p.date bound h)
   where
     by : (t s : Bool) → t ≡ true → ((s && (not t && none_dated_below bound list)) || is_met bound r (p ∷ list)) ≡ is_met bound r (p ∷ list)

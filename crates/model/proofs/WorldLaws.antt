@@ -4,11 +4,11 @@ use Rattle.std.proofs.lemmas.Bool.{cases_order, ltb-false}
 use Rattle.std.proofs.lemmas.List.{length-replicate, length-set}
 use Rattle.std.proofs.lemmas.Option.{slice_get_within}
 use Rattle.system_keys.specs.Keys.{Range}
-use Rattle.model.specs.declared.config.Config.{Config}
+use Rattle.model.specs.Configs.{Config, version_limit}
 use Rattle.model.specs.declared.moves.Move.{Move}
 use Rattle.model.specs.declared.reply.Reply.{Reply}
 use Rattle.model.specs.Stamps.{Given}
-use Rattle.model.specs.Records.{Record, Follows, IsMadeAfter, version_limit, last_version, of_proxy}
+use Rattle.model.specs.Records.{Record, Follows, IsMadeAfter, last_version, of_proxy}
 use Rattle.model.specs.Shares.{each_below}
 use Rattle.model.specs.Journal.{verdict_in}
 use Rattle.model.specs.World.{World, Event, Sequence, MoveRange, Offer, Finish, Happened, IsSound, start, next_record, sequenced, moved, reply_of, acknowledged, repeated, offered_at, offered, missing, finishing, finished_next, happens, world_after, refuse, finished_version, Early, Judged, Sequenced, Moved, NoSuchProxy, NoSuchResolver, VersionsEnd}

@@ -1,10 +1,10 @@
 -- The journal of some records, by what the resolvers say of their transactions; what each resolver tells of it, and remembers.
 use Rattle.std.specs.Prelude.{◌≡◌, ℕ, zero, suc, ◌<◌, min, List, [], ◌∷◌, take, map, filter, Bool, nat_eq, nat_lt, IsTrue, if◌then◌else◌, slice_get, Option, Some, None, unwrap_or, length, Contains}
 use Rattle.system_keys.specs.Changes.{is_state}
-use Rattle.model.specs.declared.config.Config.{Config}
+use Rattle.model.specs.Configs.{Config}
 use Rattle.model.specs.declared.part.Part.{Part}
 use Rattle.model.specs.declared.verdict.Verdict.{Verdict}
-use Rattle.model.specs.declared.verdict.Verdict.TheVariants.{Conflict}
+use Rattle.model.specs.declared.verdict.Verdict.TheVariants.{Conflict, Committed}
 use Rattle.model.specs.declared.journal.StateTxn.{StateTxn}
 use Rattle.model.specs.declared.journal.JournalRow.{JournalRow}
 use Rattle.model.specs.declared.unseen.Carried.{Carried}
@@ -55,6 +55,17 @@ known_in_row config verdicts r n (Some rec) = verdict_at (share config rec r) ve
 -- what the resolvers say by the verdict cells: a column of cells for each resolver, a cell for each row, and in it a verdict for each part of the resolver's share; Conflict where a cell is missing or too short
 unfoldable pub known_in : Config → List Record → List (List (List Verdict)) → Sayings
 known_in config h columns r i n = known_in_row config (list_at (list_at columns r) i) r n (slice_get h i)
+
+-- a cell of resolver r says that transaction n of the record is Committed: the share has a part of that number, which stands for a transaction that asks r, and the verdict at its place in the cell is Committed
+pub record CellCommits (config : Config) (rec : Record) (r n : ℕ) (verdicts : List Verdict) : Type 0 where
+  pub transaction : Transaction
+  pub there : slice_get rec.batch n ≡ Some transaction
+  pub asking : IsTrue (asks config rec r transaction)
+  pub place : ℕ
+  pub part : Part
+  pub part_there : slice_get (share config rec r) place ≡ Some part
+  pub number : part.number ≡ n
+  pub committed : slice_get verdicts place ≡ Some Committed
 
 -- two sayings are alike on a record: of each of its transactions, each resolver asked says the same
 pub record SaysAlike (config : Config) (says other : Sayings) (rec : Record) : Type 0 where

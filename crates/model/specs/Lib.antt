@@ -1,4 +1,6 @@
+pub mod Acknowledged
 pub mod Agreed
+pub mod Configs
 pub mod Journal
 pub mod Metadata
 pub mod Outcomes
@@ -11,5 +13,6 @@ pub mod Shares
 pub mod Stamps
 pub mod Transactions
 pub mod Verdicts
+pub mod WorkedEdges
 pub mod WorkedRows
 pub mod World

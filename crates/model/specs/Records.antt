@@ -1,6 +1,6 @@
 -- The history: the records that the sequencer gave out, and what each must be after those before it.
 use Rattle.std.specs.Prelude.{◌≡◌, ℕ, ◌+◌, ◌-◌, ◌^◌, ◌<◌, ◌≤◌, List, [], ◌∷◌, length, take, drop, nat_eq, if◌then◌else◌, slice_get, Some, All}
-use Rattle.model.specs.declared.config.Config.{Config}
+use Rattle.model.specs.Configs.{Config, version_limit}
 use Rattle.model.specs.declared.moves.Move.{Move}
 use Rattle.model.specs.Transactions.{Transaction}
 
@@ -31,10 +31,6 @@ abbrev pub of_proxy : ℕ → List Record → List Record
 of_proxy p [] = []
 of_proxy p (rec ∷ rest) = if nat_eq rec.proxy p then rec ∷ of_proxy p rest else of_proxy p rest
 
--- the limit that versions stay below (this project's profile)
-abbrev pub version_limit : ℕ
-version_limit = 2 ^ 63
-
 -- a move made after version `previous` was given out and before the next one, to a resolver that is there (release 7.1)
 pub record IsMadeAfter (config : Config) (previous : ℕ) (m : Move) : Type 0 where
   pub date : m.date ≡ previous + 1
@@ -64,10 +60,3 @@ pub record MovesFollow (config : Config) (h : List Record) (moves : List Move) :
 -- the version from which on owners are remembered for a record: the window before its previous version, at least 0 (this project's profile)
 abbrev pub oldest : Config → Record → ℕ
 oldest config rec = rec.previous - config.window
-
--- the limits of a cluster's numbers (this project's profile)
-pub record IsConfig (config : Config) : Type 0 where
-  pub proxies : (1 ≤ config.proxies) × (config.proxies ≤ 64)
-  pub resolvers : (1 ≤ config.resolvers) × (config.resolvers ≤ 64)
-  pub window : (1 ≤ config.window) × (config.window ≤ 1000000000)
-  pub step : (1 ≤ config.step) × (config.step < version_limit)

@@ -1,6 +1,6 @@
 -- What a proxy sends to a resolver for a record, and what the resolver makes of it.
 use Rattle.std.specs.Prelude.{ℕ, suc, List, [], ◌∷◌, ◌++◌, map, filter, flat_map, nat_eq, nat_lt, if◌then◌else◌}
-use Rattle.model.specs.declared.config.Config.{Config}
+use Rattle.model.specs.Configs.{Config}
 use Rattle.model.specs.declared.part.Part.{Part}
 use Rattle.model.specs.declared.verdict.Verdict.{Verdict}
 use Rattle.model.specs.declared.reply.Reply.{Reply}

@@ -2,7 +2,7 @@
 use Rattle.std.specs.Prelude.{Contains, IsTrue}
 use Rattle.system_keys.specs.declared.change.Change.{Change}
 use Rattle.system_keys.specs.declared.tag.Tag.{Tag}
-use Rattle.system_keys.specs.Keys.{Key, is_key_up_to}
+use Rattle.system_keys.specs.Keys.{Key, Range, is_key_up_to, holds}
 use Rattle.system_keys.specs.Rows.{Id}
 use Rattle.model.specs.Metadata.{Row, Rows, met_rows, key_servers, servers_of, server_tags}
 
@@ -11,6 +11,12 @@ pub record Serves (rows : Rows) (key : Key) (row : Row) : Type 0 where
   pub there : Contains rows row
   pub up_to : IsTrue (is_key_up_to row.0 key)
   pub greatest : (other : Row) → Contains rows other → IsTrue (is_key_up_to other.0 key) → IsTrue (is_key_up_to other.0 row.0)
+
+-- of these rows, this is one that serves some key of the range
+pub record ServesSome (rows : Rows) (range : Range) (row : Row) : Type 0 where
+  pub key : Key
+  pub inside : IsTrue (holds range key)
+  pub serves : Serves rows key row
 
 -- the change has the tag: that of a server which a keyServers row names, and the change meets that row (release 7.1)
 pub record HasTag (rows : Rows) (change : Change) (tag : Tag) : Type 0 where

@@ -1,7 +1,7 @@
 -- The rule of commit: no committed transaction read what another committed one wrote between its snapshot and itself.
 use Rattle.std.specs.Prelude.{◌≡◌, ℕ, ◌<◌, ◌⊎◌, List, take, slice_get, Some, IsTrue, IsFalse, Contains}
 use Rattle.system_keys.specs.Keys.{Range, Overlap}
-use Rattle.model.specs.declared.config.Config.{Config}
+use Rattle.model.specs.Configs.{Config}
 use Rattle.model.specs.declared.verdict.Verdict.{Verdict}
 use Rattle.model.specs.declared.verdict.Verdict.TheVariants.{Committed as SaysCommitted}
 use Rattle.model.specs.Transactions.{Transaction, all_reads}

@@ -1,7 +1,7 @@
 -- What each resolver is asked about a record: first by any oldest version back to which owners are remembered, and then by the record's own.
 use Rattle.std.specs.Prelude.{ℕ, zero, suc, max, List, [], ◌∷◌, ◌++◌, Bool, ◌||◌, if◌then◌else◌, filter}
 use Rattle.std.specs.List.{list_any}
-use Rattle.model.specs.declared.config.Config.{Config}
+use Rattle.model.specs.Configs.{Config}
 use Rattle.model.specs.declared.part.Part.{Part}
 use Rattle.model.specs.Transactions.{Transaction, is_state_transaction, all_reads}
 use Rattle.model.specs.Owners.{asks_read, asks_write}

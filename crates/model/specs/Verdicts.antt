@@ -2,7 +2,7 @@
 use Rattle.std.specs.Prelude.{◌≡◌, ℕ, ◌+◌, ◌-◌, ◌<◌, List, [], ◌∷◌, ◌++◌, length, map, Bool, true, false, ◌&&◌, ◌||◌, nat_eq, nat_lt, IsTrue, IsFalse, Contains, fold, if◌then◌else◌}
 use Rattle.std.specs.List.{list_any, flat_map}
 use Rattle.system_keys.specs.Keys.{Range, Overlap, overlaps}
-use Rattle.model.specs.declared.config.Config.{Config}
+use Rattle.model.specs.Configs.{Config}
 use Rattle.model.specs.declared.part.Part.{Part}
 use Rattle.model.specs.declared.verdict.Verdict.{Verdict}
 use Rattle.model.specs.declared.verdict.Verdict.TheVariants.{Conflict, TooOld, Committed}

@@ -7,7 +7,7 @@ use Rattle.system_keys.specs.declared.tag.Tag.{Tag}
 use Rattle.system_keys.specs.Keys.{Key, Range, only}
 use Rattle.system_keys.specs.Changes.{is_state}
 use Rattle.system_keys.specs.Families.{metadata_version_family, key_servers_family, server_tag_family}
-use Rattle.model.specs.declared.config.Config.{Config}
+use Rattle.model.specs.Configs.{Config}
 use Rattle.model.specs.declared.moves.Move.{Move}
 use Rattle.model.specs.declared.part.Part.{Part}
 use Rattle.model.specs.declared.verdict.Verdict.{Verdict}

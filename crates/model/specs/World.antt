@@ -2,7 +2,7 @@
 use Rattle.std.specs.Prelude.{◌≡◌, ℕ, suc, ◌+◌, ◌<◌, ◌≤◌, max, List, [], ◌∷◌, ◌++◌, length, take, replicate, filter, nat_eq, nat_lt, nat_le, if◌then◌else◌, slice_get, slice_index, slice_set, Option, Some, None}
 use Rattle.system_keys.specs.declared.change.Change.{Change}
 use Rattle.system_keys.specs.Keys.{Range}
-use Rattle.model.specs.declared.config.Config.{Config}
+use Rattle.model.specs.Configs.{Config, version_limit}
 use Rattle.model.specs.declared.moves.Move.{Move}
 use Rattle.model.specs.declared.journal.JournalRow.{JournalRow}
 use Rattle.model.specs.declared.routing.Routing.{Routing}
@@ -14,7 +14,7 @@ use Rattle.model.specs.declared.outcome.Tagged.{Tagged}
 use Rattle.model.specs.declared.outcome.Finished.{Finished}
 use Rattle.model.specs.Stamps.{Given, stamped_from}
 use Rattle.model.specs.Transactions.{Transaction}
-use Rattle.model.specs.Records.{Record, MovesFollow, version_limit, last_version, of_proxy}
+use Rattle.model.specs.Records.{Record, MovesFollow, last_version, of_proxy}
 use Rattle.model.specs.Shares.{each_below}
 use Rattle.model.specs.Verdicts.{share_verdicts}
 use Rattle.model.specs.Metadata.{Rows, metadata, tags, routing}

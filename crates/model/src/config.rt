@@ -1,28 +1,116 @@
 //! The numbers of a cluster.
 
-ghost use Rattle.std.specs.Prelude.{◌≡◌};
+ghost use Rattle.std.specs.Prelude.{◌≡◌, MatchResult};
+ghost use Rattle.model.specs.Configs.{Config as Numbers, IsConfig, is_from_one};
+ghost use Rattle.model.specs.declared.refusal.Refusal.TheVariants as refusals;
 
+use crate::refusal::Refusal;
+use std::marker::Model;
 use system_keys::OutOfMemory;
 
+/// The most proxies of a cluster (this project's profile).
+const PROXIES_LIMIT: u64 = 64;
+
+/// The most resolvers of a cluster (this project's profile).
+pub const RESOLVERS_LIMIT: u64 = 64;
+
+/// The greatest window of a cluster (this project's profile).
+const WINDOW_LIMIT: u64 = 1_000_000_000;
+
+/// The greatest version, and the greatest step from one to the next (this project's profile).
+const STEP_LIMIT: u64 = 9_223_372_036_854_775_807;
+
 /// How many proxies and resolvers a cluster has, how far back a snapshot may lie, and how far apart
-/// versions lie (the step is this project's profile).
+/// versions lie (the step is this project's profile). Each number is within its limits.
 #[derive(Clone, Copy, Debug, PartialEq, Eq)]
 pub struct Config {
-    /// The number of commit proxies.
-    pub proxies: usize,
-    /// The number of resolvers.
-    pub resolvers: usize,
-    /// How many versions a snapshot may lie before the version of its batch.
-    pub window: u64,
-    /// How many versions lie from one batch to the next.
-    pub step: u64,
+    proxies: usize,
+    resolvers: usize,
+    window: u64,
+    step: u64,
+}
+
+impl Model for Config {
+    ghost use Rattle.std.specs.Prelude.{◌≡◌, true};
+    ghost use Rattle.model.specs.Configs.{Config as Numbers, is_config};
+
+    ghost Value = { Numbers };
+
+    ghost view = { λ c. record { proxies = c.proxies; resolvers = c.resolvers; window = c.window; step = c.step } };
+
+    ghost invariant = { λ c. is_config (record { proxies = c.proxies; resolvers = c.resolvers; window = c.window; step = c.step }) ≡ true };
+
+    ghost inverse = { λ numbers. record { proxies = numbers.proxies; resolvers = numbers.resolvers; window = numbers.window; step = numbers.step } };
 }
 
 impl Config {
+    /// These numbers. Takes no memory.
+    ///
+    /// Answers `BadConfig` where there are not from 1 to 64 proxies and from 1 to 64 resolvers, the window is
+    /// not from 1 to 1,000,000,000, or the step is not from 1 to 9,223,372,036,854,775,807.
+    pub fn new(proxies: usize, resolvers: usize, window: u64, step: u64) -> Result<Config, Refusal>
+        ensures { let numbers : Numbers = record { proxies = proxies; resolvers = resolvers; window = window; step = step } in
+            MatchResult result (λ config. IsConfig numbers × (config ≡ numbers)) (λ refusal. (IsConfig numbers → ⊥) × (refusal ≡ refusals.BadConfig)) }
+    {
+        if is_from_one(PROXIES_LIMIT, proxies as u64)
+            && is_from_one(RESOLVERS_LIMIT, resolvers as u64)
+            && is_from_one(WINDOW_LIMIT, window)
+            && is_from_one(STEP_LIMIT, step)
+        {
+            Ok(Config {
+                proxies,
+                resolvers,
+                window,
+                step,
+            })
+        } else {
+            Err(Refusal::BadConfig)
+        }
+    }
+
+    /// The number of commit proxies, from 1 to 64.
+    pub fn proxies(&self) -> usize
+        ensures value { result ≡ self.now.proxies }
+        ensures limits { IsConfig self.now }
+    {
+        self.proxies
+    }
+
+    /// The number of resolvers, from 1 to 64.
+    pub fn resolvers(&self) -> usize
+        ensures value { result ≡ self.now.resolvers }
+        ensures limits { IsConfig self.now }
+    {
+        self.resolvers
+    }
+
+    /// How many versions a snapshot may lie before the version of its batch, from 1 to 1,000,000,000.
+    pub fn window(&self) -> u64
+        ensures value { result ≡ self.now.window }
+        ensures limits { IsConfig self.now }
+    {
+        self.window
+    }
+
+    /// How many versions lie from one batch to the next, from 1 to 9,223,372,036,854,775,807.
+    pub fn step(&self) -> u64
+        ensures value { result ≡ self.now.step }
+        ensures limits { IsConfig self.now }
+    {
+        self.step
+    }
+
     /// An equal value. Takes no memory, and does not fail.
     pub fn copy(&self) -> Result<Config, OutOfMemory>
         ensures { result ≡ Ok self.now }
     {
         Ok(*self)
     }
+}
+
+/// Whether the number is from 1 up to the limit.
+fn is_from_one(limit: u64, number: u64) -> bool
+    ensures { result ≡ is_from_one limit number }
+{
+    1 <= number && number <= limit
 }

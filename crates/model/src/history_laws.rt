@@ -1,15 +1,15 @@
 //! Laws of histories. No code: each function's contract is a law of the definitions.
 
 ghost use Rattle.std.specs.Prelude.{◌≡◌, ◌≤◌, ◌++◌, ℕ, List, [], ◌∷◌, take, slice_get, Some};
-ghost use Rattle.model.specs.declared.config.Config.{Config};
+ghost use Rattle.model.specs.Configs.{Config};
 ghost use Rattle.model.specs.declared.moves.Move.{Move};
 ghost use Rattle.model.specs.Records.{Record, IsHistory, Follows, IsMadeAfter, MovesFollow, last_version};
 ghost use Rattle.model.specs.World.{up_to_version, rows_up_to};
 
 /// No records are a history; a history and a record that follows it are one, and only such a record may stand
-/// behind it; and the first records of a history are one. Each record stands at its row, and no version is
-/// above the last one; the records up to a version are the first ones. What the sequencer keeps, it keeps with a record that has all moves so far, and with a
-/// move to a resolver that is there.
+/// behind it; and the first records of a history are one. Each record stands at its row. No version is above
+/// the last one; the records up to a version are the first ones. What the sequencer keeps, it keeps with a
+/// record that has all moves so far, and with a move to a resolver that is there.
 pub fn history_law()
     ensures none { (config : Config) → IsHistory config [] }
     ensures next { (config : Config) (h : List Record) (rec : Record) → IsHistory config h → Follows config h rec → IsHistory config (h ++ rec ∷ []) }

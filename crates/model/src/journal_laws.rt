@@ -3,7 +3,7 @@
 ghost use Rattle.std.specs.Prelude.{◌≡◌, ◌<◌, ◌++◌, ℕ, List, [], ◌∷◌, map, filter, slice_get, Some, take};
 ghost use Rattle.model.specs.Verdicts.{share_verdicts};
 ghost use Rattle.model.specs.Requests.{request, request_verdicts, request_row, request_reply, remembered_requests};
-ghost use Rattle.model.specs.declared.config.Config.{Config};
+ghost use Rattle.model.specs.Configs.{Config};
 ghost use Rattle.model.specs.declared.journal.JournalRow.{JournalRow};
 ghost use Rattle.model.specs.Records.{Record, IsHistory};
 ghost use Rattle.model.specs.Journal.{Sayings, verdict_in, journal_row, journal, told_row, told_of_row, HaveVerdicts, is_after, unseen, remembered};

@@ -1,41 +1,61 @@
 //! What the cluster must do: its data, its definitions, and the laws that make them trustworthy.
 #![tactic(auto)]
 
+mod agreed_laws;
+mod alike_laws;
+mod chain_laws;
 mod config;
 mod history_laws;
 mod journal;
 mod journal_laws;
+mod judging_laws;
+mod known_laws;
+mod memory_laws;
 mod metadata_laws;
+mod move_laws;
 mod moves;
 mod outcome;
 mod owner_laws;
 mod part;
+mod refusal;
 mod reply;
 mod routing;
+mod run_laws;
 #[cfg(test)]
 mod tests;
 mod unseen;
 mod verdict;
 mod verdict_laws;
+mod worked_edges;
 mod worked_rows;
 mod world_laws;
 
-pub use config::Config;
+pub use agreed_laws::agreed_law;
+pub use alike_laws::alike_law;
+pub use chain_laws::{chain_law, next_law, rows_law};
+pub use config::{Config, RESOLVERS_LIMIT};
 pub use history_laws::history_law;
 pub use journal::{JournalRow, StateTxn};
 pub use journal_laws::{journal_law, request_law, told_law, unseen_law};
+pub use judging_laws::{forget_law, verdicts_law};
+pub use known_laws::{column_law, finished_law, meet_law, version_law};
+pub use memory_laws::{acknowledged_law, memory_law, requests_memory_law};
 pub use metadata_laws::{change_law, fold_law, lock_law, route_law, tags_law};
+pub use move_laws::{front_law, met_law, moves_law};
 pub use moves::Move;
 pub use outcome::{Finished, Outcome, Tagged};
 pub use owner_laws::{asked_law, overlap_law, owner_law, walk_law};
 pub use part::Part;
+pub use refusal::Refusal;
 pub use reply::Reply;
 pub use routing::{Route, Routing};
+pub use run_laws::{answers_law, events_law, proxy_law};
 pub use unseen::{Carried, StateMark, UnseenRow, UnseenState};
 pub use verdict::Verdict;
 pub use verdict_laws::{
     cells_law, joined_law, outcome_law, prefix_law, saying_law, serial_law, share_law, verdict_law,
 };
+pub use worked_edges::{lock_edges, record_edges, refusal_edges, stamp_edges, tag_edges};
 pub use worked_rows::{
     clear_rows, fold_rows, lock_rows, memory_rows, owner_rows, refusal_rows, stamp_rows,
     verdict_rows,

@@ -6,11 +6,11 @@ ghost use Rattle.std.specs.List.Sorted.{IsStrictlySortedBy};
 ghost use Rattle.system_keys.specs.declared.change.Change.{Change};
 ghost use Rattle.system_keys.specs.declared.change.Change.TheVariants.{Set, Clear};
 ghost use Rattle.system_keys.specs.declared.tag.Tag.{Tag};
-ghost use Rattle.system_keys.specs.Keys.{Key, Range, holds, is_key_up_to};
+ghost use Rattle.system_keys.specs.Keys.{Key, Range, holds, is_key_below, is_key_up_to};
 ghost use Rattle.system_keys.specs.Families.{key_servers_family, is_kept};
 ghost use Rattle.model.specs.declared.journal.JournalRow.{JournalRow};
-ghost use Rattle.model.specs.Metadata.{Row, Rows, IsInOrder, AreKept, row_at, changed, after_changes, after_row, let_pass, is_locked, metadata, key_servers, row_of, tag_cmp, tags};
-ghost use Rattle.model.specs.Routes.{Serves, HasTag};
+ghost use Rattle.model.specs.Metadata.{Row, Rows, IsInOrder, AreKept, row_at, changed, after_changes, after_row, let_pass, is_locked, metadata, key_servers, row_of, met_rows, tag_cmp, tags};
+ghost use Rattle.model.specs.Routes.{Serves, ServesSome, HasTag};
 
 /// The rows of every metadata stand in the strict order of their keys, all of which are kept, and what more
 /// rows of a journal do goes on from what the first ones did. Each change, and so each row of a journal, keeps
@@ -53,8 +53,11 @@ pub fn route_law()
 {}
 
 /// The tags of a change rise by locality and id, without repeats, and are exactly those of the servers named
-/// by the keyServers rows that the change meets.
+/// by the keyServers rows that the change meets. A Set meets the row that serves its key, and a Clear those that
+/// serve some key of its range.
 pub fn tags_law()
     ensures rising { (rows : Rows) (change : Change) → IsStrictlySortedBy tag_cmp (tags rows change) }
     ensures exact { (rows : Rows) (change : Change) (tag : Tag) → Contains (tags rows change) tag ↔ HasTag rows change tag }
+    ensures set { (rows : Rows) (key : Key) (value : List ℕ) (row : Row) → IsInOrder rows → Contains (met_rows rows (Set key value)) row ↔ Serves rows key row }
+    ensures cleared { (rows : Rows) (range : Range) (row : Row) → IsInOrder rows → IsTrue (is_key_below range.begin range.end) → Contains (met_rows rows (Clear range)) row ↔ ServesSome rows range row }
 {}

@@ -3,10 +3,10 @@
 
 ghost use Rattle.std.specs.Prelude.{◌≡◌, ◌↔◌, ◌<◌, ◌≤◌, ℕ, max, List, ◌++◌, length, take, drop, All, Some, slice_get, reverse, Contains, IsTrue};
 ghost use Rattle.system_keys.specs.Keys.{Key, Range, Overlap, overlaps};
-ghost use Rattle.model.specs.declared.config.Config.{Config};
+ghost use Rattle.model.specs.Configs.{Config, IsConfig};
 ghost use Rattle.model.specs.declared.moves.Move.{Move};
 ghost use Rattle.model.specs.Owners.{Owner, owners, is_last, is_met, AsksWrite, AsksRead, asks_write, asks_read, walk, without_front, NeverBack};
-ghost use Rattle.model.specs.Records.{Record, IsConfig, IsHistory, oldest};
+ghost use Rattle.model.specs.Records.{Record, IsHistory, oldest};
 
 /// Two ranges have a key in common exactly where one of their begins is in both.
 pub fn overlap_law()

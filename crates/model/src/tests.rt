@@ -1,25 +1,40 @@
-//! Tests: a copy is an equal value, where there is memory for it.
+//! Tests: a copy is an equal value. Each call that takes memory is made again where it was refused memory,
+//! so that the tests also pass where any one allocation fails.
 
 use crate::{
-    Carried, Config, Finished, JournalRow, Move, Outcome, Part, Reply, Route, Routing, StateMark,
-    StateTxn, Tagged, UnseenRow, UnseenState, Verdict,
+    Carried, Config, Finished, JournalRow, Move, Outcome, Part, Refusal, Reply, Route, Routing,
+    StateMark, StateTxn, Tagged, UnseenRow, UnseenState, Verdict,
 };
-use std::alloc::Global;
+use std::alloc::{AllocError, Global};
 use std::fmt::Debug;
 use std::process::Abort;
 use std::test::Fail;
-use system_keys::{Bytes, Change, Items, KeyRange, Tag};
+use system_keys::{Bytes, Change, Items, KeyRange, OutOfMemory, Tag};
+
+/// The call, made once more where it was refused memory.
+macro_rules! twice {
+    ($call:expr, $memory:pat) => {
+        match $call {
+            Err($memory) => $call,
+            answer => answer,
+        }
+    };
+}
+
+fn owned(alloc: Global, text: &[u8]) -> Result<Vec<u8>, AllocError> {
+    twice!(Vec::from_slice(alloc, text), _)
+}
 
 fn bytes(alloc: Global, text: &[u8]) -> Result<Bytes, Fail> {
-    Ok(Bytes::from(Vec::from_slice(alloc, text)?))
+    Ok(Bytes::from(owned(alloc, text)?))
 }
 
 fn range(alloc: Global) -> Result<KeyRange, Fail> {
-    Ok(KeyRange::new(Vec::from_slice(alloc, b"m")?, Vec::from_slice(alloc, b"t")?)?)
+    Ok(KeyRange::new(owned(alloc, b"m")?, owned(alloc, b"t")?)?)
 }
 
 fn one<T: Drop>(alloc: Global, item: T) -> Result<Items<T>, Fail> {
-    let mut items = Vec::new(alloc);
+    let mut items = twice!(Vec::with_capacity(alloc, 1), _)?;
     items.push(item)?;
     Ok(Items::from(items))
 }
@@ -87,20 +102,15 @@ fn route(alloc: Global) -> Result<Route, Fail> {
 }
 
 fn assert_alike<T: Debug>(rt: &impl Abort, alloc: Global, copy: &T, value: &T) -> Result<(), Fail> {
-    let left = format!(in alloc; "{copy:?}")?;
-    let right = format!(in alloc; "{value:?}")?;
+    let left = twice!(format!(in alloc; "{copy:?}"), _)?;
+    let right = twice!(format!(in alloc; "{value:?}"), _)?;
     assert_eq!(rt; left, right);
     Ok(())
 }
 
 #[test]
 fn numbers_are_copied(rt: HostRuntime) -> Result<(), Fail> {
-    let config = Config {
-        proxies: 2,
-        resolvers: 3,
-        window: 100,
-        step: 10,
-    };
+    let config = Config::new(2, 3, 100, 10).expect(&rt, "numbers within their limits");
     let outcome = Outcome::Committed {
         version: 10,
         number: 1,
@@ -108,6 +118,36 @@ fn numbers_are_copied(rt: HostRuntime) -> Result<(), Fail> {
     assert_eq!(rt; config.copy()?, config);
     assert_eq!(rt; outcome.copy()?, outcome);
     Ok(())
+}
+
+#[test]
+fn numbers_outside_their_limits_are_refused(rt: HostRuntime) {
+    for (proxies, resolvers, window, step) in [
+        (1, 1, 1, 1),
+        (64, 64, 1_000_000_000, 9_223_372_036_854_775_807),
+    ] {
+        let config = Config::new(proxies, resolvers, window, step).expect(&rt, "within limits");
+        assert_eq!(rt;
+            (config.proxies(), config.resolvers()),
+            (proxies, resolvers)
+        );
+        assert_eq!(rt; (config.window(), config.step()), (window, step));
+    }
+    for (proxies, resolvers, window, step) in [
+        (0, 1, 1, 1),
+        (65, 1, 1, 1),
+        (1, 0, 1, 1),
+        (1, 65, 1, 1),
+        (1, 1, 0, 1),
+        (1, 1, 1_000_000_001, 1),
+        (1, 1, 1, 0),
+        (1, 1, 1, 9_223_372_036_854_775_808),
+    ] {
+        let refusal = Config::new(proxies, resolvers, window, step).err();
+        assert_eq!(rt; refusal, Some(Refusal::BadConfig));
+    }
+    assert_eq!(rt; Refusal::BadConfig.number(), Some(17));
+    assert_eq!(rt; Refusal::BadConfig.name(), "BadConfig");
 }
 
 #[test]
@@ -124,8 +164,8 @@ fn moves_and_parts_are_copied(rt: HostRuntime) -> Result<(), Fail> {
         reads: one(alloc, range(alloc)?)?,
         writes: Items::from(Vec::new(alloc)),
     };
-    assert_alike(&rt, alloc, &moved.copy()?, &moved)?;
-    assert_alike(&rt, alloc, &part.copy()?, &part)
+    assert_alike(&rt, alloc, &twice!(moved.copy(), OutOfMemory)?, &moved)?;
+    assert_alike(&rt, alloc, &twice!(part.copy(), OutOfMemory)?, &part)
 }
 
 #[test]
@@ -136,8 +176,8 @@ fn journal_rows_are_copied(rt: HostRuntime) -> Result<(), Fail> {
         version: 10,
         states: one(alloc, state_txn(alloc)?)?,
     };
-    assert_alike(&rt, alloc, &txn.copy()?, &txn)?;
-    assert_alike(&rt, alloc, &row.copy()?, &row)
+    assert_alike(&rt, alloc, &twice!(txn.copy(), OutOfMemory)?, &txn)?;
+    assert_alike(&rt, alloc, &twice!(row.copy(), OutOfMemory)?, &row)
 }
 
 #[test]
@@ -146,9 +186,9 @@ fn unseen_rows_are_copied(rt: HostRuntime) -> Result<(), Fail> {
     let carried = carried(alloc)?;
     let state = unseen_state(alloc)?;
     let row = unseen_row(alloc)?;
-    assert_alike(&rt, alloc, &carried.copy()?, &carried)?;
-    assert_alike(&rt, alloc, &state.copy()?, &state)?;
-    assert_alike(&rt, alloc, &row.copy()?, &row)
+    assert_alike(&rt, alloc, &twice!(carried.copy(), OutOfMemory)?, &carried)?;
+    assert_alike(&rt, alloc, &twice!(state.copy(), OutOfMemory)?, &state)?;
+    assert_alike(&rt, alloc, &twice!(row.copy(), OutOfMemory)?, &row)
 }
 
 #[test]
@@ -166,8 +206,8 @@ fn marks_and_replies_are_copied(rt: HostRuntime) -> Result<(), Fail> {
         verdicts: one(alloc, Verdict::Committed)?,
         unseen: one(alloc, unseen_row(alloc)?)?,
     };
-    assert_alike(&rt, alloc, &mark.copy()?, &mark)?;
-    assert_alike(&rt, alloc, &reply.copy()?, &reply)
+    assert_alike(&rt, alloc, &twice!(mark.copy(), OutOfMemory)?, &mark)?;
+    assert_alike(&rt, alloc, &twice!(reply.copy(), OutOfMemory)?, &reply)
 }
 
 #[test]
@@ -180,8 +220,13 @@ fn routings_are_copied(rt: HostRuntime) -> Result<(), Fail> {
         metadata_version: Some(bytes(alloc, b"v")?),
         routes: one(alloc, route(alloc)?)?,
     };
-    assert_alike(&rt, alloc, &route_of_m.copy()?, &route_of_m)?;
-    assert_alike(&rt, alloc, &routing.copy()?, &routing)
+    assert_alike(
+        &rt,
+        alloc,
+        &twice!(route_of_m.copy(), OutOfMemory)?,
+        &route_of_m,
+    )?;
+    assert_alike(&rt, alloc, &twice!(routing.copy(), OutOfMemory)?, &routing)
 }
 
 #[test]
@@ -194,6 +239,16 @@ fn finished_batches_are_copied(rt: HostRuntime) -> Result<(), Fail> {
         outcomes: one(alloc, Outcome::Locked)?,
         tagged: one(alloc, tagged(alloc)?)?,
     };
-    assert_alike(&rt, alloc, &mutation.copy()?, &mutation)?;
-    assert_alike(&rt, alloc, &finished.copy()?, &finished)
+    assert_alike(
+        &rt,
+        alloc,
+        &twice!(mutation.copy(), OutOfMemory)?,
+        &mutation,
+    )?;
+    assert_alike(
+        &rt,
+        alloc,
+        &twice!(finished.copy(), OutOfMemory)?,
+        &finished,
+    )
 }

@@ -1,16 +1,17 @@
 //! The laws of verdicts, and the rule of commit. Each function has no code: its contract is the law.
 
 ghost use Rattle.std.specs.Prelude.{◌≡◌, ℕ, ◌<◌, ◌≤◌, ◌↔◌, ◌++◌, List, [], fold, length, take, slice_get, Some, Contains, IsTrue};
-ghost use Rattle.model.specs.declared.config.Config.{Config};
+ghost use Rattle.model.specs.Configs.{Config, IsConfig};
+ghost use Rattle.model.specs.declared.part.Part.{Part};
 ghost use Rattle.model.specs.declared.journal.JournalRow.{JournalRow};
 ghost use Rattle.model.specs.declared.verdict.Verdict.{Verdict};
 ghost use Rattle.model.specs.declared.verdict.Verdict.TheVariants.{Conflict, TooOld, Committed};
 ghost use Rattle.model.specs.Transactions.{Transaction};
-ghost use Rattle.model.specs.Records.{Record, IsConfig, IsHistory};
-ghost use Rattle.model.specs.Shares.{asks};
+ghost use Rattle.model.specs.Records.{Record, IsHistory};
+ghost use Rattle.model.specs.Shares.{share, part_of, asks};
 ghost use Rattle.model.specs.Verdicts.{JudgedPart, joined, verdict, HasConflict, IsTooOld, share_verdicts, verdicts_of_askers};
 ghost use Rattle.model.specs.Metadata.{is_locked, metadata, after_row};
-ghost use Rattle.model.specs.Journal.{Sayings, verdict_in, list_at, known_in, SaysAlike, journal_row, journal};
+ghost use Rattle.model.specs.Journal.{Sayings, verdict_in, list_at, known_in, SaysAlike, CellCommits, journal_row, journal};
 ghost use Rattle.model.specs.Outcomes.{outcome, outcomes_after, outcomes};
 ghost use Rattle.model.specs.World.{reply_of, finished_batch};
 ghost use Rattle.model.specs.Agreed.{Columns, AreVerdicts};
@@ -31,18 +32,21 @@ pub fn joined_law()
     ensures committed { (verdicts : List Verdict) → (joined verdicts ≡ Committed) ↔ ((v : Verdict) → Contains verdicts v → v ≡ Committed) }
 {}
 
-/// What a resolver says of its share of a record is its verdict on each transaction that asks it, in order.
+/// What a resolver says of its share of a record is its verdict on each transaction that asks it, in order; and
+/// each part of the share stands for a transaction that asks the resolver, by its number.
 pub fn share_law()
-    ensures { (config : Config) (r : ℕ) (before : List Record) (rec : Record) → share_verdicts config r before rec ≡ verdicts_of_askers config r before rec [] rec.batch }
+    ensures parts { (config : Config) (rec : Record) (r k : ℕ) (part : Part) → slice_get (share config rec r) k ≡ Some part → (t : Transaction) × (slice_get rec.batch part.number ≡ Some t) × IsTrue (asks config rec r t) × (part ≡ part_of config rec r part.number t) }
+    ensures verdicts { (config : Config) (r : ℕ) (before : List Record) (rec : Record) → share_verdicts config r before rec ≡ verdicts_of_askers config r before rec [] rec.batch }
 {}
 
 /// Where a cell has the verdicts of its resolver on its share, what the cells say is the verdict of
 /// each transaction that asks it; and sayings that are alike on a record give it one journal row.
-/// Nothing is Committed that nobody said: the cell has that verdict, and the transaction is there.
+/// What a cell says is Committed is a transaction that asks its resolver, and the cell has that verdict at the
+/// place of its part; what a history says is Committed is a transaction that is there.
 pub fn saying_law()
     ensures known { (config : Config) (h : List Record) (columns : Columns) (r i n : ℕ) (rec : Record) (t : Transaction) → slice_get h i ≡ Some rec → slice_get rec.batch n ≡ Some t → IsTrue (asks config rec r t) → list_at (list_at columns r) i ≡ share_verdicts config r (take i h) rec → known_in config h columns r i n ≡ verdict_in config h r i n }
     ensures journal { (config : Config) (says other : Sayings) (rec : Record) → SaysAlike config says other rec → journal_row config says rec ≡ journal_row config other rec }
-    ensures said { (config : Config) (h : List Record) (columns : Columns) (r i n : ℕ) → known_in config h columns r i n ≡ Committed → Contains (list_at (list_at columns r) i) Committed }
+    ensures said { (config : Config) (h : List Record) (columns : Columns) (r i n : ℕ) → known_in config h columns r i n ≡ Committed → (rec : Record) × (slice_get h i ≡ Some rec) × CellCommits config rec r n (list_at (list_at columns r) i) }
     ensures there { (config : Config) (h : List Record) (r i n : ℕ) → verdict_in config h r i n ≡ Committed → (rec : Record) × (t : Transaction) × (slice_get h i ≡ Some rec) × (slice_get rec.batch n ≡ Some t) }
 {}
 

@@ -1,8 +1,8 @@
 //! Laws of the world without threads. No code: each function's contract is a law of the definitions.
 
 ghost use Rattle.std.specs.Prelude.{List};
-ghost use Rattle.model.specs.declared.config.Config.{Config};
-ghost use Rattle.model.specs.Records.{IsConfig, IsHistory};
+ghost use Rattle.model.specs.Configs.{Config, IsConfig};
+ghost use Rattle.model.specs.Records.{IsHistory};
 ghost use Rattle.model.specs.Serial.{IsSerial};
 ghost use Rattle.model.specs.World.{World, Event, Happened, IsSound, start, happens, world_after};
 

@@ -5,6 +5,8 @@ use Rattle.std.specs.List.{cons_option}
 use Rattle.std.specs.Option.{option_or}
 use Rattle.std.proofs.lemmas.Bool.{or_parts, or_from, and_parts, and_from, not-false, not_from_true, ltb-false, le-ltb, leb-true, le-leb}
 use Rattle.std.proofs.lemmas.List.Elements.{All-nil, All-cons, All-head, All-tail, All-weaker, All-map}
+use Rattle.system_keys.specs.declared.change.Change.{Change}
+use Rattle.system_keys.specs.declared.change.Change.TheVariants as changes
 use Rattle.system_keys.specs.declared.kind.RowKind.{RowKind}
 use Rattle.system_keys.specs.declared.kind.RowKind.TheVariants as kinds
 use Rattle.system_keys.specs.declared.refusal.Refusal.TheVariants.{KeyTooLong, ValueTooLong, KeyOutside, EmptyRange, BadRow}
@@ -13,11 +15,12 @@ use Rattle.system_keys.specs.Families.{kind_of}
 use Rattle.system_keys.specs.Rows.{is_row_value}
 use Rattle.system_keys.specs.Limits.{key_limit, end_limit, value_limit, key_space_end}
 use Rattle.model.specs.Stamps.{Mutation, Set, Clear, SetStamped, Given, text_of, offset_of, stamp, stamped_at, stamped_value, stamped_mutation, stamped}
+use Rattle.model.specs.Transactions.{Transaction}
 use Rattle.mutation.specs.declared.refusal.Refusal.{Refusal}
 use Rattle.mutation.specs.declared.refusal.Refusal.TheVariants as refusals
 use Rattle.mutation.specs.Refusals.{from_key}
-use Rattle.mutation.specs.Faults.{first_fault, fault_of_range, fault_of_set, fault_of_stamp, fault_of_mutation, transaction_fault, faults_of, has_place, is_formed}
-use Rattle.mutation.specs.Limits.{IsRange, IsRow, TakesStamp, IsMutation, EveryLimitHolds, IsChange}
+use Rattle.mutation.specs.Faults.{first_fault, fault_of_range, fault_of_set, fault_of_stamp, fault_of_mutation, transaction_fault, faults_of, fault_of_change, stamped_fault, has_place, is_formed}
+use Rattle.mutation.specs.Limits.{IsRange, IsRow, TakesStamp, IsMutation, EveryLimitHolds, IsChange, EveryLimitStillHolds}
 
 -- ---- the first of several faults
 
@@ -210,10 +213,46 @@ change_within version number (SetStamped key value) h =
     }
 
 -- every limit holds in the changes that come of an admitted transaction
-pub changes_within : (version number : ℕ) (t : Given) → EveryLimitHolds t → All IsChange (stamped version number t).changes
+changes_within : (version number : ℕ) (t : Given) → EveryLimitHolds t → All IsChange (stamped version number t).changes
 changes_within version number t h =
     All-map IsChange (stamped_mutation version number) t.mutations
     (All-weaker IsMutation (λ m. IsChange (stamped_mutation version number m)) (change_within version number) t.mutations h.mutations)
+
+-- every limit holds in the transaction that comes of an admitted one
+pub limits_kept : (version number : ℕ) (t : Given) → EveryLimitHolds t → EveryLimitStillHolds (stamped version number t)
+limits_kept version number t h = record { reads = h.reads; writes = h.writes; changes = changes_within version number t h }
+
+change_from_faultless : (change : Change) → fault_of_change change ≡ None → IsChange change
+change_from_faultless (changes.Set key value) h = row_within key value h
+change_from_faultless (changes.Clear range) h = range_within range h
+
+faultless_change : (change : Change) → IsChange change → fault_of_change change ≡ None
+faultless_change (changes.Set key value) h = within_row key value h
+faultless_change (changes.Clear range) h = within_range range h
+
+-- a transaction with its stamps in has no fault exactly where every limit holds in it
+pub limits_when_stamped : (t : Transaction) → stamped_fault t ≡ None → EveryLimitStillHolds t
+limits_when_stamped t h =
+    let parts = or_none (first_fault fault_of_range t.reads) (option_or (first_fault fault_of_range t.writes) (first_fault fault_of_change t.changes)) h in
+    let later = or_none (first_fault fault_of_range t.writes) (first_fault fault_of_change t.changes) parts.1 in
+    record {
+      reads = All-weaker (λ r. fault_of_range r ≡ None) IsRange range_within t.reads (all_faultless fault_of_range t.reads parts.0);
+      writes = All-weaker (λ r. fault_of_range r ≡ None) IsRange range_within t.writes (all_faultless fault_of_range t.writes later.0);
+      changes = All-weaker (λ c. fault_of_change c ≡ None) IsChange change_from_faultless t.changes (all_faultless fault_of_change t.changes later.1);
+    }
+
+pub faultless_when_stamped : (t : Transaction) → EveryLimitStillHolds t → stamped_fault t ≡ None
+faultless_when_stamped t h =
+    none_or (first_fault fault_of_range t.reads) (option_or (first_fault fault_of_range t.writes) (first_fault fault_of_change t.changes))
+    (faultless_all fault_of_range t.reads (All-weaker IsRange (λ r. fault_of_range r ≡ None) within_range t.reads h.reads))
+    (none_or (first_fault fault_of_range t.writes) (first_fault fault_of_change t.changes)
+    (faultless_all fault_of_range t.writes (All-weaker IsRange (λ r. fault_of_range r ≡ None) within_range t.writes h.writes))
+    (faultless_all fault_of_change t.changes (All-weaker IsChange (λ c. fault_of_change c ≡ None) faultless_change t.changes h.changes)))
+
+-- the transaction that comes of one without a fault has none
+pub stamped_faultless : (version number : ℕ) (t : Given) → transaction_fault t ≡ None → stamped_fault (stamped version number t) ≡ None
+stamped_faultless version number t h =
+    faultless_when_stamped (stamped version number t) (limits_kept version number t (limits_from_faultless t h))
 
 -- ---- the first fault, over the list of all faults
 

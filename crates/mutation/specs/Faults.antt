@@ -1,12 +1,15 @@
--- The faults of a transaction as a client gives it, and the first of them (this project's profile).
+-- The faults of a transaction as a client gives it, and of one with its stamps in, and the first of them (this project's profile).
 use Rattle.std.specs.Prelude.{ℕ, ◌+◌, List, [], ◌∷◌, ◌++◌, length, filter_map, Bool, true, false, ◌&&◌, nat_le, if◌then◌else◌, Option, Some, None, option_map}
 use Rattle.std.specs.Option.{option_or}
+use Rattle.system_keys.specs.declared.change.Change.{Change}
+use Rattle.system_keys.specs.declared.change.Change.TheVariants as changes
 use Rattle.system_keys.specs.declared.kind.RowKind.{RowKind}
 use Rattle.system_keys.specs.declared.kind.RowKind.TheVariants as kinds
 use Rattle.system_keys.specs.Keys.{Key, Range}
 use Rattle.system_keys.specs.Families.{kind_of}
 use Rattle.system_keys.specs.Limits.{range_fault, set_fault}
 use Rattle.model.specs.Stamps.{Mutation, Set, Clear, SetStamped, Given, text_of, offset_of}
+use Rattle.model.specs.Transactions.{Transaction}
 use Rattle.mutation.specs.declared.refusal.Refusal.{Refusal}
 use Rattle.mutation.specs.declared.refusal.Refusal.TheVariants.{BadRow, BadStamp}
 use Rattle.mutation.specs.Refusals.{from_key}
@@ -61,3 +64,14 @@ transaction_fault t =
 abbrev pub faults_of : Given → List Refusal
 faults_of t =
     filter_map fault_of_range t.reads ++ filter_map fault_of_range t.writes ++ filter_map fault_of_mutation t.mutations
+
+-- the first fault of a change
+abbrev pub fault_of_change : Change → Option Refusal
+fault_of_change (changes.Set key value) = fault_of_set key value
+fault_of_change (changes.Clear range) = fault_of_range range
+
+-- the first fault of a transaction with its stamps in: of its reads, then of its writes, then of its changes
+abbrev pub stamped_fault : Transaction → Option Refusal
+stamped_fault t =
+    option_or (first_fault fault_of_range t.reads)
+    (option_or (first_fault fault_of_range t.writes) (first_fault fault_of_change t.changes))

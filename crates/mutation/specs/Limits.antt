@@ -7,6 +7,7 @@ use Rattle.system_keys.specs.Families.{kind_of}
 use Rattle.system_keys.specs.Rows.{is_row_value}
 use Rattle.system_keys.specs.Limits.{key_limit, end_limit, value_limit, key_space_end}
 use Rattle.model.specs.Stamps.{Mutation, Set, Clear, SetStamped, Given, offset_of}
+use Rattle.model.specs.Transactions.{Transaction}
 use Rattle.mutation.specs.Faults.{is_formed}
 
 -- the transactions of a batch
@@ -49,3 +50,9 @@ pub record EveryLimitHolds (t : Given) : Type 0 where
 abbrev pub IsChange : Change → Type 0
 IsChange (changes.Set key value) = IsRow key value
 IsChange (changes.Clear range) = IsRange range
+
+-- every limit holds in the transaction with its stamps in
+pub record EveryLimitStillHolds (t : Transaction) : Type 0 where
+  pub reads : All IsRange t.reads
+  pub writes : All IsRange t.writes
+  pub changes : All IsChange t.changes

@@ -143,8 +143,8 @@ impl Admitted {
     {
         Ok(Stamped::of_parts(
             self.snapshot,
-            self.reads.clone()?,
-            self.writes.clone()?,
+            copied_ranges(&self.reads)?,
+            copied_ranges(&self.writes)?,
             stamped_changes(alloc, version, number, self.mutations.as_slice())?,
             self.lock_aware,
         ))
@@ -158,4 +158,11 @@ impl Admitted {
     {
         Ok(self.clone()?)
     }
+}
+
+/// Equal ranges of their own.
+fn copied_ranges(ranges: &Items<KeyRange>) -> Result<Items<KeyRange>, OutOfMemory>
+    ensures { IfOk result (λ copy. copy ≡ ranges.now) }
+{
+    Ok(ranges.clone()?)
 }

@@ -1,9 +1,10 @@
 //! Laws of the definitions of this crate, each the contract of a function with an empty body.
 
-ghost use Rattle.std.specs.Prelude.{◌≡◌, ◌↔◌, ℕ, None, All, slice_get};
+ghost use Rattle.std.specs.Prelude.{◌≡◌, ◌↔◌, ℕ, None, slice_get};
 ghost use Rattle.model.specs.Stamps.{Given, stamped};
-ghost use Rattle.mutation.specs.Faults.{transaction_fault, faults_of};
-ghost use Rattle.mutation.specs.Limits.{EveryLimitHolds, IsChange};
+ghost use Rattle.model.specs.Transactions.{Transaction};
+ghost use Rattle.mutation.specs.Faults.{transaction_fault, faults_of, stamped_fault};
+ghost use Rattle.mutation.specs.Limits.{EveryLimitHolds, EveryLimitStillHolds};
 
 /// The fault of a transaction is the first of all its faults: those of its reads, then of its writes, then
 /// of its mutations, each in order.
@@ -11,12 +12,13 @@ pub fn fault_law()
     ensures { (t : Given) → transaction_fault t ≡ slice_get (faults_of t) 0 }
 {}
 
-/// A transaction has no fault exactly where every limit holds in it.
+/// A transaction has no fault exactly where every limit holds in it, as it is given and with its stamps in.
 pub fn limits_law()
-    ensures { (t : Given) → (transaction_fault t ≡ None) ↔ EveryLimitHolds t }
+    ensures given { (t : Given) → (transaction_fault t ≡ None) ↔ EveryLimitHolds t }
+    ensures stamped { (t : Transaction) → (stamped_fault t ≡ None) ↔ EveryLimitStillHolds t }
 {}
 
-/// Every limit also holds in the changes that come of such a transaction, whatever its stamps.
+/// Every limit also holds in the transaction that comes of such a one, whatever its stamps.
 pub fn stamped_law()
-    ensures { (version number : ℕ) (t : Given) → EveryLimitHolds t → All IsChange (stamped version number t).changes }
+    ensures { (version number : ℕ) (t : Given) → EveryLimitHolds t → EveryLimitStillHolds (stamped version number t) }
 {}

@@ -3,7 +3,6 @@
 ghost use Rattle.std.specs.Prelude.{◌≡◌};
 ghost use Rattle.mutation.specs.declared.refusal.Refusal.TheVariants as refusals;
 
-use std::alloc::{AllocError, AllocFailed};
 use system_keys::OutOfMemory;
 use thiserror::Error;
 
@@ -90,26 +89,10 @@ impl From<system_keys::Refusal> for Refusal {
     }
 }
 
-impl From<AllocError> for Refusal {
-    ghost from_gives = { λ _ refusal. refusal ≡ refusals.OutOfMemory };
-
-    fn from(_error: AllocError) -> Refusal {
-        Refusal::OutOfMemory
-    }
-}
-
 impl From<OutOfMemory> for Refusal {
     ghost from_gives = { λ _ refusal. refusal ≡ refusals.OutOfMemory };
 
     fn from(_error: OutOfMemory) -> Refusal {
-        Refusal::OutOfMemory
-    }
-}
-
-impl<T: Drop> From<AllocFailed<T>> for Refusal {
-    ghost from_gives = { λ _ refusal. refusal ≡ refusals.OutOfMemory };
-
-    fn from(_failed: AllocFailed<T>) -> Refusal {
         Refusal::OutOfMemory
     }
 }

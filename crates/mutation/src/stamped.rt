@@ -11,7 +11,8 @@ use std::alloc::Global;
 use std::marker::Model;
 use system_keys::{Bytes, Change, Items, KeyRange, OutOfMemory};
 
-/// A transaction with its stamps in: changes alone (release 7.1).
+/// A transaction with its stamps in: changes alone (release 7.1). Every limit holds in it, as in the admitted
+/// one that it comes of.
 #[derive(Clone, Debug, Drop)]
 pub struct Stamped {
     snapshot: u64,
@@ -22,14 +23,20 @@ pub struct Stamped {
 }
 
 impl Model for Stamped {
+    ghost use Rattle.std.specs.Prelude.{◌≡◌, None};
     ghost use Rattle.model.specs.Transactions.{Transaction};
+    ghost use Rattle.mutation.specs.Faults.{stamped_fault};
 
     ghost Value = { Transaction };
 
     ghost view = { λ t. record { snapshot = t.snapshot; reads = t.reads; writes = t.writes; changes = t.changes; lock_aware = t.lock_aware } };
+
+    ghost invariant = { λ t. stamped_fault (record { snapshot = t.snapshot; reads = t.reads; writes = t.writes; changes = t.changes; lock_aware = t.lock_aware }) ≡ None };
 }
 
 impl Stamped {
+    ghost use Rattle.mutation.specs.Faults.{stamped_fault};
+
     /// The transaction of these parts. Takes no memory.
     pub(crate) fn of_parts(
         snapshot: u64,
@@ -38,6 +45,7 @@ impl Stamped {
         changes: Vec<Change>,
         lock_aware: bool,
     ) -> Stamped
+        requires { stamped_fault (record { snapshot = snapshot; reads = reads; writes = writes; changes = changes.items; lock_aware = lock_aware }) ≡ None }
         ensures { result ≡ record { snapshot = snapshot; reads = reads; writes = writes; changes = changes.items; lock_aware = lock_aware } }
     {
         Stamped {
@@ -72,7 +80,8 @@ impl Stamped {
 
     /// What it wants to change, in order.
     pub fn changes(&self) -> &[Change]
-        ensures { result.now ≡ self.now.changes }
+        ensures value { result.now ≡ self.now.changes }
+        ensures limits { stamped_fault self.now ≡ None }
     {
         self.changes.as_slice()
     }

@@ -11,7 +11,7 @@ use Rattle.proxy_run.specs.CommandLine.{ModeNames, bare_shape, command_line}
 use Rattle.proxy_run.specs.Runs.{IsFoldLine, IsOtherModeLine, RunsMode, RunsWords}
 use Rattle.proxy_run.specs.Statuses.{IsTurnedAway}
 use Rattle.proxy_run.specs.declared.mode.Mode.{Mode}
-use Rattle.proxy_run.specs.declared.mode.Mode.TheVariants.{Fold, Turns, Threads}
+use Rattle.proxy_run.specs.declared.mode.Mode.TheVariants.{Fold}
 use Rattle.proxy_run.specs.declared.status.Status.{Status}
 use Rattle.proxy_run.specs.declared.status.Status.TheVariants.{OutOfMemory}
 
@@ -72,8 +72,6 @@ other_mode_refused names words (inr threads) = some_fault _ kind.InvalidValue (a
 -- a mode that ran is `fold`
 ran : (given : Option Mode) (folds : Type 0) → RunsMode given folds → folds
 ran (Some Fold) folds h = h
-ran (Some Turns) folds h = absurd h
-ran (Some Threads) folds h = absurd h
 ran None folds h = absurd h
 
 -- where clap takes the words of a command line that folds, it folds

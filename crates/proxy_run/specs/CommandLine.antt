@@ -14,7 +14,7 @@ use Rattle.proxy_run.specs.Modes.{mode_named}
 use Rattle.proxy_run.specs.declared.mode.Mode.{Mode}
 use Rattle.proxy_run.specs.declared.mode.Mode.TheVariants.{Fold}
 
--- the names that the mode may have, wherever they lie in memory: `fold` alone for now
+-- the names of the modes, wherever they lie in memory
 pub record ModeNames : Type 0 where
   pub list : Bor (List (Bor Text))
   pub texts : map (λ name. name.now) list.now ≡ codes "fold" ∷ []

@@ -1,10 +1,14 @@
 -- What calls of devices leave.
-use Rattle.std.specs.Prelude.{◌≡◌, ◌+◌, ◌-◌, ◌^◌, ◌<◌, ◌++◌, ℕ, List, Option}
+use Rattle.std.specs.Prelude.{◌≡◌, ◌+◌, ◌-◌, ◌^◌, ◌++◌, min, ℕ, List, Option}
 use Rattle.std.specs.Io.KnownBytes.{Appends}
 
--- a count went up by one; a count that has reached the largest number may stay there
+-- a count after so many more calls: it stops at the largest number, and stays there
+abbrev pub raised : ℕ → ℕ → ℕ
+raised calls count = count + min calls (2 ^ 64 - 1 - count)
+
+-- a count went up by one, as far as there is a larger number
 abbrev pub IsOneMore : ℕ → ℕ → Type 0
-IsOneMore old new = old < 2 ^ 64 - 1 → new ≡ old + 1
+IsOneMore old new = new ≡ raised 1 old
 
 -- known bytes grow by the front of these bytes, where `rest` is left over
 abbrev pub AppendsBefore : Option (List ℕ) → Option (List ℕ) → List ℕ → List ℕ → Type 0

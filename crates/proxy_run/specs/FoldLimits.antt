@@ -2,15 +2,12 @@
 use Rattle.std.specs.Prelude.{ℕ, List, [], ◌∷◌, length, Bool, true, ◌&&◌, nat_eq, nat_lt, nat_le, if◌then◌else◌, Option, Some, None}
 use Rattle.std.specs.List.{list_all}
 use Rattle.serde_json.specs.Data.{Data}
+use Rattle.model.specs.Configs.{is_from_one, resolvers_limit}
 use Rattle.proxy_run.specs.declared.fold_script.RawScript.{RawScript}
 use Rattle.proxy_run.specs.declared.fold_script.RawRow.{RawRow}
 use Rattle.proxy_run.specs.declared.fold_script.RawState.{RawState}
 use Rattle.proxy_run.specs.Shapes.{◌>>=◌}
 use Rattle.proxy_run.specs.FoldShapes.{fields_shape}
-
--- from 1 to 64 resolvers
-abbrev pub is_resolver_count : ℕ → Bool
-is_resolver_count n = nat_le 1 n && nat_le n 64
 
 -- each row's version is above the one before it
 abbrev pub are_rising : ℕ → List RawRow → Bool
@@ -27,7 +24,7 @@ row_has_verdicts resolvers row = list_all (has_verdicts resolvers) row.states
 
 -- from 1 to 64 resolvers, versions that are at least 1 and rise, and one verdict of each resolver
 abbrev pub is_within_limits : RawScript → Bool
-is_within_limits script = is_resolver_count script.resolvers && are_rising 0 script.rows && list_all (row_has_verdicts script.resolvers) script.rows
+is_within_limits script = is_from_one resolvers_limit script.resolvers && are_rising 0 script.rows && list_all (row_has_verdicts script.resolvers) script.rows
 
 abbrev pub limited : RawScript → Option RawScript
 limited script = if is_within_limits script then Some script else None

@@ -1,8 +1,6 @@
 -- The fold script that bytes are, or their first fault (this project's profile).
-use Rattle.std.specs.Prelude.{◌≡◌, ℕ, List, if◌then◌else◌, Option, Some, None, Result, Ok, Err}
-use Rattle.std.specs.Str.{is_utf8}
+use Rattle.std.specs.Prelude.{◌≡◌, ℕ, List, Option, Some, None, Result, Ok, Err}
 use Rattle.serde_json.specs.Data.{Data}
-use Rattle.serde_json.specs.Read.{read}
 use Rattle.system_keys.specs.declared.refusal.Refusal.{Refusal}
 use Rattle.proxy_run.specs.declared.fold_script.FoldScript.{FoldScript}
 use Rattle.proxy_run.specs.declared.fold_script.RawScript.{RawScript}
@@ -10,6 +8,7 @@ use Rattle.proxy_run.specs.declared.script_fault.ScriptFault.{ScriptFault}
 use Rattle.proxy_run.specs.declared.script_fault.ScriptFault.TheVariants.{NotJson, BadShape, Refused, RefusedBatch, OutOfMemory}
 use Rattle.proxy_run.specs.FoldLimits.{script_shape}
 use Rattle.proxy_run.specs.FoldChecks.{checked_script}
+use Rattle.proxy_run.specs.Values.{value_of}
 
 abbrev pub or_refused : Result FoldScript Refusal → Result FoldScript ScriptFault
 or_refused (Ok script) = Ok script
@@ -24,9 +23,9 @@ abbrev pub script_of_data : Option Data → Result FoldScript ScriptFault
 script_of_data None = Err NotJson
 script_of_data (Some d) = script_of_raw (script_shape d)
 
--- the script that the bytes are, by the value that `serde_json` reads of them
+-- the script that the bytes are
 unfoldable pub script_of : List ℕ → Result FoldScript ScriptFault
-script_of bytes = if is_utf8 bytes then script_of_data (read bytes) else Err NotJson
+script_of bytes = script_of_data (value_of bytes)
 
 abbrev pub FailsScript : {X : Type 0} → ScriptFault → Result X ScriptFault → Type 0
 FailsScript NotJson said = said ≡ Err NotJson

@@ -14,3 +14,4 @@ pub mod Runs
 pub mod ScriptFaults
 pub mod Shapes
 pub mod Statuses
+pub mod Values

@@ -1,10 +1,10 @@
 -- What a run of the program leaves, by the bytes that the source had and those that the sink holds,
 -- where they are known.
-use Rattle.std.specs.Prelude.{◌≡◌, ◌≢◌, ◌⊎◌, ◌∷◌, ◌+◌, ◌<◌, ◌≤◌, ◌^◌, length, ℕ, List, [], Option, Some, IfSome, codes}
+use Rattle.std.specs.Prelude.{◌≡◌, ◌≢◌, ◌⊎◌, ◌∷◌, ◌≤◌, length, ℕ, List, [], Option, Some, None, IfSome, codes}
 use Rattle.std.specs.Io.KnownBytes.{Appends}
 use Rattle.clap.specs.Words.{Text, fault_of, matches_of}
 use Rattle.proxy_run.specs.CommandLine.{ModeNames, command_line, mode_of}
-use Rattle.proxy_run.specs.Devices.{AppendsBeginning}
+use Rattle.proxy_run.specs.Devices.{AppendsBeginning, raised}
 use Rattle.proxy_run.specs.FoldText.{fold_text}
 use Rattle.proxy_run.specs.Statuses.{IsTurnedAway}
 use Rattle.proxy_run.specs.declared.mode.Mode.{Mode}
@@ -33,13 +33,13 @@ Folds input old new OutOfMemory = BeginsAnswer input old new
 
 -- the limit on read calls was passed: so many calls were made, and the source had a byte for each of them
 pub record PassesLimit (input : Option (List ℕ)) (old new limit : ℕ) : Type 0 where
-  pub calls : old + limit < 2 ^ 64 → new ≡ old + limit
+  pub calls : new ≡ raised limit old
   pub bytes : IfSome input (λ bytes. limit ≤ length bytes)
 
--- what a run in a mode leaves; no words give another mode for now
+-- what a run in a mode leaves; words that are taken give a mode
 abbrev pub RunsMode : Option Mode → Type 0 → Type 0
 RunsMode (Some Fold) folds = folds
-RunsMode _ folds = ⊥
+RunsMode None folds = ⊥
 
 -- what a run leaves by what clap reads of the words: where it refuses them nothing is read or written
 -- (`idle`), and else their mode runs, unless memory was wanting before that
@@ -54,6 +54,6 @@ pub record RunsWords (words : List Text) (status : Status) (idle folds : Type 0)
 abbrev pub IsFoldLine : List Text → Type 0
 IsFoldLine words = (words ≡ []) ⊎ (words ≡ codes "fold" ∷ [])
 
--- the words of a command line that asks for a mode that it does not take for now
+-- the words of a command line that asks for a mode that is not there yet
 abbrev pub IsOtherModeLine : List Text → Type 0
 IsOtherModeLine words = (words ≡ codes "turns" ∷ []) ⊎ (words ≡ codes "threads" ∷ [])

@@ -8,6 +8,7 @@ ghost use Rattle.proxy_run.specs.FoldScripts.{GivesScript};
 use crate::batch_checks::admit_batch;
 use crate::script_fault::ScriptFault;
 use crate::shaped::Shaped;
+use crate::value_reading::read_value;
 use mutation::{Batch, Transaction};
 use serde_json::Value;
 use std::alloc::Global;
@@ -19,14 +20,12 @@ use system_keys::Items;
 /// of a batch, a text of it spells no bytes, or a snapshot of it is past the greatest number), the first fault
 /// of a transaction, in the order of the list, and that there are more than 1,024. `OutOfMemory` may come at
 /// any point.
+#[tactic(auto, unfolding(crate::specs::BatchScripts::batch_of))]
 pub fn read_batch(alloc: Global, bytes: &[u8]) -> Result<Batch, ScriptFault>
     ensures { GivesScript result (batch_of bytes.now) }
 {
-    match Value::from_slice(alloc, bytes) {
-        Ok(value) => batch_of_value(alloc, &value),
-        Err(error) if error.is_memory() => Err(ScriptFault::OutOfMemory),
-        Err(_) => Err(ScriptFault::NotJson),
-    }
+    let value = read_value(alloc, bytes)?;
+    batch_of_value(alloc, &value)
 }
 
 fn batch_of_value(alloc: Global, value: &Value) -> Result<Batch, ScriptFault>

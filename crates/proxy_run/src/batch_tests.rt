@@ -3,31 +3,12 @@
 
 use crate::batch_reading::read_batch;
 use crate::script_fault::ScriptFault;
+use crate::tests::again::{letters, roomy, twice, written};
 use mutation::{AdmittedMutation, Batch, Refusal};
 use std::alloc::Global;
 use std::process::Abort;
 use std::test::Fail;
 use system_keys::KeyRange;
-
-/// The call, made once more where it was refused memory.
-macro_rules! twice {
-    ($call:expr, $memory:pat) => {
-        match $call {
-            Err($memory) => $call,
-            answer => answer,
-        }
-    };
-}
-
-/// The text, made once more where it was refused memory.
-macro_rules! written {
-    ($alloc:expr; $($words:tt)*) => {
-        match format!(in $alloc; $($words)*) {
-            Err(_) => format!(in $alloc; $($words)*)?,
-            Ok(text) => text,
-        }
-    };
-}
 
 /// A transaction with each kind of mutation, and one with nothing in it.
 const TWO_TRANSACTIONS: &[u8] = br#"[{"snapshot":7,"reads":[["a","b"],["","\\xff\\xff"]],
@@ -74,24 +55,9 @@ fn refuses_mutations(
     Ok(())
 }
 
-/// This many times the letter.
-fn letters(alloc: Global, count: usize) -> Result<String, Fail> {
-    let mut text = match String::with_capacity(alloc, count) {
-        Err(_) => String::with_capacity(alloc, count)?,
-        Ok(text) => text,
-    };
-    for _ in 0..count {
-        text.push('a')?;
-    }
-    Ok(text)
-}
-
 /// This many transactions with nothing in them, and behind them the last one.
 fn many(alloc: Global, count: usize, last: &str) -> Result<String, Fail> {
-    let mut text = match String::with_capacity(alloc, 100_000) {
-        Err(_) => String::with_capacity(alloc, 100_000)?,
-        Ok(text) => text,
-    };
+    let mut text = roomy(alloc, 100_000)?;
     text.push('[')?;
     for _ in 0..count {
         text.push_str(EMPTY)?;

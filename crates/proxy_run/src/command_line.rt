@@ -3,7 +3,7 @@ ghost use Rattle.std.specs.Prelude.{◌≡◌, IfOk, Some, codes, map};
 ghost use Rattle.clap.specs.Words.{first_value, found_of};
 ghost use Rattle.proxy_run.specs.CommandLine.{IsCommandLine, ModeNames, ReadsMode, mode_given};
 
-use crate::mode::{Mode, OFFERED};
+use crate::mode::{Mode, NAMES};
 use clap::{Arg, ArgMatches, Command, Error};
 use std::alloc::{AllocError, Global};
 use std::convert::AsStr;
@@ -26,7 +26,7 @@ fn command<'a>(alloc: Global) -> Result<Command<'a>, AllocError>
     let mode = Arg::new(alloc, "mode")
         .value_name("MODE")
         .help("What to do with the script: fold, where it is left out")
-        .value_parser(OFFERED.as_slice());
+        .value_parser(NAMES.as_slice());
     Command::new(alloc, "proxy_run")
         .about("Reads a script from standard input and prints what comes of it")
         .no_binary_name(true)

@@ -1,9 +1,9 @@
 //! What the program reads from and writes to: one read call, one write call, and a count of failures.
-ghost use Rattle.std.specs.Prelude.{◌≡◌, ◌+◌, ◌-◌, ◌^◌, ◌<◌, ◌≤◌, length, ℕ, List, Option, IfOk, IfSome};
+ghost use Rattle.std.specs.Prelude.{◌≡◌, ◌⊎◌, ◌+◌, ◌-◌, ◌^◌, ◌<◌, ◌≤◌, length, ℕ, List, [], Option, IfOk, IfSome};
 ghost use Rattle.std.specs.Prelude.{IsErrOf, OnErr, OnOk};
 ghost use Rattle.std.specs.Io.{ReadsAtMost, WritesAtMost};
 ghost use Rattle.std.specs.Io.KnownBytes.{Appends, ReadConsumes, WriteAppends};
-ghost use Rattle.proxy_run.specs.Devices.{AppendsBeginning, IsOneMore};
+ghost use Rattle.proxy_run.specs.Devices.{AppendsBeginning, IsOneMore, raised};
 ghost use Rattle.proxy_run.specs.declared.devices.ReadFault.TheVariants as faults;
 
 use std::alloc::{AllocError, Global};
@@ -41,12 +41,12 @@ pub trait Sink {
 
     ghost failed: { Self → ℕ };
 
-    /// Takes bytes from the front, and says how many. A call that takes none has failed.
+    /// Takes bytes from the front, and says how many. A call that is given some and takes none has failed.
     fn write(&mut self, bytes: &[u8]) -> Result<usize, Failed>
         ensures bound { WritesAtMost result bytes.now }
         ensures put { WriteAppends (written self.old) (written self.new) result bytes.now }
-        ensures fine { IfOk result (λ n. 0 < n → failed self.new ≡ failed self.old) }
-        ensures none { IfOk result (λ n. n ≡ 0 → IsOneMore (failed self.old) (failed self.new)) }
+        ensures fine { IfOk result (λ n. (0 < n) ⊎ (bytes.now ≡ []) → failed self.new ≡ failed self.old) }
+        ensures none { IfOk result (λ n. n ≡ 0 → 0 < length bytes.now → IsOneMore (failed self.old) (failed self.new)) }
         ensures counted { OnErr result (IsOneMore (failed self.old) (failed self.new)) };
 
     /// How many calls have failed.
@@ -124,11 +124,12 @@ impl<W: Write> Sink for Writer<W> {
 
     fn write(&mut self, bytes: &[u8]) -> Result<usize, Failed> {
         match self.inner.write(bytes) {
-            Ok(0) => {
-                self.failures = self.failures.saturating_add(1);
-                Ok(0)
+            Ok(count) => {
+                if count == 0 && !bytes.is_empty() {
+                    self.failures = self.failures.saturating_add(1);
+                }
+                Ok(count)
             }
-            Ok(count) => Ok(count),
             Err(_) => {
                 self.failures = self.failures.saturating_add(1);
                 Err(Failed)
@@ -176,6 +177,9 @@ pub const READ_LIMIT: u64 = 1_048_576;
 const CHUNK: usize = 65_536;
 
 /// All bytes that the source has.
+///
+/// Answers `Device` where a read failed, `Limit` where the last call allowed did not meet the end, and
+/// `OutOfMemory` where there is no memory for the bytes.
 pub fn read_all<S: Source>(alloc: Global, source: &mut S) -> Result<Vec<u8>, ReadFault>
     requires { S.failed source.old < 2 ^ 64 - 1 }
     ensures whole { IfOk result (λ bytes.
@@ -183,8 +187,11 @@ pub fn read_all<S: Source>(alloc: Global, source: &mut S) -> Result<Vec<u8>, Rea
     ensures device { IsErrOf result ReadFault.Device
         → S.failed source.new ≡ S.failed source.old + 1 }
     ensures fine { OnOk result (S.failed source.new ≡ S.failed source.old) }
-    ensures limit { IsErrOf result ReadFault.Limit → S.reads source.old + READ_LIMIT < 2 ^ 64
-        → S.reads source.new ≡ S.reads source.old + READ_LIMIT }
+    ensures memory { IsErrOf result ReadFault.OutOfMemory
+        → S.failed source.new ≡ S.failed source.old }
+    ensures within { S.reads source.new ≤ raised READ_LIMIT (S.reads source.old) }
+    ensures limit { IsErrOf result ReadFault.Limit → (S.failed source.new ≡ S.failed source.old)
+        × (S.reads source.new ≡ raised READ_LIMIT (S.reads source.old)) }
     ensures long { IsErrOf result ReadFault.Limit
         → IfSome (S.remaining source.old) (λ input. READ_LIMIT ≤ length input) }
 {

@@ -2,12 +2,11 @@
 
 ghost use Rattle.std.specs.Prelude.{◌≡◌};
 ghost use Rattle.std.specs.List.{list_all};
-ghost use Rattle.proxy_run.specs.FoldLimits.{is_resolver_count, are_rising, has_verdicts, row_has_verdicts, is_within_limits};
+ghost use Rattle.model.specs.Configs.{is_from_one, resolvers_limit};
+ghost use Rattle.proxy_run.specs.FoldLimits.{are_rising, has_verdicts, row_has_verdicts, is_within_limits};
 
 use crate::fold_script::{RawRow, RawScript, RawState};
-
-/// How many resolvers there may be (this project's profile).
-pub(crate) const RESOLVERS_LIMIT: u64 = 64;
+use model::RESOLVERS_LIMIT;
 
 /// Whether there are from 1 to 64 resolvers, the versions are at least 1 and rise, and each transaction has
 /// one verdict for each resolver (this project's profile).
@@ -20,7 +19,7 @@ pub(crate) fn is_within_limits(script: &RawScript) -> bool
 }
 
 fn is_resolver_count(resolvers: u64) -> bool
-    ensures { result ≡ is_resolver_count resolvers }
+    ensures { result ≡ is_from_one resolvers_limit resolvers }
 {
     1 <= resolvers && resolvers <= RESOLVERS_LIMIT
 }

@@ -10,6 +10,7 @@ use crate::fold_limits::is_within_limits;
 use crate::fold_script::{FoldScript, RawScript};
 use crate::script_fault::ScriptFault;
 use crate::shaped::Shaped;
+use crate::value_reading::read_value;
 use serde_json::Value;
 use std::alloc::Global;
 
@@ -19,14 +20,12 @@ use std::alloc::Global;
 /// of a fold script, a text of it spells no bytes, or a number of it is outside its limits), and the refusal of
 /// the first key, value or range at fault, in the order of the script's lists. `OutOfMemory` may come at any
 /// point.
+#[tactic(auto, unfolding(crate::specs::FoldScripts::script_of))]
 pub fn read_script(alloc: Global, bytes: &[u8]) -> Result<FoldScript, ScriptFault>
     ensures { GivesScript result (script_of bytes.now) }
 {
-    match Value::from_slice(alloc, bytes) {
-        Ok(value) => script_of_value(alloc, &value),
-        Err(error) if error.is_memory() => Err(ScriptFault::OutOfMemory),
-        Err(_) => Err(ScriptFault::NotJson),
-    }
+    let value = read_value(alloc, bytes)?;
+    script_of_value(alloc, &value)
 }
 
 fn script_of_value(alloc: Global, value: &Value) -> Result<FoldScript, ScriptFault>

@@ -5,32 +5,14 @@ use crate::fold_lines::{print_asked, print_routing};
 use crate::fold_reading::read_script;
 use crate::run::run_words;
 use crate::script_fault::ScriptFault;
+use crate::status::Status;
+use crate::tests::again::{letters, run_twice, twice, written};
 use crate::tests::fakes::{Fed, Kept};
 use model::Routing;
 use std::alloc::Global;
 use std::process::Abort;
 use std::test::Fail;
 use system_keys::{Items, OutOfMemory, Refusal, Tag};
-
-/// The call, made once more where it was refused memory.
-macro_rules! twice {
-    ($call:expr, $memory:pat) => {
-        match $call {
-            Err($memory) => $call,
-            answer => answer,
-        }
-    };
-}
-
-/// The text, made once more where it was refused memory.
-macro_rules! written {
-    ($alloc:expr; $($words:tt)*) => {
-        match format!(in $alloc; $($words)*) {
-            Err(_) => format!(in $alloc; $($words)*)?,
-            Ok(text) => text,
-        }
-    };
-}
 
 /// Two servers, each with its tag and its range of keys.
 const TWO_SERVERS: &[u8] = br#"{"resolvers":2,"rows":[{"version":10,"states":[{"lock_aware":true,
@@ -45,22 +27,19 @@ const NOT_JSON: &str = "refused 70 NotJson\n";
 
 const BAD_SHAPE: &str = "refused 71 BadShape\n";
 
-/// What `proxy_run fold` writes for the script, and the number of its status.
-fn fold_once(alloc: Global, script: &[u8]) -> (u8, Kept) {
+/// How `proxy_run fold` ends for the script, and what it writes.
+fn fold_once(rt: &impl AllocGlobal, script: &[u8]) -> (Status, Kept) {
     let mut source = Fed::new(script, 4_096);
-    let mut sink = Kept::new(alloc, 4_096);
-    let status = run_words(alloc, &["fold"], &mut source, &mut sink);
-    (status.number(), sink)
+    let mut sink = Kept::new(rt.alloc(), 4_096);
+    let status = run_words(rt, &["fold"], &mut source, &mut sink);
+    (status, sink)
 }
 
 /// The script is answered by this text and the status of this number.
 fn answers(rt: &(impl Abort + AllocGlobal), script: &[u8], text: &str, status: u8) {
-    let (mut ended, mut sink) = fold_once(rt.alloc(), script);
-    if ended == 4 {
-        (ended, sink) = fold_once(rt.alloc(), script);
-    }
+    let (ended, sink) = run_twice!(fold_once(rt, script));
     assert_eq!(rt; sink.bytes(), text.as_bytes());
-    assert_eq!(rt; ended, status);
+    assert_eq!(rt; ended.number(), status);
 }
 
 fn folds(rt: &(impl Abort + AllocGlobal), script: &[u8], text: &str) {
@@ -82,18 +61,6 @@ fn refuses_changes(rt: &(impl Abort + AllocGlobal), changes: &str, text: &str) -
     let script = changing(rt.alloc(), changes)?;
     refuses(rt, script.as_bytes(), text);
     Ok(())
-}
-
-/// This many times the letter.
-fn letters(alloc: Global, count: usize) -> Result<String, Fail> {
-    let mut text = match String::with_capacity(alloc, count) {
-        Err(_) => String::with_capacity(alloc, count)?,
-        Ok(text) => text,
-    };
-    for _ in 0..count {
-        text.push('a')?;
-    }
-    Ok(text)
 }
 
 #[test]

@@ -1,6 +1,10 @@
 //! Folds journal rows into metadata.
 #![tactic(auto)]
 
+ghost use Rattle.std.specs.Prelude.{codes};
+ghost use Rattle.proxy_run.specs.FoldLines.{line};
+ghost use Rattle.proxy_run.specs.Statuses.{IsTurnedAwayWith};
+
 mod answer;
 mod batch_checks;
 mod batch_reading;
@@ -24,6 +28,7 @@ mod shaped;
 mod status;
 #[cfg(test)]
 mod tests;
+mod value_reading;
 
 use devices::{Reader, Writer};
 use run::run_words;
@@ -54,11 +59,13 @@ fn run_process(rt: &HostRuntime) -> Status {
     };
     let mut reader = Reader::new(rt.stdin());
     let mut writer = Writer::new(rt.stdout());
-    run_words(alloc, words.as_slice(), &mut reader, &mut writer)
+    run_words(rt, words.as_slice(), &mut reader, &mut writer)
 }
 
 // A command line that `clap` cannot be given, since a word of it is not UTF-8.
-fn words_are_no_text(alloc: Global) -> Status {
+fn words_are_no_text(alloc: Global) -> Status
+    ensures { IsTurnedAwayWith (line (codes "error: a word of the command line is not UTF-8")) result }
+{
     match String::from_str(alloc, "error: a word of the command line is not UTF-8\n") {
         Ok(text) => Status::CommandLineRefused(text),
         Err(_) => Status::OutOfMemory,

@@ -7,14 +7,10 @@ ghost use Rattle.proxy_run.specs.Modes.{mode_named};
 pub enum Mode {
     /// Folds the journal rows of a script into metadata.
     Fold,
-    /// Takes the turns of a script in a world without threads.
-    Turns,
-    /// Runs a script on threads.
-    Threads,
 }
 
-/// The names that the command line takes for now.
-pub static OFFERED: [&str; 1] = ["fold"];
+/// The names of the modes, as the command line takes them.
+pub static NAMES: [&str; 1] = ["fold"];
 
 impl Mode {
     /// The mode of this name.
@@ -23,8 +19,6 @@ impl Mode {
     {
         match name {
             "fold" => Some(Mode::Fold),
-            "turns" => Some(Mode::Turns),
-            "threads" => Some(Mode::Threads),
             _ => None,
         }
     }

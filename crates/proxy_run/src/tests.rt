@@ -1,25 +1,28 @@
 //! What no clause says: that runs succeed with ample memory, and `clap`'s texts. A run that was refused memory
 //! is made again, so that the tests also pass where any one allocation fails.
+pub(crate) mod again;
 pub(crate) mod fakes;
 
-use crate::devices::{READ_LIMIT, Reader, Sink, Source, Writer};
+use crate::devices::{Reader, Sink, Source, Writer};
 use crate::run::run_words;
 use crate::status::Status;
-use fakes::{Endless, Fed, Kept};
-use std::alloc::Global;
+use again::run_twice;
+use fakes::{Fed, Kept, Spaces};
 use std::process::Abort;
 
 const SCRIPT: &[u8] = br#"{"resolvers":1,"rows":[],"ask":["a"]}"#;
 
 const TEXT: &[u8] = b"version 0\nlocked no\nmetadata_version none\ntags \"a\" none\n";
 
-// What may go wrong with the devices of a run: how many bytes a call gives or takes at most, and which call fails.
+// What may go wrong with the devices of a run: how many bytes a call gives or takes at most, which call fails,
+// and which write takes no byte. Calls count from 1.
 #[derive(Clone, Copy)]
 struct Devices {
     read_at_most: usize,
     failing_read: u64,
     written_at_most: usize,
     failing_write: u64,
+    full_write: u64,
 }
 
 // Devices that never fail.
@@ -28,37 +31,36 @@ const FINE: Devices = Devices {
     failing_read: 0,
     written_at_most: 64,
     failing_write: 0,
+    full_write: 0,
 };
 
 fn run_once(
-    alloc: Global,
+    rt: &impl AllocGlobal,
     words: &[&str],
     script: &'static [u8],
     devices: Devices,
 ) -> (Status, Fed<'static>, Kept) {
     let mut source = Fed::new(script, devices.read_at_most).failing_at(devices.failing_read);
-    let mut sink = Kept::new(alloc, devices.written_at_most).failing_at(devices.failing_write);
-    let status = run_words(alloc, words, &mut source, &mut sink);
+    let mut sink = Kept::new(rt.alloc(), devices.written_at_most)
+        .failing_at(devices.failing_write)
+        .full_at(devices.full_write);
+    let status = run_words(rt, words, &mut source, &mut sink);
     (status, source, sink)
 }
 
 // Runs these words, and once more where that wanted memory.
 fn run(
-    alloc: Global,
+    rt: &impl AllocGlobal,
     words: &[&str],
     script: &'static [u8],
     devices: Devices,
 ) -> (Status, Fed<'static>, Kept) {
-    let (status, source, sink) = run_once(alloc, words, script, devices);
-    if matches!(status, Status::OutOfMemory) {
-        return run_once(alloc, words, script, devices);
-    }
-    (status, source, sink)
+    run_twice!(run_once(rt, words, script, devices))
 }
 
 // The words are refused with this text, and nothing is read or written.
 fn refuses(rt: &(impl Abort + AllocGlobal), words: &[&str], says: &str) {
-    let (status, source, sink) = run(rt.alloc(), words, SCRIPT, FINE);
+    let (status, source, sink) = run(&rt, words, SCRIPT, FINE);
     match status {
         Status::CommandLineRefused(text) => assert!(rt; text.as_str().contains(says), "{text}"),
         status => panic!(rt; "{status:?}"),
@@ -69,14 +71,14 @@ fn refuses(rt: &(impl Abort + AllocGlobal), words: &[&str], says: &str) {
 
 #[test]
 fn no_words_fold(rt: HostRuntime) {
-    let (status, _source, sink) = run(rt.alloc(), &[], SCRIPT, FINE);
+    let (status, _source, sink) = run(&rt, &[], SCRIPT, FINE);
     assert!(rt; matches!(status, Status::Done));
     assert_eq!(rt; sink.bytes(), TEXT);
 }
 
 #[test]
 fn the_word_fold_folds(rt: HostRuntime) {
-    let (status, _source, sink) = run(rt.alloc(), &["fold"], SCRIPT, FINE);
+    let (status, _source, sink) = run(&rt, &["fold"], SCRIPT, FINE);
     assert!(rt; matches!(status, Status::Done));
     assert_eq!(rt; sink.bytes(), TEXT);
 }
@@ -114,43 +116,86 @@ fn numbers_of_statuses(rt: HostRuntime) {
 
 #[test]
 fn a_refused_script_is_answered_with_its_line(rt: HostRuntime) {
-    let (status, _source, sink) = run(rt.alloc(), &["fold"], b"\xff", FINE);
+    let (status, _source, sink) = run(&rt, &["fold"], b"\xff", FINE);
     assert!(rt; matches!(status, Status::ScriptRefused));
     assert_eq!(rt; sink.bytes(), b"refused 70 NotJson\n".as_slice());
 }
 
+// One write fails, and the run ends with what was taken before it.
+fn ends_after(
+    rt: &(impl Abort + AllocGlobal),
+    script: &'static [u8],
+    devices: Devices,
+    taken: &[u8],
+) {
+    let (status, source, sink) = run(&rt, &["fold"], script, devices);
+    assert!(rt; matches!(status, Status::DeviceFailed));
+    assert_eq!(rt; source.failures(), 0);
+    assert_eq!(rt; sink.failures(), 1);
+    assert_eq!(rt; sink.bytes(), taken);
+}
+
 #[test]
 fn each_read_may_fail(rt: HostRuntime) {
-    // A byte a call, and the call that meets the end.
-    for call in 1..=SCRIPT.len() as u64 + 1 {
-        let devices = Devices {
-            read_at_most: 1,
-            failing_read: call,
-            ..FINE
-        };
-        let (status, source, sink) = run(rt.alloc(), &["fold"], SCRIPT, devices);
-        assert!(rt; matches!(status, Status::DeviceFailed), "at read {call}");
-        assert_eq!(rt; source.failures(), 1);
-        assert!(rt; sink.bytes().is_empty(), "at read {call}");
+    // The script has 37 bytes: so many calls, and the one that meets the end.
+    for (most, calls) in [(1, 37 + 1), (10, 4 + 1), (64, 1 + 1)] {
+        for call in 1..=calls {
+            let devices = Devices {
+                read_at_most: most,
+                failing_read: call,
+                ..FINE
+            };
+            let (status, source, sink) = run(&rt, &["fold"], SCRIPT, devices);
+            assert!(rt;
+                matches!(status, Status::DeviceFailed),
+                "at read {call} of {most} bytes"
+            );
+            assert_eq!(rt; source.reads(), call);
+            assert_eq!(rt; source.failures(), 1);
+            assert!(rt; sink.bytes().is_empty(), "at read {call} of {most} bytes");
+        }
+    }
+}
+
+// The write of this number fails, or takes no byte, and the run ends with what was taken before it.
+fn write_fails(rt: &(impl Abort + AllocGlobal), most: usize, call: u64, taken: &[u8]) {
+    let failing = Devices {
+        written_at_most: most,
+        failing_write: call,
+        ..FINE
+    };
+    ends_after(rt, SCRIPT, failing, taken);
+    let full = Devices {
+        written_at_most: most,
+        full_write: call,
+        ..FINE
+    };
+    ends_after(rt, SCRIPT, full, taken);
+}
+
+#[test]
+fn each_write_of_a_byte_may_fail(rt: HostRuntime) {
+    for taken in 0..TEXT.len() {
+        write_fails(&rt, 1, taken as u64 + 1, &TEXT[..taken]);
     }
 }
 
 #[test]
-fn each_write_may_fail(rt: HostRuntime) {
-    for taken in 0..TEXT.len() {
-        let devices = Devices {
-            written_at_most: 1,
-            failing_write: taken as u64 + 1,
-            ..FINE
-        };
-        let (status, _source, sink) = run(rt.alloc(), &["fold"], SCRIPT, devices);
-        assert!(rt;
-            matches!(status, Status::DeviceFailed),
-            "after {taken} writes"
-        );
-        assert_eq!(rt; sink.failures(), 1);
-        assert_eq!(rt; sink.bytes(), &TEXT[..taken]);
-    }
+fn each_longer_write_may_fail(rt: HostRuntime) {
+    write_fails(&rt, 64, 1, b"");
+    write_fails(&rt, 20, 1, b"");
+    write_fails(&rt, 20, 2, b"version 0\nlocked no\n");
+    write_fails(&rt, 20, 3, b"version 0\nlocked no\nmetadata_version non");
+}
+
+#[test]
+fn the_line_of_a_refusal_may_fail(rt: HostRuntime) {
+    let devices = Devices {
+        written_at_most: 8,
+        failing_write: 2,
+        ..FINE
+    };
+    ends_after(&rt, b"\xff", devices, b"refused ");
 }
 
 #[test]
@@ -159,7 +204,7 @@ fn a_byte_at_a_time_is_the_same_script(rt: HostRuntime) {
         read_at_most: 1,
         ..FINE
     };
-    let (status, source, sink) = run(rt.alloc(), &["fold"], SCRIPT, devices);
+    let (status, source, sink) = run(&rt, &["fold"], SCRIPT, devices);
     assert!(rt; matches!(status, Status::Done));
     assert_eq!(rt; source.reads(), SCRIPT.len() as u64 + 1);
     assert_eq!(rt; sink.bytes(), TEXT);
@@ -171,71 +216,66 @@ fn a_short_write_is_no_failure(rt: HostRuntime) {
         written_at_most: 2,
         ..FINE
     };
-    let (status, _source, sink) = run(rt.alloc(), &["fold"], SCRIPT, devices);
+    let (status, _source, sink) = run(&rt, &["fold"], SCRIPT, devices);
     assert!(rt; matches!(status, Status::Done));
     assert_eq!(rt; sink.failures(), 0);
     assert_eq!(rt; sink.bytes(), TEXT);
 }
 
-#[test]
-fn a_write_of_no_byte_is_a_failure(rt: HostRuntime) {
-    let devices = Devices {
-        written_at_most: 0,
-        ..FINE
-    };
-    let (status, _source, sink) = run(rt.alloc(), &["fold"], SCRIPT, devices);
-    assert!(rt; matches!(status, Status::DeviceFailed));
-    assert_eq!(rt; sink.failures(), 1);
-    assert!(rt; sink.bytes().is_empty());
-}
-
-fn read_without_end(alloc: Global) -> (Status, Endless, Kept) {
-    let mut source = Endless::new();
-    let mut sink = Kept::new(alloc, 64);
-    let status = run_words(alloc, &["fold"], &mut source, &mut sink);
+fn run_over_spaces_once(rt: &impl AllocGlobal, count: u64) -> (Status, Spaces, Kept) {
+    let mut source = Spaces::new(count);
+    let mut sink = Kept::new(rt.alloc(), 64);
+    let status = run_words(rt, &["fold"], &mut source, &mut sink);
     (status, source, sink)
 }
 
+// Reads so many spaces, one a call, and once more where that wanted memory.
+fn run_over_spaces(rt: &impl AllocGlobal, count: u64) -> (Status, Spaces, Kept) {
+    run_twice!(run_over_spaces_once(rt, count))
+}
+
 #[test]
-fn a_source_without_end_meets_the_limit(rt: HostRuntime) {
-    let (mut status, mut source, mut sink) = read_without_end(rt.alloc());
-    if matches!(status, Status::OutOfMemory) {
-        (status, source, sink) = read_without_end(rt.alloc());
+fn the_end_may_come_with_the_last_read(rt: HostRuntime) {
+    let (status, source, sink) = run_over_spaces(&rt, 1_048_575);
+    assert!(rt; matches!(status, Status::ScriptRefused));
+    assert_eq!(rt; source.reads(), 1_048_576);
+    assert_eq!(rt; sink.bytes(), b"refused 70 NotJson\n".as_slice());
+}
+
+#[test]
+fn more_reads_than_the_limit_are_a_failure(rt: HostRuntime) {
+    for count in [1_048_576, u64::MAX] {
+        let (status, source, sink) = run_over_spaces(&rt, count);
+        assert!(rt; matches!(status, Status::DeviceFailed), "{count} spaces");
+        assert_eq!(rt; source.reads(), 1_048_576);
+        assert_eq!(rt; source.failures(), 0);
+        assert!(rt; sink.bytes().is_empty());
     }
-    assert!(rt; matches!(status, Status::DeviceFailed));
-    assert_eq!(rt; source.reads(), READ_LIMIT);
-    assert_eq!(rt; source.failures(), 0);
-    assert!(rt; sink.bytes().is_empty());
 }
 
 // A run over a reader and a writer of the standard library: the status, and the failures of both.
-fn run_over_slices(alloc: Global, room: &mut [u8]) -> (Status, u64, u64) {
+fn run_over_slices(rt: &impl AllocGlobal, room: &mut [u8]) -> (Status, u64, u64) {
     let mut writer = Writer::new(room);
     let mut reader = Reader::new(SCRIPT);
-    let status = run_words(alloc, &["fold"], &mut reader, &mut writer);
+    let status = run_words(rt, &["fold"], &mut reader, &mut writer);
     (status, reader.failures(), writer.failures())
 }
 
 #[test]
 fn std_readers_and_writers_are_devices(rt: HostRuntime) {
     let mut room = [0u8; 64];
-    let mut ended = run_over_slices(rt.alloc(), &mut room);
-    if matches!(ended.0, Status::OutOfMemory) {
-        ended = run_over_slices(rt.alloc(), &mut room);
-    }
-    assert!(rt; matches!(ended.0, Status::Done));
-    assert_eq!(rt; ended.1, 0);
-    assert_eq!(rt; ended.2, 0);
+    let (status, reads_failed, writes_failed) = run_twice!(run_over_slices(&rt, &mut room));
+    assert!(rt; matches!(status, Status::Done));
+    assert_eq!(rt; reads_failed, 0);
+    assert_eq!(rt; writes_failed, 0);
     assert!(rt; room.starts_with(TEXT));
 }
 
 #[test]
 fn a_full_writer_has_failed(rt: HostRuntime) {
     let mut room = [0u8; 3];
-    let mut ended = run_over_slices(rt.alloc(), &mut room);
-    if matches!(ended.0, Status::OutOfMemory) {
-        ended = run_over_slices(rt.alloc(), &mut room);
-    }
-    assert!(rt; matches!(ended.0, Status::DeviceFailed));
-    assert_eq!(rt; ended.2, 1);
+    let (status, reads_failed, writes_failed) = run_twice!(run_over_slices(&rt, &mut room));
+    assert!(rt; matches!(status, Status::DeviceFailed));
+    assert_eq!(rt; reads_failed, 0);
+    assert_eq!(rt; writes_failed, 1);
 }

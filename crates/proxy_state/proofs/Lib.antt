@@ -1,4 +1,5 @@
 pub mod Joins
+pub mod KeptInOrder
 pub mod KeptRows
 pub mod PassLaws
 pub mod RemovedRows

@@ -1,18 +1,20 @@
 -- The rows of a range are gone once the row at each of their keys was removed.
-use Rattle.std.proofs.Common.{◌≡◌, refl, sym, ap, ap₂, ◌∙◌, ℕ, ◌+◌, ◌<◌, ◌≤◌, length, drop, get_or, add-one, Less, Greater, is_gt, is_lt, List, [], ◌∷◌, filter, Bool, true, false, cond, not, Ordering, Equal, nat_cmp, is_eq, ◌&&◌}
+use Rattle.std.proofs.Common.{◌≡◌, refl, sym, ap, ap₂, ◌∙◌, ℕ, ◌+◌, ◌<◌, ◌≤◌, length, drop, get_or, add-one, Less, Greater, is_gt, is_lt, List, [], ◌∷◌, filter, Bool, true, false, cond, not, Ordering, Equal, nat_cmp, is_eq, ◌&&◌, None}
 use Rattle.std.specs.Global.{Vec}
 use Rattle.std.specs.declared.ops.Bound.TheVariants.{Included, Excluded}
 use Rattle.std.specs.BTreeMap.Range.{entries_between}
 use Rattle.std.proofs.Math.Seq.{drop-cons}
 use Rattle.std.proofs.lemmas.List.{drop_all}
-use Rattle.system_keys.proofs.KeyOrder.{up_to_is, up_to_below}
+use Rattle.system_keys.proofs.KeyOrder.{up_to_is}
+use Rattle.system_keys.proofs.KeyLaws.{begins_below}
 use Rattle.std.specs.Map.{keys_of, remove_entry}
 use Rattle.std.specs.BTreeMap.{is_at}
 use Rattle.std.specs.Cmp.Lexicographic.{slice_cmp}
 use Rattle.std.proofs.lemmas.Cmp.{tied_itself, nat_list_cmp_total}
 use Rattle.std.proofs.lemmas.Map.Lookups.{exact_bytes}
 use Rattle.std.proofs.lemmas.Bool.{both_ways}
-use Rattle.system_keys.specs.Keys.{Key, Range, holds, is_key_below, is_key_up_to}
+use Rattle.system_keys.specs.Keys.{Key, Range, holds, is_key_up_to}
+use Rattle.system_keys.specs.Limits.{range_fault}
 use Rattle.model.specs.Metadata.{Row, Rows}
 use Rattle.proxy_state.specs.Kept.{row_from, rows_of, texts_of}
 use Rattle.proxy_state.proofs.KeptRows.{vec_cmp, filtered}
@@ -98,19 +100,14 @@ all_removed p old es keys i past step =
 
 -- ---- the keys of a range
 
-pub none_held : (range : Range) (rows : Rows) → is_gt (slice_cmp nat_cmp range.begin range.end) ≡ true → keys_of (passing (holds range) rows) ≡ []
-none_held range [] h = refl
-none_held range (row ∷ rows) h = by (is_key_below row.0 range.begin) refl (is_key_below row.0 range.end) refl (none_held range rows h)
+-- a range without a fault does not run backwards
+pub runs_forward : (begin end : Key) → range_fault begin end ≡ None → is_gt (slice_cmp nat_cmp begin end) ≡ false
+runs_forward begin end e = forward (slice_cmp nat_cmp begin end) (begins_below begin end e)
   where
-    clash : (r : Ordering) → is_gt r ≡ true → is_lt r ≡ true → ⊥
-    clash Less g l = cc
-    clash Equal g l = cc
-    clash Greater g l = cc
-
-    by : (s : Bool) → is_key_below row.0 range.begin ≡ s → (t : Bool) → is_key_below row.0 range.end ≡ t → keys_of (passing (holds range) rows) ≡ [] → keys_of (passing (holds range) (row ∷ rows)) ≡ []
-    by true e t f rest = rw e rest
-    by false e true f rest = absurd (clash (slice_cmp nat_cmp range.begin range.end) h (up_to_below range.begin row.0 range.end e f))
-    by false e false f rest = rw (e, f) rest
+    forward : (r : Ordering) → is_lt r ≡ true → is_gt r ≡ false
+    forward Less h = refl
+    forward Equal h = refl
+    forward Greater h = absurd (cc)
 
 -- the keys of the map between the ends of a range are those of its rows in the range
 pub keys_held : (es : List (Vec ℕ × List ℕ)) (begin end : Vec ℕ) (range : Range) → begin.items ≡ range.begin → end.items ≡ range.end

@@ -7,14 +7,16 @@ use Rattle.std.specs.Cmp.{nat_cmp_total}
 use Rattle.std.specs.Cmp.Lexicographic.{slice_cmp}
 use Rattle.std.specs.declared.ops.Bound.TheVariants.{Included, Excluded}
 use Rattle.std.specs.BTreeMap.Range.{entries_between}
-use Rattle.std.proofs.lemmas.Bool.{eq-eqb, eqb-true, both_ways}
+use Rattle.std.proofs.lemmas.Bool.{eq-eqb, eqb-true}
 use Rattle.std.proofs.lemmas.Cmp.{tied_itself}
 use Rattle.std.proofs.lemmas.Map.Lookups.{exact_unsigned}
 use Rattle.system_keys.specs.Keys.{Key, Range, is_key_below, is_key_up_to}
 use Rattle.system_keys.specs.declared.tag.Tag.{Tag}
 use Rattle.system_keys.specs.Families.{key_servers_family, is_in}
 use Rattle.model.specs.Metadata.{Row, Rows, key_servers, is_key_servers, behind_prefix, is_row_up_to, is_row_inside, row_of, row_tags}
-use Rattle.system_keys.proofs.KeyOrder.{up_to_is, below_trans}
+use Rattle.system_keys.proofs.KeyOrder.{up_to_is}
+use Rattle.system_keys.proofs.KeyLaws.{begins_below}
+use Rattle.system_keys.specs.Limits.{range_fault}
 use Rattle.proxy_state.specs.Kept.{row_from, rows_of}
 use Rattle.proxy_state.proofs.KeptRows.{vec_cmp, filtered}
 
@@ -143,12 +145,11 @@ pub tags_inside : (es : List (Vec ℕ × List ℕ)) (begin end : Vec ℕ) (range
 tags_inside es begin end range low high =
     sym (tags_behind (rows_of es) (rows_of (entries_between vec_cmp (Excluded begin) (Excluded end) es))) ∙ ap (flat_map (row_tags (rows_of es))) (between_inside es begin end range low high)
 
--- no row is inside a range that does not begin below its end
-pub none_inside : (range : Range) (rows : Rows) → is_key_below range.begin range.end ≡ false → filter (is_row_inside range) rows ≡ []
-none_inside range [] h = refl
-none_inside range (row ∷ rows) h = by (is_key_below range.begin row.0) refl (is_key_below row.0 range.end) refl (none_inside range rows h)
+-- the keys of the rows at the ends of a range without a fault are in order
+pub ends_forward : (begin end : Vec ℕ) (range : Range) → begin.items ≡ key_servers_family.prefix ++ range.begin → end.items ≡ key_servers_family.prefix ++ range.end → range_fault range.begin range.end ≡ None → vec_cmp begin end ≡ Less
+ends_forward begin end range low high e = rw (low, high) (less (key_cmp range.begin range.end) (begins_below range.begin range.end e))
   where
-    by : (s : Bool) → is_key_below range.begin row.0 ≡ s → (t : Bool) → is_key_below row.0 range.end ≡ t → filter (is_row_inside range) rows ≡ [] → filter (is_row_inside range) (row ∷ rows) ≡ []
-    by true e true f rest = absurd (both_ways (is_key_below range.begin range.end) h (below_trans range.begin row.0 range.end e f))
-    by true e false f rest = rw (e, f) rest
-    by false e t f rest = rw e rest
+    less : (r : Ordering) → is_lt r ≡ true → r ≡ Less
+    less Less h = refl
+    less Equal h = absurd (cc)
+    less Greater h = absurd (cc)

@@ -68,9 +68,6 @@ fn keys_inside(
     let begin = Vec::from_slice(alloc, range.begin())?;
     let end = Vec::from_slice(alloc, range.end())?;
     let mut keys = Vec::new(alloc);
-    if begin.as_slice().cmp(end.as_slice()).is_gt() {
-        return Ok(keys);
-    }
     for (key, _) in rows.range((Bound::Included(&begin), Bound::Excluded(&end))) {
         keys.push(Vec::from_slice(alloc, key.as_slice())?)?;
     }

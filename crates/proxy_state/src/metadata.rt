@@ -6,7 +6,7 @@ ghost use Rattle.std.specs.Option.{option_to_list};
 ghost use Rattle.std.specs.BTreeSet.{insert_key};
 ghost use Rattle.system_keys.specs.declared.change.Change.TheVariants.{Set, Clear};
 ghost use Rattle.system_keys.specs.Keys.{Key};
-ghost use Rattle.model.specs.Metadata.{row_at, is_locked, changed, after_changes, is_let_pass, after_state, after_row, tags, tags_of_key, tag_cmp, row_tags, row_of, key_servers, routing};
+ghost use Rattle.model.specs.Metadata.{IsInOrder, AreKept, row_at, is_locked, changed, after_changes, is_let_pass, after_state, after_row, tags, tags_of_key, tag_cmp, row_tags, row_of, key_servers, routing};
 ghost use Rattle.system_keys.specs.Families.{is_kept, metadata_version_family};
 
 use crate::kept;
@@ -31,12 +31,14 @@ pub struct Metadata {
 }
 
 impl Model for Metadata {
-    ghost use Rattle.model.specs.Metadata.{Rows};
+    ghost use Rattle.model.specs.Metadata.{Rows, IsInOrder, AreKept};
     ghost use Rattle.proxy_state.specs.Kept.{rows_of};
 
     ghost Value = { Rows };
 
     ghost view = { λ m. rows_of m.rows.entries };
+
+    ghost invariant = { λ m. IsInOrder (rows_of m.rows.entries) × AreKept (rows_of m.rows.entries) };
 }
 
 impl Metadata {
@@ -125,9 +127,12 @@ impl Metadata {
         Ok(())
     }
 
-    /// The value of the row at this key, if it is there. Takes no memory.
+    /// The value of the row at this key, if it is there. The rows stand in the strict order of their keys, and
+    /// each of these is kept. Takes no memory.
     pub fn row(&self, key: &[u8]) -> Option<&[u8]>
-        ensures { option_map (λ value. value.now) result ≡ row_at self.now key.now }
+        ensures value { option_map (λ value. value.now) result ≡ row_at self.now key.now }
+        ensures order { IsInOrder self.now }
+        ensures kept { AreKept self.now }
     {
         kept::value_at(&self.rows, key)
     }

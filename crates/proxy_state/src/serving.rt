@@ -3,7 +3,6 @@
 ghost use Rattle.std.specs.Prelude.{◌≡◌, ◌++◌, IfOk, OnOk, filter, fold, option_map};
 ghost use Rattle.std.specs.List.{flat_map};
 ghost use Rattle.std.specs.BTreeSet.{insert_key};
-ghost use Rattle.system_keys.specs.Keys.{is_key_below};
 ghost use Rattle.system_keys.specs.Families.{key_servers_family};
 ghost use Rattle.model.specs.Metadata.{row_of, key_servers, is_row_inside, row_tags, tag_cmp};
 ghost use Rattle.proxy_state.specs.Kept.{rows_of};
@@ -45,9 +44,6 @@ pub(crate) fn add_inside(
 ) -> Result<(), OutOfMemory>
     ensures { OnOk result (tags.new.keys ≡ fold (insert_key tag_cmp) tags.old.keys (flat_map (row_tags (rows_of rows.now.entries)) (filter (is_row_inside range.now) (key_servers (rows_of rows.now.entries))))) }
 {
-    if !precedes(range.begin(), range.end()) {
-        return Ok(());
-    }
     let begin = row_key(alloc, range.begin())?;
     let end = row_key(alloc, range.end())?;
     for (_, value) in rows.range((Bound::Excluded(&begin), Bound::Excluded(&end))) {
@@ -64,10 +60,4 @@ fn row_key(alloc: Global, key: &[u8]) -> Result<Vec<u8>, OutOfMemory>
     whole.extend_from_slice(KEY_SERVERS_PREFIX)?;
     whole.extend_from_slice(key)?;
     Ok(whole)
-}
-
-fn precedes(a: &[u8], b: &[u8]) -> bool
-    ensures { result ≡ is_key_below a.now b.now }
-{
-    a.cmp(b).is_lt()
 }

@@ -1,10 +1,12 @@
 //! The tags of the servers that a keyServers value names.
 
-ghost use Rattle.std.specs.Prelude.{◌≡◌, ◌++◌, IfOk, OnOk, fold};
+ghost use Rattle.std.specs.Prelude.{◌≡◌, ◌++◌, IsOk, IfOk, OnOk, fold};
 ghost use Rattle.std.specs.List.{flat_map};
 ghost use Rattle.std.specs.Option.{option_to_list};
 ghost use Rattle.std.specs.BTreeSet.{insert_key};
+ghost use Rattle.system_keys.specs.declared.refusal.RowFault.{RowFault};
 ghost use Rattle.system_keys.specs.Families.{server_tag_family};
+ghost use Rattle.system_keys.specs.Rows.{servers_at};
 ghost use Rattle.model.specs.Metadata.{tag_cmp, server_tags, servers_of};
 ghost use Rattle.proxy_state.specs.Kept.{rows_of};
 
@@ -19,14 +21,15 @@ use system_keys::{
 /// Adds the tags of the servers that a keyServers value names, its sources and its destinations (release 7.1).
 /// A value that does not decode names none, and a server without a tag row adds none (this project's profile).
 ///
-/// Answers `OutOfMemory` where there is no memory for it.
+/// A value that does not decode takes no memory. Answers `OutOfMemory` where there is no memory for the tags.
 pub(crate) fn add_tags(
     alloc: Global,
     rows: &BTreeMap<Vec<u8>, Bytes>,
     value: &[u8],
     tags: &mut BTreeSet<Tag>,
 ) -> Result<(), OutOfMemory>
-    ensures { OnOk result (tags.new.keys ≡ fold (insert_key tag_cmp) tags.old.keys (flat_map (server_tags (rows_of rows.now.entries)) (servers_of value.now))) }
+    ensures ok { OnOk result (tags.new.keys ≡ fold (insert_key tag_cmp) tags.old.keys (flat_map (server_tags (rows_of rows.now.entries)) (servers_of value.now))) }
+    ensures idle { (fault : RowFault) → servers_at value.now ≡ Err fault → IsOk result }
 {
     match decode_key_servers(alloc, value) {
         Ok(teams) => {

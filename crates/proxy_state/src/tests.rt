@@ -252,6 +252,25 @@ fn tags_rise_by_locality_and_then_id(rt: HostRuntime) -> Result<(), Fail> {
 }
 
 #[test]
+fn a_value_that_does_not_decode_names_no_server(rt: HostRuntime) -> Result<(), Fail> {
+    let metadata = made(
+        rt.alloc(),
+        &[
+            (TAG_ROW_1, b"\x00\x00\x01"),
+            (ROW_OF_ALL, SERVER_1),
+            (ROW_OF_B, b"\x01server"),
+        ],
+    )?;
+    let tags = twice!(metadata.tags_of_key(b"b"))?;
+    assert_eq!(rt; tags.as_slice(), [].as_slice());
+    if let Some(change) = clear(rt.alloc(), b"a", b"c")? {
+        let tags = twice!(metadata.tags_of(&change))?;
+        assert_eq!(rt; tags.as_slice(), [tag(0, 1)].as_slice());
+    }
+    Ok(())
+}
+
+#[test]
 fn only_kept_rows_are_kept(rt: HostRuntime) -> Result<(), Fail> {
     let alloc = rt.alloc();
     let mut metadata = made(
@@ -276,7 +295,31 @@ fn a_clear_of_everything_leaves_no_row(rt: HostRuntime) -> Result<(), Fail> {
     }
     assert!(rt; are_same(&metadata, &Metadata::new(alloc)));
     let routing = twice!(metadata.routing(9))?;
+    assert_eq!(rt; routing.version, 9);
+    assert!(rt; !routing.locked);
+    assert!(rt; routing.metadata_version.is_none());
     assert_eq!(rt; routing.routes.as_slice().len(), 0);
+    Ok(())
+}
+
+#[test]
+fn a_copy_has_rows_of_its_own(rt: HostRuntime) -> Result<(), Fail> {
+    let alloc = rt.alloc();
+    let mut metadata = four_servers(alloc)?;
+    let copy = twice!(metadata.copy())?;
+    if let Some(change) = clear(alloc, ROW_OF_ALL, ROW_OF_Q)? {
+        assert!(rt; apply(&mut metadata, &change)?);
+    }
+    for (key, value) in [
+        (ROW_OF_ALL, SERVER_1),
+        (ROW_OF_B, SERVER_2),
+        (ROW_OF_F, SERVERS_1_AND_3),
+    ] {
+        assert_eq!(rt; metadata.row(key), None);
+        assert_eq!(rt; copy.row(key), Some(value));
+    }
+    assert_eq!(rt; copy.row(ROW_OF_Q), Some(SERVER_4));
+    assert_eq!(rt; copy.row(LOCK), None);
     Ok(())
 }
 
@@ -346,6 +389,10 @@ fn a_lock_is_met_from_the_next_row_on(rt: HostRuntime) -> Result<(), Fail> {
     assert_eq!(rt; metadata.row(TAG_ROW_1), Some(b"\x00\x00\x01".as_slice()));
     let rows = [first, second];
     let folded = twice!(Metadata::new(alloc).fold_rows(&rows))?;
+    assert!(rt; folded.is_locked());
+    assert_eq!(rt; folded.row(ROW_OF_ALL), Some(SERVER_1));
+    assert_eq!(rt; folded.row(VERSION), None);
+    assert_eq!(rt; folded.row(TAG_ROW_1), Some(b"\x00\x00\x01".as_slice()));
     assert!(rt; are_same(&folded, &metadata));
     Ok(())
 }

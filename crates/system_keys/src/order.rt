@@ -1,7 +1,9 @@
 //! The order of keys.
 
 ghost use Rattle.std.specs.Prelude.{◌≡◌, ◌&&◌};
+ghost use Rattle.std.specs.Option.{option_copied};
 ghost use Rattle.system_keys.specs.Keys.{is_key_below, is_key_up_to};
+ghost use Rattle.system_keys.specs.Rows.{is_above};
 
 /// Whether the key `a` is below the key `b`.
 pub(crate) fn precedes(a: &[u8], b: &[u8]) -> bool
@@ -22,4 +24,14 @@ pub(crate) fn both_precede(a: &[u8], b: &[u8], c: &[u8], d: &[u8]) -> bool
     ensures { result ≡ (is_key_below a.now b.now && is_key_below c.now d.now) }
 {
     precedes(a, b) && precedes(c, d)
+}
+
+/// Whether the server id is above the one before it, if there is one.
+pub(crate) fn is_above(before: Option<&[u8]>, id: &[u8]) -> bool
+    ensures { result ≡ is_above (option_copied before.entry) id.now }
+{
+    match before {
+        Some(before) => precedes(before, id),
+        None => true,
+    }
 }

@@ -1,11 +1,9 @@
 //! Why an input is refused.
 
-ghost use Rattle.std.specs.Prelude.{◌≡◌, option_map};
-ghost use Rattle.system_keys.specs.declared.refusal.Refusal.TheVariants as refusals;
+ghost use Rattle.std.specs.Prelude.{◌≡◌};
 ghost use Rattle.system_keys.specs.declared.refusal.RowFault.TheVariants as faults;
 
 use crate::memory::OutOfMemory;
-use std::alloc::{AllocError, AllocFailed};
 use thiserror::Error;
 
 /// Why a key, a range or a change is refused (this project's profile). The number and the name stand in
@@ -64,30 +62,6 @@ impl Refusal {
     }
 }
 
-impl From<AllocError> for Refusal {
-    ghost from_gives = { λ _ refusal. refusal ≡ refusals.OutOfMemory };
-
-    fn from(_error: AllocError) -> Refusal {
-        Refusal::OutOfMemory
-    }
-}
-
-impl From<OutOfMemory> for Refusal {
-    ghost from_gives = { λ _ refusal. refusal ≡ refusals.OutOfMemory };
-
-    fn from(_error: OutOfMemory) -> Refusal {
-        Refusal::OutOfMemory
-    }
-}
-
-impl<T: Drop> From<AllocFailed<T>> for Refusal {
-    ghost from_gives = { λ _ refusal. refusal ≡ refusals.OutOfMemory };
-
-    fn from(_failed: AllocFailed<T>) -> Refusal {
-        Refusal::OutOfMemory
-    }
-}
-
 /// The first fault of the value of a row, or of the text of bytes (this project's profile).
 #[derive(Clone, Copy, Debug, PartialEq, Eq, Error)]
 pub enum RowFault {
@@ -138,26 +112,10 @@ impl RowFault {
     }
 }
 
-impl From<AllocError> for RowFault {
-    ghost from_gives = { λ _ fault. fault ≡ faults.OutOfMemory };
-
-    fn from(_error: AllocError) -> RowFault {
-        RowFault::OutOfMemory
-    }
-}
-
 impl From<OutOfMemory> for RowFault {
     ghost from_gives = { λ _ fault. fault ≡ faults.OutOfMemory };
 
     fn from(_error: OutOfMemory) -> RowFault {
-        RowFault::OutOfMemory
-    }
-}
-
-impl<T: Drop> From<AllocFailed<T>> for RowFault {
-    ghost from_gives = { λ _ fault. fault ≡ faults.OutOfMemory };
-
-    fn from(_failed: AllocFailed<T>) -> RowFault {
         RowFault::OutOfMemory
     }
 }

@@ -5,13 +5,12 @@
 //! high one first (this project's profile). Each value has one spelling.
 
 ghost use Rattle.std.specs.Prelude.{◌≡◌, ◌≤◌, ◌*◌, ◌++◌, IfOk, OnOk, MatchResult, IsOk, Ok, Err, None, true, length};
-ghost use Rattle.std.specs.Option.{option_copied};
 ghost use Rattle.system_keys.specs.Families.{server_id_length};
-ghost use Rattle.system_keys.specs.Rows.{key_servers_value, tag_value, servers_at, tag_at, counted_ids, counted_ids_at, ids_at, ids_in, ids_listed, is_above, are_ids, servers_limit, is_row_value, Gives};
+ghost use Rattle.system_keys.specs.Rows.{key_servers_value, tag_value, servers_at, tag_at, counted_ids, counted_ids_at, ids_at, ids_in, ids_listed, are_ids, servers_limit, is_row_value, Gives};
 
 use crate::kind::{RowKind, SERVER_ID_LENGTH};
 use crate::memory::OutOfMemory;
-use crate::order::precedes;
+use crate::order::is_above;
 use crate::refusal::RowFault;
 use crate::server::ServerId;
 use crate::tag::Tag;
@@ -125,15 +124,6 @@ fn behind_ids(count: u8, bytes: &[u8]) -> Result<&[u8], RowFault>
         rest = behind;
     }
     Ok(rest)
-}
-
-fn is_above(before: Option<&[u8]>, id: &[u8]) -> bool
-    ensures { result ≡ is_above (option_copied before.entry) id.now }
-{
-    match before {
-        Some(before) => precedes(before, id),
-        None => true,
-    }
 }
 
 /// The teams that a value without a fault names.

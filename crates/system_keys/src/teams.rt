@@ -5,7 +5,7 @@ ghost use Rattle.std.specs.Prelude.{length, nat_lt};
 
 use crate::items::Items;
 use crate::memory::OutOfMemory;
-use crate::order::precedes;
+use crate::order::is_above;
 use crate::server::ServerId;
 use std::marker::Model;
 use thiserror::Error;
@@ -120,24 +120,12 @@ fn team_fault(ids: &[ServerId]) -> Option<TeamsFault>
 fn are_rising(ids: &[ServerId]) -> bool
     ensures { result ≡ are_rising None ids.now }
 {
-    let mut before: Option<&ServerId> = None;
+    let mut before: Option<&[u8]> = None;
     for id in ids {
-        if !is_above(before, id) {
+        if !is_above(before, id.as_slice()) {
             return false;
         }
-        before = Some(id);
+        before = Some(id.as_slice());
     }
     true
-}
-
-ghost use Rattle.std.specs.Option.{option_copied};
-ghost use Rattle.system_keys.specs.Rows.{is_above};
-
-fn is_above(before: Option<&ServerId>, id: &ServerId) -> bool
-    ensures { result ≡ is_above (option_copied before.entry) id.now }
-{
-    match before {
-        Some(before) => precedes(before.as_slice(), id.as_slice()),
-        None => true,
-    }
 }

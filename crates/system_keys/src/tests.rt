@@ -1,5 +1,6 @@
 //! Tests against vectors and hand-made values. Each call that takes memory is made again where it was
-//! refused memory, so that the tests also pass where any one allocation fails.
+//! refused memory, and what was copied is then as before, so that the tests also pass where any one
+//! allocation fails.
 
 use crate::{
     Bytes, Change, KeyRange, OutOfMemory, Refusal, RowFault, RowKind, ServerId, Tag, Teams,
@@ -68,8 +69,11 @@ fn servers(alloc: Global, ids: &[ServerId]) -> Result<Vec<ServerId>, AllocError>
 fn a_range_holds_its_begin_and_not_its_end(rt: HostRuntime) -> Result<(), Fail> {
     let alloc = rt.alloc();
     let range = range(alloc, b"b", b"d")??;
-    assert_eq!(rt; range.begin(), b"b".as_slice());
-    assert_eq!(rt; range.end(), b"d".as_slice());
+    let copy = twice!(range.copy(), OutOfMemory)?;
+    for range in [&range, &copy] {
+        assert_eq!(rt; range.begin(), b"b".as_slice());
+        assert_eq!(rt; range.end(), b"d".as_slice());
+    }
     for (key, held) in [
         (b"a".as_slice(), false),
         (b"b", true),
@@ -79,9 +83,6 @@ fn a_range_holds_its_begin_and_not_its_end(rt: HostRuntime) -> Result<(), Fail> 
     ] {
         assert_eq!(rt; range.contains(key), held);
     }
-    let copy = twice!(range.copy(), OutOfMemory)?;
-    assert_eq!(rt; copy.begin(), b"b".as_slice());
-    assert_eq!(rt; copy.end(), b"d".as_slice());
     Ok(())
 }
 
@@ -160,18 +161,33 @@ fn a_set_is_refused_by_its_first_fault(rt: HostRuntime) -> Result<(), Fail> {
     Ok(())
 }
 
+fn is_set(change: &Change, expected_key: &[u8], expected_value: &[u8]) -> bool {
+    match change {
+        Change::Set { key, value } => {
+            key.as_slice() == expected_key && value.as_slice() == expected_value
+        }
+        Change::Clear { range: _ } => false,
+    }
+}
+
+fn is_clear(change: &Change, begin: &[u8], end: &[u8]) -> bool {
+    match change {
+        Change::Set { key: _, value: _ } => false,
+        Change::Clear { range } => range.begin() == begin && range.end() == end,
+    }
+}
+
 #[test]
 fn a_copy_is_equal(rt: HostRuntime) -> Result<(), Fail> {
     let alloc = rt.alloc();
     let change = Change::set(owned(alloc, b"a")?, owned(alloc, b"1")?)?;
     let copy = twice!(change.copy(), OutOfMemory)?;
-    match &copy {
-        Change::Set { key, value } => {
-            assert_eq!(rt; key.as_slice(), b"a".as_slice());
-            assert_eq!(rt; value.as_slice(), b"1".as_slice());
-        }
-        Change::Clear { range: _ } => assert!(rt; false, "a Set was copied"),
-    }
+    assert!(rt; is_set(&change, b"a", b"1"));
+    assert!(rt; is_set(&copy, b"a", b"1"));
+    let change = Change::clear(range(alloc, b"b", b"d")??);
+    let copy = twice!(change.copy(), OutOfMemory)?;
+    assert!(rt; is_clear(&change, b"b", b"d"));
+    assert!(rt; is_clear(&copy, b"b", b"d"));
     let bytes = Bytes::from(owned(alloc, b"abc")?);
     assert!(rt; twice!(bytes.copy(), OutOfMemory)? == bytes);
     assert_eq!(rt;
@@ -240,8 +256,10 @@ fn teams_rise_and_are_few_enough(rt: HostRuntime) -> Result<(), Fail> {
     match Teams::new(sources, servers(alloc, &[ServerId(SERVER_1)])?) {
         Ok(teams) => {
             let copy = twice!(teams.copy(), OutOfMemory)?;
-            assert_eq!(rt; copy.sources().len(), 2);
-            assert_eq!(rt; copy.destinations().len(), 1);
+            for teams in [&teams, &copy] {
+                assert_eq!(rt; teams.sources().len(), 2);
+                assert_eq!(rt; teams.destinations().len(), 1);
+            }
         }
         Err(_) => assert!(rt; false, "the lists rise"),
     }

@@ -1,4 +1,4 @@
-//! Devices over memory that fail at one call, give or take a few bytes a call, or never end.
+//! Devices over memory that fail at one call, take nothing at one, give or take a few bytes a call, or never end.
 ghost use Rattle.std.specs.Prelude.{◌≡◌, ◌++◌, Some, None, [], IsTrue, IsFalse};
 
 use crate::devices::{Failed, Sink, Source};
@@ -67,18 +67,21 @@ impl Source for Fed<'_> {
     }
 }
 
-/// A source that gives one space a call, without end.
+/// A source that gives one space a call.
 #[derive(Drop)]
-pub struct Endless {
+pub struct Spaces {
+    left: u64,
     reads: u64,
     failures: u64,
 }
 
-impl Endless {
-    pub fn new() -> Endless
+impl Spaces {
+    /// A source of this many spaces.
+    pub fn new(count: u64) -> Spaces
         ensures { result.failures ≡ 0 }
     {
-        Endless {
+        Spaces {
+            left: count,
             reads: 0,
             failures: 0,
         }
@@ -90,7 +93,7 @@ impl Endless {
     }
 }
 
-impl Source for Endless {
+impl Source for Spaces {
     ghost remaining = { λ _. None };
 
     ghost failed = { λ s. s.failures };
@@ -99,9 +102,10 @@ impl Source for Endless {
 
     fn read(&mut self, buffer: &mut [u8]) -> Result<usize, Failed> {
         self.reads = self.reads.saturating_add(1);
-        if buffer.is_empty() {
+        if buffer.is_empty() || self.left == 0 {
             return Ok(0);
         }
+        self.left -= 1;
         buffer[0] = b' ';
         Ok(1)
     }
@@ -117,6 +121,7 @@ pub struct Kept {
     bytes: Vec<u8>,
     most: usize,
     fails_at: Option<u64>,
+    full_at: Option<u64>,
     writes: u64,
     failures: u64,
 }
@@ -130,6 +135,7 @@ impl Kept {
             bytes: Vec::new(alloc),
             most,
             fails_at: None,
+            full_at: None,
             writes: 0,
             failures: 0,
         }
@@ -140,6 +146,14 @@ impl Kept {
         ensures { result.failures ≡ self.failures }
     {
         self.fails_at = Some(call);
+        self
+    }
+
+    /// The same, whose call of this number takes no byte.
+    pub fn full_at(mut self, call: u64) -> Kept
+        ensures { result.failures ≡ self.failures }
+    {
+        self.full_at = Some(call);
         self
     }
 
@@ -165,13 +179,15 @@ impl Sink for Kept {
 
     fn write(&mut self, bytes: &[u8]) -> Result<usize, Failed> {
         self.writes = self.writes.saturating_add(1);
-        let count = bytes.len().min(self.most);
+        let is_full = self.full_at == Some(self.writes);
+        let most = if is_full { 0 } else { self.most };
+        let count = bytes.len().min(most);
         let fails = self.fails_at == Some(self.writes);
         if fails || !self.keep(&bytes[..count]) {
             self.failures = self.failures.saturating_add(1);
             return Err(Failed);
         }
-        if count == 0 {
+        if count == 0 && !bytes.is_empty() {
             self.failures = self.failures.saturating_add(1);
         }
         Ok(count)

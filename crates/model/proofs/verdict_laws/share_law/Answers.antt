@@ -1,5 +1,8 @@
-use Rattle.model.proofs.ShareLaws.{share_verdicts_are}
+use Rattle.model.proofs.ShareLaws.{share_part, share_verdicts_are}
 use Rattle.model.proofs.verdict_laws.share_law.Goals as goal
 
-pub returns : goal.returns
-returns c = share_verdicts_are
+pub returns-clause-parts : goal.returns-clause-parts
+returns-clause-parts c = share_part
+
+pub returns-clause-verdicts : goal.returns-clause-verdicts
+returns-clause-verdicts c = share_verdicts_are

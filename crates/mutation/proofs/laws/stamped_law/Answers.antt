@@ -1,5 +1,5 @@
-use Rattle.mutation.proofs.LimitLaws.{changes_within}
+use Rattle.mutation.proofs.LimitLaws.{limits_kept}
 use Rattle.mutation.proofs.laws.stamped_law.Goals as goal
 
 pub returns : goal.returns
-returns c = changes_within
+returns c = limits_kept

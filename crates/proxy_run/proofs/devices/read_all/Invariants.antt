@@ -1,5 +1,6 @@
-use Rattle.std.proofs.Common.{◌≡◌, ◌+◌, ◌<◌, ◌≤◌, ◌^◌, length}
+use Rattle.std.proofs.Common.{◌≡◌, ◌≤◌, length}
 use Rattle.std.specs.Io.KnownBytes.{Consumes}
+use Rattle.proxy_run.specs.Devices.{raised}
 use Rattle.proxy_run.proofs.devices.read_all.Given as goal
 
 abbrev pub invariant-loop-call : goal.invariant-loop-call
@@ -11,5 +12,5 @@ invariant-loop-call g l =
       split : Consumes (remaining l.fn.source) (remaining l.source) l.bytes.items;
       fine : failed l.source ≡ failed l.fn.source;
       many : l._call ≤ length l.bytes.items;
-      called : reads l.fn.source + 1048576 < 2 ^ 64 → reads l.source ≡ reads l.fn.source + l._call;
+      called : reads l.source ≡ raised l._call (reads l.fn.source);
     }

@@ -1,4 +1,4 @@
-use Rattle.std.proofs.Common.{◌≡◌, ℕ, List, ◌++◌, ◌-◌, ◌<◌, length, take, drop, ap, ◌∙◌, append_assoc, take-append-drop, arith}
+use Rattle.std.proofs.Common.{◌≡◌, ℕ, List, ◌++◌, ◌-◌, ◌<◌, length, take, drop, ap, ◌∙◌, append_assoc, take-append-drop, inl, arith}
 use Rattle.std.proofs.KnownBytes.{Appends-trans}
 use Rattle.std.proofs.lemmas.List.{take_rest}
 use Rattle.proxy_run.proofs.devices.write_all.Goals as goal
@@ -15,5 +15,5 @@ loop-rest-preserved g c =
     let some : 0 < n = omega (arith, c.if-count-eq0.false) in
     record {
       split = (front ++ take n c.loop-rest.rest.now, moves_front _ front c.loop-rest.rest.now n whole, Appends-trans _ _ _ _ _ appended c.in_ok-count.ensures.put);
-      fine = c.in_ok-count.ensures.fine some ∙ c.loop-rest.invariant.fine;
+      fine = c.in_ok-count.ensures.fine (inl some) ∙ c.loop-rest.invariant.fine;
     }

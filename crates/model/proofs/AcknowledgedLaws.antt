@@ -1,0 +1,37 @@
+-- What a proxy has acknowledged in the world is what its requests say.
+use Rattle.std.proofs.Common.{◌≡◌, refl, sym, ap, ◌∙◌, ℕ, suc, ◌<◌, List, [], ◌∷◌, length, map, take, Bool, true, false, cond, nat_eq, if◌then◌else◌, slice_get, slice_index, Some, arith}
+use Rattle.std.proofs.lemmas.Option.{slice_get_within}
+use Rattle.model.specs.Configs.{Config}
+use Rattle.model.specs.Records.{Record}
+use Rattle.model.specs.Requests.{Request, request, request_back_to, requests_of_proxy}
+use Rattle.model.specs.World.{World, IsSound, greatest, received_of, acknowledged}
+use Rattle.model.specs.Acknowledged.{acknowledged_requests}
+use Rattle.model.proofs.HistoryLaws.{index_there}
+use Rattle.model.proofs.Places.{row_at, slice_get-take}
+
+-- the numbers that the requests of a proxy say, where the list has one for each record
+received_is : (config : Config) (received : Record → ℕ) (r p : ℕ) (records : List Record) (ns : List ℕ) → ((j : ℕ) (s : Record) → slice_get records j ≡ Some s → slice_get ns j ≡ Some (received s)) →
+    received_of p records ns ≡ map (λ (q : Request). q.last_received) (requests_of_proxy p (map (λ (s : Record). request config s (received s) r) records))
+unfolding request_back_to
+received_is config received r p [] ns each = refl
+received_is config received r p (rec ∷ records) [] each = let first = each 0 rec refl in absurd (cc)
+received_is config received r p (rec ∷ records) (n ∷ ns) each = by (nat_eq rec.proxy p) (received_is config received r p records ns (λ j s at. each (suc j) s at))
+  where
+    same : n ≡ received rec
+    same = let first : Some n ≡ Some (received rec) = each 0 rec refl in cc
+
+    by : (b : Bool) → received_of p records ns ≡ map (λ (q : Request). q.last_received) (requests_of_proxy p (map (λ (s : Record). request config s (received s) r) records))
+        → (if b then n ∷ received_of p records ns else received_of p records ns)
+        ≡ map (λ (q : Request). q.last_received) (cond b (request config rec (received rec) r ∷ requests_of_proxy p (map (λ (s : Record). request config s (received s) r) records)) (requests_of_proxy p (map (λ (s : Record). request config s (received s) r) records)))
+    by true rest = λ i. same i ∷ rest i
+    by false rest = rest
+
+pub acknowledged_is : (config : Config) (w : World) (front r p : ℕ) → IsSound config w → acknowledged w front p ≡ acknowledged_requests p (map (λ (s : Record). request config s (slice_index w.received s.row) r) (take front w.history))
+acknowledged_is config w front r p sound = ap greatest (received_is config (λ (s : Record). slice_index w.received s.row) r p (take front w.history) w.received each)
+  where
+    each : (j : ℕ) (s : Record) → slice_get (take front w.history) j ≡ Some s → slice_get w.received j ≡ Some (slice_index w.received s.row)
+    each j s at =
+        let there : slice_get w.history j ≡ Some s = (slice_get-take w.history front j s at).1 in
+        let within : j < length w.history = slice_get_within w.history j s there in
+        let row : s.row ≡ j = row_at config w.history j s sound.sequencer.history there in
+        index_there w.received j (omega (arith, within, sound.received)) ∙ ap (λ (k : ℕ). Some (slice_index w.received k)) (sym row)

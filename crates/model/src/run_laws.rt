@@ -1,0 +1,34 @@
+//! Laws of runs of events. No code: each function's contract is a law of the definitions.
+
+ghost use Rattle.std.specs.Prelude.{◌≡◌, ◌<◌, ◌++◌, ℕ, List, [], ◌∷◌, filter, take, slice_get, slice_index, Some, Contains};
+ghost use Rattle.model.specs.Configs.{Config, IsConfig};
+ghost use Rattle.model.specs.declared.outcome.Finished.{Finished};
+ghost use Rattle.model.specs.declared.reply.Reply.{Reply};
+ghost use Rattle.model.specs.Records.{Record, of_proxy};
+ghost use Rattle.model.specs.Shares.{each_below};
+ghost use Rattle.model.specs.Journal.{verdict_in, journal_row, journal, is_after};
+ghost use Rattle.model.specs.World.{World, Event, Finish, Judged, Again, Completed, IsSound, start, reply_of, finished_batch, missing, happens, answers, world_after, finished_version, proxy_journal};
+
+/// The answers to some events and then to others are those to all of them in a row, and so is the world after
+/// them.
+pub fn events_law()
+    ensures told { (config : Config) (w : World) (xs ys : List Event) → answers config w (xs ++ ys) ≡ answers config w xs ++ answers config (world_after config w xs) ys }
+    ensures world { (config : Config) (w : World) (xs ys : List Event) → world_after config w (xs ++ ys) ≡ world_after config (world_after config w xs) ys }
+{}
+
+/// The last version that a proxy finished is the one before the record that it finishes next. No event but its
+/// own finish changes its journal; that one puts behind it the rows that the proxy has not seen, and the row of
+/// the record that it finishes.
+pub fn proxy_law()
+    ensures turn { (config : Config) (w : World) (p : ℕ) (rec : Record) → IsSound config w → slice_get (of_proxy p w.history) (slice_index w.finished p) ≡ Some rec → finished_version w p ≡ rec.own_previous }
+    ensures kept { (config : Config) (w : World) (event : Event) (p : ℕ) → IsConfig config → IsSound config w → ¬ (event ≡ Finish p) → proxy_journal config (happens config w event).world p ≡ proxy_journal config w p }
+    ensures grown { (config : Config) (w : World) (p : ℕ) (rec : Record) → IsConfig config → IsSound config w → p < config.proxies → slice_get (of_proxy p w.history) (slice_index w.finished p) ≡ Some rec → missing w rec.row (each_below config.resolvers) ≡ [] → proxy_journal config (happens config w (Finish p)).world p ≡ proxy_journal config w p ++ journal config (verdict_in config w.history) (filter (is_after rec.own_previous) (take rec.row w.history)) ++ journal_row config (verdict_in config w.history) rec ∷ [] }
+{}
+
+/// What a run answers is as its final history has it, whatever came later: each finished batch, and each reply,
+/// also where it is given again, is that of its row.
+pub fn answers_law()
+    ensures completed { (config : Config) (events : List Event) (f : Finished) → Contains (answers config (start config) events) (Completed f) → (rec : Record) × (slice_get (world_after config (start config) events).history f.row ≡ Some rec) × (f ≡ finished_batch config (verdict_in config (world_after config (start config) events).history) (take f.row (world_after config (start config) events).history) rec) }
+    ensures judged { (config : Config) (events : List Event) (reply : Reply) → Contains (answers config (start config) events) (Judged reply) → (rec : Record) × (slice_get (world_after config (start config) events).history reply.row ≡ Some rec) × (reply ≡ reply_of config (verdict_in config (world_after config (start config) events).history) reply.resolver (take reply.row (world_after config (start config) events).history) rec) }
+    ensures again { (config : Config) (events : List Event) (reply : Reply) → Contains (answers config (start config) events) (Again reply) → (rec : Record) × (slice_get (world_after config (start config) events).history reply.row ≡ Some rec) × (reply ≡ reply_of config (verdict_in config (world_after config (start config) events).history) reply.resolver (take reply.row (world_after config (start config) events).history) rec) }
+{}

@@ -1,0 +1,229 @@
+"""The built program where memory or a device fails it: each call of each kind refused, short calls, and strange devices.
+
+The status is 3 for a device, and 4 for a growth, or that of the example where the growth did not matter. What was written is a
+beginning of the example's output, and nothing where a read was refused. No other line is written.
+"""
+import errno
+import os
+import resource
+import signal
+import subprocess
+import time
+
+SCRIPT_REFUSED, COMMAND_LINE_REFUSED, DEVICE_FAILED, OUT_OF_MEMORY = 1, 2, 3, 4
+
+# how many read calls a run may make, that which meets the end among them
+READ_LIMIT = 1_048_576
+
+
+def examples(root):
+    """The stored examples: name, script, output and status."""
+    folder = os.path.join(root, "examples")
+    for name in sorted(os.listdir(folder)):
+        if name.endswith(".json"):
+            with open(os.path.join(folder, name), "rb") as script, open(os.path.join(folder, name[:-5] + ".out"), "rb") as out:
+                output = out.read()
+                yield name, script.read(), output, SCRIPT_REFUSED if output.startswith(b"refused ") else 0
+
+
+class Trial:
+    """Runs of one program with the preloaded library, and what went wrong in them."""
+
+    def __init__(self, program, shim, folder):
+        self.program, self.shim = program, shim
+        self.mark = os.path.join(folder, "mark")
+        self.runs, self.faults = 0, []
+
+    def run(self, script, words=(), **variables):
+        """One run, and whether a call was refused in it."""
+        if os.path.exists(self.mark):
+            os.remove(self.mark)
+        told = dict(os.environ, LD_PRELOAD=self.shim, REFUSE_MARK=self.mark)
+        told.update((name, str(value)) for name, value in variables.items())
+        ended = subprocess.run([self.program, *words], input=script, env=told, capture_output=True, timeout=120)
+        return ended, os.path.exists(self.mark)
+
+    def expect(self, fine, what):
+        self.runs += 1
+        if not fine:
+            self.faults.append(what)
+
+
+def refuse_each(trial, example, variable, judge, **more):
+    """Refuses the calls of one kind in turn until there is no further one; the judge says what is right."""
+    name, script, _, _ = example
+    number = 0
+    while True:
+        number += 1
+        ended, refused = trial.run(script, **{variable: number}, **more)
+        if not refused:
+            trial.expect(number > 1, "%s: there is no call for %s" % (name, variable))
+            return number - 1
+        fine = not ended.stderr and judge(number, ended)
+        trial.expect(fine, "%s: ends wrong where %s is %d, with %s: %r" % (name, variable, number, more, ended))
+
+
+def refuse_growths(trial, example):
+    """Each growth once, and each with all that follow."""
+    _, _, output, status = example
+
+    def judge(_, ended):
+        whole = (ended.returncode, ended.stdout) == (status, output)
+        return whole or (ended.returncode == OUT_OF_MEMORY and output.startswith(ended.stdout))
+
+    count = refuse_each(trial, example, "REFUSE_GROWTH", judge)
+    again = refuse_each(trial, example, "REFUSE_GROWTH", judge, REFUSE_ON=1)
+    trial.expect(count == again, "%s: %d growths, and %d the second time" % (example[0], count, again))
+
+
+def refuse_reads(trial, example):
+    """Each read, also where they are short, and whatever the error is."""
+    def judge(_, ended):
+        return (ended.returncode, ended.stdout) == (DEVICE_FAILED, b"")
+
+    for error in (errno.EIO, errno.EINTR, errno.EAGAIN):
+        refuse_each(trial, example, "REFUSE_READ", judge, REFUSE_ERROR=error)
+    count = refuse_each(trial, example, "REFUSE_READ", judge, SHORT_READ=7)
+    needed = -(-len(example[1]) // 7) + 1
+    trial.expect(count == needed, "%s: %d reads of 7 bytes, and not %d" % (example[0], count, needed))
+
+
+def refuse_writes(trial, example):
+    """Each write, also where they are short: what was written is exactly what the writes before took."""
+    _, _, output, _ = example
+
+    def judge_of(size):
+        return lambda number, ended: (ended.returncode, ended.stdout) == (DEVICE_FAILED, output[: (number - 1) * size])
+
+    for error in (errno.EIO, errno.EINTR, errno.EAGAIN, errno.ENOSPC, 0):
+        refuse_each(trial, example, "REFUSE_WRITE", judge_of(len(output)), REFUSE_ERROR=error)
+        refuse_each(trial, example, "REFUSE_WRITE", judge_of(3), REFUSE_ERROR=error, SHORT_WRITE=3)
+    refuse_each(trial, example, "REFUSE_WRITE", judge_of(1), SHORT_WRITE=1, REFUSE_ON=1)
+
+
+def shorten_calls(trial, example):
+    """Short reads and short writes change nothing."""
+    name, script, output, status = example
+    for variable in ("SHORT_READ", "SHORT_WRITE"):
+        for size in (1, 2, 3, 7, 64):
+            ended, _ = trial.run(script, **{variable: size})
+            fine = (ended.returncode, ended.stdout, ended.stderr) == (status, output, b"")
+            trial.expect(fine, "%s: ends wrong where %s is %d: %r" % (name, variable, size, ended))
+
+
+def reach_read_limit(trial, example):
+    """White space behind a script, read byte by byte: the last count of bytes that may be read, and one more."""
+    name, script, output, status = example
+    for count, wanted in ((READ_LIMIT - 1, (status, output, b"")), (READ_LIMIT, (DEVICE_FAILED, b"", b""))):
+        ended, _ = trial.run(script.ljust(count), SHORT_READ=1)
+        got = ended.returncode, ended.stdout, ended.stderr
+        trial.expect(got == wanted, "%s: ends wrong after %d bytes, read one by one: %r" % (name, count, ended))
+
+
+def want_space(trial):
+    """A script for which the address space is too small: want of memory, and nothing written."""
+    script = b'{"resolvers":1,"rows":[],"ask":[%s"a"]}' % (b'"a",' * 4_000_000)
+
+    def limit():
+        resource.setrlimit(resource.RLIMIT_AS, (2**26, 2**26))
+
+    ended = subprocess.run([trial.program], input=script, capture_output=True, preexec_fn=limit, timeout=120)
+    got = ended.returncode, ended.stdout, ended.stderr
+    trial.expect(got == (OUT_OF_MEMORY, b"", b""), "ends wrong in a small address space: %r" % (ended,))
+
+
+def run_shell(trial, redirections, words=""):
+    """One run with these redirections of a shell: its status, and what came on standard output and standard error."""
+    line = 'exec "$0" %s %s' % (words, redirections)
+    ended = subprocess.run(["sh", "-c", line, trial.program], stdin=subprocess.DEVNULL, capture_output=True, timeout=120)
+    return ended.returncode, ended.stdout, ended.stderr
+
+
+def try_devices(trial, root, folder):
+    """Standard streams that are closed, full, of the wrong kind or of the wrong direction."""
+    script = os.path.join(root, "examples", "two_servers.json")
+    wrong = os.path.join(root, "examples", "bad_row.json")
+    cases = []
+    for source in ("<&-", "< /", "0> %s/only_written" % folder):
+        cases.append((source, DEVICE_FAILED))
+    for sink in ("> /dev/full", ">&-", "1< /dev/null"):
+        cases += [("< %s %s" % (file, sink), DEVICE_FAILED) for file in (script, wrong)]
+    cases += [("<&- >&-", DEVICE_FAILED), ("< / > /dev/full", DEVICE_FAILED)]
+    for redirections, status in cases:
+        for more in ("", "2>&-", "2> /dev/full"):
+            got = run_shell(trial, redirections + " " + more)
+            trial.expect(got == (status, b"", b""), "ends wrong with %s %s: %r" % (redirections, more, got))
+    got = run_shell(trial, "< /dev/null")
+    trial.expect(got == (SCRIPT_REFUSED, b"refused 70 NotJson\n", b""), "ends wrong with an empty input: %r" % (got,))
+
+
+def try_words(trial):
+    """Refused words are answered before a device is touched, and their status stays where their text cannot be written."""
+    for redirections in ("<&-", "< /", "> /dev/full", ">&-", "<&- >&-"):
+        status, out, err = run_shell(trial, redirections, "turns")
+        trial.expect((status, out) == (COMMAND_LINE_REFUSED, b"") and err, "ends wrong with turns %s" % redirections)
+    for redirections in ("2>&-", "2> /dev/full", "<&- >&- 2>&-"):
+        got = run_shell(trial, redirections, "turns")
+        trial.expect(got == (COMMAND_LINE_REFUSED, b"", b""), "ends wrong with turns %s: %r" % (redirections, got))
+
+
+def refuse_in_words(trial):
+    """Each growth while words are refused: the status is 2 or 4, and nothing stands on standard output."""
+    for words in (["turns"], ["fold", "fold"], ["--help"], [b"\xff"]):
+        number, refused = 0, True
+        while refused:
+            number += 1
+            ended, refused = trial.run(b"", words, REFUSE_GROWTH=number)
+            right = (COMMAND_LINE_REFUSED, OUT_OF_MEMORY) if refused else (COMMAND_LINE_REFUSED,)
+            fine = ended.returncode in right and not ended.stdout and bool(ended.stderr) == (ended.returncode == COMMAND_LINE_REFUSED)
+            trial.expect(fine, "%s: ends wrong where growth %d is refused: %r" % (words, number, ended))
+            number += not refused
+
+
+def stop_and_go(trial, example):
+    """A run that is stopped and goes on while it waits for its script."""
+    name, script, output, status = example
+    with subprocess.Popen([trial.program], stdin=subprocess.PIPE, stdout=subprocess.PIPE, bufsize=0) as process:
+        for part in (script[:10], script[10:]):
+            process.stdin.write(part)
+            time.sleep(0.05)
+            process.send_signal(signal.SIGSTOP)
+            process.send_signal(signal.SIGCONT)
+        process.stdin.close()
+        got = process.stdout.read(), process.wait()
+    trial.expect(got == (output, status), "%s: ends wrong when stopped: %r" % (name, got))
+
+
+def try_pipes(trial, example):
+    """A script that comes byte by byte, and an output that nobody reads."""
+    name, script, output, status = example
+    with subprocess.Popen([trial.program], stdin=subprocess.PIPE, stdout=subprocess.PIPE, bufsize=0) as process:
+        for byte in script:
+            process.stdin.write(bytes([byte]))
+        process.stdin.close()
+        got = process.stdout.read(), process.wait()
+    trial.expect(got == (output, status), "%s: ends wrong byte by byte: %r" % (name, got))
+    reader, writer = os.pipe()
+    os.close(reader)
+    ended = subprocess.run([trial.program], input=script, stdout=writer, stderr=subprocess.PIPE, timeout=120)
+    os.close(writer)
+    got = ended.returncode, ended.stderr
+    trial.expect(got == (DEVICE_FAILED, b""), "%s: ends wrong where nobody reads: %r" % (name, got))
+
+
+def try_program(program, root, shim, folder):
+    """How many runs were tried, and what went wrong."""
+    trial = Trial(program, shim, folder)
+    for example in examples(root):
+        refuse_growths(trial, example)
+        refuse_reads(trial, example)
+        refuse_writes(trial, example)
+        shorten_calls(trial, example)
+        try_pipes(trial, example)
+        stop_and_go(trial, example)
+    reach_read_limit(trial, example)
+    refuse_in_words(trial)
+    want_space(trial)
+    try_devices(trial, root, folder)
+    try_words(trial)
+    return trial.runs, trial.faults

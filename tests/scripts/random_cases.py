@@ -1,0 +1,220 @@
+"""Random scripts, each from its seed: what they are is known as they are made, and the reference says what they come to.
+
+A script is drawn over few keys, servers and values, so that rows meet, change and go. It is spelled with its fields in any
+order, with any white space and any escapes of JSON. Some get one to three faults, in random places; the answer is then that
+of the fault that counts, and the reference must say so too.
+"""
+import copy
+import random
+
+import reference
+from content_cases import FAULTS
+from script import BAD_SHAPE, NOT_JSON, at, kind_at, places
+
+SERVERS = [b"server000000000%d" % number for number in range(1, 6)] + [b"\0" * 16, b"\xff" * 16]
+KEYS = [b"", b"\0", b"a", b"a\0", b"ab", b"b", b"m", b"z", b"\x7f", b"\x80", b"\xff", b"\xff\xff", b"\xff/keyServers/"]
+OTHERS = [b"\xff", b"\xff\0", b"\xff\x02", b"\xff\x02/x", b"\xff\x03", b"\xff/", b"\xff/keyServers", b"\xff/keyServers0", b"\xff/t"]
+OTHERS += [b"\xff/serverTag/", b"\xff/serverTag/short", b"\xff/serverTag0", b"\xff/dbLocked\0", b"\xff/dbLocke", b"\xff\xfe"]
+TAGS = [b"\0\0\1", b"\0\0\2", b"\0\1\0", b"\1\0\0", b"\0\0\1", b"\xff\xff\xff", b"\3\1\2"]
+GREATEST = 2**63 - 1
+
+
+def team(rng):
+    """A list of rising servers with its count."""
+    servers = sorted(rng.sample(SERVERS, rng.choice([0, 1, 1, 2, 3, 7])))
+    return bytes([len(servers)]) + b"".join(servers)
+
+
+def kept_row(rng):
+    kind = rng.randrange(10)
+    if kind < 5:
+        return b"\xff/keyServers/" + rng.choice(KEYS), team(rng) + team(rng)
+    if kind < 8:
+        return b"\xff/serverTag/" + rng.choice(SERVERS), rng.choice(TAGS)
+    if kind < 9:
+        return b"\xff/dbLocked", rng.choice([b"", b"", b"L", b"\0"])
+    return b"\xff/metadataVersion", rng.choice([b"", b"v", b'"', b"\\", b"\0\x7f\xff ~!"])
+
+
+def any_key(rng):
+    """A key from the whole space, up to its end."""
+    return rng.choice([kept_row(rng)[0], kept_row(rng)[0], rng.choice(KEYS[:-2]), rng.choice(OTHERS)])
+
+
+def clear(rng):
+    """A range that is not empty, and now and then ends behind the rows of a family."""
+    while True:
+        begin, end = any_key(rng), rng.choice([any_key(rng), any_key(rng) + b"\0", b"\xff\xff", b"\xff/keyServers0"])
+        if rng.random() < 0.8 and begin.startswith(b"\xff/keyServers/"):
+            end = b"\xff/keyServers/" + rng.choice(KEYS)
+        if begin < end:
+            return begin, end
+
+
+def change(rng):
+    kind = rng.randrange(10)
+    if kind < 7:
+        return {"set": [text(part) for part in kept_row(rng)]}
+    if kind < 9:
+        return {"clear": [text(part) for part in clear(rng)]}
+    return {"set": [text(rng.choice([rng.choice(OTHERS), rng.choice(KEYS[:-2])])), text(rng.choice([b"", b"L", b"\xff"]))]}
+
+
+def text(part):
+    """The text of bytes, by a table of all 256."""
+    return "".join(TEXT_OF[byte] for byte in part)
+
+
+TEXT_OF = ["\\x%02x" % byte for byte in range(256)]
+for plain in "!#$%&'()*+,-./0123456789:;<=>?@ABCDEFGHIJKLMNOPQRSTUVWXYZ[]^_`abcdefghijklmnopqrstuvwxyz{|}~":
+    TEXT_OF[ord(plain)] = plain
+
+
+def state(rng, resolvers):
+    words = ["committed"] * resolvers
+    if rng.random() < 0.25:
+        words[rng.randrange(resolvers)] = rng.choice(["conflict", "too_old"])
+    return {
+        "mutations": [change(rng) for _ in range(rng.choice([0, 1, 1, 2, 3, 6]))],
+        "lock_aware": rng.random() < 0.6,
+        "verdicts": words,
+    }
+
+
+def first_state(rng, resolvers):
+    """A transaction that is let pass and sets tags and rows, for the later ones to change."""
+    tags = [{"set": [text(b"\xff/serverTag/" + server), text(rng.choice(TAGS))]} for server in rng.sample(SERVERS, 5)]
+    rows = [{"set": [text(b"\xff/keyServers/" + key), text(team(rng) + team(rng))]} for key in rng.sample(KEYS, 4)]
+    return {"mutations": tags + rows, "lock_aware": True, "verdicts": ["committed"] * resolvers}
+
+
+def versions(rng, count):
+    """Rising versions, close to each other or far, from the least to the greatest."""
+    if rng.random() < 0.5:
+        return list(range(1, count + 1))
+    if rng.random() < 0.2:
+        return list(range(GREATEST - count + 1, GREATEST + 1))
+    return sorted(rng.sample(range(1, 10_000), count))
+
+
+def right_script(rng):
+    """A script without a fault."""
+    resolvers = rng.choice([1, 1, 1, 2, 2, 2, 3, 3, 64])
+    rows = [
+        {"version": version, "states": [state(rng, resolvers) for _ in range(rng.choice([0, 1, 1, 2, 4]))]}
+        for version in versions(rng, rng.choice([0, 1, 2, 3, 5, 8]))
+    ]
+    if rows and rng.random() < 0.8:
+        rows[0]["states"].insert(0, first_state(rng, resolvers))
+    asked = [rng.choice([rng.choice(KEYS), any_key(rng), any_key(rng), b"\xff\xff\xff"]) for _ in range(rng.choice([0, 1, 3, 6]))]
+    return {"resolvers": resolvers, "rows": rows, "ask": [text(key) for key in asked]}
+
+
+# ---- spelling
+
+
+def space(rng):
+    return rng.choice(["", "", "", "", " ", "\n", "\t", "\r\n  "])
+
+
+def spell_text(rng, value):
+    """A JSON string: each character as it is where it may be, or by an escape; a long one as it is."""
+    if len(value) > 1000:
+        return '"' + value.replace("\\", "\\\\") + '"'
+    spelled = []
+    for character in value:
+        escapes = ["\\u%04x" % ord(character), "\\u%04X" % ord(character)]
+        short = {'"': '\\"', "\\": "\\\\", "/": "\\/"}.get(character)
+        usual = short if short and character != "/" else character
+        spelled.append(rng.choice([*escapes, short or usual]) if rng.random() < 0.05 else usual)
+    return '"' + "".join(spelled) + '"'
+
+
+def spell(rng, value):
+    """The JSON of a value, fields in any order and white space anywhere."""
+    if isinstance(value, str):
+        spelled = spell_text(rng, value)
+    elif isinstance(value, list):
+        spelled = "[" + ",".join(spell(rng, inner) for inner in value) + space(rng) + "]"
+    elif isinstance(value, dict):
+        members = [spell_text(rng, name) + space(rng) + ":" + spell(rng, inner) for name, inner in value.items()]
+        rng.shuffle(members)
+        spelled = "{" + ("," + space(rng)).join(space(rng) + member for member in members) + space(rng) + "}"
+    else:
+        spelled = {None: "null", True: "true", False: "false"}[value] if value is None or isinstance(value, bool) else str(value)
+    return space(rng) + spelled + space(rng)
+
+
+# ---- faults
+
+
+def plant_change(rng, script, planted):
+    """Puts a change at fault into a random list of mutations, where there is one; says whether."""
+    lists = [inner for path, inner in places(script) if path and path[-1] == "mutations"]
+    if not lists:
+        return False
+    change, answer = copy.deepcopy(rng.choice(list(FAULTS.values())))
+    mutations = rng.choice(lists)
+    mutations.insert(rng.randrange(len(mutations) + 1), change)
+    planted.append((change, answer))
+    return True
+
+
+def first_planted(script, planted):
+    """The answer to the first of the planted changes, in the order of the lists."""
+    for _, inner in places(script):
+        for change, answer in planted:
+            if inner is change:
+                return answer
+    return None
+
+
+def plant_form(rng, script):
+    """Puts a value of another type at a random place."""
+    path, value = rng.choice([(path, value) for path, value in places(script) if path])
+    wrong = {
+        "list": [None, {}, "a", 1], "dict": [None, [], "a", {}, {"x": 1}], "number": [None, "1", True, -1, 1.5, 2**63, 2**64],
+        "bool": [None, 0, 1, "true", []], "verdict": [None, True, "Committed", "", ["committed"]], "bytes": [None, 7, "\\", "a b", "\\x6d", []],
+    }
+    at(script, path[:-1])[path[-1]] = rng.choice(wrong[kind_at(path, value)])
+
+
+def plant_text(rng, spelled):
+    """Makes a text that is no JSON of one that is."""
+    kind = rng.randrange(4)
+    if kind == 0:
+        return spelled[: spelled.rindex("}")]
+    if kind == 1:
+        return spelled + rng.choice(["x", ",", "{}", "]", "\0", "1"])
+    if kind == 2:
+        place = rng.choice([place for place, character in enumerate(spelled) if character == "{"])
+        return spelled[:place] + rng.choice([",", "]", "}", "\0"]) + spelled[place:]
+    return rng.choice(["x", ",", "\ufeff", "[", "}", "//"]) + spelled
+
+
+def wrong_script(rng):
+    """A script with one to three kinds of fault, and what it must be answered."""
+    script = right_script(rng)
+    kinds = rng.sample(["change", "change", "change", "form", "text"], rng.choice([1, 1, 2, 3]))
+    planted = []
+    for _ in range(kinds.count("change")):
+        if not plant_change(rng, script, planted):
+            kinds.append("form")
+    answer = first_planted(script, planted)
+    if "form" in kinds:
+        plant_form(rng, script)
+        answer = BAD_SHAPE
+    spelled = spell(rng, script)
+    if "text" in kinds:
+        return plant_text(rng, spelled), NOT_JSON
+    return spelled, answer
+
+
+def random_scripts(seeds):
+    """Each case: its kind, its seed, its bytes, and what must be answered."""
+    for seed in seeds:
+        rng = random.Random(seed)
+        script = spell(rng, right_script(rng)).encode()
+        yield "random_right", "seed %d" % seed, script, reference.answer(script)
+        script, answer = wrong_script(rng)
+        yield "random_wrong", "seed %d" % seed, script.encode(), answer
