@@ -180,28 +180,36 @@ def refuse_in_words(trial):
             number += not refused
 
 
+def run_in_parts(trial, parts, between):
+    """A run whose script comes in parts, with a call between them: its output and status."""
+    with subprocess.Popen([trial.program], stdin=subprocess.PIPE, stdout=subprocess.PIPE, bufsize=0) as process:
+        try:
+            for part in parts:
+                process.stdin.write(part)
+                between(process)
+            output, _ = process.communicate(timeout=120)
+        finally:
+            process.kill()
+    return output, process.returncode
+
+
 def stop_and_go(trial, example):
     """A run that is stopped and goes on while it waits for its script."""
     name, script, output, status = example
-    with subprocess.Popen([trial.program], stdin=subprocess.PIPE, stdout=subprocess.PIPE, bufsize=0) as process:
-        for part in (script[:10], script[10:]):
-            process.stdin.write(part)
-            time.sleep(0.05)
-            process.send_signal(signal.SIGSTOP)
-            process.send_signal(signal.SIGCONT)
-        process.stdin.close()
-        got = process.stdout.read(), process.wait()
+
+    def interrupt(process):
+        time.sleep(0.05)
+        process.send_signal(signal.SIGSTOP)
+        process.send_signal(signal.SIGCONT)
+
+    got = run_in_parts(trial, (script[:10], script[10:]), interrupt)
     trial.expect(got == (output, status), "%s: ends wrong when stopped: %r" % (name, got))
 
 
 def try_pipes(trial, example):
     """A script that comes byte by byte, and an output that nobody reads."""
     name, script, output, status = example
-    with subprocess.Popen([trial.program], stdin=subprocess.PIPE, stdout=subprocess.PIPE, bufsize=0) as process:
-        for byte in script:
-            process.stdin.write(bytes([byte]))
-        process.stdin.close()
-        got = process.stdout.read(), process.wait()
+    got = run_in_parts(trial, (bytes([byte]) for byte in script), lambda _: None)
     trial.expect(got == (output, status), "%s: ends wrong byte by byte: %r" % (name, got))
     reader, writer = os.pipe()
     os.close(reader)

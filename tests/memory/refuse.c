@@ -4,16 +4,26 @@
  * REFUSE_ON: where it is set, all calls of that kind from then on are refused, not this one alone.
  * REFUSE_ERROR: the errno of a refused read or write; EIO without it. Of 0 the call answers 0, and not -1.
  * REFUSE_MARK: a file that is made when a call was refused.
+ * REFUSE_EACH: a file. Every growth is refused, each in a child of its own, which goes on to its end, while the
+ * program itself goes on as if nothing were there. The file gets a line for each child: the number of the growth,
+ * the status that waitpid gave, and how the child's standard error began.
  * SHORT_READ, SHORT_WRITE: how many bytes one call takes at most.
  */
 #define _GNU_SOURCE
 #include <dlfcn.h>
 #include <errno.h>
 #include <fcntl.h>
+#include <stdio.h>
 #include <stdlib.h>
+#include <string.h>
+#include <sys/wait.h>
 #include <unistd.h>
 
+/* How long a child may take, in seconds. */
+#define CHILD_LIMIT 30
+
 static long growths, reads, writes;
+static int is_child;
 
 /* Leaves the mark that a call was refused. */
 static void leave_mark(void)
@@ -34,6 +44,61 @@ static int is_refused(const char *name, long *calls)
         return 0;
     leave_mark();
     return 1;
+}
+
+/* Writes the line of a child that has ended; reads what it says on its standard error until then. */
+static void report_child(const char *file, pid_t child, int source)
+{
+    char line[256];
+    int status = -1, used, report = open(file, O_CREAT | O_WRONLY | O_APPEND, 0600);
+    ssize_t count, held = 0;
+    char text[128], more[4096];
+    while ((count = read(source, more, sizeof more)) > 0) {
+        ssize_t room = (ssize_t)sizeof text - held, kept = count < room ? count : room;
+        memcpy(text + held, more, kept);
+        held += kept;
+    }
+    waitpid(child, &status, 0);
+    for (ssize_t at = 0; at < held; at++)
+        if (text[at] == '\n')
+            text[at] = ' ';
+    used = snprintf(line, sizeof line, "%ld %d %.*s\n", growths, status, (int)held, text);
+    if (write(report, line, used) != used)
+        abort();
+    close(report);
+}
+
+/* Whether this is the child in which this growth is refused. */
+static int is_refused_in_child(void)
+{
+    const char *file = getenv("REFUSE_EACH");
+    int ends[2];
+    if (file == NULL || is_child)
+        return 0;
+    growths++;
+    if (pipe(ends) != 0)
+        abort();
+    pid_t child = fork();
+    if (child == -1)
+        abort();
+    if (child == 0) {
+        is_child = 1;
+        alarm(CHILD_LIMIT);
+        dup2(ends[1], STDERR_FILENO);
+        close(ends[0]);
+        close(ends[1]);
+        return 1;
+    }
+    close(ends[1]);
+    report_child(file, child, ends[0]);
+    close(ends[0]);
+    return 0;
+}
+
+/* Whether this growth is refused. */
+static int is_growth_refused(void)
+{
+    return is_refused_in_child() || is_refused("REFUSE_GROWTH", &growths);
 }
 
 /* What a refused read or write answers. */
@@ -62,7 +127,7 @@ void *malloc(size_t size)
     static void *(*next)(size_t);
     if (next == NULL)
         next = dlsym(RTLD_NEXT, "malloc");
-    return is_refused("REFUSE_GROWTH", &growths) ? refuse_growth() : next(size);
+    return is_growth_refused() ? refuse_growth() : next(size);
 }
 
 void *realloc(void *memory, size_t size)
@@ -70,7 +135,7 @@ void *realloc(void *memory, size_t size)
     static void *(*next)(void *, size_t);
     if (next == NULL)
         next = dlsym(RTLD_NEXT, "realloc");
-    return is_refused("REFUSE_GROWTH", &growths) ? refuse_growth() : next(memory, size);
+    return is_growth_refused() ? refuse_growth() : next(memory, size);
 }
 
 ssize_t read(int file, void *bytes, size_t count)

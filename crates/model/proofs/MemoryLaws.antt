@@ -1,5 +1,5 @@
 -- What a resolver remembers is enough for every proxy, and no more than one of them asks for; over records, and over requests.
-use Rattle.std.proofs.Common.{◌≡◌, refl, sym, ap, ◌∙◌, subst, ℕ, zero, suc, ◌+◌, ◌<◌, ◌≤◌, ◌⊎◌, inl, inr, min, List, [], ◌∷◌, ◌++◌, map, filter, length, take, Bool, true, false, cond, nat_eq, nat_lt, if◌then◌else◌, slice_get, Some, append_assoc, append-nil, arith}
+use Rattle.std.proofs.Common.{◌≡◌, refl, sym, ap, ◌∙◌, subst, ℕ, zero, suc, ◌+◌, ◌<◌, ◌≤◌, ◌⊎◌, inl, inr, min, List, [], ◌∷◌, ◌++◌, map, filter, length, take, Bool, true, false, cond, nat_eq, nat_lt, slice_get, Some, append_assoc, append-nil, arith}
 use Rattle.std.proofs.lemmas.Bool.{cases_order, ltb-true, lt-ltb, eqb-true}
 use Rattle.std.proofs.lemmas.List.Elements.{filter-append}
 use Rattle.model.specs.Configs.{Config}

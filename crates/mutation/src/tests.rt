@@ -4,6 +4,7 @@
 
 use super::*;
 use std::alloc::{AllocError, Global};
+use std::process::Abort;
 use std::test::Fail;
 use system_keys::{Bytes, Change, Items, KeyRange, OutOfMemory};
 
@@ -70,35 +71,91 @@ fn set_stamped(alloc: Global, key: &[u8], value: &[u8]) -> Result<Mutation, Allo
     })
 }
 
-/// The item alone, or nothing.
-fn at_most_one<T: Drop>(alloc: Global, item: Option<T>) -> Result<Items<T>, AllocError> {
+/// No items.
+fn nothing<T>(alloc: Global) -> Items<T> {
+    Items::from(Vec::new(alloc))
+}
+
+/// The item alone.
+fn one<T: Drop>(alloc: Global, item: T) -> Result<Items<T>, AllocError> {
     let mut items = twice!(Vec::with_capacity(alloc, 1), _)?;
-    if let Some(item) = item {
-        items.push(item)?;
-    }
+    items.push(item)?;
     Ok(Items::from(items))
 }
 
-/// A transaction at snapshot 7 that is lock aware, with at most one of each kind of entry.
+fn one_range(alloc: Global, begin: &[u8], end: &[u8]) -> Result<Items<GivenRange>, AllocError> {
+    one(alloc, range(alloc, begin, end)?)
+}
+
+/// A transaction at snapshot 7 that is lock aware, with these entries.
 fn transaction(
-    alloc: Global,
-    read: Option<GivenRange>,
-    write: Option<GivenRange>,
-    mutation: Option<Mutation>,
-) -> Result<Transaction, AllocError> {
-    Ok(Transaction {
+    reads: Items<GivenRange>,
+    writes: Items<GivenRange>,
+    mutations: Items<Mutation>,
+) -> Transaction {
+    Transaction {
         snapshot: 7,
-        reads: at_most_one(alloc, read)?,
-        writes: at_most_one(alloc, write)?,
-        mutations: at_most_one(alloc, mutation)?,
+        reads,
+        writes,
+        mutations,
         lock_aware: true,
-    })
+    }
+}
+
+/// A transaction with nothing in it.
+fn empty(alloc: Global) -> Transaction {
+    transaction(nothing(alloc), nothing(alloc), nothing(alloc))
+}
+
+/// A transaction of one mutation.
+fn lone(alloc: Global, mutation: Mutation) -> Result<Transaction, AllocError> {
+    let mutations = one(alloc, mutation)?;
+    Ok(transaction(nothing(alloc), nothing(alloc), mutations))
+}
+
+fn admitted(alloc: Global, given: &Transaction) -> Result<Admitted, Refusal> {
+    twice!(admit(alloc, given), Refusal::OutOfMemory)
+}
+
+/// The transaction, admitted: it has no fault.
+fn faultless(alloc: Global, given: &Transaction) -> Result<Admitted, Fail> {
+    Ok(admitted(alloc, given)?)
 }
 
 /// What admission says of a transaction of one mutation: `None` where it is admitted.
 fn refusal_of(alloc: Global, mutation: Mutation) -> Result<Option<Refusal>, AllocError> {
-    let given = transaction(alloc, None, None, Some(mutation))?;
-    Ok(twice!(admit(alloc, &given), Refusal::OutOfMemory).err())
+    let given = lone(alloc, mutation)?;
+    Ok(admitted(alloc, &given).err())
+}
+
+/// A SetStamped of `m`, admitted.
+fn admitted_stamp(alloc: Global, value: &[u8]) -> Result<Admitted, Fail> {
+    let mutation = set_stamped(alloc, b"m", value)?;
+    let given = lone(alloc, mutation)?;
+    faultless(alloc, &given)
+}
+
+fn copy_of_value(value: &Bytes) -> Result<Option<Bytes>, Fail> {
+    Ok(Some(twice!(value.copy(), OutOfMemory)?))
+}
+
+/// The value that the only change sets.
+fn value_set(changes: &[Change]) -> Result<Option<Bytes>, Fail> {
+    match changes {
+        [Change::Set { key: _, value }] => copy_of_value(value),
+        _ => Ok(None),
+    }
+}
+
+/// The value that the one admitted mutation sets, as transaction `number` of the batch of `version`.
+fn stamped_value(
+    alloc: Global,
+    admitted: &Admitted,
+    version: u64,
+    number: usize,
+) -> Result<Option<Bytes>, Fail> {
+    let stamped = twice!(admitted.stamped(alloc, version, number), OutOfMemory)?;
+    value_set(stamped.changes())
 }
 
 /// The value that a SetStamped of `m` sets, as transaction `number` of the batch of `version`.
@@ -108,13 +165,8 @@ fn value_stamped(
     version: u64,
     number: usize,
 ) -> Result<Option<Bytes>, Fail> {
-    let given = transaction(alloc, None, None, Some(set_stamped(alloc, b"m", value)?))?;
-    let admitted = twice!(admit(alloc, &given), Refusal::OutOfMemory)?;
-    let stamped = twice!(admitted.stamped(alloc, version, number), OutOfMemory)?;
-    match stamped.changes() {
-        [Change::Set { key: _, value }] => Ok(Some(twice!(value.copy(), OutOfMemory)?)),
-        _ => Ok(None),
-    }
+    let admitted = admitted_stamp(alloc, value)?;
+    stamped_value(alloc, &admitted, version, number)
 }
 
 /// That many bytes `k`.
@@ -126,15 +178,28 @@ fn repeated(alloc: Global, count: usize) -> Result<Vec<u8>, AllocError> {
     Ok(bytes)
 }
 
+fn copy_of(admitted: &Admitted) -> Result<Admitted, OutOfMemory> {
+    twice!(admitted.copy(), OutOfMemory)
+}
+
+/// As many copies of the transaction.
+fn copies(alloc: Global, admitted: &Admitted, count: usize) -> Result<Vec<Admitted>, Fail> {
+    let mut copies = twice!(Vec::with_capacity(alloc, count), _)?;
+    for _ in 0..count {
+        copies.push(copy_of(admitted)?)?;
+    }
+    Ok(copies)
+}
+
+fn admitted_empty(alloc: Global) -> Result<Admitted, Refusal> {
+    let given = empty(alloc);
+    admitted(alloc, &given)
+}
+
 /// As many transactions with nothing in them.
 fn transactions(alloc: Global, count: usize) -> Result<Vec<Admitted>, Fail> {
-    let given = transaction(alloc, None, None, None)?;
-    let admitted = twice!(admit(alloc, &given), Refusal::OutOfMemory)?;
-    let mut transactions = twice!(Vec::with_capacity(alloc, count), _)?;
-    for _ in 0..count {
-        transactions.push(twice!(admitted.copy(), OutOfMemory)?)?;
-    }
-    Ok(transactions)
+    let admitted = admitted_empty(alloc)?;
+    copies(alloc, &admitted, count)
 }
 
 fn set_refusal(alloc: Global, key: &[u8], value: &[u8]) -> Result<Option<Refusal>, AllocError> {
@@ -212,78 +277,144 @@ fn rows_of_a_fixed_form_take_values_that_decode(rt: HostRuntime) -> Result<(), F
     Ok(())
 }
 
+/// What admission says of the transaction at once, with no second call.
+fn refusal_at_once(alloc: Global, given: Transaction) -> Option<Refusal> {
+    admit(alloc, &given).err()
+}
+
+fn one_set(alloc: Global, key: &[u8], value: &[u8]) -> Result<Items<Mutation>, AllocError> {
+    one(alloc, set(alloc, key, value)?)
+}
+
+fn one_clear(alloc: Global, begin: &[u8], end: &[u8]) -> Result<Items<Mutation>, AllocError> {
+    one(alloc, clear(alloc, begin, end)?)
+}
+
+/// A transaction with an empty read and a Set outside the key space.
+fn of_two_faults(alloc: Global) -> Result<Transaction, AllocError> {
+    let reads = one_range(alloc, b"b", b"a")?;
+    let mutations = one_set(alloc, b"\xff\xff", b"")?;
+    Ok(transaction(reads, nothing(alloc), mutations))
+}
+
 #[test]
 fn reads_are_looked_at_first(rt: HostRuntime) -> Result<(), Fail> {
-    let alloc = rt.alloc();
-    let read = range(alloc, b"b", b"a")?;
-    let mutation = set(alloc, b"\xff\xff", b"")?;
-    let given = transaction(alloc, Some(read), None, Some(mutation))?;
-    assert_eq!(rt; admit(alloc, &given).err(), Some(Refusal::EmptyRange));
+    let refusal = refusal_at_once(rt.alloc(), of_two_faults(rt.alloc())?);
+    assert_eq!(rt; refusal, Some(Refusal::EmptyRange));
     Ok(())
+}
+
+/// A transaction with a write past the key space and an empty Clear.
+fn of_a_faulty_write(alloc: Global) -> Result<Transaction, AllocError> {
+    let writes = one_range(alloc, b"a", b"\xff\xff\x00")?;
+    let mutations = one_clear(alloc, b"b", b"a")?;
+    Ok(transaction(nothing(alloc), writes, mutations))
 }
 
 #[test]
 fn writes_are_looked_at_before_mutations(rt: HostRuntime) -> Result<(), Fail> {
-    let alloc = rt.alloc();
-    let write = range(alloc, b"a", b"\xff\xff\x00")?;
-    let mutation = clear(alloc, b"b", b"a")?;
-    let given = transaction(alloc, None, Some(write), Some(mutation))?;
-    assert_eq!(rt; admit(alloc, &given).err(), Some(Refusal::KeyOutside));
+    let refusal = refusal_at_once(rt.alloc(), of_a_faulty_write(rt.alloc())?);
+    assert_eq!(rt; refusal, Some(Refusal::KeyOutside));
     Ok(())
+}
+
+/// What admission says of a Set with a key of that many bytes.
+fn key_refusal(alloc: Global, length: usize) -> Result<Option<Refusal>, AllocError> {
+    let key = repeated(alloc, length)?;
+    set_refusal(alloc, &key, b"")
+}
+
+/// What admission says of a Clear with an end of that many bytes.
+fn end_refusal(alloc: Global, length: usize) -> Result<Option<Refusal>, AllocError> {
+    let end = repeated(alloc, length)?;
+    clear_refusal(alloc, b"k", &end)
 }
 
 #[test]
 fn a_key_has_at_most_10_000_bytes(rt: HostRuntime) -> Result<(), Fail> {
     let alloc = rt.alloc();
-    let limit = repeated(alloc, 10_000)?;
-    let past = repeated(alloc, 10_001)?;
-    assert_eq!(rt; set_refusal(alloc, &limit, b"")?, None);
-    assert_eq!(rt; set_refusal(alloc, &past, b"")?, Some(Refusal::KeyTooLong));
-    assert_eq!(rt; clear_refusal(alloc, b"k", &past)?, None);
+    assert_eq!(rt; key_refusal(alloc, 10_000)?, None);
+    assert_eq!(rt; key_refusal(alloc, 10_001)?, Some(Refusal::KeyTooLong));
+    assert_eq!(rt; end_refusal(alloc, 10_001)?, None);
     Ok(())
+}
+
+/// What admission says of a Set with a value of that many bytes.
+fn value_refusal(alloc: Global, length: usize) -> Result<Option<Refusal>, AllocError> {
+    let value = repeated(alloc, length)?;
+    set_refusal(alloc, b"k", &value)
+}
+
+/// What admission says of a SetStamped with a value of that many bytes.
+fn stamped_value_refusal(alloc: Global, length: usize) -> Result<Option<Refusal>, AllocError> {
+    let value = repeated(alloc, length)?;
+    stamp_refusal(alloc, b"k", &value)
 }
 
 #[test]
 fn a_value_has_at_most_100_000_bytes(rt: HostRuntime) -> Result<(), Fail> {
     let alloc = rt.alloc();
-    let limit = repeated(alloc, 100_000)?;
-    let past = repeated(alloc, 100_001)?;
-    assert_eq!(rt; set_refusal(alloc, b"k", &limit)?, None);
-    assert_eq!(rt;
-        set_refusal(alloc, b"k", &past)?,
-        Some(Refusal::ValueTooLong)
-    );
-    assert_eq!(rt;
-        stamp_refusal(alloc, b"k", &past)?,
-        Some(Refusal::ValueTooLong)
-    );
+    let refused = Some(Refusal::ValueTooLong);
+    assert_eq!(rt; value_refusal(alloc, 100_000)?, None);
+    assert_eq!(rt; value_refusal(alloc, 100_001)?, refused);
+    assert_eq!(rt; stamped_value_refusal(alloc, 100_001)?, refused);
     Ok(())
+}
+
+/// The batch of these transactions, where there is one.
+fn batch_of(transactions: Vec<Admitted>) -> Option<Batch> {
+    Batch::new(transactions).ok()
+}
+
+/// How many transactions that batch has.
+fn batch_length(transactions: Vec<Admitted>) -> Option<usize> {
+    let batch = batch_of(transactions)?;
+    Some(batch.transactions().len())
+}
+
+/// Why these transactions are no batch, and how many come back.
+fn handed_back(transactions: Vec<Admitted>) -> Option<(Refusal, usize)> {
+    let (refusal, back) = Batch::new(transactions).err()?;
+    Some((refusal, back.len()))
 }
 
 #[test]
 fn a_batch_has_at_most_1_024_transactions(rt: HostRuntime) -> Result<(), Fail> {
-    let alloc = rt.alloc();
-    let full = Batch::new(transactions(alloc, 1_024)?).map(|batch| batch.transactions().len());
-    assert_eq!(rt; full.ok(), Some(1_024));
-    let past = Batch::new(transactions(alloc, 1_025)?).err();
-    let handed_back = past.map(|(refusal, back)| (refusal, back.len()));
-    assert_eq!(rt; handed_back, Some((Refusal::BatchTooLarge, 1_025)));
+    let full = batch_length(transactions(rt.alloc(), 1_024)?);
+    assert_eq!(rt; full, Some(1_024));
+    let past = handed_back(transactions(rt.alloc(), 1_025)?);
+    assert_eq!(rt; past, Some((Refusal::BatchTooLarge, 1_025)));
     Ok(())
+}
+
+/// The mutation of this place in the transaction of one each.
+fn mutation_at(alloc: Global, place: usize) -> Result<Mutation, AllocError> {
+    match place {
+        0 => set(alloc, b"k", b"v"),
+        1 => clear(alloc, b"", b"m"),
+        _ => set_stamped(alloc, b"n", AT_TWO),
+    }
+}
+
+/// A mutation of each kind.
+fn mutations(alloc: Global) -> Result<Items<Mutation>, AllocError> {
+    let mut mutations = twice!(Vec::with_capacity(alloc, 3), _)?;
+    for place in 0..3 {
+        mutations.push(mutation_at(alloc, place)?)?;
+    }
+    Ok(Items::from(mutations))
 }
 
 /// A lock aware transaction at snapshot 7 with one read, one write and a mutation of each kind.
 fn of_one_each(alloc: Global) -> Result<Transaction, AllocError> {
-    let mut mutations = twice!(Vec::with_capacity(alloc, 3), _)?;
-    mutations.push(set(alloc, b"k", b"v")?)?;
-    mutations.push(clear(alloc, b"", b"m")?)?;
-    mutations.push(set_stamped(alloc, b"n", AT_TWO)?)?;
-    Ok(Transaction {
-        snapshot: 7,
-        reads: at_most_one(alloc, Some(range(alloc, b"a", b"b")?))?,
-        writes: at_most_one(alloc, Some(range(alloc, b"c", b"\xff\xff")?))?,
-        mutations: Items::from(mutations),
-        lock_aware: true,
-    })
+    let reads = one_range(alloc, b"a", b"b")?;
+    let writes = one_range(alloc, b"c", b"\xff\xff")?;
+    Ok(transaction(reads, writes, mutations(alloc)?))
+}
+
+fn admitted_of_one_each(alloc: Global) -> Result<Admitted, Fail> {
+    let given = of_one_each(alloc)?;
+    faultless(alloc, &given)
 }
 
 fn are(bytes: &Bytes, expected: &[u8]) -> bool {
@@ -296,6 +427,22 @@ fn is_given(range: &GivenRange, begin: &[u8], end: &[u8]) -> bool {
 
 fn is_range(range: &KeyRange, begin: &[u8], end: &[u8]) -> bool {
     range.begin() == begin && range.end() == end
+}
+
+/// The only range is this one.
+fn is_only_given(ranges: &[GivenRange], begin: &[u8], end: &[u8]) -> bool {
+    match ranges {
+        [range] => is_given(range, begin, end),
+        _ => false,
+    }
+}
+
+/// The only range is this one.
+fn is_only_range(ranges: &[KeyRange], begin: &[u8], end: &[u8]) -> bool {
+    match ranges {
+        [range] => is_range(range, begin, end),
+        _ => false,
+    }
 }
 
 /// The mutation is the given one of this place in the transaction of one each.
@@ -326,107 +473,181 @@ fn is_change(change: &Change, place: usize) -> bool {
     }
 }
 
+fn are_mutations(mutations: &[Mutation]) -> bool {
+    match mutations {
+        [first, second, third] => {
+            is_mutation(first, 0) && is_mutation(second, 1) && is_mutation(third, 2)
+        }
+        _ => false,
+    }
+}
+
+fn are_admitted_mutations(mutations: &[AdmittedMutation]) -> bool {
+    match mutations {
+        [first, second, third] => {
+            is_admitted_mutation(first, 0)
+                && is_admitted_mutation(second, 1)
+                && is_admitted_mutation(third, 2)
+        }
+        _ => false,
+    }
+}
+
+fn are_changes(changes: &[Change]) -> bool {
+    match changes {
+        [first, second, third] => {
+            is_change(first, 0) && is_change(second, 1) && is_change(third, 2)
+        }
+        _ => false,
+    }
+}
+
+/// The transaction of one each has these ranges.
+fn are_ranges(reads: &[KeyRange], writes: &[KeyRange]) -> bool {
+    is_only_range(reads, b"a", b"b") && is_only_range(writes, b"c", b"\xff\xff")
+}
+
 /// It is the transaction of one each, as it was given.
 fn is_of_one_each(given: &Transaction) -> bool {
-    let parts = (
-        given.reads.as_slice(),
-        given.writes.as_slice(),
-        given.mutations.as_slice(),
-    );
-    let ([read], [write], [first, second, third]) = parts else {
-        return false;
-    };
     given.snapshot == 7
         && given.lock_aware
-        && is_given(read, b"a", b"b")
-        && is_given(write, b"c", b"\xff\xff")
-        && is_mutation(first, 0)
-        && is_mutation(second, 1)
-        && is_mutation(third, 2)
+        && is_only_given(given.reads.as_slice(), b"a", b"b")
+        && is_only_given(given.writes.as_slice(), b"c", b"\xff\xff")
+        && are_mutations(given.mutations.as_slice())
 }
 
 /// It is the transaction of one each, admitted.
 fn is_admitted(admitted: &Admitted) -> bool {
-    let parts = (admitted.reads(), admitted.writes(), admitted.mutations());
-    let ([read], [write], [first, second, third]) = parts else {
-        return false;
-    };
     admitted.snapshot() == 7
         && admitted.lock_aware()
-        && is_range(read, b"a", b"b")
-        && is_range(write, b"c", b"\xff\xff")
-        && is_admitted_mutation(first, 0)
-        && is_admitted_mutation(second, 1)
-        && is_admitted_mutation(third, 2)
+        && are_ranges(admitted.reads(), admitted.writes())
+        && are_admitted_mutations(admitted.mutations())
 }
 
 /// It is the transaction of one each, with its stamp as transaction 3 in the batch of version 258.
 fn is_stamped(stamped: &Stamped) -> bool {
-    let parts = (stamped.reads(), stamped.writes(), stamped.changes());
-    let ([read], [write], [first, second, third]) = parts else {
-        return false;
-    };
     stamped.snapshot() == 7
         && stamped.lock_aware()
-        && is_range(read, b"a", b"b")
-        && is_range(write, b"c", b"\xff\xff")
-        && is_change(first, 0)
-        && is_change(second, 1)
-        && is_change(third, 2)
+        && are_ranges(stamped.reads(), stamped.writes())
+        && are_changes(stamped.changes())
+}
+
+/// Admits the transaction of one each.
+fn admit_whole(rt: &impl Abort, alloc: Global, given: &Transaction) -> Result<Admitted, Refusal> {
+    twice_on!(rt; is_of_one_each(given), admit(alloc, given), Refusal::OutOfMemory)
+}
+
+fn admit_one_each(rt: &impl Abort, alloc: Global, given: &Transaction) -> Result<(), Fail> {
+    let admitted = admit_whole(rt, alloc, given)?;
+    assert!(rt; is_admitted(&admitted));
+    assert!(rt; is_of_one_each(given));
+    Ok(())
 }
 
 #[test]
 fn admission_keeps_every_field(rt: HostRuntime) -> Result<(), Fail> {
     let given = of_one_each(rt.alloc())?;
-    let admitted =
-        twice_on!(rt; is_of_one_each(&given), admit(rt.alloc(), &given), Refusal::OutOfMemory)?;
-    assert!(rt; is_admitted(&admitted));
-    assert!(rt; is_of_one_each(&given));
-    Ok(())
+    admit_one_each(&rt, rt.alloc(), &given)
 }
 
-#[test]
-fn stamping_keeps_every_field(rt: HostRuntime) -> Result<(), Fail> {
-    let alloc = rt.alloc();
-    let given = of_one_each(alloc)?;
-    let admitted = twice!(admit(alloc, &given), Refusal::OutOfMemory)?;
-    let stamped =
-        twice_on!(rt; is_admitted(&admitted), admitted.stamped(alloc, 258, 3), OutOfMemory)?;
-    assert!(rt; is_stamped(&stamped));
-    assert!(rt; is_admitted(&admitted));
-    let copy = twice_on!(rt; is_stamped(&stamped), stamped.copy(), OutOfMemory)?;
+fn copy_stamped(rt: &impl Abort, stamped: &Stamped) -> Result<(), Fail> {
+    let copy = twice_on!(rt; is_stamped(stamped), stamped.copy(), OutOfMemory)?;
     assert!(rt; is_stamped(&copy));
     Ok(())
 }
 
+/// Stamps the transaction of one each as transaction 3 in the batch of version 258.
+fn stamp(rt: &impl Abort, alloc: Global, admitted: &Admitted) -> Result<Stamped, OutOfMemory> {
+    twice_on!(rt; is_admitted(admitted), admitted.stamped(alloc, 258, 3), OutOfMemory)
+}
+
+fn stamp_and_copy(rt: &impl Abort, alloc: Global, admitted: &Admitted) -> Result<(), Fail> {
+    let stamped = stamp(rt, alloc, admitted)?;
+    assert!(rt; is_stamped(&stamped));
+    assert!(rt; is_admitted(admitted));
+    copy_stamped(rt, &stamped)
+}
+
 #[test]
-fn given_transactions_are_copied(rt: HostRuntime) -> Result<(), Fail> {
-    let given = of_one_each(rt.alloc())?;
-    let copy = twice_on!(rt; is_of_one_each(&given), given.copy(), OutOfMemory)?;
+fn stamping_keeps_every_field(rt: HostRuntime) -> Result<(), Fail> {
+    let admitted = admitted_of_one_each(rt.alloc())?;
+    stamp_and_copy(&rt, rt.alloc(), &admitted)
+}
+
+fn copy_given(rt: &impl Abort, given: &Transaction) -> Result<(), Fail> {
+    let copy = twice_on!(rt; is_of_one_each(given), given.copy(), OutOfMemory)?;
     assert!(rt; is_of_one_each(&copy));
-    for (place, mutation) in given.mutations.as_slice().iter().enumerate() {
-        let copy = twice_on!(rt; is_mutation(mutation, place), mutation.copy(), OutOfMemory)?;
-        assert!(rt; is_mutation(&copy, place));
+    Ok(())
+}
+
+fn copy_mutation(rt: &impl Abort, mutation: &Mutation, place: usize) -> Result<(), Fail> {
+    let copy = twice_on!(rt; is_mutation(mutation, place), mutation.copy(), OutOfMemory)?;
+    assert!(rt; is_mutation(&copy, place));
+    Ok(())
+}
+
+fn copy_mutations(rt: &impl Abort, mutations: &[Mutation]) -> Result<(), Fail> {
+    for (place, mutation) in mutations.iter().enumerate() {
+        copy_mutation(rt, mutation, place)?;
     }
-    let read = range(rt.alloc(), b"a", b"b")?;
-    let copy = twice_on!(rt; is_given(&read, b"a", b"b"), read.copy(), OutOfMemory)?;
+    Ok(())
+}
+
+fn copy_range(rt: &impl Abort, read: &GivenRange) -> Result<(), Fail> {
+    let copy = twice_on!(rt; is_given(read, b"a", b"b"), read.copy(), OutOfMemory)?;
     assert!(rt; is_given(&copy, b"a", b"b"));
     Ok(())
 }
 
+fn copy_new_range(rt: &impl Abort, alloc: Global) -> Result<(), Fail> {
+    let read = range(alloc, b"a", b"b")?;
+    copy_range(rt, &read)
+}
+
+fn copy_given_and_mutations(rt: &impl Abort, given: &Transaction) -> Result<(), Fail> {
+    copy_given(rt, given)?;
+    copy_mutations(rt, given.mutations.as_slice())
+}
+
 #[test]
-fn admitted_transactions_are_copied(rt: HostRuntime) -> Result<(), Fail> {
-    let alloc = rt.alloc();
-    let given = of_one_each(alloc)?;
-    let admitted = twice!(admit(alloc, &given), Refusal::OutOfMemory)?;
-    let copy = twice_on!(rt; is_admitted(&admitted), admitted.copy(), OutOfMemory)?;
+fn given_transactions_are_copied(rt: HostRuntime) -> Result<(), Fail> {
+    copy_new_range(&rt, rt.alloc())?;
+    let given = of_one_each(rt.alloc())?;
+    copy_given_and_mutations(&rt, &given)
+}
+
+fn copy_admitted(rt: &impl Abort, admitted: &Admitted) -> Result<(), Fail> {
+    let copy = twice_on!(rt; is_admitted(admitted), admitted.copy(), OutOfMemory)?;
     assert!(rt; is_admitted(&copy));
-    for (place, mutation) in admitted.mutations().iter().enumerate() {
-        let copy =
-            twice_on!(rt; is_admitted_mutation(mutation, place), mutation.copy(), OutOfMemory)?;
-        assert!(rt; is_admitted_mutation(&copy, place));
+    Ok(())
+}
+
+fn copy_admitted_mutation(
+    rt: &impl Abort,
+    mutation: &AdmittedMutation,
+    place: usize,
+) -> Result<(), Fail> {
+    let copy = twice_on!(rt; is_admitted_mutation(mutation, place), mutation.copy(), OutOfMemory)?;
+    assert!(rt; is_admitted_mutation(&copy, place));
+    Ok(())
+}
+
+fn copy_admitted_mutations(rt: &impl Abort, mutations: &[AdmittedMutation]) -> Result<(), Fail> {
+    for (place, mutation) in mutations.iter().enumerate() {
+        copy_admitted_mutation(rt, mutation, place)?;
     }
     Ok(())
+}
+
+fn copy_admitted_and_mutations(rt: &impl Abort, admitted: &Admitted) -> Result<(), Fail> {
+    copy_admitted(rt, admitted)?;
+    copy_admitted_mutations(rt, admitted.mutations())
+}
+
+#[test]
+fn admitted_transactions_are_copied(rt: HostRuntime) -> Result<(), Fail> {
+    let admitted = admitted_of_one_each(rt.alloc())?;
+    copy_admitted_and_mutations(&rt, &admitted)
 }
 
 /// Two transactions with nothing in them, and that of one each.
@@ -439,17 +660,34 @@ fn is_batch(batch: &Batch) -> bool {
     }
 }
 
-#[test]
-fn batches_are_copied(rt: HostRuntime) -> Result<(), Fail> {
-    let alloc = rt.alloc();
+fn make_room(transactions: &mut Vec<Admitted>) -> Result<(), AllocError> {
+    twice!(transactions.reserve(1), _)
+}
+
+/// Puts the transaction behind the others.
+fn add(transactions: &mut Vec<Admitted>, admitted: Admitted) -> Result<(), AllocError> {
+    transactions.push(admitted)?;
+    Ok(())
+}
+
+/// Two transactions with nothing in them, and that of one each.
+fn three_transactions(alloc: Global) -> Result<Vec<Admitted>, Fail> {
     let mut transactions = transactions(alloc, 2)?;
-    let given = of_one_each(alloc)?;
-    twice!(transactions.reserve(1), _)?;
-    transactions.push(twice!(admit(alloc, &given), Refusal::OutOfMemory)?)?;
-    let batch = Batch::new(transactions).ok().ok_or("too large")?;
-    let copy = twice_on!(rt; is_batch(&batch), batch.copy(), OutOfMemory)?;
+    make_room(&mut transactions)?;
+    add(&mut transactions, admitted_of_one_each(alloc)?)?;
+    Ok(transactions)
+}
+
+fn copy_batch(rt: &impl Abort, batch: &Batch) -> Result<(), Fail> {
+    let copy = twice_on!(rt; is_batch(batch), batch.copy(), OutOfMemory)?;
     assert!(rt; is_batch(&copy));
     Ok(())
+}
+
+#[test]
+fn batches_are_copied(rt: HostRuntime) -> Result<(), Fail> {
+    let batch = batch_of(three_transactions(rt.alloc())?).ok_or("too large")?;
+    copy_batch(&rt, &batch)
 }
 
 #[test]

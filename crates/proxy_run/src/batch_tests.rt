@@ -4,11 +4,11 @@
 use crate::batch_reading::read_batch;
 use crate::script_fault::ScriptFault;
 use crate::tests::again::{letters, roomy, twice, written};
-use mutation::{AdmittedMutation, Batch, Refusal};
+use mutation::{Admitted, AdmittedMutation, Batch, Refusal};
 use std::alloc::Global;
 use std::process::Abort;
 use std::test::Fail;
-use system_keys::KeyRange;
+use system_keys::{Bytes, KeyRange};
 
 /// A transaction with each kind of mutation, and one with nothing in it.
 const TWO_TRANSACTIONS: &[u8] = br#"[{"snapshot":7,"reads":[["a","b"],["","\\xff\\xff"]],
@@ -68,64 +68,85 @@ fn many(alloc: Global, count: usize, last: &str) -> Result<String, Fail> {
     Ok(text)
 }
 
-fn ends(range: &KeyRange) -> (&[u8], &[u8]) {
-    (range.begin(), range.end())
+fn is_range(range: &KeyRange, begin: &[u8], end: &[u8]) -> bool {
+    range.begin() == begin && range.end() == end
 }
 
-/// Whether the mutation is of this kind, and has these two texts.
-fn has_parts(mutation: &AdmittedMutation, kind: &str, first: &[u8], second: &[u8]) -> bool {
+fn are(bytes: &Bytes, expected: &[u8]) -> bool {
+    bytes.as_slice() == expected
+}
+
+/// Whether the mutation is that of this place in the first of the two transactions.
+fn is_mutation(mutation: &AdmittedMutation, place: usize) -> bool {
     match mutation {
         AdmittedMutation::Set { key, value } => {
-            kind == "set" && key.as_slice() == first && value.as_slice() == second
+            place == 0 && are(key, b"\xff/dbLocked") && are(value, b"v")
         }
-        AdmittedMutation::Clear { range } => {
-            kind == "clear" && range.begin() == first && range.end() == second
-        }
+        AdmittedMutation::Clear { range } => place == 1 && is_range(range, b"e", b"f"),
         AdmittedMutation::SetStamped { key, value } => {
-            kind == "set_stamped" && key.as_slice() == first && value.as_slice() == second
+            place == 2 && are(key, b"g") && are(value, b"ab0123456789\x02\x00\x00\x00")
         }
     }
+}
+
+fn are_the_reads(ranges: &[KeyRange]) -> bool {
+    match ranges {
+        [first, second] => is_range(first, b"a", b"b") && is_range(second, b"", b"\xff\xff"),
+        _ => false,
+    }
+}
+
+fn are_the_writes(ranges: &[KeyRange]) -> bool {
+    match ranges {
+        [write] => is_range(write, b"c", b"d\x00"),
+        _ => false,
+    }
+}
+
+fn are_the_mutations(mutations: &[AdmittedMutation]) -> bool {
+    match mutations {
+        [first, second, third] => {
+            is_mutation(first, 0) && is_mutation(second, 1) && is_mutation(third, 2)
+        }
+        _ => false,
+    }
+}
+
+/// Whether it is the first of the two transactions, but for its mutations.
+fn is_first(transaction: &Admitted) -> bool {
+    transaction.snapshot() == 7
+        && transaction.lock_aware()
+        && are_the_reads(transaction.reads())
+        && are_the_writes(transaction.writes())
+}
+
+fn is_second(transaction: &Admitted) -> bool {
+    transaction.snapshot() == 9_223_372_036_854_775_807
+        && !transaction.lock_aware()
+        && transaction.reads().is_empty()
+        && transaction.writes().is_empty()
+        && transaction.mutations().is_empty()
 }
 
 #[test]
 fn every_field_of_a_batch_is_read(rt: HostRuntime) {
     let batch = reads(&rt, TWO_TRANSACTIONS);
-    let transactions = batch.transactions();
-    assert_eq!(rt; transactions.len(), 2);
-    let first = &transactions[0];
-    assert_eq!(rt; first.snapshot(), 7);
-    assert!(rt; first.lock_aware());
-    let ranges = first.reads();
-    assert_eq!(rt; ranges.len(), 2);
-    assert_eq!(rt; ends(&ranges[0]), (b"a".as_slice(), b"b".as_slice()));
-    assert_eq!(rt; ends(&ranges[1]), (b"".as_slice(), b"\xff\xff".as_slice()));
-    let ranges = first.writes();
-    assert_eq!(rt; ranges.len(), 1);
-    assert_eq!(rt; ends(&ranges[0]), (b"c".as_slice(), b"d\x00".as_slice()));
-    let second = &transactions[1];
-    assert_eq!(rt; second.snapshot(), 9_223_372_036_854_775_807);
-    assert!(rt; !second.lock_aware());
-    assert_eq!(rt; second.reads().len(), 0);
-    assert_eq!(rt; second.writes().len(), 0);
-    assert_eq!(rt; second.mutations().len(), 0);
+    assert!(rt;
+        match batch.transactions() {
+            [first, second] => is_first(first) && is_second(second),
+            _ => false,
+        }
+    );
 }
 
 #[test]
 fn each_kind_of_mutation_is_read(rt: HostRuntime) {
     let batch = reads(&rt, TWO_TRANSACTIONS);
-    let transactions = batch.transactions();
-    assert_eq!(rt; transactions.len(), 2);
-    let mutations = transactions[0].mutations();
-    assert_eq!(rt; mutations.len(), 3);
-    assert!(rt; has_parts(&mutations[0], "set", b"\xff/dbLocked", b"v"));
-    assert!(rt; has_parts(&mutations[1], "clear", b"e", b"f"));
     assert!(rt;
-        has_parts(
-            &mutations[2],
-            "set_stamped",
-            b"g",
-            b"ab0123456789\x02\x00\x00\x00"
-        )
+        match batch.transactions() {
+            [first, _] => are_the_mutations(first.mutations()),
+            _ => false,
+        }
     );
 }
 
@@ -153,15 +174,17 @@ fn keys_values_and_ranges_are_checked(rt: HostRuntime) -> Result<(), Fail> {
 }
 
 #[test]
-fn long_keys_and_values_are_refused(rt: HostRuntime) -> Result<(), Fail> {
-    let alloc = rt.alloc();
-    let key = letters(alloc, 10_001)?;
-    let mutations = written!(alloc; "{{\"set\":[\"{key}\",\"\"]}}");
-    refuses_mutations(&rt, mutations.as_str(), 10)?;
-    let value = letters(alloc, 100_001)?;
-    let mutations = written!(alloc; "{{\"set_stamped\":[\"b\",\"{value}\"]}}");
-    refuses_mutations(&rt, mutations.as_str(), 11)?;
-    Ok(())
+fn long_keys_are_refused(rt: HostRuntime) -> Result<(), Fail> {
+    let key = letters(rt.alloc(), 10_001)?;
+    let mutations = written!(rt.alloc(); "{{\"set\":[\"{key}\",\"\"]}}");
+    refuses_mutations(&rt, mutations.as_str(), 10)
+}
+
+#[test]
+fn long_values_are_refused(rt: HostRuntime) -> Result<(), Fail> {
+    let value = letters(rt.alloc(), 100_001)?;
+    let mutations = written!(rt.alloc(); "{{\"set_stamped\":[\"b\",\"{value}\"]}}");
+    refuses_mutations(&rt, mutations.as_str(), 11)
 }
 
 #[test]

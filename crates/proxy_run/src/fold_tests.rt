@@ -124,25 +124,28 @@ const TAGS_BEHIND: &str = r#"{"resolvers":1,"ask":["a","m"],"rows":[
 {"version":40,"states":[{"lock_aware":false,"verdicts":["committed"],"mutations":[
 {"set":["\\xff/serverTag/server0000000002","\\x00\\x00\\x00"]}]}]}"#;
 
+/// Folds those rows, and more behind them.
+fn folds_behind(rt: &(impl Abort + AllocGlobal), more: &str, text: &str) -> Result<(), Fail> {
+    let script = written!(rt.alloc(); "{TAGS_BEHIND}{more}]}}");
+    folds(rt, script.as_bytes(), text);
+    Ok(())
+}
+
 #[test]
 fn tags_come_and_go_with_their_rows(rt: HostRuntime) -> Result<(), Fail> {
-    let script = written!(rt.alloc(); "{TAGS_BEHIND}]}}");
-    folds(
+    folds_behind(
         &rt,
-        script.as_bytes(),
+        "",
         "version 40\nlocked no\nmetadata_version none\nroute \"\" 0:1\nroute \"m\" 0:0 0:1\n\
          tags \"a\" 0:1\ntags \"m\" 0:0 0:1\n",
-    );
-    let last = r#"{"version":50,"states":[{"lock_aware":false,"verdicts":["committed"],
-        "mutations":[{"clear":["\\xff/serverTag/","\\xff/serverTag0"]}]}]}"#;
-    let script = written!(rt.alloc(); "{TAGS_BEHIND},{last}]}}");
-    folds(
+    )?;
+    folds_behind(
         &rt,
-        script.as_bytes(),
+        r#",{"version":50,"states":[{"lock_aware":false,"verdicts":["committed"],
+        "mutations":[{"clear":["\\xff/serverTag/","\\xff/serverTag0"]}]}]}"#,
         "version 50\nlocked no\nmetadata_version none\nroute \"\" none\nroute \"m\" none\n\
          tags \"a\" none\ntags \"m\" none\n",
-    );
-    Ok(())
+    )
 }
 
 #[test]
@@ -187,18 +190,26 @@ fn keys_values_and_ranges_are_checked(rt: HostRuntime) -> Result<(), Fail> {
     Ok(())
 }
 
+/// The change with this many letters between the two texts is refused.
+fn refuses_letters(
+    rt: &(impl Abort + AllocGlobal),
+    around: (&str, &str),
+    count: usize,
+    text: &str,
+) -> Result<(), Fail> {
+    let (front, back) = around;
+    let word = letters(rt.alloc(), count)?;
+    let changes = written!(rt.alloc(); "{front}{word}{back}");
+    refuses_changes(rt, changes.as_str(), text)
+}
+
 #[test]
 fn long_keys_and_values_are_refused(rt: HostRuntime) -> Result<(), Fail> {
-    let alloc = rt.alloc();
-    let key = letters(alloc, 10_001)?;
-    let changes = written!(alloc; "{{\"set\":[\"{key}\",\"\"]}}");
-    refuses_changes(&rt, changes.as_str(), "refused 10 KeyTooLong\n")?;
-    let changes = written!(alloc; "{{\"clear\":[\"{key}\",\"b\"]}}");
-    refuses_changes(&rt, changes.as_str(), "refused 10 KeyTooLong\n")?;
-    let value = letters(alloc, 100_001)?;
-    let changes = written!(alloc; "{{\"set\":[\"b\",\"{value}\"]}}");
-    refuses_changes(&rt, changes.as_str(), "refused 11 ValueTooLong\n")?;
-    Ok(())
+    let key_too_long = "refused 10 KeyTooLong\n";
+    refuses_letters(&rt, (r#"{"set":[""#, r#"",""]}"#), 10_001, key_too_long)?;
+    refuses_letters(&rt, (r#"{"clear":[""#, r#"","b"]}"#), 10_001, key_too_long)?;
+    let value_too_long = "refused 11 ValueTooLong\n";
+    refuses_letters(&rt, (r#"{"set":["b",""#, r#""]}"#), 100_001, value_too_long)
 }
 
 #[test]
@@ -280,9 +291,20 @@ fn all_fields_are_there_and_none_other(rt: HostRuntime) -> Result<(), Fail> {
     Ok(())
 }
 
+fn refuses_resolvers(rt: &(impl Abort + AllocGlobal), resolvers: &str) -> Result<(), Fail> {
+    let script = written!(rt.alloc(); "{{\"resolvers\":{resolvers},\"rows\":[],\"ask\":[]}}");
+    refuses(rt, script.as_bytes(), BAD_SHAPE);
+    Ok(())
+}
+
+fn refuses_rows(rt: &(impl Abort + AllocGlobal), rows: &str) -> Result<(), Fail> {
+    let script = written!(rt.alloc(); "{{\"resolvers\":1,\"ask\":[],\"rows\":[{rows}]}}");
+    refuses(rt, script.as_bytes(), BAD_SHAPE);
+    Ok(())
+}
+
 #[test]
-fn numbers_are_within_their_limits(rt: HostRuntime) -> Result<(), Fail> {
-    let alloc = rt.alloc();
+fn counts_of_resolvers_are_within_their_limits(rt: HostRuntime) -> Result<(), Fail> {
     for resolvers in [
         "0",
         "65",
@@ -293,17 +315,20 @@ fn numbers_are_within_their_limits(rt: HostRuntime) -> Result<(), Fail> {
         "\"1\"",
         "18446744073709551616",
     ] {
-        let script = written!(alloc; "{{\"resolvers\":{resolvers},\"rows\":[],\"ask\":[]}}");
-        refuses(&rt, script.as_bytes(), BAD_SHAPE);
+        refuses_resolvers(&rt, resolvers)?;
     }
+    Ok(())
+}
+
+#[test]
+fn versions_rise_within_their_limits(rt: HostRuntime) -> Result<(), Fail> {
     for rows in [
         r#"{"version":0,"states":[]}"#,
         r#"{"version":9223372036854775808,"states":[]}"#,
         r#"{"version":5,"states":[]},{"version":5,"states":[]}"#,
         r#"{"version":5,"states":[]},{"version":4,"states":[]}"#,
     ] {
-        let script = written!(alloc; "{{\"resolvers\":1,\"ask\":[],\"rows\":[{rows}]}}");
-        refuses(&rt, script.as_bytes(), BAD_SHAPE);
+        refuses_rows(&rt, rows)?;
     }
     folds(
         &rt,
@@ -317,9 +342,14 @@ fn numbers_are_within_their_limits(rt: HostRuntime) -> Result<(), Fail> {
 const BEFORE_VERDICTS: &str = r#"{"resolvers":2,"ask":[],"rows":[{"version":1,"states":[
 {"lock_aware":true,"mutations":[],"verdicts":["#;
 
+fn refuses_verdicts(rt: &(impl Abort + AllocGlobal), verdicts: &str) -> Result<(), Fail> {
+    let script = written!(rt.alloc(); "{BEFORE_VERDICTS}{verdicts}]}}]}}]}}");
+    refuses(rt, script.as_bytes(), BAD_SHAPE);
+    Ok(())
+}
+
 #[test]
 fn each_resolver_has_one_verdict(rt: HostRuntime) -> Result<(), Fail> {
-    let alloc = rt.alloc();
     for verdicts in [
         "",
         "\"committed\"",
@@ -327,37 +357,52 @@ fn each_resolver_has_one_verdict(rt: HostRuntime) -> Result<(), Fail> {
         "\"committed\",\"Committed\"",
         "\"committed\",0",
     ] {
-        let script = written!(alloc; "{BEFORE_VERDICTS}{verdicts}]}}]}}]}}");
-        refuses(&rt, script.as_bytes(), BAD_SHAPE);
+        refuses_verdicts(&rt, verdicts)?;
     }
+    Ok(())
+}
+
+/// A script that asks for the key with this text.
+fn asking(alloc: Global, key: &str) -> Result<String, Fail> {
+    Ok(written!(alloc; "{{\"resolvers\":1,\"rows\":[],\"ask\":[\"{key}\"]}}"))
+}
+
+fn refuses_to_ask(rt: &(impl Abort + AllocGlobal), key: &str) -> Result<(), Fail> {
+    let script = asking(rt.alloc(), key)?;
+    refuses(rt, script.as_bytes(), BAD_SHAPE);
     Ok(())
 }
 
 #[test]
 fn texts_spell_bytes(rt: HostRuntime) -> Result<(), Fail> {
-    let alloc = rt.alloc();
     for text in [
         "\\\\xFF", "\\\\x61", "\\\\x0", "\\\\n00", " ", "\\\"", "\u{e9}", "\\n",
     ] {
-        let script = written!(alloc; "{{\"resolvers\":1,\"rows\":[],\"ask\":[\"{text}\"]}}");
-        refuses(&rt, script.as_bytes(), BAD_SHAPE);
+        refuses_to_ask(&rt, text)?;
     }
     Ok(())
 }
 
 #[test]
-fn any_key_may_be_asked(rt: HostRuntime) -> Result<(), Fail> {
+fn any_key_may_be_asked(rt: HostRuntime) {
     folds(
         &rt,
         br#"{"resolvers":1,"rows":[],"ask":["\\xff\\xff\\x00","","\u0061","a"]}"#,
         "version 0\nlocked no\nmetadata_version none\ntags \"\\xff\\xff\\x00\" none\ntags \"\" none\n\
          tags \"a\" none\ntags \"a\" none\n",
     );
-    let alloc = rt.alloc();
-    let key = letters(alloc, 10_001)?;
-    let script = written!(alloc; "{{\"resolvers\":1,\"rows\":[],\"ask\":[\"{key}\"]}}");
-    let text = written!(alloc; "version 0\nlocked no\nmetadata_version none\ntags \"{key}\" none\n"
-    );
+}
+
+/// What a script that asks for this key is answered.
+fn answer_to(alloc: Global, key: &str) -> Result<String, Fail> {
+    Ok(written!(alloc; "version 0\nlocked no\nmetadata_version none\ntags \"{key}\" none\n"))
+}
+
+#[test]
+fn a_key_past_the_limit_may_be_asked(rt: HostRuntime) -> Result<(), Fail> {
+    let key = letters(rt.alloc(), 10_001)?;
+    let script = asking(rt.alloc(), &key)?;
+    let text = answer_to(rt.alloc(), &key)?;
     folds(&rt, script.as_bytes(), text.as_str());
     Ok(())
 }
@@ -420,15 +465,25 @@ fn locked_text(alloc: Global) -> Result<String, OutOfMemory> {
     Ok(text)
 }
 
+fn is_known_as(
+    rt: &(impl Abort + AllocGlobal),
+    fault: ScriptFault,
+    number: Option<u32>,
+    name: &str,
+) {
+    assert_eq!(rt; fault.number(), number);
+    assert_eq!(rt; fault.name(), name);
+}
+
 #[test]
 fn faults_have_their_numbers_and_names(rt: HostRuntime) {
-    for (fault, number, name) in [
-        (ScriptFault::NotJson, Some(70), "NotJson"),
-        (ScriptFault::BadShape, Some(71), "BadShape"),
-        (ScriptFault::Refused(Refusal::BadRow), Some(14), "BadRow"),
-        (ScriptFault::OutOfMemory, None, "OutOfMemory"),
-    ] {
-        assert_eq!(rt; fault.number(), number);
-        assert_eq!(rt; fault.name(), name);
-    }
+    is_known_as(&rt, ScriptFault::NotJson, Some(70), "NotJson");
+    is_known_as(&rt, ScriptFault::BadShape, Some(71), "BadShape");
+    is_known_as(
+        &rt,
+        ScriptFault::Refused(Refusal::BadRow),
+        Some(14),
+        "BadRow",
+    );
+    is_known_as(&rt, ScriptFault::OutOfMemory, None, "OutOfMemory");
 }

@@ -1,7 +1,7 @@
 //! Tests against answers worked out by hand. Each call that takes memory is made again where it was refused
 //! memory, so that the tests also pass where any one allocation fails.
 
-use crate::{JournalRow, Metadata, Routing, StateTxn, Verdict, join};
+use crate::{JournalRow, Metadata, Route, Routing, StateTxn, Verdict, join};
 use std::alloc::{AllocError, Global};
 use std::test::Fail;
 use system_keys::{Bytes, Change, Items, KeyRange, OutOfMemory, Tag};
@@ -44,8 +44,16 @@ const SERVERS_1_AND_3: &[u8] = b"\x01server0000000001\x01server0000000003";
 
 const SERVER_4: &[u8] = b"\x01server0000000004\x00";
 
-fn owned(alloc: Global, bytes: &[u8]) -> Result<Vec<u8>, AllocError> {
-    twice!(Vec::from_slice(alloc, bytes))
+const TAG_1: Tag = Tag { locality: 0, id: 1 };
+
+const TAG_2: Tag = Tag { locality: 0, id: 2 };
+
+const TAG_3: Tag = Tag { locality: 0, id: 3 };
+
+const TAG_4: Tag = Tag { locality: 0, id: 4 };
+
+fn owned<T: Copy>(alloc: Global, items: &[T]) -> Result<Vec<T>, AllocError> {
+    twice!(Vec::from_slice(alloc, items))
 }
 
 fn set(alloc: Global, key: &[u8], value: &[u8]) -> Result<Change, AllocError> {
@@ -60,18 +68,20 @@ fn clear(alloc: Global, begin: &[u8], end: &[u8]) -> Result<Option<Change>, Allo
     Ok(range.ok().map(Change::clear))
 }
 
-fn tag(locality: u8, id: u16) -> Tag {
-    Tag { locality, id }
+fn copy_of(metadata: &Metadata) -> Result<Metadata, OutOfMemory> {
+    twice!(metadata.copy())
 }
+
+/// The keys of the rows of these tests.
+const KEYS: &[&[u8]] = &[
+    TAG_ROW_1, TAG_ROW_2, TAG_ROW_3, TAG_ROW_4, ROW_OF_ALL, ROW_OF_B, ROW_OF_F, ROW_OF_Q, LOCK,
+    VERSION,
+];
 
 /// The same row at each key of these tests.
 fn are_same(metadata: &Metadata, other: &Metadata) -> bool {
-    let keys = [
-        TAG_ROW_1, TAG_ROW_2, TAG_ROW_3, TAG_ROW_4, ROW_OF_ALL, ROW_OF_B, ROW_OF_F, ROW_OF_Q, LOCK,
-        VERSION,
-    ];
-    for key in keys {
-        if !is_same(metadata.row(key), other.row(key)) {
+    for key in KEYS {
+        if !is_same(metadata.row(*key), other.row(*key)) {
             return false;
         }
     }
@@ -86,9 +96,19 @@ fn is_same(value: Option<&[u8]>, other: Option<&[u8]>) -> bool {
     }
 }
 
+/// Whether the metadata has this value, or none, at each of the keys.
+fn has_rows(metadata: &Metadata, rows: &[(&[u8], Option<&[u8]>)]) -> bool {
+    for (key, value) in rows {
+        if !is_same(metadata.row(*key), *value) {
+            return false;
+        }
+    }
+    true
+}
+
 /// Applies the change; where it is refused memory the metadata must be as before, and it is tried again.
 fn apply(metadata: &mut Metadata, change: &Change) -> Result<bool, OutOfMemory> {
-    let before = twice!(metadata.copy())?;
+    let before = copy_of(metadata)?;
     match metadata.apply(change) {
         Ok(()) => Ok(true),
         Err(OutOfMemory) => {
@@ -99,9 +119,33 @@ fn apply(metadata: &mut Metadata, change: &Change) -> Result<bool, OutOfMemory> 
     }
 }
 
+/// Applies the Set of the key as `apply` does.
+fn apply_set(
+    alloc: Global,
+    metadata: &mut Metadata,
+    key: &[u8],
+    value: &[u8],
+) -> Result<bool, OutOfMemory> {
+    let change = set(alloc, key, value)?;
+    apply(metadata, &change)
+}
+
+/// Applies the Clear of the range as `apply` does; false where it is no range.
+fn apply_clear(
+    alloc: Global,
+    metadata: &mut Metadata,
+    begin: &[u8],
+    end: &[u8],
+) -> Result<bool, OutOfMemory> {
+    match clear(alloc, begin, end)? {
+        Some(change) => apply(metadata, &change),
+        None => Ok(false),
+    }
+}
+
 /// Applies the row; where it is refused memory the metadata must be as before, and it is tried again.
 fn apply_row(metadata: &mut Metadata, row: &JournalRow) -> Result<bool, OutOfMemory> {
-    let before = twice!(metadata.copy())?;
+    let before = copy_of(metadata)?;
     match metadata.apply_row(row) {
         Ok(()) => Ok(true),
         Err(OutOfMemory) => {
@@ -112,33 +156,106 @@ fn apply_row(metadata: &mut Metadata, row: &JournalRow) -> Result<bool, OutOfMem
     }
 }
 
+fn applied(metadata: &mut Metadata, change: &Change) -> Result<(), OutOfMemory> {
+    twice!(metadata.apply(change))
+}
+
+/// Puts the value at the key.
+fn put(
+    alloc: Global,
+    metadata: &mut Metadata,
+    key: &[u8],
+    value: &[u8],
+) -> Result<(), OutOfMemory> {
+    let change = set(alloc, key, value)?;
+    applied(metadata, &change)
+}
+
 /// The metadata of these rows.
-fn made(alloc: Global, rows: &[(&[u8], &[u8])]) -> Result<Metadata, AllocError> {
+fn made(alloc: Global, rows: &[(&[u8], &[u8])]) -> Result<Metadata, OutOfMemory> {
     let mut metadata = Metadata::new(alloc);
     for (key, value) in rows {
-        let change = set(alloc, *key, *value)?;
-        if twice!(metadata.apply(&change)).is_err() {
-            return Err(AllocError);
-        }
+        put(alloc, &mut metadata, *key, *value)?;
     }
     Ok(metadata)
 }
 
-/// Four servers with the tags `0:1` to `0:4`, and the keys cut at `b`, `f` and `q`.
-fn four_servers(alloc: Global) -> Result<Metadata, AllocError> {
-    made(
-        alloc,
-        &[
-            (TAG_ROW_1, b"\x00\x00\x01"),
-            (TAG_ROW_2, b"\x00\x00\x02"),
-            (TAG_ROW_3, b"\x00\x00\x03"),
-            (TAG_ROW_4, b"\x00\x00\x04"),
-            (ROW_OF_ALL, SERVER_1),
-            (ROW_OF_B, SERVER_2),
-            (ROW_OF_F, SERVERS_1_AND_3),
-            (ROW_OF_Q, SERVER_4),
-        ],
-    )
+/// The rows of four servers with the tags `0:1` to `0:4`, and of keys cut at `b`, `f` and `q`.
+const FOUR_SERVERS: &[(&[u8], &[u8])] = &[
+    (TAG_ROW_1, b"\x00\x00\x01"),
+    (TAG_ROW_2, b"\x00\x00\x02"),
+    (TAG_ROW_3, b"\x00\x00\x03"),
+    (TAG_ROW_4, b"\x00\x00\x04"),
+    (ROW_OF_ALL, SERVER_1),
+    (ROW_OF_B, SERVER_2),
+    (ROW_OF_F, SERVERS_1_AND_3),
+    (ROW_OF_Q, SERVER_4),
+];
+
+fn four_servers(alloc: Global) -> Result<Metadata, OutOfMemory> {
+    made(alloc, FOUR_SERVERS)
+}
+
+fn tags_of_key(metadata: &Metadata, key: &[u8]) -> Result<Items<Tag>, OutOfMemory> {
+    twice!(metadata.tags_of_key(key))
+}
+
+fn tags_of(metadata: &Metadata, change: &Change) -> Result<Items<Tag>, OutOfMemory> {
+    twice!(metadata.tags_of(change))
+}
+
+fn routing_at(metadata: &Metadata, version: u64) -> Result<Routing, OutOfMemory> {
+    twice!(metadata.routing(version))
+}
+
+fn is_of_key(metadata: &Metadata, key: &[u8], wanted: &[Tag]) -> Result<bool, OutOfMemory> {
+    let tags = tags_of_key(metadata, key)?;
+    Ok(tags.as_slice() == wanted)
+}
+
+fn is_of_change(metadata: &Metadata, change: &Change, wanted: &[Tag]) -> Result<bool, OutOfMemory> {
+    let tags = tags_of(metadata, change)?;
+    Ok(tags.as_slice() == wanted)
+}
+
+fn is_of_set(
+    alloc: Global,
+    metadata: &Metadata,
+    key: &[u8],
+    wanted: &[Tag],
+) -> Result<bool, OutOfMemory> {
+    let change = set(alloc, key, b"v")?;
+    is_of_change(metadata, &change, wanted)
+}
+
+/// Whether the key and a Set of it have the wanted tags.
+fn has_tags(
+    alloc: Global,
+    metadata: &Metadata,
+    key: &[u8],
+    wanted: &[Tag],
+) -> Result<bool, OutOfMemory> {
+    Ok(is_of_key(metadata, key, wanted)? && is_of_set(alloc, metadata, key, wanted)?)
+}
+
+/// Whether the Clear of the range has the wanted tags; false where it is no range.
+fn clear_has_tags(
+    alloc: Global,
+    metadata: &Metadata,
+    begin: &[u8],
+    end: &[u8],
+    wanted: &[Tag],
+) -> Result<bool, OutOfMemory> {
+    match clear(alloc, begin, end)? {
+        Some(change) => is_of_change(metadata, &change, wanted),
+        None => Ok(false),
+    }
+}
+
+fn one_set(alloc: Global, key: &[u8], value: &[u8]) -> Result<Items<Change>, AllocError> {
+    let mut mutations = twice!(Vec::with_capacity(alloc, 1))?;
+    mutations.push(set(alloc, key, value)?)?;
+    Ok(Items::from(mutations))
 }
 
 fn transaction(
@@ -148,252 +265,342 @@ fn transaction(
     key: &[u8],
     value: &[u8],
 ) -> Result<StateTxn, AllocError> {
-    let change = set(alloc, key, value)?;
-    let mut mutations = twice!(Vec::with_capacity(alloc, 1))?;
-    mutations.push(change)?;
     Ok(StateTxn {
-        mutations: Items::from(mutations),
+        mutations: one_set(alloc, key, value)?,
         lock_aware,
-        verdicts: Items::from(twice!(Vec::from_slice(alloc, verdicts))?),
+        verdicts: Items::from(owned(alloc, verdicts)?),
     })
 }
 
-fn row_of_two(
+fn room_for_states(alloc: Global, length: usize) -> Result<Vec<StateTxn>, AllocError> {
+    twice!(Vec::with_capacity(alloc, length))
+}
+
+/// The row of a journal with these transactions: whether each is lock aware, its verdicts, and the key and the
+/// value that it sets.
+fn row_of(
     alloc: Global,
     version: u64,
-    first: StateTxn,
-    second: StateTxn,
+    transactions: &[(bool, &[Verdict], &[u8], &[u8])],
 ) -> Result<JournalRow, AllocError> {
-    let mut states = twice!(Vec::with_capacity(alloc, 2))?;
-    states.push(first)?;
-    states.push(second)?;
+    let mut states = room_for_states(alloc, transactions.len())?;
+    for (lock_aware, verdicts, key, value) in transactions {
+        states.push(transaction(alloc, *lock_aware, *verdicts, *key, *value)?)?;
+    }
     Ok(JournalRow {
         version,
         states: Items::from(states),
     })
 }
 
+const LEAST: &[(&[Verdict], Verdict)] = &[
+    (&[], Verdict::Committed),
+    (&[Verdict::Committed, Verdict::TooOld], Verdict::TooOld),
+    (
+        &[Verdict::TooOld, Verdict::Conflict, Verdict::Committed],
+        Verdict::Conflict,
+    ),
+];
+
 #[test]
 fn the_least_verdict_is_the_answer(rt: HostRuntime) {
-    assert_eq!(rt; join(&[]), Verdict::Committed);
-    assert_eq!(rt;
-        join(&[Verdict::Committed, Verdict::TooOld]),
-        Verdict::TooOld
-    );
-    assert_eq!(rt;
-        join(&[Verdict::TooOld, Verdict::Conflict, Verdict::Committed]),
-        Verdict::Conflict
-    );
+    for (verdicts, least) in LEAST {
+        assert_eq!(rt; join(*verdicts), *least);
+    }
+}
+
+/// Keys at and beside the cuts of four servers, with the tags of the row to the right.
+const BOUNDARIES: &[(&[u8], &[Tag])] = &[
+    (b"", &[TAG_1]),
+    (b"a\xff", &[TAG_1]),
+    (b"b", &[TAG_2]),
+    (b"b\x00", &[TAG_2]),
+    (b"f", &[TAG_1, TAG_3]),
+    (b"\xff\xff\xff", &[TAG_4]),
+];
+
+fn are_boundaries_right(alloc: Global, metadata: &Metadata) -> Result<bool, OutOfMemory> {
+    for (key, wanted) in BOUNDARIES {
+        if !has_tags(alloc, metadata, *key, *wanted)? {
+            return Ok(false);
+        }
+    }
+    Ok(true)
 }
 
 #[test]
 fn a_boundary_belongs_to_the_right_row(rt: HostRuntime) -> Result<(), Fail> {
     let metadata = four_servers(rt.alloc())?;
-    for (key, wanted) in [
-        (b"".as_slice(), [tag(0, 1)].as_slice()),
-        (b"a\xff", &[tag(0, 1)]),
-        (b"b", &[tag(0, 2)]),
-        (b"b\x00", &[tag(0, 2)]),
-        (b"f", &[tag(0, 1), tag(0, 3)]),
-        (b"\xff\xff\xff", &[tag(0, 4)]),
-    ] {
-        let tags = twice!(metadata.tags_of_key(key))?;
-        assert_eq!(rt; tags.as_slice(), wanted);
-        let change = set(rt.alloc(), key, b"v")?;
-        let tags = twice!(metadata.tags_of(&change))?;
-        assert_eq!(rt; tags.as_slice(), wanted);
-    }
+    assert!(rt; are_boundaries_right(rt.alloc(), &metadata)?);
     Ok(())
+}
+
+/// Ranges of the keys of four servers, with the tags of each row that they meet.
+const CLEARS: &[(&[u8], &[u8], &[Tag])] = &[
+    (b"a", b"\xff", &[TAG_1, TAG_2, TAG_3, TAG_4]),
+    (b"a", b"b", &[TAG_1]),
+    (b"b", b"f", &[TAG_2]),
+    (b"b", b"f\x00", &[TAG_1, TAG_2, TAG_3]),
+    (b"c", b"d", &[TAG_2]),
+    (b"p", b"z", &[TAG_1, TAG_3, TAG_4]),
+];
+
+fn are_clears_right(alloc: Global, metadata: &Metadata) -> Result<bool, OutOfMemory> {
+    for (begin, end, wanted) in CLEARS {
+        if !clear_has_tags(alloc, metadata, *begin, *end, *wanted)? {
+            return Ok(false);
+        }
+    }
+    Ok(true)
 }
 
 #[test]
 fn a_clear_has_the_tags_of_each_row_that_it_meets(rt: HostRuntime) -> Result<(), Fail> {
     let metadata = four_servers(rt.alloc())?;
-    for (begin, end, wanted) in [
-        (
-            b"a".as_slice(),
-            b"\xff".as_slice(),
-            [tag(0, 1), tag(0, 2), tag(0, 3), tag(0, 4)].as_slice(),
-        ),
-        (b"a", b"b", &[tag(0, 1)]),
-        (b"b", b"f", &[tag(0, 2)]),
-        (b"b", b"f\x00", &[tag(0, 1), tag(0, 2), tag(0, 3)]),
-        (b"c", b"d", &[tag(0, 2)]),
-        (b"p", b"z", &[tag(0, 1), tag(0, 3), tag(0, 4)]),
-    ] {
-        if let Some(change) = clear(rt.alloc(), begin, end)? {
-            let tags = twice!(metadata.tags_of(&change))?;
-            assert_eq!(rt; tags.as_slice(), wanted);
-        } else {
-            assert!(rt; false, "no range");
-        }
-    }
+    assert!(rt; are_clears_right(rt.alloc(), &metadata)?);
     Ok(())
+}
+
+/// The rows of servers with the tags `1:0` and `0:256`, together from `b` on, and of one without a tag row from
+/// `f` on.
+const TWO_LOCALITIES: &[(&[u8], &[u8])] = &[
+    (TAG_ROW_1, b"\x01\x00\x00"),
+    (TAG_ROW_3, b"\x00\x01\x00"),
+    (ROW_OF_B, SERVERS_1_AND_3),
+    (ROW_OF_F, SERVER_2),
+];
+
+/// The tags `0:256` and `1:0`.
+const RISING: &[Tag] = &[
+    Tag {
+        locality: 0,
+        id: 256,
+    },
+    Tag { locality: 1, id: 0 },
+];
+
+/// Whether the tags of two localities rise, and there are none without a tag row and without a server.
+fn has_tags_of_two_localities(metadata: &Metadata) -> Result<bool, OutOfMemory> {
+    Ok(
+        is_of_key(metadata, b"c", RISING)?
+            && is_of_key(metadata, b"g", &[])?
+            && is_of_key(metadata, b"a", &[])?,
+    )
 }
 
 #[test]
 fn tags_rise_by_locality_and_then_id(rt: HostRuntime) -> Result<(), Fail> {
-    let metadata = made(
-        rt.alloc(),
-        &[
-            (TAG_ROW_1, b"\x01\x00\x00"),
-            (TAG_ROW_3, b"\x00\x01\x00"),
-            (ROW_OF_B, SERVERS_1_AND_3),
-            (ROW_OF_F, SERVER_2),
-        ],
-    )?;
-    let tags = twice!(metadata.tags_of_key(b"c"))?;
-    assert_eq!(rt; tags.as_slice(), [tag(0, 256), tag(1, 0)].as_slice());
-    let untagged = twice!(metadata.tags_of_key(b"g"))?;
-    assert_eq!(rt; untagged.as_slice(), [].as_slice());
-    let unserved = twice!(metadata.tags_of_key(b"a"))?;
-    assert_eq!(rt; unserved.as_slice(), [].as_slice());
+    let metadata = made(rt.alloc(), TWO_LOCALITIES)?;
+    assert!(rt; has_tags_of_two_localities(&metadata)?);
     Ok(())
+}
+
+/// The rows of one server, and at `b` of a value that does not decode.
+const UNDECODED_AT_B: &[(&[u8], &[u8])] = &[
+    (TAG_ROW_1, b"\x00\x00\x01"),
+    (ROW_OF_ALL, SERVER_1),
+    (ROW_OF_B, b"\x01server"),
+];
+
+/// Whether `b` has no tags, and a Clear that meets it and the row before those of the row before alone.
+fn has_no_tags_at_b(alloc: Global, metadata: &Metadata) -> Result<bool, OutOfMemory> {
+    Ok(is_of_key(metadata, b"b", &[])? && clear_has_tags(alloc, metadata, b"a", b"c", &[TAG_1])?)
 }
 
 #[test]
 fn a_value_that_does_not_decode_names_no_server(rt: HostRuntime) -> Result<(), Fail> {
-    let metadata = made(
-        rt.alloc(),
-        &[
-            (TAG_ROW_1, b"\x00\x00\x01"),
-            (ROW_OF_ALL, SERVER_1),
-            (ROW_OF_B, b"\x01server"),
-        ],
-    )?;
-    let tags = twice!(metadata.tags_of_key(b"b"))?;
-    assert_eq!(rt; tags.as_slice(), [].as_slice());
-    if let Some(change) = clear(rt.alloc(), b"a", b"c")? {
-        let tags = twice!(metadata.tags_of(&change))?;
-        assert_eq!(rt; tags.as_slice(), [tag(0, 1)].as_slice());
-    }
+    let metadata = made(rt.alloc(), UNDECODED_AT_B)?;
+    assert!(rt; has_no_tags_at_b(rt.alloc(), &metadata)?);
     Ok(())
 }
+
+/// A key, a row of the configuration, and the version of the metadata.
+const ONE_TO_KEEP: &[(&[u8], &[u8])] = &[(b"a", b"1"), (b"\xff/conf/x", b"2"), (VERSION, b"v")];
+
+const ONE_KEPT: &[(&[u8], Option<&[u8]>)] = &[
+    (b"a", None),
+    (b"\xff/conf/x", None),
+    (VERSION, Some(b"v")),
+];
 
 #[test]
 fn only_kept_rows_are_kept(rt: HostRuntime) -> Result<(), Fail> {
     let alloc = rt.alloc();
-    let mut metadata = made(
-        alloc,
-        &[(b"a", b"1"), (b"\xff/conf/x", b"2"), (VERSION, b"v")],
-    )?;
-    assert_eq!(rt; metadata.row(b"a"), None);
-    assert_eq!(rt; metadata.row(b"\xff/conf/x"), None);
-    assert_eq!(rt; metadata.row(VERSION), Some(b"v".as_slice()));
-    let change = set(alloc, VERSION, b"w")?;
-    assert!(rt; apply(&mut metadata, &change)?);
-    assert_eq!(rt; metadata.row(VERSION), Some(b"w".as_slice()));
+    let mut metadata = made(alloc, ONE_TO_KEEP)?;
+    assert!(rt; has_rows(&metadata, ONE_KEPT));
+    assert!(rt; apply_set(alloc, &mut metadata, VERSION, b"w")?);
+    assert!(rt; has_rows(&metadata, &[(VERSION, Some(b"w"))]));
     Ok(())
+}
+
+/// Whether the routing at version 9 says that there is no lock, no version of the metadata and no route.
+fn has_empty_routing(metadata: &Metadata) -> Result<bool, OutOfMemory> {
+    let routing = routing_at(metadata, 9)?;
+    Ok(is_empty_at(&routing, 9))
+}
+
+fn is_empty_at(routing: &Routing, version: u64) -> bool {
+    routing.version == version
+        && !routing.locked
+        && routing.metadata_version.is_none()
+        && routing.routes.as_slice().is_empty()
+}
+
+/// Whether a Clear of everything leaves no row, and an empty routing.
+fn clears_everything(alloc: Global, metadata: &mut Metadata) -> Result<bool, OutOfMemory> {
+    Ok(
+        apply_clear(alloc, metadata, b"", b"\xff\xff")?
+            && are_same(metadata, &Metadata::new(alloc))
+            && has_empty_routing(metadata)?,
+    )
 }
 
 #[test]
 fn a_clear_of_everything_leaves_no_row(rt: HostRuntime) -> Result<(), Fail> {
-    let alloc = rt.alloc();
-    let mut metadata = four_servers(alloc)?;
-    if let Some(change) = clear(alloc, b"", b"\xff\xff")? {
-        assert!(rt; apply(&mut metadata, &change)?);
-    }
-    assert!(rt; are_same(&metadata, &Metadata::new(alloc)));
-    let routing = twice!(metadata.routing(9))?;
-    assert_eq!(rt; routing.version, 9);
-    assert!(rt; !routing.locked);
-    assert!(rt; routing.metadata_version.is_none());
-    assert_eq!(rt; routing.routes.as_slice().len(), 0);
+    let mut metadata = four_servers(rt.alloc())?;
+    assert!(rt; clears_everything(rt.alloc(), &mut metadata)?);
     Ok(())
+}
+
+const NONE_BEFORE_Q: &[(&[u8], Option<&[u8]>)] = &[
+    (ROW_OF_ALL, None),
+    (ROW_OF_B, None),
+    (ROW_OF_F, None),
+];
+
+const OF_FOUR_SERVERS: &[(&[u8], Option<&[u8]>)] = &[
+    (ROW_OF_ALL, Some(SERVER_1)),
+    (ROW_OF_B, Some(SERVER_2)),
+    (ROW_OF_F, Some(SERVERS_1_AND_3)),
+    (ROW_OF_Q, Some(SERVER_4)),
+    (LOCK, None),
+];
+
+/// Whether the rows of the metadata can be cleared and those of a copy from before stay.
+fn has_copy_of_its_own(alloc: Global, metadata: &mut Metadata) -> Result<bool, OutOfMemory> {
+    let copy = copy_of(metadata)?;
+    Ok(
+        apply_clear(alloc, metadata, ROW_OF_ALL, ROW_OF_Q)?
+            && has_rows(metadata, NONE_BEFORE_Q)
+            && has_rows(&copy, OF_FOUR_SERVERS),
+    )
 }
 
 #[test]
 fn a_copy_has_rows_of_its_own(rt: HostRuntime) -> Result<(), Fail> {
     let alloc = rt.alloc();
     let mut metadata = four_servers(alloc)?;
-    let copy = twice!(metadata.copy())?;
-    if let Some(change) = clear(alloc, ROW_OF_ALL, ROW_OF_Q)? {
-        assert!(rt; apply(&mut metadata, &change)?);
-    }
-    for (key, value) in [
-        (ROW_OF_ALL, SERVER_1),
-        (ROW_OF_B, SERVER_2),
-        (ROW_OF_F, SERVERS_1_AND_3),
-    ] {
-        assert_eq!(rt; metadata.row(key), None);
-        assert_eq!(rt; copy.row(key), Some(value));
-    }
-    assert_eq!(rt; copy.row(ROW_OF_Q), Some(SERVER_4));
-    assert_eq!(rt; copy.row(LOCK), None);
+    assert!(rt; has_copy_of_its_own(alloc, &mut metadata)?);
     Ok(())
 }
+
+const NONE_FROM_B_TO_Q: &[(&[u8], Option<&[u8]>)] = &[
+    (ROW_OF_ALL, Some(SERVER_1)),
+    (ROW_OF_B, None),
+    (ROW_OF_F, None),
+    (ROW_OF_Q, Some(SERVER_4)),
+];
 
 #[test]
 fn a_clear_removes_the_rows_of_its_range(rt: HostRuntime) -> Result<(), Fail> {
     let alloc = rt.alloc();
     let mut metadata = four_servers(alloc)?;
-    if let Some(change) = clear(alloc, ROW_OF_B, ROW_OF_Q)? {
-        assert!(rt; apply(&mut metadata, &change)?);
-    }
-    assert_eq!(rt; metadata.row(ROW_OF_ALL), Some(SERVER_1));
-    assert_eq!(rt; metadata.row(ROW_OF_B), None);
-    assert_eq!(rt; metadata.row(ROW_OF_F), None);
-    assert_eq!(rt; metadata.row(ROW_OF_Q), Some(SERVER_4));
+    assert!(rt; apply_clear(alloc, &mut metadata, ROW_OF_B, ROW_OF_Q)?);
+    assert!(rt; has_rows(&metadata, NONE_FROM_B_TO_Q));
     Ok(())
+}
+
+/// Two transactions, each of which one of its two resolvers refuses.
+const REFUSED: &[(bool, &[Verdict], &[u8], &[u8])] = &[
+    (true, &[Verdict::Committed, Verdict::Conflict], LOCK, b"L"),
+    (true, &[Verdict::TooOld, Verdict::Committed], VERSION, b"v"),
+];
+
+/// Whether the row, applied to four servers, leaves them as they are, without a lock.
+fn leaves_four_servers(alloc: Global, row: &JournalRow) -> Result<bool, OutOfMemory> {
+    let mut metadata = four_servers(alloc)?;
+    Ok(
+        apply_row(&mut metadata, row)?
+            && are_same(&metadata, &four_servers(alloc)?)
+            && !metadata.is_locked(),
+    )
 }
 
 #[test]
 fn what_one_resolver_refuses_changes_nothing(rt: HostRuntime) -> Result<(), Fail> {
-    let alloc = rt.alloc();
-    let refused = transaction(
-        alloc,
-        true,
-        &[Verdict::Committed, Verdict::Conflict],
-        LOCK,
-        b"L",
-    )?;
-    let old = transaction(
-        alloc,
-        true,
-        &[Verdict::TooOld, Verdict::Committed],
-        VERSION,
-        b"v",
-    )?;
-    let row = row_of_two(alloc, 10, refused, old)?;
-    let mut metadata = four_servers(alloc)?;
-    assert!(rt; apply_row(&mut metadata, &row)?);
-    assert!(rt; are_same(&metadata, &four_servers(alloc)?));
-    assert!(rt; !metadata.is_locked());
+    let row = row_of(rt.alloc(), 10, REFUSED)?;
+    assert!(rt; leaves_four_servers(rt.alloc(), &row)?);
     Ok(())
 }
 
-/// A row that locks the database and then sets a row without being lock aware, and a row with a transaction
-/// that is not lock aware and one that is.
-fn locking(alloc: Global) -> Result<(JournalRow, JournalRow), AllocError> {
-    let committed = [Verdict::Committed, Verdict::Committed];
-    let locks = transaction(alloc, true, &committed, LOCK, b"L")?;
-    let behind = transaction(alloc, false, &committed, ROW_OF_ALL, SERVER_1)?;
-    let unaware = transaction(alloc, false, &committed, VERSION, b"v")?;
-    let aware = transaction(alloc, true, &committed, TAG_ROW_1, b"\x00\x00\x01")?;
-    Ok((
-        row_of_two(alloc, 10, locks, behind)?,
-        row_of_two(alloc, 20, unaware, aware)?,
-    ))
+const COMMITTED: &[Verdict] = &[Verdict::Committed, Verdict::Committed];
+
+/// A transaction that locks the database, and then one that sets a row without being lock aware.
+const LOCKING: &[(bool, &[Verdict], &[u8], &[u8])] = &[
+    (true, COMMITTED, LOCK, b"L"),
+    (false, COMMITTED, ROW_OF_ALL, SERVER_1),
+];
+
+/// A transaction that is not lock aware, and one that is.
+const MEETING_A_LOCK: &[(bool, &[Verdict], &[u8], &[u8])] = &[
+    (false, COMMITTED, VERSION, b"v"),
+    (true, COMMITTED, TAG_ROW_1, b"\x00\x00\x01"),
+];
+
+/// Whether the metadata is locked and has the row behind the lock.
+fn is_after_locking(metadata: &Metadata) -> bool {
+    metadata.is_locked() && has_rows(metadata, &[(ROW_OF_ALL, Some(SERVER_1))])
+}
+
+/// Of the transactions that meet a lock only the lock aware one was applied.
+const AFTER_MEETING_A_LOCK: &[(&[u8], Option<&[u8]>)] = &[
+    (VERSION, None),
+    (TAG_ROW_1, Some(b"\x00\x00\x01")),
+];
+
+/// Whether the metadata is as it should be after each of the two rows.
+fn meets_lock(
+    metadata: &mut Metadata,
+    first: &JournalRow,
+    second: &JournalRow,
+) -> Result<bool, OutOfMemory> {
+    Ok(
+        apply_row(metadata, first)?
+            && is_after_locking(metadata)
+            && apply_row(metadata, second)?
+            && has_rows(metadata, AFTER_MEETING_A_LOCK),
+    )
+}
+
+fn folded(alloc: Global, rows: &[JournalRow]) -> Result<Metadata, OutOfMemory> {
+    twice!(Metadata::new(alloc).fold_rows(rows))
+}
+
+/// Whether the rows of a lock, folded, give this metadata.
+fn folds_to(alloc: Global, rows: &[JournalRow], metadata: &Metadata) -> Result<bool, OutOfMemory> {
+    let folded = folded(alloc, rows)?;
+    Ok(
+        is_after_locking(&folded)
+            && has_rows(&folded, AFTER_MEETING_A_LOCK)
+            && are_same(&folded, metadata),
+    )
+}
+
+/// Whether the second row meets the lock of the first, applied and folded.
+fn is_locked_by(alloc: Global, rows: &[JournalRow; 2]) -> Result<bool, OutOfMemory> {
+    let mut metadata = Metadata::new(alloc);
+    let [first, second] = rows;
+    Ok(meets_lock(&mut metadata, first, second)? && folds_to(alloc, rows, &metadata)?)
 }
 
 #[test]
 fn a_lock_is_met_from_the_next_row_on(rt: HostRuntime) -> Result<(), Fail> {
     let alloc = rt.alloc();
-    let (first, second) = locking(alloc)?;
-    let mut metadata = Metadata::new(alloc);
-    assert!(rt; apply_row(&mut metadata, &first)?);
-    assert!(rt; metadata.is_locked());
-    assert_eq!(rt; metadata.row(ROW_OF_ALL), Some(SERVER_1));
-    assert!(rt; apply_row(&mut metadata, &second)?);
-    assert_eq!(rt; metadata.row(VERSION), None);
-    assert_eq!(rt; metadata.row(TAG_ROW_1), Some(b"\x00\x00\x01".as_slice()));
-    let rows = [first, second];
-    let folded = twice!(Metadata::new(alloc).fold_rows(&rows))?;
-    assert!(rt; folded.is_locked());
-    assert_eq!(rt; folded.row(ROW_OF_ALL), Some(SERVER_1));
-    assert_eq!(rt; folded.row(VERSION), None);
-    assert_eq!(rt; folded.row(TAG_ROW_1), Some(b"\x00\x00\x01".as_slice()));
-    assert!(rt; are_same(&folded, &metadata));
+    let rows = [
+        row_of(alloc, 10, LOCKING)?,
+        row_of(alloc, 20, MEETING_A_LOCK)?,
+    ];
+    assert!(rt; is_locked_by(alloc, &rows)?);
     Ok(())
 }
 
@@ -404,36 +611,66 @@ fn an_empty_lock_is_none(rt: HostRuntime) -> Result<(), Fail> {
     Ok(())
 }
 
+fn is_route(route: &Route, key: &[u8], tags: &[Tag]) -> bool {
+    route.key.as_slice() == key && route.tags.as_slice() == tags
+}
+
+fn are_of_four_servers(routes: &[Route]) -> bool {
+    match routes {
+        [all, b, f, q] => {
+            is_route(all, b"", &[TAG_1])
+                && is_route(b, b"b", &[TAG_2])
+                && is_route(f, b"f", &[TAG_1, TAG_3])
+                && is_route(q, b"q", &[TAG_4])
+        }
+        _ => false,
+    }
+}
+
 /// Whether the routing is that of four servers, with a lock.
 fn is_of_four_servers(routing: &Routing) -> bool {
-    let routes = routing.routes.as_slice();
-    for (route, (key, tags)) in routes.iter().zip([
-        (b"".as_slice(), [tag(0, 1)].as_slice()),
-        (b"b", &[tag(0, 2)]),
-        (b"f", &[tag(0, 1), tag(0, 3)]),
-        (b"q", &[tag(0, 4)]),
-    ]) {
-        if route.key.as_slice() != key || route.tags.as_slice() != tags {
-            return false;
-        }
+    routing.version == 7 && routing.locked && are_of_four_servers(routing.routes.as_slice())
+}
+
+fn has_version(routing: &Routing, wanted: &[u8]) -> bool {
+    match &routing.metadata_version {
+        Some(value) => value.as_slice() == wanted,
+        None => false,
     }
-    routing.version == 7 && routing.locked && routes.len() == 4
+}
+
+fn copy_of_routing(routing: &Routing) -> Result<Routing, OutOfMemory> {
+    twice!(routing.copy())
+}
+
+/// Whether a copy of the routing is that of four servers, with a lock.
+fn has_copy_of_four_servers(routing: &Routing) -> Result<bool, OutOfMemory> {
+    let copy = copy_of_routing(routing)?;
+    Ok(is_of_four_servers(&copy))
+}
+
+/// Whether the routing of the metadata and its copy are that of four servers, with a lock and a version.
+fn has_routing_of_four_servers(metadata: &Metadata) -> Result<bool, OutOfMemory> {
+    let routing = routing_at(metadata, 7)?;
+    Ok(
+        is_of_four_servers(&routing)
+            && has_version(&routing, b"v")
+            && has_copy_of_four_servers(&routing)?,
+    )
+}
+
+/// Whether four servers with a lock and a version of the metadata, each set as by `apply`, have their routing.
+fn is_routed(alloc: Global, metadata: &mut Metadata) -> Result<bool, OutOfMemory> {
+    Ok(
+        apply_set(alloc, metadata, LOCK, b"L")?
+            && apply_set(alloc, metadata, VERSION, b"v")?
+            && has_routing_of_four_servers(metadata)?,
+    )
 }
 
 #[test]
 fn a_routing_has_a_route_for_each_row(rt: HostRuntime) -> Result<(), Fail> {
-    let alloc = rt.alloc();
-    let mut metadata = four_servers(alloc)?;
-    for change in [set(alloc, LOCK, b"L")?, set(alloc, VERSION, b"v")?] {
-        assert!(rt; apply(&mut metadata, &change)?);
-    }
-    let routing = twice!(metadata.routing(7))?;
-    assert!(rt; is_of_four_servers(&routing));
-    match &routing.metadata_version {
-        Some(value) => assert_eq!(rt; value.as_slice(), b"v".as_slice()),
-        None => assert!(rt; false, "no version of the metadata"),
-    }
-    let copy = twice!(routing.copy())?;
-    assert!(rt; is_of_four_servers(&copy));
+    let mut metadata = four_servers(rt.alloc())?;
+    assert!(rt; is_routed(rt.alloc(), &mut metadata)?);
     Ok(())
 }
