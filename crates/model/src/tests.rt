@@ -150,105 +150,211 @@ fn numbers_outside_their_limits_are_refused(rt: HostRuntime) {
     assert_eq!(rt; Refusal::BadConfig.name(), "BadConfig");
 }
 
-#[test]
-fn moves_and_parts_are_copied(rt: HostRuntime) -> Result<(), Fail> {
-    let alloc = rt.alloc();
-    let moved = Move {
+fn moved(alloc: Global) -> Result<Move, Fail> {
+    Ok(Move {
         range: range(alloc)?,
         date: 21,
         dest: 1,
-    };
-    let part = Part {
+    })
+}
+
+fn copy_move(rt: &impl Abort, alloc: Global, value: &Move) -> Result<(), Fail> {
+    let copy = twice!(value.copy(), OutOfMemory)?;
+    assert_alike(rt, alloc, &copy, value)
+}
+
+#[test]
+fn moves_are_copied(rt: HostRuntime) -> Result<(), Fail> {
+    let moved = moved(rt.alloc())?;
+    copy_move(&rt, rt.alloc(), &moved)
+}
+
+fn part(alloc: Global) -> Result<Part, Fail> {
+    let reads = one(alloc, range(alloc)?)?;
+    Ok(Part {
         number: 1,
         snapshot: 20,
-        reads: one(alloc, range(alloc)?)?,
+        reads,
         writes: Items::from(Vec::new(alloc)),
-    };
-    assert_alike(&rt, alloc, &twice!(moved.copy(), OutOfMemory)?, &moved)?;
-    assert_alike(&rt, alloc, &twice!(part.copy(), OutOfMemory)?, &part)
+    })
+}
+
+fn copy_part(rt: &impl Abort, alloc: Global, value: &Part) -> Result<(), Fail> {
+    let copy = twice!(value.copy(), OutOfMemory)?;
+    assert_alike(rt, alloc, &copy, value)
+}
+
+#[test]
+fn parts_are_copied(rt: HostRuntime) -> Result<(), Fail> {
+    let part = part(rt.alloc())?;
+    copy_part(&rt, rt.alloc(), &part)
+}
+
+fn copy_state_txn(rt: &impl Abort, alloc: Global, value: &StateTxn) -> Result<(), Fail> {
+    let copy = twice!(value.copy(), OutOfMemory)?;
+    assert_alike(rt, alloc, &copy, value)
+}
+
+#[test]
+fn state_transactions_are_copied(rt: HostRuntime) -> Result<(), Fail> {
+    let txn = state_txn(rt.alloc())?;
+    copy_state_txn(&rt, rt.alloc(), &txn)
+}
+
+fn journal_row(alloc: Global) -> Result<JournalRow, Fail> {
+    Ok(JournalRow {
+        version: 10,
+        states: one(alloc, state_txn(alloc)?)?,
+    })
+}
+
+fn copy_journal_row(rt: &impl Abort, alloc: Global, value: &JournalRow) -> Result<(), Fail> {
+    let copy = twice!(value.copy(), OutOfMemory)?;
+    assert_alike(rt, alloc, &copy, value)
 }
 
 #[test]
 fn journal_rows_are_copied(rt: HostRuntime) -> Result<(), Fail> {
-    let alloc = rt.alloc();
-    let txn = state_txn(alloc)?;
-    let row = JournalRow {
-        version: 10,
-        states: one(alloc, state_txn(alloc)?)?,
-    };
-    assert_alike(&rt, alloc, &twice!(txn.copy(), OutOfMemory)?, &txn)?;
-    assert_alike(&rt, alloc, &twice!(row.copy(), OutOfMemory)?, &row)
+    let row = journal_row(rt.alloc())?;
+    copy_journal_row(&rt, rt.alloc(), &row)
+}
+
+fn copy_carried(rt: &impl Abort, alloc: Global, value: &Carried) -> Result<(), Fail> {
+    let copy = twice!(value.copy(), OutOfMemory)?;
+    assert_alike(rt, alloc, &copy, value)
+}
+
+#[test]
+fn carried_changes_are_copied(rt: HostRuntime) -> Result<(), Fail> {
+    let carried = carried(rt.alloc())?;
+    copy_carried(&rt, rt.alloc(), &carried)
+}
+
+fn copy_unseen_state(rt: &impl Abort, alloc: Global, value: &UnseenState) -> Result<(), Fail> {
+    let copy = twice!(value.copy(), OutOfMemory)?;
+    assert_alike(rt, alloc, &copy, value)
+}
+
+#[test]
+fn unseen_states_are_copied(rt: HostRuntime) -> Result<(), Fail> {
+    let state = unseen_state(rt.alloc())?;
+    copy_unseen_state(&rt, rt.alloc(), &state)
+}
+
+fn copy_unseen_row(rt: &impl Abort, alloc: Global, value: &UnseenRow) -> Result<(), Fail> {
+    let copy = twice!(value.copy(), OutOfMemory)?;
+    assert_alike(rt, alloc, &copy, value)
 }
 
 #[test]
 fn unseen_rows_are_copied(rt: HostRuntime) -> Result<(), Fail> {
-    let alloc = rt.alloc();
-    let carried = carried(alloc)?;
-    let state = unseen_state(alloc)?;
-    let row = unseen_row(alloc)?;
-    assert_alike(&rt, alloc, &twice!(carried.copy(), OutOfMemory)?, &carried)?;
-    assert_alike(&rt, alloc, &twice!(state.copy(), OutOfMemory)?, &state)?;
-    assert_alike(&rt, alloc, &twice!(row.copy(), OutOfMemory)?, &row)
+    let row = unseen_row(rt.alloc())?;
+    copy_unseen_row(&rt, rt.alloc(), &row)
+}
+
+fn mark(alloc: Global) -> Result<StateMark, Fail> {
+    Ok(StateMark {
+        number: 1,
+        carried: Some(carried(alloc)?),
+    })
+}
+
+fn copy_mark(rt: &impl Abort, alloc: Global, value: &StateMark) -> Result<(), Fail> {
+    let copy = twice!(value.copy(), OutOfMemory)?;
+    assert_alike(rt, alloc, &copy, value)
 }
 
 #[test]
-fn marks_and_replies_are_copied(rt: HostRuntime) -> Result<(), Fail> {
-    let alloc = rt.alloc();
-    let mark = StateMark {
-        number: 1,
-        carried: Some(carried(alloc)?),
-    };
-    let reply = Reply {
+fn marks_are_copied(rt: HostRuntime) -> Result<(), Fail> {
+    let mark = mark(rt.alloc())?;
+    copy_mark(&rt, rt.alloc(), &mark)
+}
+
+fn reply(alloc: Global) -> Result<Reply, Fail> {
+    let verdicts = one(alloc, Verdict::Committed)?;
+    let unseen = one(alloc, unseen_row(alloc)?)?;
+    Ok(Reply {
         resolver: 0,
         proxy: 1,
         row: 2,
         version: 30,
-        verdicts: one(alloc, Verdict::Committed)?,
-        unseen: one(alloc, unseen_row(alloc)?)?,
-    };
-    assert_alike(&rt, alloc, &twice!(mark.copy(), OutOfMemory)?, &mark)?;
-    assert_alike(&rt, alloc, &twice!(reply.copy(), OutOfMemory)?, &reply)
+        verdicts,
+        unseen,
+    })
+}
+
+fn copy_reply(rt: &impl Abort, alloc: Global, value: &Reply) -> Result<(), Fail> {
+    let copy = twice!(value.copy(), OutOfMemory)?;
+    assert_alike(rt, alloc, &copy, value)
+}
+
+#[test]
+fn replies_are_copied(rt: HostRuntime) -> Result<(), Fail> {
+    let reply = reply(rt.alloc())?;
+    copy_reply(&rt, rt.alloc(), &reply)
+}
+
+fn copy_route(rt: &impl Abort, alloc: Global, value: &Route) -> Result<(), Fail> {
+    let copy = twice!(value.copy(), OutOfMemory)?;
+    assert_alike(rt, alloc, &copy, value)
+}
+
+#[test]
+fn routes_are_copied(rt: HostRuntime) -> Result<(), Fail> {
+    let route = route(rt.alloc())?;
+    copy_route(&rt, rt.alloc(), &route)
+}
+
+fn routing(alloc: Global) -> Result<Routing, Fail> {
+    let routes = one(alloc, route(alloc)?)?;
+    Ok(Routing {
+        version: 10,
+        locked: true,
+        metadata_version: Some(bytes(alloc, b"v")?),
+        routes,
+    })
+}
+
+fn copy_routing(rt: &impl Abort, alloc: Global, value: &Routing) -> Result<(), Fail> {
+    let copy = twice!(value.copy(), OutOfMemory)?;
+    assert_alike(rt, alloc, &copy, value)
 }
 
 #[test]
 fn routings_are_copied(rt: HostRuntime) -> Result<(), Fail> {
-    let alloc = rt.alloc();
-    let route_of_m = route(alloc)?;
-    let routing = Routing {
+    let routing = routing(rt.alloc())?;
+    copy_routing(&rt, rt.alloc(), &routing)
+}
+
+fn copy_tagged(rt: &impl Abort, alloc: Global, value: &Tagged) -> Result<(), Fail> {
+    let copy = twice!(value.copy(), OutOfMemory)?;
+    assert_alike(rt, alloc, &copy, value)
+}
+
+#[test]
+fn tagged_changes_are_copied(rt: HostRuntime) -> Result<(), Fail> {
+    let tagged = tagged(rt.alloc())?;
+    copy_tagged(&rt, rt.alloc(), &tagged)
+}
+
+fn finished(alloc: Global) -> Result<Finished, Fail> {
+    let outcomes = one(alloc, Outcome::Locked)?;
+    let tagged = one(alloc, tagged(alloc)?)?;
+    Ok(Finished {
+        row: 0,
         version: 10,
-        locked: true,
-        metadata_version: Some(bytes(alloc, b"v")?),
-        routes: one(alloc, route(alloc)?)?,
-    };
-    assert_alike(
-        &rt,
-        alloc,
-        &twice!(route_of_m.copy(), OutOfMemory)?,
-        &route_of_m,
-    )?;
-    assert_alike(&rt, alloc, &twice!(routing.copy(), OutOfMemory)?, &routing)
+        outcomes,
+        tagged,
+    })
+}
+
+fn copy_finished(rt: &impl Abort, alloc: Global, value: &Finished) -> Result<(), Fail> {
+    let copy = twice!(value.copy(), OutOfMemory)?;
+    assert_alike(rt, alloc, &copy, value)
 }
 
 #[test]
 fn finished_batches_are_copied(rt: HostRuntime) -> Result<(), Fail> {
-    let alloc = rt.alloc();
-    let mutation = tagged(alloc)?;
-    let finished = Finished {
-        row: 0,
-        version: 10,
-        outcomes: one(alloc, Outcome::Locked)?,
-        tagged: one(alloc, tagged(alloc)?)?,
-    };
-    assert_alike(
-        &rt,
-        alloc,
-        &twice!(mutation.copy(), OutOfMemory)?,
-        &mutation,
-    )?;
-    assert_alike(
-        &rt,
-        alloc,
-        &twice!(finished.copy(), OutOfMemory)?,
-        &finished,
-    )
+    let finished = finished(rt.alloc())?;
+    copy_finished(&rt, rt.alloc(), &finished)
 }

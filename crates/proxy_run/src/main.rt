@@ -1,38 +1,12 @@
-//! Folds journal rows into metadata.
+//! The program: its words say what to do with the script on standard input, and what comes of it goes to
+//! standard output.
 #![tactic(auto)]
 
 ghost use Rattle.std.specs.Prelude.{codes};
-ghost use Rattle.proxy_run.specs.FoldLines.{line};
-ghost use Rattle.proxy_run.specs.Statuses.{IsTurnedAwayWith};
+ghost use Rattle.script_run.specs.FoldLines.{line};
+ghost use Rattle.script_run.specs.Statuses.{IsTurnedAwayWith};
 
-mod answer;
-mod batch_checks;
-mod batch_reading;
-mod batch_shapes;
-#[cfg(test)]
-mod batch_tests;
-mod command_line;
-mod devices;
-mod fold_checks;
-mod fold_limits;
-mod fold_lines;
-mod fold_reading;
-mod fold_script;
-mod fold_shapes;
-#[cfg(test)]
-mod fold_tests;
-mod mode;
-mod run;
-mod script_fault;
-mod shaped;
-mod status;
-#[cfg(test)]
-mod tests;
-mod value_reading;
-
-use devices::{Reader, Writer};
-use run::run_words;
-use status::Status;
+use script_run::{Reader, Status, Writer, run_words};
 use std::alloc::Global;
 use std::env;
 use std::io::ErrorKind;

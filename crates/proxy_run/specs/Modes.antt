@@ -1,9 +1,0 @@
--- The modes of the program by their names.
-use Rattle.std.specs.Prelude.{ℕ, List, Option, Some, None, codes, if◌then◌else◌}
-use Rattle.std.specs.Str.{bytes_eq}
-use Rattle.proxy_run.specs.declared.mode.Mode.{Mode}
-use Rattle.proxy_run.specs.declared.mode.Mode.TheVariants.{Fold}
-
--- the mode of a name
-abbrev pub mode_named : List ℕ → Option Mode
-mode_named name = if bytes_eq name (codes "fold") then Some Fold else None

@@ -1,0 +1,16 @@
+use Rattle.std.proofs.Common.{◌≡◌, ◌≤◌, length}
+use Rattle.std.specs.Io.KnownBytes.{Consumes}
+use Rattle.script_run.specs.Devices.{raised}
+use Rattle.script_run.proofs.devices.read_all.Given as goal
+
+abbrev pub invariant-loop-call : goal.invariant-loop-call
+invariant-loop-call g l =
+    let remaining = g.S.Source.remaining in
+    let failed = g.S.Source.failed in
+    let reads = g.S.Source.reads in
+    record {
+      split : Consumes (remaining l.fn.source) (remaining l.source) l.bytes.items;
+      fine : failed l.source ≡ failed l.fn.source;
+      many : l._call ≤ length l.bytes.items;
+      called : reads l.source ≡ raised l._call (reads l.fn.source);
+    }

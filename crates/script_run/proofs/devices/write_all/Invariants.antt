@@ -1,0 +1,15 @@
+use Rattle.std.proofs.Common.{◌≡◌, length}
+use Rattle.script_run.specs.Devices.{AppendsBefore}
+use Rattle.script_run.proofs.devices.write_all.Given as goal
+
+abbrev pub invariant-loop-rest : goal.invariant-loop-rest
+invariant-loop-rest g l =
+    let written = g.T.Sink.written in
+    let failed = g.T.Sink.failed in
+    record {
+      split : AppendsBefore (written l.fn.sink) (written l.sink) l.bytes l.rest;
+      fine : failed l.sink ≡ failed l.fn.sink;
+    }
+
+abbrev pub decreases-loop-rest : goal.decreases-loop-rest
+decreases-loop-rest g l = length l.rest

@@ -1,0 +1,43 @@
+use Rattle.std.proofs.Common.{◌≡◌, [], Option, Some, inl, inr, refl, subst, sym, ◌∙◌}
+use Rattle.clap.specs.Kinds.{HasKind, Kinds}
+use Rattle.clap.specs.Words.{IsAmong, kind_of}
+use Rattle.clap.specs.declared.error.Error.{Error}
+use Rattle.clap.specs.declared.error.kind.ErrorKind.TheVariants as kinds
+use Rattle.script_run.specs.Runs.{RunsMode}
+use Rattle.script_run.specs.declared.mode.Mode.{Mode}
+use Rattle.script_run.specs.declared.mode.Mode.TheVariants.{Fold}
+use Rattle.script_run.proofs.KnownWords.{fold_line_folds, other_mode_turned_away}
+use Rattle.script_run.proofs.run.run_words.Goals as goal
+
+-- an error where no kind comes is want of memory
+only_memory : (possible : Kinds) (error : Error) → possible ≡ [] → HasKind possible error → kind_of error ≡ kinds.OutOfMemory
+only_memory possible error none (inl memory) = memory
+only_memory possible error none (inr among) = absurd (subst (IsAmong (kind_of error)) none among)
+
+-- the mode that was given is `fold`, and that ran
+runs_fold : (given : Option Mode) (folds : Type 0) → given ≡ Some Fold → folds → RunsMode given folds
+runs_fold given folds is ran = subst (λ (mode : Option Mode). RunsMode mode folds) (sym is) ran
+
+pub returns-in-Ok-Some-Fold-clause-mode : goal.returns-in-Ok-Some-Fold-clause-mode
+returns-in-Ok-Some-Fold-clause-mode g c =
+    let read = c.in-Ok-Some-Fold.ensures.read in
+    record {
+      names = read.0;
+      refused = λ some. absurd (some read.1.0);
+      taken = λ _. inr (runs_fold _ _ (sym read.1.1 ∙ c.in-Ok-Some-Fold.ensures.offered) c.run_fold.ensures.folds);
+    }
+
+pub returns-in-Err-clause-mode : goal.returns-in-Err-clause-mode
+returns-in-Err-clause-mode g c =
+    let read = c.in-Err.ensures.read in
+    record {
+      names = read.0;
+      refused = λ _. (c.refusal.ensures.turned, (refl, refl));
+      taken = λ none. inl (c.refusal.ensures.memory (only_memory _ c.in-Err.error none read.1), (refl, refl));
+    }
+
+pub returns-in-Ok-Some-Fold-clause-other : goal.returns-in-Ok-Some-Fold-clause-other
+returns-in-Ok-Some-Fold-clause-other g c = other_mode_turned_away _ _ _ _ (returns-in-Ok-Some-Fold-clause-mode g c)
+
+pub returns-in-Err-clause-fold : goal.returns-in-Err-clause-fold
+returns-in-Err-clause-fold g c = fold_line_folds _ _ _ _ (returns-in-Err-clause-mode g c)

@@ -1,0 +1,41 @@
+-- The refusals of a batch, in their order (this project's profile).
+use Rattle.std.specs.Prelude.{◌≡◌, List, length, nat_le, if◌then◌else◌, Option, Some, None, Result, Ok, Err}
+use Rattle.std.specs.Option.{option_or}
+use Rattle.model.specs.Stamps.{Given}
+use Rattle.mutation.specs.declared.refusal.Refusal.{Refusal}
+use Rattle.mutation.specs.declared.refusal.Refusal.TheVariants as refusals
+use Rattle.mutation.specs.Faults.{first_fault, transaction_fault}
+use Rattle.mutation.specs.Limits.{batch_limit}
+use Rattle.script_run.specs.declared.script_fault.ScriptFault.{ScriptFault}
+use Rattle.script_run.specs.declared.script_fault.ScriptFault.TheVariants as faults
+
+-- more transactions than a batch has
+abbrev pub size_fault : List Given → Option Refusal
+size_fault transactions = if nat_le (length transactions) batch_limit then None else Some refusals.BatchTooLarge
+
+-- the first fault of the transactions, in their order; and then that they are too many
+abbrev pub batch_fault : List Given → Option Refusal
+batch_fault transactions = option_or (first_fault transaction_fault transactions) (size_fault transactions)
+
+abbrev pub unless_refused : Option Refusal → List Given → Result (List Given) ScriptFault
+unless_refused None transactions = Ok transactions
+unless_refused (Some refusal) transactions = Err (faults.RefusedBatch refusal)
+
+-- the batch of these transactions, as they were given, or its first fault
+abbrev pub checked_batch : List Given → Result (List Given) ScriptFault
+checked_batch transactions = unless_refused (batch_fault transactions) transactions
+
+-- ---- what a checker answers
+
+-- a refusal, as a fault of the script
+abbrev pub fault_of_refusal : Refusal → ScriptFault
+fault_of_refusal refusals.OutOfMemory = faults.OutOfMemory
+fault_of_refusal refusal = faults.RefusedBatch refusal
+
+-- a fault says what the first refusal is; want of memory says nothing
+abbrev pub IsOfRefusal : ScriptFault → Option Refusal → Type 0
+IsOfRefusal faults.NotJson said = ⊥
+IsOfRefusal faults.BadShape said = ⊥
+IsOfRefusal (faults.Refused refusal) said = ⊥
+IsOfRefusal (faults.RefusedBatch refusal) said = said ≡ Some refusal
+IsOfRefusal faults.OutOfMemory said = Unit {0}

@@ -1,0 +1,55 @@
+-- The form of a fold script: all its fields are there, and none other is; their order is free (this project's profile).
+use Rattle.std.specs.Prelude.{codes, if◌then◌else◌, Option, Some, None}
+use Rattle.serde_json.specs.Data.{Data}
+use Rattle.serde_json.specs.Find.{get, as_bool}
+use Rattle.script_run.specs.declared.fold_script.RawScript.{RawScript}
+use Rattle.script_run.specs.declared.fold_script.RawRow.{RawRow}
+use Rattle.script_run.specs.declared.fold_script.RawState.{RawState}
+use Rattle.script_run.specs.declared.fold_script.RawChange.{RawChange}
+use Rattle.script_run.specs.declared.fold_script.RawChange.TheVariants.{Set, Clear}
+use Rattle.script_run.specs.Shapes.{◌>>=◌, number_shape, bytes_shape, verdict_shape, list_shape, pair_shape, has_fields, field_shape}
+
+-- `{"set":[key,value]}`, and otherwise `{"clear":[begin,end]}`
+abbrev pub set_or_clear : Option Data → Data → Option RawChange
+set_or_clear (Some value) d = do
+  pair ← pair_shape value
+  Some (Set pair.0 pair.1)
+set_or_clear None d = do
+  pair ← field_shape pair_shape (codes "clear") d
+  Some (Clear pair.0 pair.1)
+
+-- one field, `set` or `clear`
+abbrev pub change_shape : Data → Option RawChange
+change_shape d = if has_fields 1 d then set_or_clear (get (codes "set") d) d else None
+
+-- `{"mutations":[..],"lock_aware":..,"verdicts":[..]}`
+abbrev pub state_fields : Data → Option RawState
+state_fields d = do
+  mutations ← field_shape (list_shape change_shape) (codes "mutations") d
+  lock_aware ← field_shape as_bool (codes "lock_aware") d
+  verdicts ← field_shape (list_shape verdict_shape) (codes "verdicts") d
+  Some (record { mutations = mutations; lock_aware = lock_aware; verdicts = verdicts })
+
+abbrev pub state_shape : Data → Option RawState
+state_shape d = if has_fields 3 d then state_fields d else None
+
+-- `{"version":..,"states":[..]}`
+abbrev pub row_fields : Data → Option RawRow
+row_fields d = do
+  version ← field_shape number_shape (codes "version") d
+  states ← field_shape (list_shape state_shape) (codes "states") d
+  Some (record { version = version; states = states })
+
+abbrev pub row_shape : Data → Option RawRow
+row_shape d = if has_fields 2 d then row_fields d else None
+
+-- `{"resolvers":..,"rows":[..],"ask":[..]}`
+abbrev pub script_fields : Data → Option RawScript
+script_fields d = do
+  resolvers ← field_shape number_shape (codes "resolvers") d
+  rows ← field_shape (list_shape row_shape) (codes "rows") d
+  ask ← field_shape (list_shape bytes_shape) (codes "ask") d
+  Some (record { resolvers = resolvers; rows = rows; ask = ask })
+
+abbrev pub fields_shape : Data → Option RawScript
+fields_shape d = if has_fields 3 d then script_fields d else None

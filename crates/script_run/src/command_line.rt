@@ -1,0 +1,44 @@
+//! The command line, as `clap` reads it.
+ghost use Rattle.std.specs.Prelude.{◌≡◌, IfOk, Some, codes, map};
+ghost use Rattle.clap.specs.Words.{first_value, found_of};
+ghost use Rattle.script_run.specs.CommandLine.{IsCommandLine, ModeNames, ReadsMode, mode_given};
+
+use crate::mode::{Mode, NAMES};
+use clap::{Arg, ArgMatches, Command, Error};
+use std::alloc::{AllocError, Global};
+use std::convert::AsStr;
+
+/// The mode that `clap` reads from the words after the program's name, or its refusal of them. The
+/// refusal may also be want of memory.
+pub fn read_mode<'a, W: AsStr>(alloc: Global, words: &'a [W]) -> Result<Option<Mode>, Error>
+    ensures read { ReadsMode (map W.text words.entry.now) result }
+    ensures offered { IfOk result (λ mode. mode ≡ Some Mode.Fold) }
+{
+    let command = command(alloc)?;
+    let matches = command.try_get_matches_from(words)?;
+    Ok(mode_in(&matches))
+}
+
+// The command line `proxy_run [MODE]`.
+fn command<'a>(alloc: Global) -> Result<Command<'a>, AllocError>
+    ensures { IfOk result (λ command. (names : ModeNames) × IsCommandLine names command) }
+{
+    let mode = Arg::new(alloc, "mode")
+        .value_name("MODE")
+        .help("What to do with the script: fold, where it is left out")
+        .value_parser(NAMES.as_slice());
+    Command::new(alloc, "proxy_run")
+        .about("Reads a script from standard input and prints what comes of it")
+        .no_binary_name(true)
+        .arg(mode)
+}
+
+// The mode that the matches name.
+fn mode_in(matches: &ArgMatches<'_>) -> Option<Mode>
+    ensures { result ≡ mode_given (first_value (found_of matches.now) (codes "mode")) }
+{
+    match matches.get_str("mode") {
+        Some(name) => Mode::named(name),
+        None => Some(Mode::Fold),
+    }
+}

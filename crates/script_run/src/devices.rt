@@ -1,0 +1,228 @@
+//! What the program reads from and writes to: one read call, one write call, and a count of failures.
+ghost use Rattle.std.specs.Prelude.{◌≡◌, ◌⊎◌, ◌+◌, ◌-◌, ◌^◌, ◌<◌, ◌≤◌, length, ℕ, List, [], Option, IfOk, IfSome};
+ghost use Rattle.std.specs.Prelude.{IsErrOf, OnErr, OnOk};
+ghost use Rattle.std.specs.Io.{ReadsAtMost, WritesAtMost};
+ghost use Rattle.std.specs.Io.KnownBytes.{Appends, ReadConsumes, WriteAppends};
+ghost use Rattle.script_run.specs.Devices.{AppendsBeginning, IsOneMore, raised};
+ghost use Rattle.script_run.specs.declared.devices.ReadFault.TheVariants as faults;
+
+use std::alloc::{AllocError, Global};
+use std::io::{Read, Write};
+
+/// A device refused a call, for whatever reason.
+#[derive(Clone, Copy, Debug, PartialEq, Eq)]
+pub struct Failed;
+
+/// What gives bytes, where they are known.
+pub trait Source {
+    ghost remaining: { Self → Option (List ℕ) };
+
+    ghost failed: { Self → ℕ };
+
+    ghost reads: { Self → ℕ };
+
+    /// Fills the front of the buffer, and says how many bytes it gave: none only at the end, or where
+    /// the buffer has no room.
+    fn read(&mut self, buffer: &mut [u8]) -> Result<usize, Failed>
+        ensures bound { ReadsAtMost result buffer.new }
+        ensures taken { ReadConsumes (remaining self.old) (remaining self.new) result buffer.new }
+        ensures fine { OnOk result (failed self.new ≡ failed self.old) }
+        ensures counted { OnErr result (IsOneMore (failed self.old) (failed self.new)) }
+        ensures called { IsOneMore (reads self.old) (reads self.new) };
+
+    /// How many calls have failed.
+    fn failures(&self) -> u64
+        ensures { result ≡ failed self.now };
+}
+
+/// What takes bytes, where they are known.
+pub trait Sink {
+    ghost written: { Self → Option (List ℕ) };
+
+    ghost failed: { Self → ℕ };
+
+    /// Takes bytes from the front, and says how many. A call that is given some and takes none has failed.
+    fn write(&mut self, bytes: &[u8]) -> Result<usize, Failed>
+        ensures bound { WritesAtMost result bytes.now }
+        ensures put { WriteAppends (written self.old) (written self.new) result bytes.now }
+        ensures fine { IfOk result (λ n. (0 < n) ⊎ (bytes.now ≡ []) → failed self.new ≡ failed self.old) }
+        ensures none { IfOk result (λ n. n ≡ 0 → 0 < length bytes.now → IsOneMore (failed self.old) (failed self.new)) }
+        ensures counted { OnErr result (IsOneMore (failed self.old) (failed self.new)) };
+
+    /// How many calls have failed.
+    fn failures(&self) -> u64
+        ensures { result ≡ failed self.now };
+}
+
+/// A reader of std with a count of its failures.
+#[derive(Drop)]
+pub struct Reader<R: Read> {
+    inner: R,
+    failures: u64,
+    reads: u64,
+}
+
+impl<R: Read> Reader<R> {
+    /// The reader before any call.
+    pub fn new(inner: R) -> Reader<R>
+        ensures bytes { ⟦<Reader<R> as Source>⟧.remaining result ≡ R.remaining inner }
+        ensures failed { ⟦<Reader<R> as Source>⟧.failed result ≡ 0 }
+        ensures reads { ⟦<Reader<R> as Source>⟧.reads result ≡ 0 }
+    {
+        Reader {
+            inner,
+            failures: 0,
+            reads: 0,
+        }
+    }
+}
+
+impl<R: Read> Source for Reader<R> {
+    ghost remaining = { λ s. R.remaining s.inner };
+
+    ghost failed = { λ s. s.failures };
+
+    ghost reads = { λ s. s.reads };
+
+    fn read(&mut self, buffer: &mut [u8]) -> Result<usize, Failed> {
+        self.reads = self.reads.saturating_add(1);
+        match self.inner.read(buffer) {
+            Ok(count) => Ok(count),
+            Err(_) => {
+                self.failures = self.failures.saturating_add(1);
+                Err(Failed)
+            }
+        }
+    }
+
+    fn failures(&self) -> u64 {
+        self.failures
+    }
+}
+
+/// A writer of std with a count of its failures.
+#[derive(Drop)]
+pub struct Writer<W: Write> {
+    inner: W,
+    failures: u64,
+}
+
+impl<W: Write> Writer<W> {
+    /// The writer before any call.
+    pub fn new(inner: W) -> Writer<W>
+        ensures bytes { ⟦<Writer<W> as Sink>⟧.written result ≡ W.contents inner }
+        ensures failed { ⟦<Writer<W> as Sink>⟧.failed result ≡ 0 }
+    {
+        Writer { inner, failures: 0 }
+    }
+}
+
+impl<W: Write> Sink for Writer<W> {
+    ghost written = { λ s. W.contents s.inner };
+
+    ghost failed = { λ s. s.failures };
+
+    fn write(&mut self, bytes: &[u8]) -> Result<usize, Failed> {
+        match self.inner.write(bytes) {
+            Ok(count) => {
+                if count == 0 && !bytes.is_empty() {
+                    self.failures = self.failures.saturating_add(1);
+                }
+                Ok(count)
+            }
+            Err(_) => {
+                self.failures = self.failures.saturating_add(1);
+                Err(Failed)
+            }
+        }
+    }
+
+    fn failures(&self) -> u64 {
+        self.failures
+    }
+}
+
+/// Why a source could not be read to its end.
+#[derive(Clone, Copy, Debug, PartialEq, Eq)]
+pub enum ReadFault {
+    /// There was no memory for the bytes.
+    OutOfMemory,
+    /// A read failed.
+    Device,
+    /// The end did not come within the limit on read calls.
+    Limit,
+}
+
+impl From<AllocError> for ReadFault {
+    ghost from_gives = { λ _ e. e ≡ faults.OutOfMemory };
+
+    fn from(_error: AllocError) -> ReadFault {
+        ReadFault::OutOfMemory
+    }
+}
+
+impl From<Failed> for ReadFault {
+    ghost from_gives = { λ _ e. e ≡ faults.Device };
+
+    fn from(_failed: Failed) -> ReadFault {
+        ReadFault::Device
+    }
+}
+
+/// How many read calls a whole input may take (this project's profile). The call that meets the end
+/// is one of them.
+pub const READ_LIMIT: u64 = 1_048_576;
+
+// How many bytes one read call asks for.
+const CHUNK: usize = 65_536;
+
+/// All bytes that the source has.
+///
+/// Answers `Device` where a read failed, `Limit` where the last call allowed did not meet the end, and
+/// `OutOfMemory` where there is no memory for the bytes.
+pub fn read_all<S: Source>(alloc: Global, source: &mut S) -> Result<Vec<u8>, ReadFault>
+    requires { S.failed source.old < 2 ^ 64 - 1 }
+    ensures whole { IfOk result (λ bytes.
+        IfSome (S.remaining source.old) (λ input. bytes.items ≡ input)) }
+    ensures device { IsErrOf result ReadFault.Device
+        → S.failed source.new ≡ S.failed source.old + 1 }
+    ensures fine { OnOk result (S.failed source.new ≡ S.failed source.old) }
+    ensures memory { IsErrOf result ReadFault.OutOfMemory
+        → S.failed source.new ≡ S.failed source.old }
+    ensures within { S.reads source.new ≤ raised READ_LIMIT (S.reads source.old) }
+    ensures limit { IsErrOf result ReadFault.Limit → (S.failed source.new ≡ S.failed source.old)
+        × (S.reads source.new ≡ raised READ_LIMIT (S.reads source.old)) }
+    ensures long { IsErrOf result ReadFault.Limit
+        → IfSome (S.remaining source.old) (λ input. READ_LIMIT ≤ length input) }
+{
+    let mut bytes = Vec::new(alloc);
+    let mut chunk = [0u8; CHUNK];
+    for _call in 0..READ_LIMIT {
+        let count = source.read(&mut chunk)?;
+        if count == 0 {
+            return Ok(bytes);
+        }
+        bytes.extend_from_slice(&chunk[..count])?;
+    }
+    Err(ReadFault::Limit)
+}
+
+/// Writes all bytes, in as many calls as it takes.
+pub fn write_all<T: Sink>(sink: &mut T, bytes: &[u8]) -> Result<(), Failed>
+    requires { T.failed sink.old < 2 ^ 64 - 1 }
+    ensures ok { OnOk result (Appends (T.written sink.old) (T.written sink.new) bytes.now) }
+    ensures err { OnErr result
+        (AppendsBeginning (T.written sink.old) (T.written sink.new) bytes.now) }
+    ensures counted { OnErr result (T.failed sink.new ≡ T.failed sink.old + 1) }
+    ensures fine { OnOk result (T.failed sink.new ≡ T.failed sink.old) }
+{
+    let mut rest = bytes;
+    while !rest.is_empty() {
+        let count = sink.write(rest)?;
+        if count == 0 {
+            return Err(Failed);
+        }
+        rest = &rest[count..];
+    }
+    Ok(())
+}

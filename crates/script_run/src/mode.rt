@@ -1,0 +1,25 @@
+//! The modes of the program.
+ghost use Rattle.std.specs.Prelude.{◌≡◌};
+ghost use Rattle.script_run.specs.Modes.{mode_named};
+
+/// What a run of the program does.
+#[derive(Clone, Copy, Debug, PartialEq, Eq)]
+pub enum Mode {
+    /// Folds the journal rows of a script into metadata.
+    Fold,
+}
+
+/// The names of the modes, as the command line takes them.
+pub static NAMES: [&str; 1] = ["fold"];
+
+impl Mode {
+    /// The mode of this name.
+    pub fn named(name: &str) -> Option<Mode>
+        ensures { result ≡ mode_named name.now }
+    {
+        match name {
+            "fold" => Some(Mode::Fold),
+            _ => None,
+        }
+    }
+}

@@ -1,0 +1,20 @@
+//! Reading of JSON values.
+
+ghost use Rattle.script_run.specs.Values.{GivesValue, value_of};
+
+use crate::script_fault::ScriptFault;
+use serde_json::Value;
+use std::alloc::Global;
+
+/// The JSON value that the bytes are (this project's profile). Answers `NotJson` where `serde_json` reads
+/// none, and `OutOfMemory` where there is no memory for it.
+#[tactic(auto, using(crate::proofs::ValueLemmas::value_of_text, crate::proofs::ValueLemmas::no_value_of))]
+pub(crate) fn read_value(alloc: Global, bytes: &[u8]) -> Result<Value, ScriptFault>
+    ensures { GivesValue result (value_of bytes.now) }
+{
+    match Value::from_slice(alloc, bytes) {
+        Ok(value) => Ok(value),
+        Err(error) if error.is_memory() => Err(ScriptFault::OutOfMemory),
+        Err(_) => Err(ScriptFault::NotJson),
+    }
+}
