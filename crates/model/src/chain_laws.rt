@@ -8,8 +8,9 @@ ghost use Rattle.model.specs.Records.{Record, IsHistory, Follows, MovesFollow, l
 ghost use Rattle.model.specs.World.{up_to_version, rows_up_to};
 
 /// In a history the version before row n is n times the step: so a record's version before is its row times the
-/// step, and its version is one step more, below 2^63; and its proxy is there. A later record's version before is at or above an earlier record's
-/// version, and its oldest version is no lower; and no record's own version before is above its version before.
+/// step, and its version is one step more, below 2^63; and its proxy is there. A later record's version before
+/// is at or above an earlier record's version, and its oldest version is no lower; and no record's own version
+/// before is above its version before.
 pub fn chain_law()
     ensures before { (config : Config) (h : List Record) (n : ℕ) → IsHistory config h → n ≤ length h → last_version (take n h) ≡ n * config.step }
     ensures numbers { (config : Config) (h : List Record) (i : ℕ) (rec : Record) → IsHistory config h → slice_get h i ≡ Some rec → (rec.previous ≡ i * config.step) × (rec.version ≡ suc i * config.step) × (rec.version < 2 ^ 63) × (rec.proxy < config.proxies) }

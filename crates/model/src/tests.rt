@@ -101,10 +101,19 @@ fn route(alloc: Global) -> Result<Route, Fail> {
     })
 }
 
-fn assert_alike<T: Debug>(rt: &impl Abort, alloc: Global, copy: &T, value: &T) -> Result<(), Fail> {
-    let left = twice!(format!(in alloc; "{copy:?}"), _)?;
-    let right = twice!(format!(in alloc; "{value:?}"), _)?;
-    assert_eq!(rt; left, right);
+fn printed<T: Debug>(alloc: Global, value: &T) -> Result<String, AllocError> {
+    twice!(format!(in alloc; "{value:?}"), _)
+}
+
+/// The copy was made, and is alike.
+fn assert_copied<T: Debug + Drop>(
+    rt: &impl Abort,
+    alloc: Global,
+    copy: Result<T, OutOfMemory>,
+    value: &T,
+) -> Result<(), Fail> {
+    let copy = printed(alloc, &copy?)?;
+    assert_eq!(rt; copy, printed(alloc, value)?);
     Ok(())
 }
 
@@ -158,15 +167,11 @@ fn moved(alloc: Global) -> Result<Move, Fail> {
     })
 }
 
-fn copy_move(rt: &impl Abort, alloc: Global, value: &Move) -> Result<(), Fail> {
-    let copy = twice!(value.copy(), OutOfMemory)?;
-    assert_alike(rt, alloc, &copy, value)
-}
-
 #[test]
 fn moves_are_copied(rt: HostRuntime) -> Result<(), Fail> {
     let moved = moved(rt.alloc())?;
-    copy_move(&rt, rt.alloc(), &moved)
+    let copy = twice!(moved.copy(), OutOfMemory);
+    assert_copied(&rt, rt.alloc(), copy, &moved)
 }
 
 fn part(alloc: Global) -> Result<Part, Fail> {
@@ -179,26 +184,18 @@ fn part(alloc: Global) -> Result<Part, Fail> {
     })
 }
 
-fn copy_part(rt: &impl Abort, alloc: Global, value: &Part) -> Result<(), Fail> {
-    let copy = twice!(value.copy(), OutOfMemory)?;
-    assert_alike(rt, alloc, &copy, value)
-}
-
 #[test]
 fn parts_are_copied(rt: HostRuntime) -> Result<(), Fail> {
     let part = part(rt.alloc())?;
-    copy_part(&rt, rt.alloc(), &part)
-}
-
-fn copy_state_txn(rt: &impl Abort, alloc: Global, value: &StateTxn) -> Result<(), Fail> {
-    let copy = twice!(value.copy(), OutOfMemory)?;
-    assert_alike(rt, alloc, &copy, value)
+    let copy = twice!(part.copy(), OutOfMemory);
+    assert_copied(&rt, rt.alloc(), copy, &part)
 }
 
 #[test]
 fn state_transactions_are_copied(rt: HostRuntime) -> Result<(), Fail> {
     let txn = state_txn(rt.alloc())?;
-    copy_state_txn(&rt, rt.alloc(), &txn)
+    let copy = twice!(txn.copy(), OutOfMemory);
+    assert_copied(&rt, rt.alloc(), copy, &txn)
 }
 
 fn journal_row(alloc: Global) -> Result<JournalRow, Fail> {
@@ -208,48 +205,32 @@ fn journal_row(alloc: Global) -> Result<JournalRow, Fail> {
     })
 }
 
-fn copy_journal_row(rt: &impl Abort, alloc: Global, value: &JournalRow) -> Result<(), Fail> {
-    let copy = twice!(value.copy(), OutOfMemory)?;
-    assert_alike(rt, alloc, &copy, value)
-}
-
 #[test]
 fn journal_rows_are_copied(rt: HostRuntime) -> Result<(), Fail> {
     let row = journal_row(rt.alloc())?;
-    copy_journal_row(&rt, rt.alloc(), &row)
-}
-
-fn copy_carried(rt: &impl Abort, alloc: Global, value: &Carried) -> Result<(), Fail> {
-    let copy = twice!(value.copy(), OutOfMemory)?;
-    assert_alike(rt, alloc, &copy, value)
+    let copy = twice!(row.copy(), OutOfMemory);
+    assert_copied(&rt, rt.alloc(), copy, &row)
 }
 
 #[test]
 fn carried_changes_are_copied(rt: HostRuntime) -> Result<(), Fail> {
     let carried = carried(rt.alloc())?;
-    copy_carried(&rt, rt.alloc(), &carried)
-}
-
-fn copy_unseen_state(rt: &impl Abort, alloc: Global, value: &UnseenState) -> Result<(), Fail> {
-    let copy = twice!(value.copy(), OutOfMemory)?;
-    assert_alike(rt, alloc, &copy, value)
+    let copy = twice!(carried.copy(), OutOfMemory);
+    assert_copied(&rt, rt.alloc(), copy, &carried)
 }
 
 #[test]
 fn unseen_states_are_copied(rt: HostRuntime) -> Result<(), Fail> {
     let state = unseen_state(rt.alloc())?;
-    copy_unseen_state(&rt, rt.alloc(), &state)
-}
-
-fn copy_unseen_row(rt: &impl Abort, alloc: Global, value: &UnseenRow) -> Result<(), Fail> {
-    let copy = twice!(value.copy(), OutOfMemory)?;
-    assert_alike(rt, alloc, &copy, value)
+    let copy = twice!(state.copy(), OutOfMemory);
+    assert_copied(&rt, rt.alloc(), copy, &state)
 }
 
 #[test]
 fn unseen_rows_are_copied(rt: HostRuntime) -> Result<(), Fail> {
     let row = unseen_row(rt.alloc())?;
-    copy_unseen_row(&rt, rt.alloc(), &row)
+    let copy = twice!(row.copy(), OutOfMemory);
+    assert_copied(&rt, rt.alloc(), copy, &row)
 }
 
 fn mark(alloc: Global) -> Result<StateMark, Fail> {
@@ -259,15 +240,11 @@ fn mark(alloc: Global) -> Result<StateMark, Fail> {
     })
 }
 
-fn copy_mark(rt: &impl Abort, alloc: Global, value: &StateMark) -> Result<(), Fail> {
-    let copy = twice!(value.copy(), OutOfMemory)?;
-    assert_alike(rt, alloc, &copy, value)
-}
-
 #[test]
 fn marks_are_copied(rt: HostRuntime) -> Result<(), Fail> {
     let mark = mark(rt.alloc())?;
-    copy_mark(&rt, rt.alloc(), &mark)
+    let copy = twice!(mark.copy(), OutOfMemory);
+    assert_copied(&rt, rt.alloc(), copy, &mark)
 }
 
 fn reply(alloc: Global) -> Result<Reply, Fail> {
@@ -283,26 +260,18 @@ fn reply(alloc: Global) -> Result<Reply, Fail> {
     })
 }
 
-fn copy_reply(rt: &impl Abort, alloc: Global, value: &Reply) -> Result<(), Fail> {
-    let copy = twice!(value.copy(), OutOfMemory)?;
-    assert_alike(rt, alloc, &copy, value)
-}
-
 #[test]
 fn replies_are_copied(rt: HostRuntime) -> Result<(), Fail> {
     let reply = reply(rt.alloc())?;
-    copy_reply(&rt, rt.alloc(), &reply)
-}
-
-fn copy_route(rt: &impl Abort, alloc: Global, value: &Route) -> Result<(), Fail> {
-    let copy = twice!(value.copy(), OutOfMemory)?;
-    assert_alike(rt, alloc, &copy, value)
+    let copy = twice!(reply.copy(), OutOfMemory);
+    assert_copied(&rt, rt.alloc(), copy, &reply)
 }
 
 #[test]
 fn routes_are_copied(rt: HostRuntime) -> Result<(), Fail> {
     let route = route(rt.alloc())?;
-    copy_route(&rt, rt.alloc(), &route)
+    let copy = twice!(route.copy(), OutOfMemory);
+    assert_copied(&rt, rt.alloc(), copy, &route)
 }
 
 fn routing(alloc: Global) -> Result<Routing, Fail> {
@@ -315,26 +284,18 @@ fn routing(alloc: Global) -> Result<Routing, Fail> {
     })
 }
 
-fn copy_routing(rt: &impl Abort, alloc: Global, value: &Routing) -> Result<(), Fail> {
-    let copy = twice!(value.copy(), OutOfMemory)?;
-    assert_alike(rt, alloc, &copy, value)
-}
-
 #[test]
 fn routings_are_copied(rt: HostRuntime) -> Result<(), Fail> {
     let routing = routing(rt.alloc())?;
-    copy_routing(&rt, rt.alloc(), &routing)
-}
-
-fn copy_tagged(rt: &impl Abort, alloc: Global, value: &Tagged) -> Result<(), Fail> {
-    let copy = twice!(value.copy(), OutOfMemory)?;
-    assert_alike(rt, alloc, &copy, value)
+    let copy = twice!(routing.copy(), OutOfMemory);
+    assert_copied(&rt, rt.alloc(), copy, &routing)
 }
 
 #[test]
 fn tagged_changes_are_copied(rt: HostRuntime) -> Result<(), Fail> {
     let tagged = tagged(rt.alloc())?;
-    copy_tagged(&rt, rt.alloc(), &tagged)
+    let copy = twice!(tagged.copy(), OutOfMemory);
+    assert_copied(&rt, rt.alloc(), copy, &tagged)
 }
 
 fn finished(alloc: Global) -> Result<Finished, Fail> {
@@ -348,13 +309,9 @@ fn finished(alloc: Global) -> Result<Finished, Fail> {
     })
 }
 
-fn copy_finished(rt: &impl Abort, alloc: Global, value: &Finished) -> Result<(), Fail> {
-    let copy = twice!(value.copy(), OutOfMemory)?;
-    assert_alike(rt, alloc, &copy, value)
-}
-
 #[test]
 fn finished_batches_are_copied(rt: HostRuntime) -> Result<(), Fail> {
     let finished = finished(rt.alloc())?;
-    copy_finished(&rt, rt.alloc(), &finished)
+    let copy = twice!(finished.copy(), OutOfMemory);
+    assert_copied(&rt, rt.alloc(), copy, &finished)
 }
