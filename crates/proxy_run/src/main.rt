@@ -6,7 +6,8 @@ ghost use Rattle.std.specs.Prelude.{codes};
 ghost use Rattle.script_run.specs.FoldLines.{line};
 ghost use Rattle.script_run.specs.Statuses.{IsTurnedAwayWith};
 
-use script_run::{Reader, Status, Writer, run_words};
+use command_line::run_words;
+use script_run::{Reader, Status, Writer};
 use std::alloc::Global;
 use std::env;
 use std::io::ErrorKind;

@@ -1,7 +1,6 @@
 pub mod BatchChecks
 pub mod BatchScripts
 pub mod BatchShapes
-pub mod CommandLine
 pub mod Devices
 pub mod FoldChecks
 pub mod FoldLimits
@@ -9,7 +8,6 @@ pub mod FoldLines
 pub mod FoldScripts
 pub mod FoldShapes
 pub mod FoldText
-pub mod Modes
 pub mod Runs
 pub mod ScriptFaults
 pub mod Shapes

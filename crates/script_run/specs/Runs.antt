@@ -1,14 +1,9 @@
--- What a run of the program leaves, by the bytes that the source had and those that the sink holds,
--- where they are known.
-use Rattle.std.specs.Prelude.{◌≡◌, ◌≢◌, ◌⊎◌, ◌∷◌, ◌≤◌, length, ℕ, List, [], Option, Some, None, IfSome, codes}
+-- What a run leaves, by the bytes that the source had and those that the sink holds, where they are
+-- known.
+use Rattle.std.specs.Prelude.{◌≡◌, ◌≤◌, length, ℕ, List, Option, IfSome}
 use Rattle.std.specs.Io.KnownBytes.{Appends}
-use Rattle.clap.specs.Words.{Text, fault_of, matches_of}
-use Rattle.script_run.specs.CommandLine.{ModeNames, command_line, mode_of}
 use Rattle.script_run.specs.Devices.{AppendsBeginning, raised}
 use Rattle.script_run.specs.FoldText.{fold_text}
-use Rattle.script_run.specs.Statuses.{IsTurnedAway}
-use Rattle.script_run.specs.declared.mode.Mode.{Mode}
-use Rattle.script_run.specs.declared.mode.Mode.TheVariants.{Fold}
 use Rattle.script_run.specs.declared.status.Status.{Status}
 use Rattle.script_run.specs.declared.status.Status.TheVariants.{Done, ScriptRefused, CommandLineRefused}
 use Rattle.script_run.specs.declared.status.Status.TheVariants.{DeviceFailed, OutOfMemory}
@@ -35,25 +30,3 @@ Folds input old new OutOfMemory = BeginsAnswer input old new
 pub record PassesLimit (input : Option (List ℕ)) (old new limit : ℕ) : Type 0 where
   pub calls : new ≡ raised limit old
   pub bytes : IfSome input (λ bytes. limit ≤ length bytes)
-
--- what a run in a mode leaves; words that are taken give a mode
-abbrev pub RunsMode : Option Mode → Type 0 → Type 0
-RunsMode (Some Fold) folds = folds
-RunsMode None folds = ⊥
-
--- what a run leaves by what clap reads of the words: where it refuses them nothing is read or written
--- (`idle`), and else their mode runs, unless memory was wanting before that
-pub record RunsWords (words : List Text) (status : Status) (idle folds : Type 0) : Type 0 where
-  pub names : ModeNames
-  pub refused : fault_of (command_line names) words ≢ [] → IsTurnedAway status × idle
-  pub taken : fault_of (command_line names) words ≡ []
-      → ((status ≡ OutOfMemory) × idle)
-      ⊎ RunsMode (mode_of (matches_of (command_line names) words)) folds
-
--- the words of a command line that folds: none, or `fold` alone
-abbrev pub IsFoldLine : List Text → Type 0
-IsFoldLine words = (words ≡ []) ⊎ (words ≡ codes "fold" ∷ [])
-
--- the words of a command line that asks for a mode that is not there yet
-abbrev pub IsOtherModeLine : List Text → Type 0
-IsOtherModeLine words = (words ≡ codes "turns" ∷ []) ⊎ (words ≡ codes "threads" ∷ [])

@@ -3,7 +3,7 @@
 
 use crate::fold_lines::{print_asked, print_routing};
 use crate::fold_reading::read_script;
-use crate::run::run_words;
+use crate::run::run_fold;
 use crate::script_fault::ScriptFault;
 use crate::status::Status;
 use crate::tests::again::{letters, run_twice, twice, written};
@@ -31,7 +31,7 @@ const BAD_SHAPE: &str = "refused 71 BadShape\n";
 fn fold_once(rt: &impl AllocGlobal, script: &[u8]) -> (Status, Kept) {
     let mut source = Fed::new(script, 4_096);
     let mut sink = Kept::new(rt.alloc(), 4_096);
-    let status = run_words(rt, &["fold"], &mut source, &mut sink);
+    let status = run_fold(rt.alloc(), &mut source, &mut sink);
     (status, sink)
 }
 

@@ -1,8 +1,7 @@
 //! Runs of scripts: a script of journal rows is read, checked and folded, and the lines of its routing are
-//! written; a batch is read and admitted. Nothing here knows the process: words come as a list, bytes by a
-//! source and a sink.
+//! written; a batch is read and admitted. Nothing here knows the process: bytes come and go by a source and a sink.
 //!
-//! Sources: this project's profile (scripts, lines, words and statuses).
+//! Source: this project's profile (scripts, lines and statuses).
 #![tactic(auto)]
 
 mod answer;
@@ -11,7 +10,6 @@ mod batch_reading;
 mod batch_shapes;
 #[cfg(test)]
 mod batch_tests;
-mod command_line;
 mod devices;
 mod fold_checks;
 mod fold_limits;
@@ -21,7 +19,6 @@ mod fold_script;
 mod fold_shapes;
 #[cfg(test)]
 mod fold_tests;
-mod mode;
 mod run;
 mod script_fault;
 mod shaped;
@@ -34,7 +31,6 @@ pub use batch_reading::read_batch;
 pub use devices::{Failed, READ_LIMIT, Reader, Sink, Source, Writer};
 pub use fold_reading::read_script;
 pub use fold_script::FoldScript;
-pub use mode::Mode;
-pub use run::{run_fold, run_words};
+pub use run::run_fold;
 pub use script_fault::ScriptFault;
 pub use status::Status;

@@ -1,10 +1,10 @@
-//! What no clause says: that runs succeed with ample memory, and `clap`'s texts. A run that was refused memory
-//! is made again, so that the tests also pass where any one allocation fails.
+//! What no clause says: that runs succeed with ample memory. A run that was refused memory is made again, so
+//! that the tests also pass where any one allocation fails.
 pub(crate) mod again;
 pub(crate) mod fakes;
 
 use crate::devices::{Reader, Sink, Source, Writer};
-use crate::run::run_words;
+use crate::run::run_fold;
 use crate::status::Status;
 use again::run_twice;
 use fakes::{Fed, Kept, Spaces};
@@ -36,7 +36,6 @@ const FINE: Devices = Devices {
 
 fn run_once(
     rt: &impl AllocGlobal,
-    words: &[&str],
     script: &'static [u8],
     devices: Devices,
 ) -> (Status, Fed<'static>, Kept) {
@@ -44,62 +43,24 @@ fn run_once(
     let mut sink = Kept::new(rt.alloc(), devices.written_at_most)
         .failing_at(devices.failing_write)
         .full_at(devices.full_write);
-    let status = run_words(rt, words, &mut source, &mut sink);
+    let status = run_fold(rt.alloc(), &mut source, &mut sink);
     (status, source, sink)
 }
 
-// Runs these words, and once more where that wanted memory.
+// Folds this script, and once more where that wanted memory.
 fn run(
     rt: &impl AllocGlobal,
-    words: &[&str],
     script: &'static [u8],
     devices: Devices,
 ) -> (Status, Fed<'static>, Kept) {
-    run_twice!(run_once(rt, words, script, devices))
-}
-
-// The words are refused with this text, and nothing is read or written.
-fn refuses(rt: &(impl Abort + AllocGlobal), words: &[&str], says: &str) {
-    let (status, source, sink) = run(&rt, words, SCRIPT, FINE);
-    match status {
-        Status::CommandLineRefused(text) => assert!(rt; text.as_str().contains(says), "{text}"),
-        status => panic!(rt; "{status:?}"),
-    }
-    assert_eq!(rt; source.reads(), 0);
-    assert!(rt; sink.bytes().is_empty());
+    run_twice!(run_once(rt, script, devices))
 }
 
 #[test]
-fn no_words_fold(rt: HostRuntime) {
-    let (status, _source, sink) = run(&rt, &[], SCRIPT, FINE);
+fn a_script_is_folded(rt: HostRuntime) {
+    let (status, _source, sink) = run(&rt, SCRIPT, FINE);
     assert!(rt; matches!(status, Status::Done));
     assert_eq!(rt; sink.bytes(), TEXT);
-}
-
-#[test]
-fn the_word_fold_folds(rt: HostRuntime) {
-    let (status, _source, sink) = run(&rt, &["fold"], SCRIPT, FINE);
-    assert!(rt; matches!(status, Status::Done));
-    assert_eq!(rt; sink.bytes(), TEXT);
-}
-
-#[test]
-fn other_modes_are_refused(rt: HostRuntime) {
-    refuses(&rt, &["turns"], "invalid value 'turns' for '[MODE]'");
-    refuses(&rt, &["threads"], "[possible values: fold]");
-}
-
-#[test]
-fn other_words_are_refused(rt: HostRuntime) {
-    refuses(&rt, &["fold", "fold"], "unexpected argument 'fold' found");
-    refuses(&rt, &["--unknown"], "unexpected argument '--unknown' found");
-    refuses(&rt, &[""], "value");
-}
-
-#[test]
-fn a_call_for_help_is_refused_with_the_help(rt: HostRuntime) {
-    refuses(&rt, &["--help"], "Usage: proxy_run [MODE]");
-    refuses(&rt, &["fold", "-h"], "Usage: proxy_run [MODE]");
 }
 
 #[test]
@@ -116,7 +77,7 @@ fn numbers_of_statuses(rt: HostRuntime) {
 
 #[test]
 fn a_refused_script_is_answered_with_its_line(rt: HostRuntime) {
-    let (status, _source, sink) = run(&rt, &["fold"], b"\xff", FINE);
+    let (status, _source, sink) = run(&rt, b"\xff", FINE);
     assert!(rt; matches!(status, Status::ScriptRefused));
     assert_eq!(rt; sink.bytes(), b"refused 70 NotJson\n".as_slice());
 }
@@ -128,7 +89,7 @@ fn ends_after(
     devices: Devices,
     taken: &[u8],
 ) {
-    let (status, source, sink) = run(&rt, &["fold"], script, devices);
+    let (status, source, sink) = run(&rt, script, devices);
     assert!(rt; matches!(status, Status::DeviceFailed));
     assert_eq!(rt; source.failures(), 0);
     assert_eq!(rt; sink.failures(), 1);
@@ -145,7 +106,7 @@ fn each_read_may_fail(rt: HostRuntime) {
                 failing_read: call,
                 ..FINE
             };
-            let (status, source, sink) = run(&rt, &["fold"], SCRIPT, devices);
+            let (status, source, sink) = run(&rt, SCRIPT, devices);
             assert!(rt;
                 matches!(status, Status::DeviceFailed),
                 "at read {call} of {most} bytes"
@@ -204,7 +165,7 @@ fn a_byte_at_a_time_is_the_same_script(rt: HostRuntime) {
         read_at_most: 1,
         ..FINE
     };
-    let (status, source, sink) = run(&rt, &["fold"], SCRIPT, devices);
+    let (status, source, sink) = run(&rt, SCRIPT, devices);
     assert!(rt; matches!(status, Status::Done));
     assert_eq!(rt; source.reads(), SCRIPT.len() as u64 + 1);
     assert_eq!(rt; sink.bytes(), TEXT);
@@ -216,7 +177,7 @@ fn a_short_write_is_no_failure(rt: HostRuntime) {
         written_at_most: 2,
         ..FINE
     };
-    let (status, _source, sink) = run(&rt, &["fold"], SCRIPT, devices);
+    let (status, _source, sink) = run(&rt, SCRIPT, devices);
     assert!(rt; matches!(status, Status::Done));
     assert_eq!(rt; sink.failures(), 0);
     assert_eq!(rt; sink.bytes(), TEXT);
@@ -225,7 +186,7 @@ fn a_short_write_is_no_failure(rt: HostRuntime) {
 fn run_over_spaces_once(rt: &impl AllocGlobal, count: u64) -> (Status, Spaces, Kept) {
     let mut source = Spaces::new(count);
     let mut sink = Kept::new(rt.alloc(), 64);
-    let status = run_words(rt, &["fold"], &mut source, &mut sink);
+    let status = run_fold(rt.alloc(), &mut source, &mut sink);
     (status, source, sink)
 }
 
@@ -257,7 +218,7 @@ fn more_reads_than_the_limit_are_a_failure(rt: HostRuntime) {
 fn run_over_slices(rt: &impl AllocGlobal, room: &mut [u8]) -> (Status, u64, u64) {
     let mut writer = Writer::new(room);
     let mut reader = Reader::new(SCRIPT);
-    let status = run_words(rt, &["fold"], &mut reader, &mut writer);
+    let status = run_fold(rt.alloc(), &mut reader, &mut writer);
     (status, reader.failures(), writer.failures())
 }
 

@@ -7,9 +7,9 @@ use Rattle.clap.specs.Words.{Text}
 use Rattle.clap.specs.Values.{Accepts, same_text}
 use Rattle.clap.specs.declared.builder.value_parser.ValueParser.TheVariants.{Names}
 use Rattle.clap.proofs.WalkLemmas.{list_any-map}
-use Rattle.script_run.specs.CommandLine.{ModeNames, mode_given}
-use Rattle.script_run.specs.Modes.{mode_named}
-use Rattle.script_run.specs.declared.mode.Mode.TheVariants.{Fold}
+use Rattle.command_line.specs.CommandLine.{ModeNames, mode_given}
+use Rattle.command_line.specs.Modes.{mode_named}
+use Rattle.command_line.specs.declared.mode.Mode.TheVariants.{Fold}
 
 or_false : (b : Bool) → (b || false) ≡ true → b ≡ true
 or_false true e = refl

@@ -10,9 +10,9 @@ use Rattle.clap.specs.declared.builder.command.Command.{Command}
 use Rattle.clap.specs.declared.error.Error.{Error}
 use Rattle.clap.specs.declared.parser.matches.ArgMatches.{ArgMatches}
 use Rattle.clap.specs.declared.builder.value_parser.ValueParser.TheVariants.{Names}
-use Rattle.script_run.specs.Modes.{mode_named}
-use Rattle.script_run.specs.declared.mode.Mode.{Mode}
-use Rattle.script_run.specs.declared.mode.Mode.TheVariants.{Fold}
+use Rattle.command_line.specs.Modes.{mode_named}
+use Rattle.command_line.specs.declared.mode.Mode.{Mode}
+use Rattle.command_line.specs.declared.mode.Mode.TheVariants.{Fold}
 
 -- the names of the modes, wherever they lie in memory
 pub record ModeNames : Type 0 where

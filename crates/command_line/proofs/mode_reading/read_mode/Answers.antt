@@ -3,9 +3,9 @@ use Rattle.std.proofs.lemmas.Result.{err_from_is_err_and}
 use Rattle.clap.specs.Words.{App, fault_of, first_of, found_of, is_simple, is_simple_and_free, matches_of}
 use Rattle.clap.specs.Kinds.{HasKind}
 use Rattle.clap.proofs.WalkLemmas.{first_value-rows}
-use Rattle.script_run.specs.CommandLine.{ModeNames, mode_given}
-use Rattle.script_run.proofs.OfferedModes.{only_fold, only_mode}
-use Rattle.script_run.proofs.command_line.read_mode.Goals as goal
+use Rattle.command_line.specs.CommandLine.{ModeNames, mode_given}
+use Rattle.command_line.proofs.OfferedModes.{only_fold, only_mode}
+use Rattle.command_line.proofs.mode_reading.read_mode.Goals as goal
 
 -- names for a command line that no command was made of
 abbrev some_names : ModeNames

@@ -1,8 +1,8 @@
 -- The modes of the program by their names.
 use Rattle.std.specs.Prelude.{ℕ, List, Option, Some, None, codes, if◌then◌else◌}
 use Rattle.std.specs.Str.{bytes_eq}
-use Rattle.script_run.specs.declared.mode.Mode.{Mode}
-use Rattle.script_run.specs.declared.mode.Mode.TheVariants.{Fold}
+use Rattle.command_line.specs.declared.mode.Mode.{Mode}
+use Rattle.command_line.specs.declared.mode.Mode.TheVariants.{Fold}
 
 -- the mode of a name
 abbrev pub mode_named : List ℕ → Option Mode

@@ -7,11 +7,11 @@ use Rattle.clap.specs.declared.builder.value_parser.ValueParser.TheVariants.{Nam
 use Rattle.clap.specs.declared.error.kind.ErrorKind.{ErrorKind}
 use Rattle.clap.specs.declared.error.kind.ErrorKind.TheVariants as kind
 use Rattle.clap.proofs.OnLiterals.{clap_on_literals}
-use Rattle.script_run.specs.CommandLine.{ModeNames, bare_shape, command_line}
-use Rattle.script_run.specs.Runs.{IsFoldLine, IsOtherModeLine, RunsMode, RunsWords}
+use Rattle.command_line.specs.CommandLine.{ModeNames, bare_shape, command_line}
+use Rattle.command_line.specs.WordRuns.{IsFoldLine, IsOtherModeLine, RunsMode, RunsWords}
 use Rattle.script_run.specs.Statuses.{IsTurnedAway}
-use Rattle.script_run.specs.declared.mode.Mode.{Mode}
-use Rattle.script_run.specs.declared.mode.Mode.TheVariants.{Fold}
+use Rattle.command_line.specs.declared.mode.Mode.{Mode}
+use Rattle.command_line.specs.declared.mode.Mode.TheVariants.{Fold}
 use Rattle.script_run.specs.declared.status.Status.{Status}
 use Rattle.script_run.specs.declared.status.Status.TheVariants.{OutOfMemory}
 

@@ -3,11 +3,11 @@ use Rattle.clap.specs.Kinds.{HasKind, Kinds}
 use Rattle.clap.specs.Words.{IsAmong, kind_of}
 use Rattle.clap.specs.declared.error.Error.{Error}
 use Rattle.clap.specs.declared.error.kind.ErrorKind.TheVariants as kinds
-use Rattle.script_run.specs.Runs.{RunsMode}
-use Rattle.script_run.specs.declared.mode.Mode.{Mode}
-use Rattle.script_run.specs.declared.mode.Mode.TheVariants.{Fold}
-use Rattle.script_run.proofs.KnownWords.{fold_line_folds, other_mode_turned_away}
-use Rattle.script_run.proofs.run.run_words.Goals as goal
+use Rattle.command_line.specs.WordRuns.{RunsMode}
+use Rattle.command_line.specs.declared.mode.Mode.{Mode}
+use Rattle.command_line.specs.declared.mode.Mode.TheVariants.{Fold}
+use Rattle.command_line.proofs.KnownWords.{fold_line_folds, other_mode_turned_away}
+use Rattle.command_line.proofs.run.run_words.Goals as goal
 
 -- an error where no kind comes is want of memory
 only_memory : (possible : Kinds) (error : Error) → possible ≡ [] → HasKind possible error → kind_of error ≡ kinds.OutOfMemory

@@ -1,0 +1,65 @@
+//! A run of the program by the words after its name.
+ghost use Rattle.std.specs.Prelude.{◌≡◌, ◌⊎◌, ◌+◌, ◌-◌, ◌^◌, ◌<◌, ◌≤◌, map};
+ghost use Rattle.clap.specs.Words.{kind_of};
+ghost use Rattle.clap.specs.declared.error.kind.ErrorKind.TheVariants as kinds;
+ghost use Rattle.script_run.specs.Devices.{raised};
+ghost use Rattle.script_run.specs.Runs.{Folds, PassesLimit};
+ghost use Rattle.script_run.specs.Statuses.{IsTurnedAway, IsUnfailed};
+ghost use Rattle.command_line.specs.WordRuns.{IsFoldLine, IsOtherModeLine, RunsWords};
+
+use crate::mode::Mode;
+use crate::mode_reading::read_mode;
+use clap::Error;
+use clap::error::ErrorKind;
+use script_run::{READ_LIMIT, Sink, Source, Status, run_fold};
+use std::alloc::Global;
+use std::convert::AsStr;
+
+/// Runs the mode that `clap` reads from the words after the program's name. Where it refuses them
+/// nothing is read or written.
+pub fn run_words<'a, W: AsStr, S: Source, T: Sink>(
+    rt: &impl AllocGlobal,
+    words: &'a [W],
+    source: &mut S,
+    sink: &mut T,
+) -> Status
+    requires read_count { S.failed source.old < 2 ^ 64 - 1 }
+    requires write_count { T.failed sink.old < 2 ^ 64 - 1 }
+    ensures mode { let idle = (source.new ≡ source.old) × (sink.new ≡ sink.old) in
+        RunsWords (map W.text words.entry.now) result idle
+        (Folds (S.remaining source.old) (T.written sink.old) (T.written sink.new) result) }
+    ensures fold { let idle = (source.new ≡ source.old) × (sink.new ≡ sink.old) in
+        IsFoldLine (map W.text words.entry.now) → ((result ≡ Status.OutOfMemory) × idle)
+        ⊎ Folds (S.remaining source.old) (T.written sink.old) (T.written sink.new) result }
+    ensures other { let idle = (source.new ≡ source.old) × (sink.new ≡ sink.old) in
+        IsOtherModeLine (map W.text words.entry.now) → IsTurnedAway result × idle }
+    ensures device { let past = PassesLimit (S.remaining source.old)
+        (S.reads source.old) (S.reads source.new) READ_LIMIT in
+        result ≡ Status.DeviceFailed → (T.failed sink.new ≡ T.failed sink.old + 1)
+        ⊎ (((S.failed source.new ≡ S.failed source.old + 1) ⊎ past) × (sink.new ≡ sink.old)) }
+    ensures within { S.reads source.new ≤ raised READ_LIMIT (S.reads source.old) }
+    ensures fine { IsUnfailed result
+        → (S.failed source.new ≡ S.failed source.old) × (T.failed sink.new ≡ T.failed sink.old) }
+{
+    let alloc = rt.alloc();
+    match read_mode(alloc, words) {
+        Ok(Some(Mode::Fold)) => run_fold(alloc, source, sink),
+        // Each name that the command line takes is that of a mode.
+        Ok(None) => unreachable!(),
+        Err(error) => refusal(alloc, &error),
+    }
+}
+
+// The status of a refused command line.
+fn refusal(alloc: Global, error: &Error) -> Status
+    ensures turned { IsTurnedAway result }
+    ensures memory { kind_of error.now ≡ kinds.OutOfMemory → result ≡ Status.OutOfMemory }
+{
+    if error.kind() == ErrorKind::OutOfMemory {
+        return Status::OutOfMemory;
+    }
+    match format!(in alloc; "{error}") {
+        Ok(text) => Status::CommandLineRefused(text),
+        Err(_) => Status::OutOfMemory,
+    }
+}
