@@ -178,19 +178,6 @@ fn repeated(alloc: Global, count: usize) -> Result<Vec<u8>, AllocError> {
     Ok(bytes)
 }
 
-fn copy_of(admitted: &Admitted) -> Result<Admitted, OutOfMemory> {
-    twice!(admitted.copy(), OutOfMemory)
-}
-
-/// As many copies of the transaction.
-fn copies(alloc: Global, admitted: &Admitted, count: usize) -> Result<Vec<Admitted>, Fail> {
-    let mut copies = twice!(Vec::with_capacity(alloc, count), _)?;
-    for _ in 0..count {
-        copies.push(copy_of(admitted)?)?;
-    }
-    Ok(copies)
-}
-
 fn admitted_empty(alloc: Global) -> Result<Admitted, Refusal> {
     let given = empty(alloc);
     admitted(alloc, &given)
@@ -198,8 +185,11 @@ fn admitted_empty(alloc: Global) -> Result<Admitted, Refusal> {
 
 /// As many transactions with nothing in them.
 fn transactions(alloc: Global, count: usize) -> Result<Vec<Admitted>, Fail> {
-    let admitted = admitted_empty(alloc)?;
-    copies(alloc, &admitted, count)
+    let mut transactions = twice!(Vec::with_capacity(alloc, count), _)?;
+    for _ in 0..count {
+        transactions.push(admitted_empty(alloc)?)?;
+    }
+    Ok(transactions)
 }
 
 fn set_refusal(alloc: Global, key: &[u8], value: &[u8]) -> Result<Option<Refusal>, AllocError> {
