@@ -109,7 +109,7 @@ impl Config {
 }
 
 /// Whether the number is from 1 up to the limit.
-fn is_from_one(limit: u64, number: u64) -> bool
+pub fn is_from_one(limit: u64, number: u64) -> bool
     ensures { result ≡ is_from_one limit number }
 {
     1 <= number && number <= limit

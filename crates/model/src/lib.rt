@@ -33,7 +33,7 @@ mod world_laws;
 pub use agreed_laws::agreed_law;
 pub use alike_laws::alike_law;
 pub use chain_laws::{chain_law, next_law, rows_law};
-pub use config::{Config, RESOLVERS_LIMIT};
+pub use config::{Config, RESOLVERS_LIMIT, is_from_one};
 pub use history_laws::history_law;
 pub use journal::{JournalRow, StateTxn};
 pub use journal_laws::{journal_law, request_law, told_law, unseen_law};

@@ -2,26 +2,19 @@
 
 ghost use Rattle.std.specs.Prelude.{◌≡◌};
 ghost use Rattle.std.specs.List.{list_all};
-ghost use Rattle.model.specs.Configs.{is_from_one, resolvers_limit};
 ghost use Rattle.script_run.specs.FoldLimits.{are_rising, has_verdicts, row_has_verdicts, is_within_limits};
 
 use crate::fold_script::{RawRow, RawScript, RawState};
-use model::RESOLVERS_LIMIT;
+use model::{RESOLVERS_LIMIT, is_from_one};
 
 /// Whether there are from 1 to 64 resolvers, the versions are at least 1 and rise, and each transaction has
 /// one verdict for each resolver (this project's profile).
 pub(crate) fn is_within_limits(script: &RawScript) -> bool
     ensures { result ≡ is_within_limits script.now }
 {
-    is_resolver_count(script.resolvers)
+    is_from_one(RESOLVERS_LIMIT, script.resolvers)
         && are_rising(script.rows.as_slice())
         && have_verdicts(script.resolvers, script.rows.as_slice())
-}
-
-fn is_resolver_count(resolvers: u64) -> bool
-    ensures { result ≡ is_from_one resolvers_limit resolvers }
-{
-    1 <= resolvers && resolvers <= RESOLVERS_LIMIT
 }
 
 fn are_rising(rows: &[RawRow]) -> bool
