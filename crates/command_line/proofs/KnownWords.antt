@@ -8,8 +8,7 @@ use Rattle.clap.specs.declared.error.kind.ErrorKind.{ErrorKind}
 use Rattle.clap.specs.declared.error.kind.ErrorKind.TheVariants as kind
 use Rattle.clap.proofs.OnLiterals.{clap_on_literals}
 use Rattle.command_line.specs.CommandLine.{ModeNames, bare_shape, command_line}
-use Rattle.command_line.specs.WordRuns.{IsFoldLine, IsOtherModeLine, RunsMode, RunsWords}
-use Rattle.script_run.specs.Statuses.{IsTurnedAway}
+use Rattle.command_line.specs.WordRuns.{IsFoldLine, IsHelpLine, IsOtherModeLine, IsTurnedAway, RunsMode, RunsWords}
 use Rattle.command_line.specs.declared.mode.Mode.{Mode}
 use Rattle.command_line.specs.declared.mode.Mode.TheVariants.{Fold}
 use Rattle.script_run.specs.declared.status.Status.{Status}
@@ -52,6 +51,14 @@ threads_at_refused : (list_at text_at : ℕ × ℕ) → fault_of (line (fold_at 
 unfolding clap_on_literals
 threads_at_refused list_at text_at = refl
 
+help_at_refused : (list_at text_at : ℕ × ℕ) → fault_of (line (fold_at list_at text_at)) (codes "--help" ∷ []) ≡ kind.DisplayHelp ∷ []
+unfolding clap_on_literals
+help_at_refused list_at text_at = refl
+
+short_help_at_refused : (list_at text_at : ℕ × ℕ) → fault_of (line (fold_at list_at text_at)) (codes "-h" ∷ []) ≡ kind.DisplayHelp ∷ []
+unfolding clap_on_literals
+short_help_at_refused list_at text_at = refl
+
 -- clap takes no words, and `fold` alone
 fold_line_taken : (names : ModeNames) (words : List Text) → IsFoldLine words → fault_of (command_line names) words ≡ []
 fold_line_taken names words (inl none) = ap (fault_of (command_line names)) none ∙ no_words names.list
@@ -68,6 +75,13 @@ other_mode_refused names words (inl turns) = some_fault _ kind.InvalidValue (ap 
     ∙ of_names (λ (list : NameList). fault_of (line list) (codes "turns" ∷ []) ≡ kind.InvalidValue ∷ []) turns_at_refused names)
 other_mode_refused names words (inr threads) = some_fault _ kind.InvalidValue (ap (fault_of (command_line names)) threads
     ∙ of_names (λ (list : NameList). fault_of (line list) (codes "threads" ∷ []) ≡ kind.InvalidValue ∷ []) threads_at_refused names)
+
+-- clap refuses a call for help
+help_refused : (names : ModeNames) (words : List Text) → IsHelpLine words → fault_of (command_line names) words ≢ []
+help_refused names words (inl long) = some_fault _ kind.DisplayHelp (ap (fault_of (command_line names)) long
+    ∙ of_names (λ (list : NameList). fault_of (line list) (codes "--help" ∷ []) ≡ kind.DisplayHelp ∷ []) help_at_refused names)
+help_refused names words (inr short) = some_fault _ kind.DisplayHelp (ap (fault_of (command_line names)) short
+    ∙ of_names (λ (list : NameList). fault_of (line list) (codes "-h" ∷ []) ≡ kind.DisplayHelp ∷ []) short_help_at_refused names)
 
 -- a mode that ran is `fold`
 ran : (given : Option Mode) (folds : Type 0) → RunsMode given folds → folds
@@ -86,3 +100,8 @@ fold_line_folds words status idle folds run line = elim (run.taken (fold_line_ta
 pub other_mode_turned_away : (words : List Text) (status : Status) (idle folds : Type 0) → RunsWords words status idle folds → IsOtherModeLine words
     → IsTurnedAway status × idle
 other_mode_turned_away words status idle folds run line = run.refused (other_mode_refused run.names words line)
+
+-- and who asks for help
+pub help_turned_away : (words : List Text) (status : Status) (idle folds : Type 0) → RunsWords words status idle folds → IsHelpLine words
+    → IsTurnedAway status × idle
+help_turned_away words status idle folds run line = run.refused (help_refused run.names words line)

@@ -10,5 +10,4 @@ mod run;
 #[cfg(test)]
 mod tests;
 
-pub use mode::Mode;
 pub use run::run_words;

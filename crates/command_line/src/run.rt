@@ -2,16 +2,16 @@
 ghost use Rattle.std.specs.Prelude.{◌≡◌, ◌⊎◌, ◌+◌, ◌-◌, ◌^◌, ◌<◌, ◌≤◌, map};
 ghost use Rattle.clap.specs.Words.{kind_of};
 ghost use Rattle.clap.specs.declared.error.kind.ErrorKind.TheVariants as kinds;
-ghost use Rattle.script_run.specs.Devices.{raised};
+ghost use Rattle.script_run.specs.Devices.{raised, read_limit};
 ghost use Rattle.script_run.specs.Runs.{Folds, PassesLimit};
-ghost use Rattle.script_run.specs.Statuses.{IsTurnedAway, IsUnfailed};
-ghost use Rattle.command_line.specs.WordRuns.{IsFoldLine, IsOtherModeLine, RunsWords};
+ghost use Rattle.script_run.specs.Statuses.{IsUnfailed};
+ghost use Rattle.command_line.specs.WordRuns.{IsFoldLine, IsHelpLine, IsOtherModeLine, IsTurnedAway, RunsWords};
 
 use crate::mode::Mode;
 use crate::mode_reading::read_mode;
 use clap::Error;
 use clap::error::ErrorKind;
-use script_run::{READ_LIMIT, Sink, Source, Status, run_fold};
+use script_run::{Sink, Source, Status, run_fold};
 use std::alloc::Global;
 use std::convert::AsStr;
 
@@ -33,11 +33,14 @@ pub fn run_words<'a, W: AsStr, S: Source, T: Sink>(
         ⊎ Folds (S.remaining source.old) (T.written sink.old) (T.written sink.new) result }
     ensures other { let idle = (source.new ≡ source.old) × (sink.new ≡ sink.old) in
         IsOtherModeLine (map W.text words.entry.now) → IsTurnedAway result × idle }
-    ensures device { let past = PassesLimit (S.remaining source.old)
-        (S.reads source.old) (S.reads source.new) READ_LIMIT in
-        result ≡ Status.DeviceFailed → (T.failed sink.new ≡ T.failed sink.old + 1)
+    ensures help { let idle = (source.new ≡ source.old) × (sink.new ≡ sink.old) in
+        IsHelpLine (map W.text words.entry.now) → IsTurnedAway result × idle }
+    ensures device { let past = PassesLimit (S.remaining source.old) (S.reads source.old) (S.reads source.new) in
+        result ≡ Status.DeviceFailed
+        → ((T.failed sink.new ≡ T.failed sink.old + 1) × (S.failed source.new ≡ S.failed source.old))
         ⊎ (((S.failed source.new ≡ S.failed source.old + 1) ⊎ past) × (sink.new ≡ sink.old)) }
-    ensures within { S.reads source.new ≤ raised READ_LIMIT (S.reads source.old) }
+    ensures memory { result ≡ Status.OutOfMemory → sink.new ≡ sink.old }
+    ensures within { S.reads source.new ≤ raised read_limit (S.reads source.old) }
     ensures fine { IsUnfailed result
         → (S.failed source.new ≡ S.failed source.old) × (T.failed sink.new ≡ T.failed sink.old) }
 {

@@ -1,15 +1,17 @@
-//! What no clause says: that words that fold succeed with ample memory, and `clap`'s texts. A run that was
-//! refused memory is made again, so that the tests also pass where any one allocation fails.
+//! What no clause says: that runs succeed with ample memory, and `clap`'s texts. A run that was refused memory
+//! is made again, so that the tests also pass where any one allocation fails.
 use crate::run::run_words;
 use script_run::{Reader, Status, Writer};
 use std::process::Abort;
 
+const FOLD: &[&str] = &["fold"];
+
 const SCRIPT: &[u8] = br#"{"resolvers":1,"rows":[],"ask":["a"]}"#;
 
-const TEXT: &[u8] = b"version 0\nlocked no\nmetadata_version none\ntags \"a\" none\n";
+const TEXT: &str = "version 0\nlocked no\nmetadata_version none\ntags \"a\" none\n";
 
-// Room for the text, with nothing written yet.
-const ROOM: [u8; 64] = [0; 64];
+// Room for what is written, with nothing in it yet.
+const ROOM: [u8; 128] = [0; 128];
 
 fn run_once(rt: &impl AllocGlobal, words: &[&str], script: &mut &[u8], room: &mut [u8]) -> Status {
     let mut reader = Reader::new(script);
@@ -19,27 +21,37 @@ fn run_once(rt: &impl AllocGlobal, words: &[&str], script: &mut &[u8], room: &mu
 
 // Runs these words over the script, and once more, from its beginning, where that wanted memory: how it ended,
 // how many bytes of the script were left, and what was written.
-fn run(rt: &impl AllocGlobal, words: &[&str]) -> (Status, usize, [u8; 64]) {
-    let mut script = SCRIPT;
+fn run(rt: &impl AllocGlobal, words: &[&str], given: &[u8]) -> (Status, usize, [u8; 128]) {
+    let mut script = given;
     let mut room = ROOM;
     let mut status = run_once(rt, words, &mut script, &mut room);
     if matches!(status, Status::OutOfMemory) {
-        script = SCRIPT;
+        script = given;
         status = run_once(rt, words, &mut script, &mut room);
     }
     (status, script.len(), room)
 }
 
-fn folds(rt: &(impl Abort + AllocGlobal), words: &[&str]) {
-    let (status, left, room) = run(rt, words);
-    assert!(rt; matches!(status, Status::Done));
+// The words are taken, the whole script is read and answered by this text, and the status has this number.
+fn answers(rt: &(impl Abort + AllocGlobal), words: &[&str], script: &[u8], text: &str, number: u8) {
+    let (status, left, room) = run(rt, words, script);
+    assert_eq!(rt; status.number(), number);
     assert_eq!(rt; left, 0);
-    assert!(rt; room.starts_with(TEXT));
+    assert!(rt; room.starts_with(text.as_bytes()));
+    assert_eq!(rt; room.get(text.len()), Some(&0));
+}
+
+fn folds(rt: &(impl Abort + AllocGlobal), script: &[u8], text: &str) {
+    answers(rt, FOLD, script, text, 0);
+}
+
+fn refuses_script(rt: &(impl Abort + AllocGlobal), script: &[u8], text: &str) {
+    answers(rt, FOLD, script, text, 1);
 }
 
 // The words are refused with this text, and nothing is read or written.
 fn refuses(rt: &(impl Abort + AllocGlobal), words: &[&str], says: &str) {
-    let (status, left, room) = run(rt, words);
+    let (status, left, room) = run(rt, words, SCRIPT);
     match status {
         Status::CommandLineRefused(text) => assert!(rt; text.as_str().contains(says), "{text}"),
         status => panic!(rt; "{status:?}"),
@@ -50,12 +62,20 @@ fn refuses(rt: &(impl Abort + AllocGlobal), words: &[&str], says: &str) {
 
 #[test]
 fn no_words_fold(rt: HostRuntime) {
-    folds(&rt, &[]);
+    answers(&rt, &[], SCRIPT, TEXT, 0);
 }
 
 #[test]
 fn the_word_fold_folds(rt: HostRuntime) {
-    folds(&rt, &["fold"]);
+    answers(&rt, FOLD, SCRIPT, TEXT, 0);
+}
+
+#[test]
+fn two_hyphens_alone_are_passed_over(rt: HostRuntime) {
+    answers(&rt, &["--"], SCRIPT, TEXT, 0);
+    answers(&rt, &["--", "fold"], SCRIPT, TEXT, 0);
+    answers(&rt, &["fold", "--"], SCRIPT, TEXT, 0);
+    refuses(&rt, &["--", "turns"], "invalid value 'turns' for '[MODE]'");
 }
 
 #[test]
@@ -75,4 +95,91 @@ fn other_words_are_refused(rt: HostRuntime) {
 fn a_call_for_help_is_refused_with_the_help(rt: HostRuntime) {
     refuses(&rt, &["--help"], "Usage: proxy_run [MODE]");
     refuses(&rt, &["fold", "-h"], "Usage: proxy_run [MODE]");
+}
+
+#[test]
+fn without_rows_the_version_is_none(rt: HostRuntime) {
+    folds(
+        &rt,
+        br#"{"resolvers":2,"rows":[],"ask":["a"]}"#,
+        "version 0\nlocked no\nmetadata_version none\ntags \"a\" none\n",
+    );
+    folds(
+        &rt,
+        br#"{"ask":[],"rows":[],"resolvers":64}"#,
+        "version 0\nlocked no\nmetadata_version none\n",
+    );
+}
+
+#[test]
+fn a_conflict_by_one_resolver_changes_nothing(rt: HostRuntime) {
+    folds(
+        &rt,
+        br#"{"resolvers":2,"rows":[{"version":10,"states":[{"lock_aware":false,
+        "verdicts":["committed","conflict"],"mutations":[
+        {"set":["\\xff/keyServers/","\\x01server0000000001\\x00"]}]}]}],"ask":["a"]}"#,
+        "version 10\nlocked no\nmetadata_version none\ntags \"a\" none\n",
+    );
+}
+
+#[test]
+fn the_lock_is_read_once_a_row(rt: HostRuntime) {
+    folds(
+        &rt,
+        br#"{"resolvers":1,"rows":[{"version":10,"states":[
+        {"lock_aware":true,"verdicts":["committed"],"mutations":[{"set":["\\xff/dbLocked","L"]}]},
+        {"lock_aware":false,"verdicts":["committed"],"mutations":[
+        {"set":["\\xff/serverTag/server0000000001","\\x00\\x00\\x01"]},
+        {"set":["\\xff/keyServers/","\\x01server0000000001\\x00"]}]}]},
+        {"version":20,"states":[{"lock_aware":false,"verdicts":["committed"],"mutations":[
+        {"set":["\\xff/metadataVersion","v"]}]}]}],"ask":["a"]}"#,
+        "version 20\nlocked yes\nmetadata_version none\nroute \"\" 0:1\ntags \"a\" 0:1\n",
+    );
+}
+
+#[test]
+fn rows_that_do_not_decode_are_refused(rt: HostRuntime) {
+    refuses_script(
+        &rt,
+        br#"{"resolvers":1,"rows":[{"version":10,"states":[{"lock_aware":false,
+        "verdicts":["committed"],"mutations":[
+        {"set":["\\xff/keyServers/","\\x01server0000000001"]}]}]}],"ask":[]}"#,
+        "refused 14 BadRow\n",
+    );
+    refuses_script(
+        &rt,
+        br#"{"resolvers":1,"rows":[{"version":10,"states":[{"lock_aware":false,
+        "verdicts":["committed"],"mutations":[
+        {"set":["\\xff/keyServers/","\\x02server0000000002server0000000001\\x00"]}]}]}],"ask":[]}"#,
+        "refused 14 BadRow\n",
+    );
+}
+
+#[test]
+fn keys_outside_are_refused(rt: HostRuntime) {
+    refuses_script(
+        &rt,
+        br#"{"resolvers":1,"rows":[{"version":10,"states":[{"lock_aware":false,
+        "verdicts":["committed"],"mutations":[{"set":["\\xff\\xff","v"]}]}]}],"ask":[]}"#,
+        "refused 12 KeyOutside\n",
+    );
+}
+
+#[test]
+fn what_is_no_script_is_refused(rt: HostRuntime) {
+    refuses_script(&rt, br#"{"proxies":2"#, "refused 70 NotJson\n");
+    refuses_script(&rt, b"{}", "refused 71 BadShape\n");
+}
+
+#[test]
+fn a_full_writer_ends_the_run(rt: HostRuntime) {
+    let mut script = SCRIPT;
+    let mut room = [0u8; 3];
+    let mut status = run_once(&rt, FOLD, &mut script, &mut room);
+    if matches!(status, Status::OutOfMemory) {
+        script = SCRIPT;
+        status = run_once(&rt, FOLD, &mut script, &mut room);
+    }
+    assert_eq!(rt; status.number(), 3);
+    assert_eq!(rt; room, *b"ver");
 }

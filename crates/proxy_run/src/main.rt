@@ -4,7 +4,7 @@
 
 ghost use Rattle.std.specs.Prelude.{codes};
 ghost use Rattle.script_run.specs.FoldLines.{line};
-ghost use Rattle.script_run.specs.Statuses.{IsTurnedAwayWith};
+ghost use Rattle.command_line.specs.WordRuns.{IsTurnedAwayWith};
 
 use command_line::run_words;
 use script_run::{Reader, Status, Writer};

@@ -10,6 +10,10 @@ raised calls count = count + min calls (2 ^ 64 - 1 - count)
 abbrev pub IsOneMore : ℕ → ℕ → Type 0
 IsOneMore old new = new ≡ raised 1 old
 
+-- how many read calls a whole input may take (this project's profile)
+abbrev pub read_limit : ℕ
+read_limit = 1048576
+
 -- known bytes grow by the front of these bytes, where `rest` is left over
 abbrev pub AppendsBefore : Option (List ℕ) → Option (List ℕ) → List ℕ → List ℕ → Type 0
 AppendsBefore old new bytes rest = (front : List ℕ) × (front ++ rest ≡ bytes) × Appends old new front

@@ -1,5 +1,5 @@
 -- How a run of the program ends.
-use Rattle.std.specs.Prelude.{◌≡◌, ℕ, List, string_bytes}
+use Rattle.std.specs.Prelude.{ℕ}
 use Rattle.script_run.specs.declared.status.Status.{Status}
 use Rattle.script_run.specs.declared.status.Status.TheVariants.{Done, ScriptRefused, CommandLineRefused}
 use Rattle.script_run.specs.declared.status.Status.TheVariants.{DeviceFailed, OutOfMemory}
@@ -22,15 +22,3 @@ IsAnswered _ = ⊥
 abbrev pub IsUnfailed : Status → Type 0
 IsUnfailed DeviceFailed = ⊥
 IsUnfailed _ = Unit {0}
-
--- the command line was refused, or memory was wanting for it
-abbrev pub IsTurnedAway : Status → Type 0
-IsTurnedAway (CommandLineRefused text) = Unit {0}
-IsTurnedAway OutOfMemory = Unit {0}
-IsTurnedAway _ = ⊥
-
--- the same, where the text of a refused command line is this one
-abbrev pub IsTurnedAwayWith : List ℕ → Status → Type 0
-IsTurnedAwayWith said (CommandLineRefused text) = string_bytes text ≡ said
-IsTurnedAwayWith said OutOfMemory = Unit {0}
-IsTurnedAwayWith said _ = ⊥

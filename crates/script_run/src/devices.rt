@@ -2,8 +2,8 @@
 ghost use Rattle.std.specs.Prelude.{◌≡◌, ◌⊎◌, ◌+◌, ◌-◌, ◌^◌, ◌<◌, ◌≤◌, length, ℕ, List, [], Option, IfOk, IfSome};
 ghost use Rattle.std.specs.Prelude.{IsErrOf, OnErr, OnOk};
 ghost use Rattle.std.specs.Io.{ReadsAtMost, WritesAtMost};
-ghost use Rattle.std.specs.Io.KnownBytes.{Appends, ReadConsumes, WriteAppends};
-ghost use Rattle.script_run.specs.Devices.{AppendsBeginning, IsOneMore, raised};
+ghost use Rattle.std.specs.Io.KnownBytes.{Appends, IsAtEnd, ReadConsumes, WriteAppends};
+ghost use Rattle.script_run.specs.Devices.{AppendsBeginning, IsOneMore, raised, read_limit};
 ghost use Rattle.script_run.specs.declared.devices.ReadFault.TheVariants as faults;
 
 use std::alloc::{AllocError, Global};
@@ -178,7 +178,7 @@ const CHUNK: usize = 65_536;
 
 /// All bytes that the source has.
 ///
-/// Answers `Device` where a read failed, `Limit` where the last call allowed did not meet the end, and
+/// The source is then at its end. Answers `Device` where a read failed, `Limit` where the last call allowed did not meet the end, and
 /// `OutOfMemory` where there is no memory for the bytes.
 pub fn read_all<S: Source>(alloc: Global, source: &mut S) -> Result<Vec<u8>, ReadFault>
     requires { S.failed source.old < 2 ^ 64 - 1 }
@@ -189,11 +189,12 @@ pub fn read_all<S: Source>(alloc: Global, source: &mut S) -> Result<Vec<u8>, Rea
     ensures fine { OnOk result (S.failed source.new ≡ S.failed source.old) }
     ensures memory { IsErrOf result ReadFault.OutOfMemory
         → S.failed source.new ≡ S.failed source.old }
-    ensures within { S.reads source.new ≤ raised READ_LIMIT (S.reads source.old) }
+    ensures ended { OnOk result (IsAtEnd (S.remaining source.new)) }
+    ensures within { S.reads source.new ≤ raised read_limit (S.reads source.old) }
     ensures limit { IsErrOf result ReadFault.Limit → (S.failed source.new ≡ S.failed source.old)
-        × (S.reads source.new ≡ raised READ_LIMIT (S.reads source.old)) }
+        × (S.reads source.new ≡ raised read_limit (S.reads source.old)) }
     ensures long { IsErrOf result ReadFault.Limit
-        → IfSome (S.remaining source.old) (λ input. READ_LIMIT ≤ length input) }
+        → IfSome (S.remaining source.old) (λ input. read_limit ≤ length input) }
 {
     let mut bytes = Vec::new(alloc);
     let mut chunk = [0u8; CHUNK];

@@ -64,52 +64,12 @@ fn refuses_changes(rt: &(impl Abort + AllocGlobal), changes: &str, text: &str) -
 }
 
 #[test]
-fn without_rows_the_version_is_none(rt: HostRuntime) {
-    folds(
-        &rt,
-        br#"{"resolvers":2,"rows":[],"ask":["a"]}"#,
-        "version 0\nlocked no\nmetadata_version none\ntags \"a\" none\n",
-    );
-    folds(
-        &rt,
-        br#"{"ask":[],"rows":[],"resolvers":64}"#,
-        "version 0\nlocked no\nmetadata_version none\n",
-    );
-}
-
-#[test]
 fn the_boundary_belongs_to_the_right_row(rt: HostRuntime) {
     folds(
         &rt,
         TWO_SERVERS,
         "version 10\nlocked no\nmetadata_version none\nroute \"\" 0:1\nroute \"m\" 0:2\n\
          tags \"a\" 0:1\ntags \"m\" 0:2\ntags \"z\" 0:2\n",
-    );
-}
-
-#[test]
-fn a_conflict_by_one_resolver_changes_nothing(rt: HostRuntime) {
-    folds(
-        &rt,
-        br#"{"resolvers":2,"rows":[{"version":10,"states":[{"lock_aware":false,
-        "verdicts":["committed","conflict"],"mutations":[
-        {"set":["\\xff/keyServers/","\\x01server0000000001\\x00"]}]}]}],"ask":["a"]}"#,
-        "version 10\nlocked no\nmetadata_version none\ntags \"a\" none\n",
-    );
-}
-
-#[test]
-fn the_lock_is_read_once_a_row(rt: HostRuntime) {
-    folds(
-        &rt,
-        br#"{"resolvers":1,"rows":[{"version":10,"states":[
-        {"lock_aware":true,"verdicts":["committed"],"mutations":[{"set":["\\xff/dbLocked","L"]}]},
-        {"lock_aware":false,"verdicts":["committed"],"mutations":[
-        {"set":["\\xff/serverTag/server0000000001","\\x00\\x00\\x01"]},
-        {"set":["\\xff/keyServers/","\\x01server0000000001\\x00"]}]}]},
-        {"version":20,"states":[{"lock_aware":false,"verdicts":["committed"],"mutations":[
-        {"set":["\\xff/metadataVersion","v"]}]}]}],"ask":["a"]}"#,
-        "version 20\nlocked yes\nmetadata_version none\nroute \"\" 0:1\ntags \"a\" 0:1\n",
     );
 }
 

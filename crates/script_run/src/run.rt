@@ -1,11 +1,11 @@
-//! A run of the program, over any source and sink.
+//! A run of a fold script, over any source and sink.
 ghost use Rattle.std.specs.Prelude.{◌≡◌, ◌⊎◌, ◌+◌, ◌-◌, ◌^◌, ◌<◌, ◌≤◌};
-ghost use Rattle.script_run.specs.Devices.{raised};
+ghost use Rattle.script_run.specs.Devices.{raised, read_limit};
 ghost use Rattle.script_run.specs.Runs.{Folds, PassesLimit};
 ghost use Rattle.script_run.specs.Statuses.{IsUnfailed};
 
 use crate::answer::answer;
-use crate::devices::{Failed, READ_LIMIT, ReadFault, Sink, Source, read_all, write_all};
+use crate::devices::{Failed, ReadFault, Sink, Source, read_all, write_all};
 use crate::status::Status;
 use std::alloc::Global;
 
@@ -16,12 +16,12 @@ pub fn run_fold<S: Source, T: Sink>(alloc: Global, source: &mut S, sink: &mut T)
     requires read_count { S.failed source.old < 2 ^ 64 - 1 }
     requires write_count { T.failed sink.old < 2 ^ 64 - 1 }
     ensures folds { Folds (S.remaining source.old) (T.written sink.old) (T.written sink.new) result }
-    ensures device { let past = PassesLimit (S.remaining source.old)
-        (S.reads source.old) (S.reads source.new) READ_LIMIT in
-        result ≡ Status.DeviceFailed → (T.failed sink.new ≡ T.failed sink.old + 1)
+    ensures device { let past = PassesLimit (S.remaining source.old) (S.reads source.old) (S.reads source.new) in
+        result ≡ Status.DeviceFailed
+        → ((T.failed sink.new ≡ T.failed sink.old + 1) × (S.failed source.new ≡ S.failed source.old))
         ⊎ (((S.failed source.new ≡ S.failed source.old + 1) ⊎ past) × (sink.new ≡ sink.old)) }
     ensures memory { result ≡ Status.OutOfMemory → sink.new ≡ sink.old }
-    ensures within { S.reads source.new ≤ raised READ_LIMIT (S.reads source.old) }
+    ensures within { S.reads source.new ≤ raised read_limit (S.reads source.old) }
     ensures fine { IsUnfailed result
         → (S.failed source.new ≡ S.failed source.old) × (T.failed sink.new ≡ T.failed sink.old) }
 {

@@ -9,7 +9,7 @@ pub enum Status {
     Done,
     /// The script was refused, and the refusal was written.
     ScriptRefused,
-    /// The command line was refused, or asked for help: `clap`'s text, for standard error.
+    /// The command line was refused, or asked for help: the text for standard error.
     CommandLineRefused(String),
     /// Reading or writing failed, or the limit on read calls was passed.
     DeviceFailed,

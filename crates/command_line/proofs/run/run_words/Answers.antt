@@ -6,7 +6,7 @@ use Rattle.clap.specs.declared.error.kind.ErrorKind.TheVariants as kinds
 use Rattle.command_line.specs.WordRuns.{RunsMode}
 use Rattle.command_line.specs.declared.mode.Mode.{Mode}
 use Rattle.command_line.specs.declared.mode.Mode.TheVariants.{Fold}
-use Rattle.command_line.proofs.KnownWords.{fold_line_folds, other_mode_turned_away}
+use Rattle.command_line.proofs.KnownWords.{fold_line_folds, help_turned_away, other_mode_turned_away}
 use Rattle.command_line.proofs.run.run_words.Goals as goal
 
 -- an error where no kind comes is want of memory
@@ -38,6 +38,9 @@ returns-in-Err-clause-mode g c =
 
 pub returns-in-Ok-Some-Fold-clause-other : goal.returns-in-Ok-Some-Fold-clause-other
 returns-in-Ok-Some-Fold-clause-other g c = other_mode_turned_away _ _ _ _ (returns-in-Ok-Some-Fold-clause-mode g c)
+
+pub returns-in-Ok-Some-Fold-clause-help : goal.returns-in-Ok-Some-Fold-clause-help
+returns-in-Ok-Some-Fold-clause-help g c = help_turned_away _ _ _ _ (returns-in-Ok-Some-Fold-clause-mode g c)
 
 pub returns-in-Err-clause-fold : goal.returns-in-Err-clause-fold
 returns-in-Err-clause-fold g c = fold_line_folds _ _ _ _ (returns-in-Err-clause-mode g c)
