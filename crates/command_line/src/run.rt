@@ -2,9 +2,10 @@
 ghost use Rattle.std.specs.Prelude.{◌≡◌, ◌⊎◌, ◌+◌, ◌-◌, ◌^◌, ◌<◌, ◌≤◌, map};
 ghost use Rattle.clap.specs.Words.{kind_of};
 ghost use Rattle.clap.specs.declared.error.kind.ErrorKind.TheVariants as kinds;
+ghost use Rattle.std.specs.Io.KnownBytes.{IsAtEnd};
 ghost use Rattle.script_run.specs.Devices.{raised, read_limit};
 ghost use Rattle.script_run.specs.Runs.{Folds, PassesLimit};
-ghost use Rattle.script_run.specs.Statuses.{IsUnfailed};
+ghost use Rattle.script_run.specs.Statuses.{IsAnswered, IsUnfailed};
 ghost use Rattle.command_line.specs.WordRuns.{IsFoldLine, IsHelpLine, IsOtherModeLine, IsTurnedAway, RunsWords};
 
 use crate::mode::Mode;
@@ -37,9 +38,11 @@ pub fn run_words<'a, W: AsStr, S: Source, T: Sink>(
         IsHelpLine (map W.text words.entry.now) → IsTurnedAway result × idle }
     ensures device { let past = PassesLimit (S.remaining source.old) (S.reads source.old) (S.reads source.new) in
         result ≡ Status.DeviceFailed
-        → ((T.failed sink.new ≡ T.failed sink.old + 1) × (S.failed source.new ≡ S.failed source.old))
+        → ((T.failed sink.new ≡ T.failed sink.old + 1) × (S.failed source.new ≡ S.failed source.old)
+        × IsAtEnd (S.remaining source.new))
         ⊎ (((S.failed source.new ≡ S.failed source.old + 1) ⊎ past) × (sink.new ≡ sink.old)) }
     ensures memory { result ≡ Status.OutOfMemory → sink.new ≡ sink.old }
+    ensures ended { IsAnswered result → IsAtEnd (S.remaining source.new) }
     ensures within { S.reads source.new ≤ raised read_limit (S.reads source.old) }
     ensures fine { IsUnfailed result
         → (S.failed source.new ≡ S.failed source.old) × (T.failed sink.new ≡ T.failed sink.old) }

@@ -210,6 +210,25 @@ fn what_is_no_json_is_refused(rt: HostRuntime) {
     }
 }
 
+/// How a run over this text ends, the reads that it made, and what it wrote. Each read gets all that it asks for.
+fn read_in_full_chunks(rt: &impl AllocGlobal, text: &[u8]) -> (Status, u64, Kept) {
+    let mut source = Fed::new(text, text.len());
+    let mut sink = Kept::new(rt.alloc(), 4_096);
+    let status = run_fold(rt.alloc(), &mut source, &mut sink);
+    (status, source.reads(), sink)
+}
+
+#[test]
+fn a_read_asks_for_65_536_bytes(rt: HostRuntime) -> Result<(), Fail> {
+    let text = letters(rt.alloc(), 1_100_000)?;
+    let (status, reads, sink) = run_twice!(read_in_full_chunks(&rt, text.as_bytes()));
+    assert!(rt; matches!(status, Status::ScriptRefused));
+    // 16 times 65,536 bytes are 1,048,576: the seventeenth call has the rest, and the next meets the end.
+    assert_eq!(rt; reads, 18);
+    assert_eq!(rt; sink.bytes(), NOT_JSON.as_bytes());
+    Ok(())
+}
+
 #[test]
 fn no_beginning_of_a_script_is_json(rt: HostRuntime) {
     for length in 0..TWO_SERVERS.len() {

@@ -1,8 +1,9 @@
 //! A run of a fold script, over any source and sink.
 ghost use Rattle.std.specs.Prelude.{◌≡◌, ◌⊎◌, ◌+◌, ◌-◌, ◌^◌, ◌<◌, ◌≤◌};
+ghost use Rattle.std.specs.Io.KnownBytes.{IsAtEnd};
 ghost use Rattle.script_run.specs.Devices.{raised, read_limit};
 ghost use Rattle.script_run.specs.Runs.{Folds, PassesLimit};
-ghost use Rattle.script_run.specs.Statuses.{IsUnfailed};
+ghost use Rattle.script_run.specs.Statuses.{IsAnswered, IsUnfailed};
 
 use crate::answer::answer;
 use crate::devices::{Failed, ReadFault, Sink, Source, read_all, write_all};
@@ -18,9 +19,11 @@ pub fn run_fold<S: Source, T: Sink>(alloc: Global, source: &mut S, sink: &mut T)
     ensures folds { Folds (S.remaining source.old) (T.written sink.old) (T.written sink.new) result }
     ensures device { let past = PassesLimit (S.remaining source.old) (S.reads source.old) (S.reads source.new) in
         result ≡ Status.DeviceFailed
-        → ((T.failed sink.new ≡ T.failed sink.old + 1) × (S.failed source.new ≡ S.failed source.old))
+        → ((T.failed sink.new ≡ T.failed sink.old + 1) × (S.failed source.new ≡ S.failed source.old)
+        × IsAtEnd (S.remaining source.new))
         ⊎ (((S.failed source.new ≡ S.failed source.old + 1) ⊎ past) × (sink.new ≡ sink.old)) }
     ensures memory { result ≡ Status.OutOfMemory → sink.new ≡ sink.old }
+    ensures ended { IsAnswered result → IsAtEnd (S.remaining source.new) }
     ensures within { S.reads source.new ≤ raised read_limit (S.reads source.old) }
     ensures fine { IsUnfailed result
         → (S.failed source.new ≡ S.failed source.old) × (T.failed sink.new ≡ T.failed sink.old) }

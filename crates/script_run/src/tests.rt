@@ -96,25 +96,38 @@ fn ends_after(
     assert_eq!(rt; sink.bytes(), taken);
 }
 
+// The read of this number fails, and the run ends with nothing written.
+fn read_fails(rt: &(impl Abort + AllocGlobal), script: &'static [u8], most: usize, call: u64) {
+    let devices = Devices {
+        read_at_most: most,
+        failing_read: call,
+        ..FINE
+    };
+    let (status, source, sink) = run(rt, script, devices);
+    assert!(rt;
+        matches!(status, Status::DeviceFailed),
+        "at read {call} of {most} bytes"
+    );
+    assert_eq!(rt; source.reads(), call);
+    assert_eq!(rt; source.failures(), 1);
+    assert!(rt; sink.bytes().is_empty(), "at read {call} of {most} bytes");
+}
+
 #[test]
 fn each_read_may_fail(rt: HostRuntime) {
     // The script has 37 bytes: so many calls, and the one that meets the end.
     for (most, calls) in [(1, 37 + 1), (10, 4 + 1), (64, 1 + 1)] {
         for call in 1..=calls {
-            let devices = Devices {
-                read_at_most: most,
-                failing_read: call,
-                ..FINE
-            };
-            let (status, source, sink) = run(&rt, SCRIPT, devices);
-            assert!(rt;
-                matches!(status, Status::DeviceFailed),
-                "at read {call} of {most} bytes"
-            );
-            assert_eq!(rt; source.reads(), call);
-            assert_eq!(rt; source.failures(), 1);
-            assert!(rt; sink.bytes().is_empty(), "at read {call} of {most} bytes");
+            read_fails(&rt, SCRIPT, most, call);
         }
+    }
+}
+
+#[test]
+fn the_reading_comes_before_the_script(rt: HostRuntime) {
+    // No byte behind the first can make JSON of it.
+    for call in 1..=5 {
+        read_fails(&rt, b"\xff{}a", 1, call);
     }
 }
 
