@@ -15,6 +15,7 @@ pub mod MetLaws
 pub mod MetadataLaws
 pub mod MoveLaws
 pub mod OwnerLaws
+pub mod PassLaws
 pub mod PlaceLaws
 pub mod Places
 pub mod RequestLaws

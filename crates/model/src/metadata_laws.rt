@@ -1,7 +1,7 @@
 //! Laws of the metadata: its order, the lock, and the rows that serve keys. No code: each function's
 //! contract is a law of the definitions.
 
-ghost use Rattle.std.specs.Prelude.{◌≡◌, ◌↔◌, ◌++◌, ℕ, List, fold, Contains, Some, None, IsTrue, IsFalse};
+ghost use Rattle.std.specs.Prelude.{◌≡◌, ◌↔◌, ◌⊎◌, ◌<◌, ◌++◌, ℕ, Bool, List, length, slice_get, fold, Contains, Some, None, IsTrue, IsFalse};
 ghost use Rattle.std.specs.List.Sorted.{IsStrictlySortedBy};
 ghost use Rattle.system_keys.specs.declared.change.Change.{Change};
 ghost use Rattle.system_keys.specs.declared.change.Change.TheVariants.{Set, Clear};
@@ -9,7 +9,9 @@ ghost use Rattle.system_keys.specs.declared.tag.Tag.{Tag};
 ghost use Rattle.system_keys.specs.Keys.{Key, Range, holds, is_key_below, is_key_up_to};
 ghost use Rattle.system_keys.specs.Families.{key_servers_family, is_kept};
 ghost use Rattle.model.specs.declared.journal.JournalRow.{JournalRow};
-ghost use Rattle.model.specs.Metadata.{Row, Rows, IsInOrder, AreKept, row_at, changed, after_changes, after_row, let_pass, is_locked, metadata, key_servers, row_of, met_rows, tag_cmp, tags};
+ghost use Rattle.model.specs.declared.journal.StateTxn.{StateTxn};
+ghost use Rattle.model.specs.declared.verdict.Verdict.TheVariants.{Committed};
+ghost use Rattle.model.specs.Metadata.{Row, Rows, IsInOrder, AreKept, row_at, changed, after_changes, after_row, let_pass, is_let_pass, is_locked, metadata, key_servers, row_of, met_rows, tag_cmp, tags};
 ghost use Rattle.model.specs.Routes.{Serves, ServesSome, HasTag};
 
 /// The rows of every metadata stand in the strict order of their keys, all of which are kept, and what more
@@ -36,9 +38,11 @@ pub fn change_law()
 {}
 
 /// What a row of a journal does depends on the lock before it alone, whatever its own transactions write:
-/// it makes the changes that this lock lets pass, in order.
+/// it makes the changes that this lock lets pass, in order. A transaction is let pass that each of its verdicts
+/// commits, one for each resolver, and that is lock aware or meets no lock.
 pub fn lock_law()
-    ensures { (rows : Rows) (row : JournalRow) → after_row rows row ≡ after_changes rows (let_pass (is_locked rows) row) }
+    ensures passes { (locked : Bool) (t : StateTxn) → IsTrue (is_let_pass locked t) ↔ (((r : ℕ) → r < length t.verdicts → slice_get t.verdicts r ≡ Some Committed) × (IsTrue t.lock_aware ⊎ IsFalse locked)) }
+    ensures changes { (rows : Rows) (row : JournalRow) → after_row rows row ≡ after_changes rows (let_pass (is_locked rows) row) }
 {}
 
 /// The row of a key is the keyServers row that serves it: it is there, at or before the key, and no other such

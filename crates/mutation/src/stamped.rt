@@ -66,14 +66,16 @@ impl Stamped {
 
     /// The ranges that it read.
     pub fn reads(&self) -> &[KeyRange]
-        ensures { result.now ≡ self.now.reads }
+        ensures value { result.now ≡ self.now.reads }
+        ensures limits { stamped_fault self.now ≡ None }
     {
         self.reads.as_slice()
     }
 
     /// The ranges that it wants to write.
     pub fn writes(&self) -> &[KeyRange]
-        ensures { result.now ≡ self.now.writes }
+        ensures value { result.now ≡ self.now.writes }
+        ensures limits { stamped_fault self.now ≡ None }
     {
         self.writes.as_slice()
     }

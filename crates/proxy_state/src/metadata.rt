@@ -74,7 +74,8 @@ impl Metadata {
     }
 
     /// Applies a row of a journal: the changes of its transactions, in order, where every resolver committed
-    /// the transaction, and it is lock aware or the metadata was not locked before the row (release 7.1).
+    /// the transaction, and it is lock aware or the metadata was not locked before the row (release 7.1). A
+    /// transaction comes with one verdict for each resolver: what is not there is not asked for.
     ///
     /// Takes no memory where nothing is let pass, and otherwise a copy of the metadata. Answers `OutOfMemory`
     /// where there is no memory for it; the metadata is then unchanged.

@@ -555,6 +555,8 @@ fn a_key_servers_value_is_refused_by_its_first_fault(rt: HostRuntime) {
         (b"\x00", RowFault::Truncated),
         (b"\x01server0000000001", RowFault::Truncated),
         (b"\x01server000000001", RowFault::Truncated),
+        (b"\x02server0000000002a", RowFault::Truncated),
+        (b"\x02server0000000002server000000000", RowFault::Truncated),
         (b"\x02server0000000002server0000000001", RowFault::NotRising),
         (
             b"\x02server0000000001server0000000001\x00",
