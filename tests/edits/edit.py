@@ -1,0 +1,124 @@
+"""Edits: small wrong changes of a crate, each of which the prover must refuse."""
+import os
+
+from rust_source import functions
+
+EXPECTED = ("refused", "not refused", "bad edit")
+
+
+def read(path):
+    with open(path, encoding="utf-8") as file:
+        return file.read()
+
+
+class Edit:
+    """One edit file, and what it changes.
+
+    refused: the function, law or lemma that must not be proved.
+    pairs: the file, the old text and the new text of each change, in order.
+    function: the function whose body holds the whole edit, in `file`, with its text after the edit
+    in `text`; None for an edit of anything else, which can change what others prove.
+    falls: what else it makes fall, where that is recorded.
+    expected: "refused" but for the controls. fault: why it cannot be tried, or nothing.
+    """
+
+    def __init__(self, path, crate, home):
+        self.path, self.crate, self.name = path, crate, os.path.basename(path).removesuffix(".edit")
+        self.refused, self.expected, self.falls = "", "refused", None
+        self.pairs, self.function, self.file, self.text, self.fault = [], None, "", "", ""
+        self.answer = None
+        self.read_lines(home)
+        if not self.fault:
+            self.find_function(home)
+
+    def read_lines(self, home):
+        file, old = "", None
+        for line in read(self.path).split("\n"):
+            word, _, rest = line.partition(":")
+            rest = rest.removeprefix(" ")
+            if word == "refused":
+                self.refused = rest.strip()
+            elif word == "falls":
+                self.falls = {name.strip() for name in rest.split(",") if name.strip()}
+            elif word == "expected":
+                self.expected = rest.strip()
+            elif word == "file":
+                file = rest.strip()
+            elif word == "old":
+                old = rest
+            elif word == "new":
+                self.pairs.append((file, old, rest))
+        self.fault = self.fault_of_lines(home)
+
+    def fault_of_lines(self, home):
+        if not self.pairs or self.expected not in EXPECTED:
+            return "it has no pair of 'old:' and 'new:', or expects no such thing"
+        for file, old, _ in self.pairs:
+            if old is None or not os.path.isfile(f"{home}/{file}"):
+                return f"there is no file {file!r}, or no 'old:' before a 'new:'"
+        return ""
+
+    def find_function(self, home):
+        """Finds the function that holds the edit, and says what is wrong where the texts do not stand once."""
+        texts, here = {}, None
+        for file, old, new in self.pairs:
+            text = texts.get(file) or read(f"{home}/{file}")
+            begin, end = self.bounds(file, text, old)
+            if text[begin:end].count(old) != 1:
+                self.fault = f"an 'old:' text stands {text[begin:end].count(old)} times in {file}"
+                return
+            at = text.index(old, begin, end)
+            here = self.holder(file, text, at, at + len(old), here, first=not texts)
+            texts[file] = text[:at] + new + text[at + len(old) :]
+        if here and len(texts) == 1 and self.refused in ("", here.path):
+            self.function, self.file, self.refused = here, self.pairs[0][0], here.path
+            now = texts[self.file]
+            self.text = now[here.start : len(now) - (len(read(f"{home}/{self.file}")) - here.end)]
+        elif not self.refused:
+            self.fault = "it is not in one body, so a line 'refused: NAME' has to say what must refuse it"
+
+    def bounds(self, file, text, old):
+        """Where an old text is looked for: in the named function if it is there, and else in the file."""
+        named = [it for it in functions(file, text) if it.path == self.refused] if file.endswith(".rt") else []
+        if named and old in text[named[0].start : named[0].end]:
+            return named[0].start, named[0].end
+        return 0, len(text)
+
+    def holder(self, file, text, begin, end, here, first):
+        """The function whose body holds this place, if it held the places of the pairs before too."""
+        if not file.endswith(".rt") or not first and here is None:
+            return None
+        around = [it for it in functions(file, text) if it.body <= begin and end <= it.end]
+        if not around or not first and around[0].path != here.path:
+            return None
+        return around[0] if first else here
+
+    def can_be_beside(self):
+        """Whether a copy of the function with the edit can stand beside the function."""
+        return not self.function.is_trait_method and "#[cycle" not in self.text
+
+    def can_share(self, other):
+        """Whether each of two edits that change what others prove leaves alone what must refuse the other."""
+        if self.falls is None or other.falls is None or self.refused == other.refused:
+            return False
+        return self.refused not in other.falls and other.refused not in self.falls
+
+    def applied(self, texts, home):
+        """These texts of files with the edit as well, or None where an old text does not stand once in them."""
+        texts = dict(texts)
+        for file, old, new in self.pairs:
+            text = texts.get(file) or read(f"{home}/{file}")
+            begin, end = self.bounds(file, text, old)
+            if text[begin:end].count(old) != 1:
+                return None
+            at = text.index(old, begin, end)
+            texts[file] = text[:at] + new + text[at + len(old) :]
+        return texts
+
+    def record_falls(self, names):
+        """Writes what else the edit makes fall into its file."""
+        lines = [it for it in read(self.path).split("\n") if not it.startswith("falls:")]
+        at = next(number for number, it in enumerate(lines) if it.startswith("refused:")) + 1
+        lines.insert(at, f"falls: {', '.join(sorted(names))}".rstrip())
+        with open(self.path, "w", encoding="utf-8") as file:
+            file.write("\n".join(lines))

@@ -1,0 +1,95 @@
+"""What a check said of a batch of edits: which of them the prover refused, and by what."""
+import collections
+import os
+import re
+
+# A function that is not proved, and why.
+FELL = re.compile(r"(?m)^fn (\S+): (?:not proved|no proof)[:;]? ?(.*)$")
+# What a function's line says of those that it calls is no fault of its own.
+OF_CALLEES = re.compile(r"(; )?(it calls|it passes|a call of) .*?, which (is|are) not proved")
+# An error in a declaration, as of a lemma or of an answer in a function's folder of proofs/.
+WRONG = re.compile(r"(?m)^(?:\./)?(\S+):\d+:\d+: error: `([^`]*)`: (.*)$")
+# A proof that names what the edit took away: such an error says little of the contract.
+NAME_IS_GONE = re.compile(r"has no field|is not in scope|has no `|was not admitted")
+ENDED = re.compile(r"(?m)^(logic=(not-)?proved|only=)")
+PROOF_FILES = ("Answers.antt", "Invariants.antt", "Proof.antt")
+
+
+class Said:
+    """What a check printed, read: the functions and lemmas that fell by themselves, each with the reason."""
+
+    def __init__(self, crate, text):
+        self.reaches_prover = bool(ENDED.search(text))
+        self.first_error = (re.findall(r"(?m)^\S*:\d+:\d+: error.*", text) or text.split("\n"))[0][:300]
+        self.answers, self.lemmas = collections.defaultdict(list), {}
+        for file, name, why in WRONG.findall(text):
+            self.answers[os.path.dirname(file)].append((name, why))
+            if os.path.basename(file) not in PROOF_FILES:
+                self.lemmas.setdefault(name, []).append(why)
+        self.fallen = {name.removeprefix(f"{crate}::"): why for name, why in FELL.findall(text)}
+        self.functions = {}
+        for name, why in self.fallen.items():
+            reason = self.own_reason(name, OF_CALLEES.sub("", why))
+            if reason:
+                self.functions[name] = reason
+
+    def own_reason(self, name, why):
+        """Why the function fell by itself: a goal, or only a name that is gone; nothing if only its callees fell."""
+        of_answers = self.answers.get(f"proofs/{name.replace('::', '/')}", [])
+        by_goal = [f"`{it}`: {words}" for it, words in of_answers if not NAME_IS_GONE.search(words)]
+        goal = why.partition(".antt; ")[2] or ("" if of_answers and why.startswith("expected answers") else why)
+        if goal or by_goal:
+            return Reason(True, (goal or by_goal[0])[:120])
+        return Reason(False, f"`{of_answers[0][0]}`: {of_answers[0][1]}"[:120]) if of_answers else None
+
+    def reason(self, name):
+        """Why this function or lemma fell by itself, if it did."""
+        if name in self.functions:
+            return self.functions[name]
+        if name in self.lemmas:
+            by_goal = [it for it in self.lemmas[name] if not NAME_IS_GONE.search(it)]
+            return Reason(bool(by_goal), (by_goal or self.lemmas[name])[0][:120])
+        return None
+
+    def all_names(self):
+        return {*self.functions, *self.lemmas}
+
+
+Reason = collections.namedtuple("Reason", "is_goal words")
+# outcome: one of edit.EXPECTED; words: by what, or why not
+Answer = collections.namedtuple("Answer", "outcome words")
+
+
+def judge(batch, said):
+    """Gives each edit that the check decides its answer, and returns the others and the names that fell unexpectedly."""
+    is_alone = len(batch.edits) == 1
+    if not said.reaches_prover:
+        if is_alone:
+            batch.edits[0].answer = Answer("bad edit", f"it does not reach the prover: {said.first_error}")
+        return ([] if is_alone else batch.edits), set()
+    others = unexpected(batch, said)
+    if others and not is_alone:
+        return batch.edits, others
+    for edit in batch.edits:
+        edit.answer = answer(edit, batch.names[edit], said, is_alone)
+    return [it for it in batch.edits if it.answer is None], set()
+
+
+def unexpected(batch, said):
+    """What fell by itself, and is neither what must refuse an edit of the batch nor recorded as falling with one."""
+    known = {name for edit in batch.edits for name in (batch.names[edit], *(edit.falls or ()))}
+    fallen = said.functions if batch.is_of_functions() else said.all_names()
+    return {it for it in fallen if it not in known}
+
+
+def answer(edit, name, said, is_alone):
+    reason = said.reason(name)
+    if reason and reason.is_goal:
+        return Answer("refused", f"by {name}: {reason.words}")
+    if reason:
+        return Answer("not refused", f"{name} falls only since its proof names what is gone: {reason.words}")
+    # what rests on a lemma that fell is not checked, and not named: such an edit is tried again without the others
+    if is_alone or edit.function and name not in said.fallen:
+        what = ", ".join(sorted(said.all_names()))[:300] or "nothing"
+        return Answer("not refused", f"{name} has no fault of its own; what has: {what}")
+    return None
