@@ -1,5 +1,6 @@
--- What a proxy has acknowledged in the world is what its requests say.
-use Rattle.std.proofs.Common.{◌≡◌, refl, sym, ap, ◌∙◌, ℕ, suc, ◌<◌, List, [], ◌∷◌, length, map, take, Bool, true, false, cond, nat_eq, if◌then◌else◌, slice_get, slice_index, Some, arith}
+-- What a proxy has acknowledged in the world is what its requests say; and the greatest number of a list.
+use Rattle.std.proofs.Common.{◌≡◌, refl, sym, ap, ◌∙◌, subst, ℕ, suc, max, ◌<◌, ◌≤◌, ◌⊎◌, inl, inr, List, [], ◌∷◌, length, map, take, Contains, Bool, true, false, cond, nat_eq, if◌then◌else◌, slice_get, slice_index, Some, arith}
+use Rattle.std.proofs.lemmas.Bool.{cases_lt}
 use Rattle.std.proofs.lemmas.Option.{slice_get_within}
 use Rattle.model.specs.Configs.{Config}
 use Rattle.model.specs.Records.{Record}
@@ -7,6 +8,7 @@ use Rattle.model.specs.Requests.{Request, request, request_back_to, requests_of_
 use Rattle.model.specs.World.{World, IsSound, greatest, received_of, acknowledged}
 use Rattle.model.specs.Acknowledged.{acknowledged_requests}
 use Rattle.model.proofs.HistoryLaws.{index_there}
+use Rattle.model.proofs.Members.{Has, Has-from_Contains, Contains-from_Has}
 use Rattle.model.proofs.Places.{row_at, slice_get-take}
 
 -- the numbers that the requests of a proxy say, where the list has one for each record
@@ -35,3 +37,33 @@ acknowledged_is config w front r p sound = ap greatest (received_is config (λ (
         let within : j < length w.history = slice_get_within w.history j s there in
         let row : s.row ≡ j = row_at config w.history j s sound.sequencer.history there in
         index_there w.received j (omega (arith, within, sound.received)) ∙ ap (λ (k : ℕ). Some (slice_index w.received k)) (sym row)
+
+-- ---- the greatest number
+
+greatest_above : (ns : List ℕ) (n : ℕ) → Has ns n → n ≤ greatest ns
+greatest_above [] n has = absurd has
+greatest_above (m ∷ ns) n (inl same) = omega arith
+greatest_above (m ∷ ns) n (inr later) = let rest : n ≤ greatest ns = greatest_above ns n later in omega arith
+
+pub greatest_is_bound : (ns : List ℕ) (n : ℕ) → Contains ns n → n ≤ greatest ns
+greatest_is_bound ns n there = greatest_above ns n (Has-from_Contains ns n there)
+
+-- the greater of two numbers is one of them
+one_is_greater : (m n : ℕ) → (m ≡ max m n) ⊎ (n ≡ max m n)
+one_is_greater m n = by (cases_lt m n)
+  where
+    by : (m < n) ⊎ (n ≤ m) → (m ≡ max m n) ⊎ (n ≡ max m n)
+    by (inl less) = inr (omega arith)
+    by (inr more) = inl (omega arith)
+
+greatest_among : (m : ℕ) (ns : List ℕ) → Has (m ∷ ns) (greatest (m ∷ ns))
+greatest_among m [] = inl (omega arith)
+greatest_among m (n ∷ ns) = by (one_is_greater m (greatest (n ∷ ns))) (greatest_among n ns)
+  where
+    by : (m ≡ max m (greatest (n ∷ ns))) ⊎ (greatest (n ∷ ns) ≡ max m (greatest (n ∷ ns))) → Has (n ∷ ns) (greatest (n ∷ ns)) → Has (m ∷ n ∷ ns) (greatest (m ∷ n ∷ ns))
+    by (inl here) rest = inl here
+    by (inr later) rest = inr (subst (Has (n ∷ ns)) later rest)
+
+pub greatest_is_there : (ns : List ℕ) → (ns ≡ [] → ⊥) → Contains ns (greatest ns)
+greatest_is_there [] some = absurd (some refl)
+greatest_is_there (n ∷ ns) some = Contains-from_Has (n ∷ ns) (greatest (n ∷ ns)) (greatest_among n ns)

@@ -4,6 +4,7 @@ pub mod AlikeLaws
 pub mod AskedLaws
 pub mod ChainLaws
 pub mod ChangeLaws
+pub mod GrowingLaws
 pub mod HistoryLaws
 pub mod JoinLaws
 pub mod JudgingLaws
@@ -13,6 +14,7 @@ pub mod Members
 pub mod MemoryLaws
 pub mod MetLaws
 pub mod MetadataLaws
+pub mod MissingLaws
 pub mod MoveLaws
 pub mod OwnerLaws
 pub mod PassLaws

@@ -28,7 +28,7 @@ length-each_below : (n : ℕ) → length (each_below n) ≡ n
 length-each_below zero = refl
 length-each_below (suc n) = omega (arith, length-append (each_below n) (n ∷ []), length-each_below n)
 
-slice_get-each_below : (n r : ℕ) → r < n → slice_get (each_below n) r ≡ Some r
+pub slice_get-each_below : (n r : ℕ) → r < n → slice_get (each_below n) r ≡ Some r
 slice_get-each_below zero r h = absurd (omega arith)
 slice_get-each_below (suc n) r h = by (cases_order r n) (slice_get-each_below n r)
   where

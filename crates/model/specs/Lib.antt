@@ -1,8 +1,10 @@
 pub mod Acknowledged
 pub mod Agreed
 pub mod Configs
+pub mod Growing
 pub mod Journal
 pub mod Metadata
+pub mod Missing
 pub mod Outcomes
 pub mod Owners
 pub mod Records

@@ -1,12 +1,12 @@
 //! Laws of what a resolver remembers. No code: each function's contract is a law of the definitions.
 
-ghost use Rattle.std.specs.Prelude.{◌≡◌, ◌<◌, ◌≤◌, ◌++◌, ℕ, List, [], ◌∷◌, map, filter, take, nat_lt, slice_get, slice_index, Some};
+ghost use Rattle.std.specs.Prelude.{◌≡◌, ◌<◌, ◌≤◌, ◌++◌, ℕ, List, [], ◌∷◌, map, filter, take, nat_lt, slice_get, slice_index, Some, Contains};
 ghost use Rattle.model.specs.Configs.{Config};
 ghost use Rattle.model.specs.declared.unseen.UnseenRow.{UnseenRow};
 ghost use Rattle.model.specs.Records.{Record, IsHistory, last_version, of_proxy};
 ghost use Rattle.model.specs.Journal.{Sayings, is_after, unseen, reached, remembered};
 ghost use Rattle.model.specs.Requests.{Request, request, request_verdicts, request_row, told_requests, requests_of_proxy, last_request_version, request_unseen, requests_reached, remembered_requests};
-ghost use Rattle.model.specs.World.{World, IsSound, acknowledged};
+ghost use Rattle.model.specs.World.{World, IsSound, greatest, acknowledged};
 ghost use Rattle.model.specs.Acknowledged.{acknowledged_requests};
 
 /// The version that every proxy has reached is at or below the last version of each proxy that is there, and
@@ -37,4 +37,11 @@ pub fn requests_memory_law()
 /// among those that the resolver has judged, say that it had received.
 pub fn acknowledged_law()
     ensures { (config : Config) (w : World) (front r p : ℕ) → IsSound config w → acknowledged w front p ≡ acknowledged_requests p (map (λ (s : Record). request config s (slice_index w.received s.row) r) (take front w.history)) }
+{}
+
+/// The greatest number of a list is in the list, and no number of the list is above it; of no numbers it is 0.
+pub fn greatest_law()
+    ensures bound { (ns : List ℕ) (n : ℕ) → Contains ns n → n ≤ greatest ns }
+    ensures there { (ns : List ℕ) → ¬ (ns ≡ []) → Contains ns (greatest ns) }
+    ensures none { greatest [] ≡ 0 }
 {}
