@@ -4,6 +4,7 @@ pub mod AlikeLaws
 pub mod AskedLaws
 pub mod ChainLaws
 pub mod ChangeLaws
+pub mod CommittedLaws
 pub mod GrowingLaws
 pub mod HistoryLaws
 pub mod JoinLaws

@@ -55,7 +55,8 @@ pub use run_laws::{answers_law, events_law, proxy_law};
 pub use unseen::{Carried, StateMark, UnseenRow, UnseenState};
 pub use verdict::Verdict;
 pub use verdict_laws::{
-    cells_law, joined_law, outcome_law, prefix_law, saying_law, serial_law, share_law, verdict_law,
+    cells_law, committed_law, joined_law, lock_row_law, outcome_law, prefix_law, saying_law,
+    serial_law, share_law, verdict_law,
 };
 pub use worked_edges::{lock_edges, record_edges, refusal_edges, stamp_edges, tag_edges};
 pub use worked_rows::{

@@ -16,6 +16,7 @@ ghost use Rattle.model.specs.Outcomes.{outcome, outcomes_after, outcomes};
 ghost use Rattle.model.specs.World.{reply_of, finished_batch};
 ghost use Rattle.model.specs.Agreed.{Columns, AreVerdicts};
 ghost use Rattle.model.specs.Serial.{Place, verdict_at_place, HasConflictWith, IsSerial};
+ghost use Rattle.model.specs.Committed.{SerialKeepsTheLockRow, HistoriesKeepTheLockRow, CommittedIsTold, ToldNumbersAreItsOwn};
 
 /// The verdict is Conflict exactly where there is a conflict by all pairs, over the parts that a
 /// resolver judges and over the places of a history; it is Too old exactly where the part has a read
@@ -83,4 +84,19 @@ pub fn prefix_law()
 /// committed one wrote between its snapshot and itself.
 pub fn serial_law()
     ensures { (config : Config) (h : List Record) → IsConfig config → IsHistory config h → IsSerial config h }
+{}
+
+/// The rule of commit, by the lock row: of two committed transactions, where the first writes over the lock row
+/// between the snapshot of the second and the second itself, the second is no state transaction or is lock
+/// aware. It is so of all records that obey the rule, and so of every history.
+pub fn lock_row_law()
+    ensures serial { SerialKeepsTheLockRow }
+    ensures histories { HistoriesKeepTheLockRow }
+{}
+
+/// A transaction of a history is committed exactly where it is told Committed with the version of its record and
+/// its own number in the batch, and Committed is told with no other version and number.
+pub fn committed_law()
+    ensures told { CommittedIsTold }
+    ensures numbers { ToldNumbersAreItsOwn }
 {}
