@@ -23,6 +23,7 @@ pub mod PlaceLaws
 pub mod Places
 pub mod RequestLaws
 pub mod RouteLaws
+pub mod RoutingLaws
 pub mod RunLaws
 pub mod SayingLaws
 pub mod SerialLaw

@@ -102,7 +102,7 @@ past_end [] i past = refl
 past_end (n ∷ ns) zero past = absurd (omega arith)
 past_end (n ∷ ns) (suc i) past = past_end ns i (omega arith)
 
-finished_within : (config : Config) (w : World) (p : ℕ) → IsSound config w → slice_index w.finished p ≤ length (of_proxy p w.history)
+pub finished_within : (config : Config) (w : World) (p : ℕ) → IsSound config w → slice_index w.finished p ≤ length (of_proxy p w.history)
 finished_within config w p sound = by (cases_lt p (length w.finished))
   where
     by : (p < length w.finished) ⊎ (length w.finished ≤ p) → slice_index w.finished p ≤ length (of_proxy p w.history)
@@ -110,14 +110,14 @@ finished_within config w p sound = by (cases_lt p (length w.finished))
     by (inr past) = let none = past_end w.finished p past in omega (arith, none)
 
 -- the number at another place than the one that is set
-set_other : (ns : List ℕ) (i n j : ℕ) → (j ≡ i → ⊥) → slice_index (slice_set ns i n) j ≡ slice_index ns j
+pub set_other : (ns : List ℕ) (i n j : ℕ) → (j ≡ i → ⊥) → slice_index (slice_set ns i n) j ≡ slice_index ns j
 set_other [] i n j apart = refl
 set_other (x ∷ ns) zero n zero apart = absurd (apart refl)
 set_other (x ∷ ns) zero n (suc j) apart = refl
 set_other (x ∷ ns) (suc i) n zero apart = refl
 set_other (x ∷ ns) (suc i) n (suc j) apart = set_other ns i n j (λ same. apart (ap (λ (k : ℕ). suc k) same))
 
-set_same : (ns : List ℕ) (i n : ℕ) → i < length ns → slice_index (slice_set ns i n) i ≡ n
+pub set_same : (ns : List ℕ) (i n : ℕ) → i < length ns → slice_index (slice_set ns i n) i ≡ n
 set_same [] i n within = absurd (omega arith)
 set_same (x ∷ ns) zero n within = refl
 set_same (x ∷ ns) (suc i) n within = set_same ns i n (omega arith)
@@ -215,7 +215,7 @@ up_to_own config h i rec stepping history at =
     within : i < length h
     within = slice_get_within h i rec at
 
-finish_is : (config : Config) (w : World) (p : ℕ) (rec : Record) → p < config.proxies → slice_get (of_proxy p w.history) (slice_index w.finished p) ≡ Some rec → missing w rec.row (each_below config.resolvers) ≡ [] → happens config w (Finish p) ≡ finishing config w p rec []
+pub finish_is : (config : Config) (w : World) (p : ℕ) (rec : Record) → p < config.proxies → slice_get (of_proxy p w.history) (slice_index w.finished p) ≡ Some rec → missing w rec.row (each_below config.resolvers) ≡ [] → happens config w (Finish p) ≡ finishing config w p rec []
 unfolding happens
 finish_is config w p rec there at none =
     ap (λ (t : Bool). if t then refuse w NoSuchProxy else finished_next config w p (slice_get (of_proxy p w.history) (slice_index w.finished p))) (lt-leb config.proxies p there)

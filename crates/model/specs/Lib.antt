@@ -7,6 +7,7 @@ pub mod Journal
 pub mod Metadata
 pub mod Missing
 pub mod Outcomes
+pub mod OwnRouting
 pub mod Owners
 pub mod Records
 pub mod Requests

@@ -6,8 +6,11 @@ use Rattle.system_keys.specs.declared.change.Change.TheVariants as changes
 use Rattle.system_keys.specs.declared.tag.Tag.{Tag}
 use Rattle.system_keys.specs.Keys.{Key, Range, only}
 use Rattle.model.specs.Configs.{Config, IsConfig}
+use Rattle.model.specs.declared.verdict.Verdict.{Verdict}
 use Rattle.model.specs.declared.verdict.Verdict.TheVariants.{Conflict, TooOld, Committed}
+use Rattle.model.specs.declared.journal.StateTxn.{StateTxn}
 use Rattle.model.specs.declared.journal.JournalRow.{JournalRow}
+use Rattle.model.specs.declared.unseen.UnseenState.{UnseenState}
 use Rattle.model.specs.declared.part.Part.{Part}
 use Rattle.model.specs.declared.outcome.Outcome.TheVariants as outcomes
 use Rattle.model.specs.Stamps.{Set, SetStamped, Given, stamp, stamped_value, stamped_from}
@@ -15,10 +18,11 @@ use Rattle.model.specs.Transactions.{Transaction, locked_key}
 use Rattle.model.specs.Records.{Record}
 use Rattle.model.specs.Shares.{share, asked}
 use Rattle.model.specs.Metadata.{metadata, tags, tags_of_key, routing}
-use Rattle.model.specs.Journal.{Sayings, journal_row, told_row}
+use Rattle.model.specs.Journal.{Sayings, known_in, journal_row, told_row, told_of_state}
 use Rattle.model.specs.Requests.{request}
-use Rattle.model.specs.World.{Event, Sequence, MoveRange, Offer, Finish, GivenUp, MissingReply, VersionsEnd, Sequenced, Refused}
-use Rattle.model.specs.WorkedRows.{cluster, one_proxy, told, after, asked_by, a, b, m, n, range, m_to_t, reading, mutating, putting, to_both, judged, again, completed, empty_row, set_row_by_1, locking, locking_row_by_0, tagged, tag, s1, s2, s3, one_source, source_and_destination, tag_row, servers_row, version_row, part, committed_by, journal_row_of}
+use Rattle.model.specs.World.{Event, Sequence, MoveRange, Offer, Finish, GivenUp, MissingReply, VersionsEnd, Sequenced, Refused, proxy_metadata, proxy_routing}
+use Rattle.model.specs.Agreed.{Columns}
+use Rattle.model.specs.WorkedRows.{cluster, one_proxy, told, after, asked_by, a, b, m, n, range, m_to_t, reading, mutating, putting, to_both, judged, again, completed, empty_row, set_row_by_1, locking, locking_row_by_0, tagged, tag, s1, s2, s3, one_source, source_and_destination, tag_row, tag_bytes, servers_row, version_row, route, part, committed_by, journal_row_of}
 
 -- ---- the lock and the tags
 
@@ -234,6 +238,68 @@ TheJournalRowOfARecord =
           ∷ [];
     })
     × (told_row said_of_row_4 1 mixed_record ≡ record { version = 30; states = (record { verdict = Conflict; carried = None }) ∷ (record { verdict = TooOld; carried = None }) ∷ [] })
+
+-- ---- missing verdicts
+
+-- resolver 0 has a cell of two verdicts for the record, whose share has four parts; the others have no cells
+abbrev pub short_cells : Columns
+short_cells = ((Committed ∷ TooOld ∷ []) ∷ []) ∷ []
+
+-- what the cells say of the transactions of a row, 0 to 4, by resolver r
+abbrev pub said_by_short_cells : ℕ → ℕ → List Verdict
+said_by_short_cells r row =
+    map (known_in narrow (mixed_record ∷ []) short_cells r row) (0 ∷ 1 ∷ 2 ∷ 3 ∷ 4 ∷ [])
+
+abbrev pub five_conflicts : List Verdict
+five_conflicts = replicate 5 Conflict
+
+-- what a cell does not have is Conflict: verdicts past its end, a transaction that is not there, a
+-- cell of resolver 1, and a row without a record
+abbrev pub CellsThatAreTooShort : Type 0
+CellsThatAreTooShort =
+    (said_by_short_cells 0 0 ≡ Committed ∷ TooOld ∷ Conflict ∷ Conflict ∷ Conflict ∷ [])
+    × (said_by_short_cells 1 0 ≡ five_conflicts)
+    × (said_by_short_cells 0 1 ≡ five_conflicts)
+
+-- a state transaction with the verdicts of two resolvers
+abbrev pub two_verdicts : StateTxn
+two_verdicts =
+    record { mutations = set_tag_row ∷ []; lock_aware = false; verdicts = Committed ∷ TooOld ∷ [] }
+
+abbrev pub told_without_mutations : Verdict → UnseenState
+told_without_mutations verdict = record { verdict = verdict; carried = None }
+
+-- resolvers 0 and 1 tell their verdicts, and resolver 2, whose verdict is missing, tells Conflict
+abbrev pub TooFewVerdicts : Type 0
+TooFewVerdicts =
+    map (λ (r : ℕ). told_of_state r two_verdicts) (0 ∷ 1 ∷ 2 ∷ [])
+    ≡ (record { verdict = Committed; carried = Some (record { mutations = set_tag_row ∷ []; lock_aware = false }) })
+    ∷ told_without_mutations TooOld
+    ∷ told_without_mutations Conflict
+    ∷ []
+
+-- ---- a proxy that is behind
+
+-- proxy 0 has finished the first record, and proxy 1 the second; nobody has finished the third
+abbrev pub one_proxy_behind : List Event
+one_proxy_behind =
+    Sequence 0 (mutating (Set (tag_row s1) (tag_bytes 1) ∷ Set (servers_row []) (one_source s1) ∷ []) ∷ [])
+    ∷ Sequence 1 (mutating (Set (tag_row s2) (tag_bytes 2) ∷ Set (servers_row m) (one_source s2) ∷ []) ∷ [])
+    ∷ Sequence 0 (mutating (Set version_row (codes "v") ∷ []) ∷ [])
+    ∷ to_both 0 ++ to_both 1 ++ to_both 2 ++ Finish 0 ∷ Finish 1 ∷ []
+
+-- each proxy routes at the version that it finished last, by the rows up to it, and so do its tags of a key
+abbrev pub AProxyThatIsBehind : Type 0
+AProxyThatIsBehind =
+    (map (proxy_routing cluster (after cluster one_proxy_behind)) (0 ∷ 1 ∷ [])
+    ≡ (record { version = 10; locked = false; metadata_version = None; routes = route [] (tag 1 ∷ []) ∷ [] })
+    ∷ (record { version = 20; locked = false; metadata_version = None; routes = route [] (tag 1 ∷ []) ∷ route m (tag 2 ∷ []) ∷ [] })
+    ∷ [])
+    × (map (proxy_metadata cluster (after cluster one_proxy_behind)) (0 ∷ 1 ∷ [])
+    ≡ ((servers_row [], one_source s1) ∷ (tag_row s1, tag_bytes 1) ∷ [])
+    ∷ ((servers_row [], one_source s1) ∷ (servers_row m, one_source s2) ∷ (tag_row s1, tag_bytes 1) ∷ (tag_row s2, tag_bytes 2) ∷ [])
+    ∷ [])
+    × (map (λ (p : ℕ). tags_of_key (proxy_metadata cluster (after cluster one_proxy_behind) p) n) (0 ∷ 1 ∷ []) ≡ (tag 1 ∷ []) ∷ (tag 2 ∷ []) ∷ [])
 
 -- ---- repeats and refusals
 

@@ -51,14 +51,16 @@ pub use part::Part;
 pub use refusal::Refusal;
 pub use reply::Reply;
 pub use routing::{Route, Routing};
-pub use run_laws::{answers_law, events_law, proxy_law};
+pub use run_laws::{answers_law, events_law, proxy_law, routing_law};
 pub use unseen::{Carried, StateMark, UnseenRow, UnseenState};
 pub use verdict::Verdict;
 pub use verdict_laws::{
     cells_law, committed_law, joined_law, lock_row_law, outcome_law, prefix_law, saying_law,
     serial_law, share_law, verdict_law,
 };
-pub use worked_edges::{lock_edges, record_edges, refusal_edges, stamp_edges, tag_edges};
+pub use worked_edges::{
+    lock_edges, missing_edges, proxy_edges, record_edges, refusal_edges, stamp_edges, tag_edges,
+};
 pub use worked_rows::{
     clear_rows, fold_rows, lock_rows, memory_rows, owner_rows, refusal_rows, stamp_rows,
     verdict_rows,

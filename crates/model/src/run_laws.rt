@@ -8,6 +8,7 @@ ghost use Rattle.model.specs.Records.{Record, of_proxy};
 ghost use Rattle.model.specs.Shares.{each_below};
 ghost use Rattle.model.specs.Journal.{verdict_in, journal_row, journal, is_after};
 ghost use Rattle.model.specs.World.{World, Event, Finish, Judged, Again, Completed, IsSound, start, reply_of, finished_batch, missing, happens, answers, world_after, finished_version, proxy_journal};
+ghost use Rattle.model.specs.OwnRouting.{RoutingIsOfItsJournal, OnlyItsFinishChangesTheRouting, AFinishBringsItsVersion};
 
 /// The answers to some events and then to others are those to all of them in a row, and so is the world after
 /// them.
@@ -23,6 +24,15 @@ pub fn proxy_law()
     ensures turn { (config : Config) (w : World) (p : ℕ) (rec : Record) → IsSound config w → slice_get (of_proxy p w.history) (slice_index w.finished p) ≡ Some rec → finished_version w p ≡ rec.own_previous }
     ensures kept { (config : Config) (w : World) (event : Event) (p : ℕ) → IsConfig config → IsSound config w → ¬ (event ≡ Finish p) → proxy_journal config (happens config w event).world p ≡ proxy_journal config w p }
     ensures grown { (config : Config) (w : World) (p : ℕ) (rec : Record) → IsConfig config → IsSound config w → p < config.proxies → slice_get (of_proxy p w.history) (slice_index w.finished p) ≡ Some rec → missing w rec.row (each_below config.resolvers) ≡ [] → proxy_journal config (happens config w (Finish p)).world p ≡ proxy_journal config w p ++ journal config (verdict_in config w.history) (filter (is_after rec.own_previous) (take rec.row w.history)) ++ journal_row config (verdict_in config w.history) rec ∷ [] }
+{}
+
+/// The routing that a proxy answers is that at its own version, the last that it finished, of its own metadata,
+/// the fold of its own journal. No event but its own finish changes it, and that one brings it to the version of
+/// the record that the proxy finishes.
+pub fn routing_law()
+    ensures own { RoutingIsOfItsJournal }
+    ensures kept { OnlyItsFinishChangesTheRouting }
+    ensures version { AFinishBringsItsVersion }
 {}
 
 /// What a run answers is as its final history has it, whatever came later: each finished batch, and each reply,

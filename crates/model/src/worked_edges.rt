@@ -1,6 +1,6 @@
 //! Worked rows at edges: small cases that the definitions answer in exactly this way. No code.
 
-ghost use Rattle.model.specs.WorkedEdges.{AnEmptyValueIsNoLock, TooOldUnderTheLock, TagsRiseByLocalityFirst, TheEndsOfAClear, RowsThatDoNotDecode, TheBytesOfAStamp, AStampAmongText, EachStampHasItsNumber, HowFarBackOwnersAreRemembered, TheSharesOfARecord, TheRequestsForARecord, TheJournalRowOfARecord, WhatAProxyHasAcknowledged, TheFirstMissingReply, TheGreatestVersion, TheLimitsOfACluster};
+ghost use Rattle.model.specs.WorkedEdges.{AnEmptyValueIsNoLock, TooOldUnderTheLock, TagsRiseByLocalityFirst, TheEndsOfAClear, RowsThatDoNotDecode, TheBytesOfAStamp, AStampAmongText, EachStampHasItsNumber, HowFarBackOwnersAreRemembered, TheSharesOfARecord, TheRequestsForARecord, TheJournalRowOfARecord, CellsThatAreTooShort, TooFewVerdicts, AProxyThatIsBehind, WhatAProxyHasAcknowledged, TheFirstMissingReply, TheGreatestVersion, TheLimitsOfACluster};
 
 /// The lock row without a value, and what is told under the lock of a transaction that is too old.
 pub fn lock_edges()
@@ -28,6 +28,17 @@ pub fn record_edges()
     ensures shares { TheSharesOfARecord }
     ensures requests { TheRequestsForARecord }
     ensures journal_row { TheJournalRowOfARecord }
+{}
+
+/// Verdicts that are missing: in cells, and among those of a state transaction.
+pub fn missing_edges()
+    ensures cells { CellsThatAreTooShort }
+    ensures told { TooFewVerdicts }
+{}
+
+/// What a proxy routes that is behind another one.
+pub fn proxy_edges()
+    ensures behind { AProxyThatIsBehind }
 {}
 
 /// What is acknowledged, which missing reply is named, and the limits of numbers.
