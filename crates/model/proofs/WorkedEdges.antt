@@ -10,7 +10,7 @@ use Rattle.model.specs.Requests.{request_back_to}
 use Rattle.model.specs.Outcomes.{joined_verdict, outcome, outcomes_after}
 use Rattle.model.specs.World.{finished_after, happens, answers, world_after, proxy_journal}
 use Rattle.model.specs.Configs.{IsConfig}
-use Rattle.model.specs.WorkedEdges.{of_numbers, AnEmptyValueIsNoLock, TooOldUnderTheLock, TagsRiseByLocalityFirst, TheEndsOfAClear, RowsThatDoNotDecode, TheBytesOfAStamp, AStampAmongText, EachStampHasItsNumber, HowFarBackOwnersAreRemembered, TheSharesOfARecord, TheRequestsForARecord, TheJournalRowOfARecord, CellsThatAreTooShort, TooFewVerdicts, AProxyThatIsBehind, WhatAProxyHasAcknowledged, TheFirstMissingReply, TheGreatestVersion, TheLimitsOfACluster}
+use Rattle.model.specs.WorkedEdges.{of_numbers, AnEmptyValueIsNoLock, TooOldUnderTheLock, TagsRiseByLocalityFirst, TheEndsOfAClear, RowsThatDoNotDecode, TheBytesOfAStamp, AStampAmongText, EachStampHasItsNumber, HowFarBackOwnersAreRemembered, TheSharesOfARecord, TheRequestsForARecord, TheJournalRowOfARecord, CellsWithoutVerdicts, AHistoryWithoutVerdicts, TooFewVerdicts, AProxyThatIsBehind, WhatAProxyHasAcknowledged, TheFirstMissingReply, TheGreatestVersion, TheLimitsOfACluster}
 
 pub an_empty_value_is_no_lock : AnEmptyValueIsNoLock
 unfolding kind_of ids_at share_back_to judged_before verdict_of share_verdicts metadata server_tags row_tags tags routing verdict_in journal_row journal told_row unseen remembered joined_verdict outcome outcomes_after finished_after happens answers world_after proxy_journal request_back_to
@@ -60,9 +60,13 @@ pub the_journal_row_of_a_record : TheJournalRowOfARecord
 unfolding kind_of ids_at share_back_to judged_before verdict_of share_verdicts metadata server_tags row_tags tags routing verdict_in journal_row journal told_row unseen remembered joined_verdict outcome outcomes_after finished_after happens answers world_after proxy_journal request_back_to
 the_journal_row_of_a_record = (refl, refl, refl)
 
-pub cells_that_are_too_short : CellsThatAreTooShort
+pub cells_without_verdicts : CellsWithoutVerdicts
 unfolding kind_of share_back_to known_in
-cells_that_are_too_short = (refl, refl, refl)
+cells_without_verdicts = (refl, refl, refl, refl)
+
+pub a_history_without_verdicts : AHistoryWithoutVerdicts
+unfolding verdict_in
+a_history_without_verdicts = (refl, refl)
 
 pub too_few_verdicts : TooFewVerdicts
 too_few_verdicts = refl

@@ -18,7 +18,7 @@ use Rattle.model.specs.Transactions.{Transaction, locked_key}
 use Rattle.model.specs.Records.{Record}
 use Rattle.model.specs.Shares.{share, asked}
 use Rattle.model.specs.Metadata.{metadata, tags, tags_of_key, routing}
-use Rattle.model.specs.Journal.{Sayings, known_in, journal_row, told_row, told_of_state}
+use Rattle.model.specs.Journal.{Sayings, verdict_in, known_in, journal_row, told_row, told_of_state}
 use Rattle.model.specs.Requests.{request}
 use Rattle.model.specs.World.{Event, Sequence, MoveRange, Offer, Finish, GivenUp, MissingReply, VersionsEnd, Sequenced, Refused, proxy_metadata, proxy_routing}
 use Rattle.model.specs.Agreed.{Columns}
@@ -241,25 +241,35 @@ TheJournalRowOfARecord =
 
 -- ---- missing verdicts
 
--- resolver 0 has a cell of two verdicts for the record, whose share has four parts; the others have no cells
-abbrev pub short_cells : Columns
-short_cells = ((Committed ∷ TooOld ∷ []) ∷ []) ∷ []
+-- cells for the record: of resolver 0 two verdicts, though its share has four parts, of resolver 1
+-- one for each of its three parts, and of resolver 2 no cell
+abbrev pub some_cells : Columns
+some_cells =
+    ((Committed ∷ TooOld ∷ []) ∷ []) ∷ ((Committed ∷ Committed ∷ Committed ∷ []) ∷ []) ∷ []
 
 -- what the cells say of the transactions of a row, 0 to 4, by resolver r
-abbrev pub said_by_short_cells : ℕ → ℕ → List Verdict
-said_by_short_cells r row =
-    map (known_in narrow (mixed_record ∷ []) short_cells r row) (0 ∷ 1 ∷ 2 ∷ 3 ∷ 4 ∷ [])
+abbrev pub said_by_cells : ℕ → ℕ → List Verdict
+said_by_cells r row =
+    map (known_in narrow (mixed_record ∷ []) some_cells r row) (0 ∷ 1 ∷ 2 ∷ 3 ∷ 4 ∷ [])
 
 abbrev pub five_conflicts : List Verdict
 five_conflicts = replicate 5 Conflict
 
--- what a cell does not have is Conflict: verdicts past its end, a transaction that is not there, a
--- cell of resolver 1, and a row without a record
-abbrev pub CellsThatAreTooShort : Type 0
-CellsThatAreTooShort =
-    (said_by_short_cells 0 0 ≡ Committed ∷ TooOld ∷ Conflict ∷ Conflict ∷ Conflict ∷ [])
-    × (said_by_short_cells 1 0 ≡ five_conflicts)
-    × (said_by_short_cells 0 1 ≡ five_conflicts)
+-- what cells do not have is Conflict: a verdict past the end of a cell, on a transaction that does
+-- not ask or is not there, of a resolver without cells, and in a row without a record
+abbrev pub CellsWithoutVerdicts : Type 0
+CellsWithoutVerdicts =
+    (said_by_cells 0 0 ≡ Committed ∷ TooOld ∷ Conflict ∷ Conflict ∷ Conflict ∷ [])
+    × (said_by_cells 1 0 ≡ Committed ∷ Conflict ∷ Committed ∷ Committed ∷ Conflict ∷ [])
+    × (said_by_cells 2 0 ≡ five_conflicts)
+    × (said_by_cells 0 1 ≡ five_conflicts)
+
+-- what a history does not have is Conflict: the verdict on a fifth transaction of its record, and
+-- those in a second row
+abbrev pub AHistoryWithoutVerdicts : Type 0
+AHistoryWithoutVerdicts =
+    (verdict_in narrow (mixed_record ∷ []) 0 0 4 ≡ Conflict)
+    × (map (verdict_in narrow (mixed_record ∷ []) 0 1) (0 ∷ 1 ∷ 2 ∷ 3 ∷ 4 ∷ []) ≡ five_conflicts)
 
 -- a state transaction with the verdicts of two resolvers
 abbrev pub two_verdicts : StateTxn

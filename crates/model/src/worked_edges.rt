@@ -1,6 +1,6 @@
 //! Worked rows at edges: small cases that the definitions answer in exactly this way. No code.
 
-ghost use Rattle.model.specs.WorkedEdges.{AnEmptyValueIsNoLock, TooOldUnderTheLock, TagsRiseByLocalityFirst, TheEndsOfAClear, RowsThatDoNotDecode, TheBytesOfAStamp, AStampAmongText, EachStampHasItsNumber, HowFarBackOwnersAreRemembered, TheSharesOfARecord, TheRequestsForARecord, TheJournalRowOfARecord, CellsThatAreTooShort, TooFewVerdicts, AProxyThatIsBehind, WhatAProxyHasAcknowledged, TheFirstMissingReply, TheGreatestVersion, TheLimitsOfACluster};
+ghost use Rattle.model.specs.WorkedEdges.{AnEmptyValueIsNoLock, TooOldUnderTheLock, TagsRiseByLocalityFirst, TheEndsOfAClear, RowsThatDoNotDecode, TheBytesOfAStamp, AStampAmongText, EachStampHasItsNumber, HowFarBackOwnersAreRemembered, TheSharesOfARecord, TheRequestsForARecord, TheJournalRowOfARecord, CellsWithoutVerdicts, AHistoryWithoutVerdicts, TooFewVerdicts, AProxyThatIsBehind, WhatAProxyHasAcknowledged, TheFirstMissingReply, TheGreatestVersion, TheLimitsOfACluster};
 
 /// The lock row without a value, and what is told under the lock of a transaction that is too old.
 pub fn lock_edges()
@@ -30,9 +30,10 @@ pub fn record_edges()
     ensures journal_row { TheJournalRowOfARecord }
 {}
 
-/// Verdicts that are missing: in cells, and among those of a state transaction.
+/// Verdicts that are missing: in cells, by a history, and among those of a state transaction.
 pub fn missing_edges()
-    ensures cells { CellsThatAreTooShort }
+    ensures cells { CellsWithoutVerdicts }
+    ensures history { AHistoryWithoutVerdicts }
     ensures told { TooFewVerdicts }
 {}
 
