@@ -1,19 +1,19 @@
 -- The rule of commit by the lock row, and what committed transactions are told.
-use Rattle.std.proofs.Common.{◌≡◌, refl, sym, ap, ◌∙◌, subst, ℕ, List, [], ◌∷◌, ◌++◌, take, ◌⊎◌, inl, inr, Bool, true, false, ◌&&◌, not, if◌then◌else◌, slice_get, Some, Contains, IsTrue, IsFalse, arith}
+use Rattle.std.proofs.Common.{◌≡◌, refl, sym, ap, ◌∙◌, ℕ, List, take, ◌⊎◌, inl, inr, Bool, true, false, ◌&&◌, not, slice_get, Some, Contains, IsTrue, IsFalse}
 use Rattle.std.proofs.lemmas.Bool.{and_from}
-use Rattle.system_keys.specs.Keys.{Range, holds, only}
+use Rattle.system_keys.specs.Keys.{holds, only}
 use Rattle.model.specs.Configs.{Config}
 use Rattle.model.specs.declared.verdict.Verdict.{Verdict}
 use Rattle.model.specs.declared.verdict.Verdict.TheVariants as verdicts
 use Rattle.model.specs.declared.outcome.Outcome.{Outcome}
-use Rattle.model.specs.declared.outcome.Outcome.TheVariants.{Committed, Conflict, TooOld, Locked}
+use Rattle.model.specs.declared.outcome.Outcome.TheVariants.{Committed}
 use Rattle.model.specs.Transactions.{Transaction, is_state_transaction, lock_read, all_reads, locked_key}
 use Rattle.model.specs.Records.{Record}
 use Rattle.model.specs.Metadata.{is_locked, metadata}
 use Rattle.model.specs.Journal.{verdict_in, journal}
 use Rattle.model.specs.Outcomes.{joined_verdict, is_refused, outcome_by, outcome, outcomes}
-use Rattle.model.specs.Serial.{Place, IsBetween, IsCommitted, IsSerial}
-use Rattle.model.specs.Committed.{WritesLockRow, IsToldCommitted, SerialKeepsTheLockRow, HistoriesKeepTheLockRow, CommittedIsTold, ToldNumbersAreItsOwn}
+use Rattle.model.specs.Serial.{Place}
+use Rattle.model.specs.Committed.{SerialKeepsTheLockRow, HistoriesKeepTheLockRow, CommittedIsTold, ToldNumbersAreItsOwn}
 use Rattle.model.proofs.Members.{Contains-from_Has, Has-append_right}
 use Rattle.model.proofs.SayingLaws.{outcomes_at}
 use Rattle.model.proofs.SerialLaw.{history_is_serial}

@@ -1,14 +1,13 @@
 -- A holder that comes to know more, and one that knows all of a history.
-use Rattle.std.proofs.Common.{◌≡◌, refl, sym, ap, ◌∙◌, ℕ, zero, suc, ◌<◌, ◌≤◌, List, [], ◌∷◌, ◌++◌, length, map, take, append_assoc, append-nil, length-append, option_map, arith}
+use Rattle.std.proofs.Common.{◌≡◌, refl, sym, ap, ◌∙◌, ℕ, zero, suc, ◌<◌, List, [], ◌∷◌, ◌++◌, length, take, append_assoc, append-nil, length-append, option_map, arith}
 use Rattle.std.proofs.lemmas.Option.{slice_get-map, slice_get_within}
 use Rattle.std.specs.Prelude.{slice_get, Some}
 use Rattle.model.specs.Configs.{Config}
-use Rattle.model.specs.declared.verdict.Verdict.{Verdict}
 use Rattle.model.specs.Records.{Record}
 use Rattle.model.specs.Shares.{each_below}
 use Rattle.model.specs.Verdicts.{share_verdicts}
 use Rattle.model.specs.Journal.{list_at}
-use Rattle.model.specs.Agreed.{Column, Columns, IsAgreed, AreVerdicts}
+use Rattle.model.specs.Agreed.{Column, Columns, AreVerdicts}
 use Rattle.model.specs.Growing.{column_from, all_columns, AgreedWithARecord, AgreedWithCells, VerdictsWithCells, HistoriesAreAgreed, AllColumnsAreVerdicts}
 use Rattle.model.proofs.HistoryLaws.{history_push}
 use Rattle.model.proofs.KnownLaws.{column_more}

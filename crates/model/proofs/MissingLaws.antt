@@ -1,13 +1,10 @@
 -- A missing verdict counts as Conflict.
-use Rattle.std.proofs.Common.{◌≡◌, refl, ap, ◌∙◌, ℕ, zero, suc, List, [], ◌∷◌, take, arith}
+use Rattle.std.proofs.Common.{◌≡◌, refl, ap, ◌∙◌, ℕ, suc, List, [], ◌∷◌, take}
 use Rattle.std.proofs.lemmas.Bool.{eqb-true}
-use Rattle.std.specs.Prelude.{Bool, true, false, if◌then◌else◌, nat_eq, slice_get, Option, Some, None, unwrap_or}
-use Rattle.model.specs.Configs.{Config}
+use Rattle.std.specs.Prelude.{Bool, true, false, if◌then◌else◌, nat_eq, Option, Some, None, unwrap_or}
 use Rattle.model.specs.declared.part.Part.{Part}
 use Rattle.model.specs.declared.verdict.Verdict.{Verdict}
 use Rattle.model.specs.declared.verdict.Verdict.TheVariants.{Conflict}
-use Rattle.model.specs.declared.journal.StateTxn.{StateTxn}
-use Rattle.model.specs.declared.unseen.StateMark.{StateMark}
 use Rattle.model.specs.Transactions.{Transaction}
 use Rattle.model.specs.Records.{Record}
 use Rattle.model.specs.Shares.{share}

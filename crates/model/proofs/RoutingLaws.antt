@@ -1,5 +1,5 @@
 -- The routing that a proxy answers: what it is, and which events change it.
-use Rattle.std.proofs.Common.{◌≡◌, refl, sym, ap, ◌∙◌, ℕ, suc, ◌<◌, List, [], ◌∷◌, ◌++◌, take, Bool, true, false, nat_le, nat_lt, if◌then◌else◌, slice_get, slice_index, slice_set, Option, Some, None, arith}
+use Rattle.std.proofs.Common.{◌≡◌, refl, sym, ap, ◌∙◌, ℕ, suc, List, [], ◌∷◌, ◌++◌, take, Bool, true, false, nat_le, nat_lt, if◌then◌else◌, slice_get, slice_index, Option, Some, None, arith}
 use Rattle.std.proofs.lemmas.List.{take-append-le}
 use Rattle.system_keys.specs.Keys.{Range}
 use Rattle.model.specs.Configs.{Config, version_limit}
@@ -7,7 +7,7 @@ use Rattle.model.specs.Stamps.{Given}
 use Rattle.model.specs.Records.{Record, last_version, of_proxy}
 use Rattle.model.specs.Shares.{each_below}
 use Rattle.model.specs.Metadata.{metadata, routing}
-use Rattle.model.specs.World.{World, Event, Sequence, MoveRange, Offer, Finish, Happened, IsSound, next_record, sequenced, moved, acknowledged, offered, missing, finishing, finished_next, happens, finished_version, proxy_journal, proxy_routing}
+use Rattle.model.specs.World.{World, Event, Sequence, MoveRange, Offer, Finish, Happened, IsSound, next_record, sequenced, moved, acknowledged, offered, missing, finishing, finished_next, happens, finished_version}
 use Rattle.model.specs.OwnRouting.{RoutingIsOfItsJournal, OnlyItsFinishChangesTheRouting, AFinishBringsItsVersion}
 use Rattle.model.proofs.HistoryLaws.{of_proxy-append}
 use Rattle.model.proofs.MoveLaws.{last_version_at}
