@@ -73,7 +73,7 @@ too_few_verdicts = refl
 
 pub a_proxy_that_is_behind : AProxyThatIsBehind
 unfolding kind_of ids_at share_back_to judged_before verdict_of share_verdicts metadata server_tags row_tags tags routing verdict_in journal_row journal told_row unseen remembered joined_verdict outcome outcomes_after finished_after happens answers world_after proxy_journal request_back_to
-a_proxy_that_is_behind = (refl, refl, refl)
+a_proxy_that_is_behind = (refl, refl, refl, refl)
 
 pub what_a_proxy_has_acknowledged : WhatAProxyHasAcknowledged
 unfolding kind_of ids_at share_back_to judged_before verdict_of share_verdicts metadata server_tags row_tags tags routing verdict_in journal_row journal told_row unseen remembered joined_verdict outcome outcomes_after finished_after happens answers world_after proxy_journal request_back_to

@@ -1,6 +1,6 @@
 -- Worked rows at edges: small cases that tell apart what the stories of `WorkedRows` leave alike. They compute, or follow by comparing numbers.
 -- Unless a row says otherwise, its cluster and its transactions are those of `WorkedRows`.
-use Rattle.std.specs.Prelude.{◌≡◌, ℕ, ◌+◌, List, [], ◌∷◌, ◌++◌, map, replicate, codes, true, false, nat_eq, if◌then◌else◌, Some, None}
+use Rattle.std.specs.Prelude.{◌≡◌, ℕ, ◌+◌, List, [], ◌∷◌, ◌++◌, map, replicate, codes, true, false, nat_eq, if◌then◌else◌, Option, Some, None}
 use Rattle.system_keys.specs.declared.change.Change.{Change}
 use Rattle.system_keys.specs.declared.change.Change.TheVariants as changes
 use Rattle.system_keys.specs.declared.tag.Tag.{Tag}
@@ -10,7 +10,10 @@ use Rattle.model.specs.declared.verdict.Verdict.{Verdict}
 use Rattle.model.specs.declared.verdict.Verdict.TheVariants.{Conflict, TooOld, Committed}
 use Rattle.model.specs.declared.journal.StateTxn.{StateTxn}
 use Rattle.model.specs.declared.journal.JournalRow.{JournalRow}
+use Rattle.model.specs.declared.unseen.Carried.{Carried}
 use Rattle.model.specs.declared.unseen.UnseenState.{UnseenState}
+use Rattle.model.specs.declared.routing.Route.{Route}
+use Rattle.model.specs.declared.routing.Routing.{Routing}
 use Rattle.model.specs.declared.part.Part.{Part}
 use Rattle.model.specs.declared.outcome.Outcome.TheVariants as outcomes
 use Rattle.model.specs.Stamps.{Set, SetStamped, Given, stamp, stamped_value, stamped_from}
@@ -276,40 +279,57 @@ abbrev pub two_verdicts : StateTxn
 two_verdicts =
     record { mutations = set_tag_row ∷ []; lock_aware = false; verdicts = Committed ∷ TooOld ∷ [] }
 
-abbrev pub told_without_mutations : Verdict → UnseenState
-told_without_mutations verdict = record { verdict = verdict; carried = None }
+-- a state transaction as a resolver tells of it
+abbrev pub told_state : Verdict → Option Carried → UnseenState
+told_state verdict carried = record { verdict = verdict; carried = carried }
 
 -- resolvers 0 and 1 tell their verdicts, and resolver 2, whose verdict is missing, tells Conflict
 abbrev pub TooFewVerdicts : Type 0
 TooFewVerdicts =
     map (λ (r : ℕ). told_of_state r two_verdicts) (0 ∷ 1 ∷ 2 ∷ [])
-    ≡ (record { verdict = Committed; carried = Some (record { mutations = set_tag_row ∷ []; lock_aware = false }) })
-    ∷ told_without_mutations TooOld
-    ∷ told_without_mutations Conflict
+    ≡ told_state Committed (Some (record { mutations = set_tag_row ∷ []; lock_aware = false }))
+    ∷ told_state TooOld None
+    ∷ told_state Conflict None
     ∷ []
 
 -- ---- a proxy that is behind
 
+-- a transaction that gives a server the tag `0:id`, and that server the keys from one on
+abbrev pub giving_keys : ℕ → Key → Key → Given
+giving_keys id server key =
+    mutating
+    (Set (tag_row server) (tag_bytes id) ∷ Set (servers_row key) (one_source server) ∷ [])
+
 -- proxy 0 has finished the first record, and proxy 1 the second; nobody has finished the third
 abbrev pub one_proxy_behind : List Event
 one_proxy_behind =
-    Sequence 0 (mutating (Set (tag_row s1) (tag_bytes 1) ∷ Set (servers_row []) (one_source s1) ∷ []) ∷ [])
-    ∷ Sequence 1 (mutating (Set (tag_row s2) (tag_bytes 2) ∷ Set (servers_row m) (one_source s2) ∷ []) ∷ [])
+    Sequence 0 (giving_keys 1 s1 [] ∷ []) ∷ Sequence 1 (giving_keys 2 s2 m ∷ [])
     ∷ Sequence 0 (mutating (Set version_row (codes "v") ∷ []) ∷ [])
     ∷ to_both 0 ++ to_both 1 ++ to_both 2 ++ Finish 0 ∷ Finish 1 ∷ []
 
--- each proxy routes at the version that it finished last, by the rows up to it, and so do its tags of a key
+-- an unlocked routing without a version of the metadata
+abbrev pub routes_at : ℕ → List Route → Routing
+routes_at version routes =
+    record { version = version; locked = false; metadata_version = None; routes = routes }
+
+-- each proxy routes at the version that it finished last, by the rows up to it: so the key `n` has
+-- the tag of server 1 at proxy 0, and of server 2 at proxy 1
 abbrev pub AProxyThatIsBehind : Type 0
 AProxyThatIsBehind =
     (map (proxy_routing cluster (after cluster one_proxy_behind)) (0 ∷ 1 ∷ [])
-    ≡ (record { version = 10; locked = false; metadata_version = None; routes = route [] (tag 1 ∷ []) ∷ [] })
-    ∷ (record { version = 20; locked = false; metadata_version = None; routes = route [] (tag 1 ∷ []) ∷ route m (tag 2 ∷ []) ∷ [] })
+    ≡ routes_at 10 (route [] (tag 1 ∷ []) ∷ [])
+    ∷ routes_at 20 (route [] (tag 1 ∷ []) ∷ route m (tag 2 ∷ []) ∷ [])
     ∷ [])
     × (map (proxy_metadata cluster (after cluster one_proxy_behind)) (0 ∷ 1 ∷ [])
     ≡ ((servers_row [], one_source s1) ∷ (tag_row s1, tag_bytes 1) ∷ [])
-    ∷ ((servers_row [], one_source s1) ∷ (servers_row m, one_source s2) ∷ (tag_row s1, tag_bytes 1) ∷ (tag_row s2, tag_bytes 2) ∷ [])
+    ∷ ((servers_row [], one_source s1)
+    ∷ (servers_row m, one_source s2)
+    ∷ (tag_row s1, tag_bytes 1)
+    ∷ (tag_row s2, tag_bytes 2)
     ∷ [])
-    × (map (λ (p : ℕ). tags_of_key (proxy_metadata cluster (after cluster one_proxy_behind) p) n) (0 ∷ 1 ∷ []) ≡ (tag 1 ∷ []) ∷ (tag 2 ∷ []) ∷ [])
+    ∷ [])
+    × (tags_of_key (proxy_metadata cluster (after cluster one_proxy_behind) 0) n ≡ tag 1 ∷ [])
+    × (tags_of_key (proxy_metadata cluster (after cluster one_proxy_behind) 1) n ≡ tag 2 ∷ [])
 
 -- ---- repeats and refusals
 
