@@ -19,16 +19,20 @@ pub fn read_mode<'a, W: AsStr>(alloc: Global, words: &'a [W]) -> Result<Option<M
     Ok(mode_in(&matches))
 }
 
+// What the program does, as the help says it.
+const ABOUT: &str =
+    "Reads a JSON script on standard input and prints the resulting routing: proxy_run < script.json";
+
 // The command line `proxy_run [MODE]`.
 fn command<'a>(alloc: Global) -> Result<Command<'a>, AllocError>
     ensures { IfOk result (λ command. (names : ModeNames) × IsCommandLine names command) }
 {
     let mode = Arg::new(alloc, "mode")
         .value_name("MODE")
-        .help("What to do with the script: fold, where it is left out")
+        .help("What to do with the script [default: fold]")
         .value_parser(NAMES.as_slice());
     Command::new(alloc, "proxy_run")
-        .about("Reads a script from standard input and prints what comes of it")
+        .about(ABOUT)
         .no_binary_name(true)
         .arg(mode)
 }

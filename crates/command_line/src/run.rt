@@ -1,9 +1,10 @@
 //! A run of the program by the words after its name.
-ghost use Rattle.std.specs.Prelude.{◌≡◌, ◌⊎◌, ◌+◌, ◌-◌, ◌^◌, ◌<◌, ◌≤◌, map};
+ghost use Rattle.std.specs.Prelude.{◌≡◌, ◌⊎◌, ◌+◌, ◌-◌, ◌^◌, ◌<◌, ◌≤◌, IfSome, length, map};
 ghost use Rattle.clap.specs.Words.{kind_of};
 ghost use Rattle.clap.specs.declared.error.kind.ErrorKind.TheVariants as kinds;
 ghost use Rattle.std.specs.Io.KnownBytes.{IsAtEnd};
-ghost use Rattle.script_run.specs.Devices.{raised, read_limit};
+ghost use Rattle.script_run.specs.Devices.{input_limit, raised, read_limit};
+ghost use Rattle.script_run.specs.FoldText.{fold_text};
 ghost use Rattle.script_run.specs.Runs.{Folds, PassesLimit};
 ghost use Rattle.script_run.specs.Statuses.{IsAnswered, IsUnfailed};
 ghost use Rattle.command_line.specs.WordRuns.{IsFoldLine, IsHelpLine, IsOtherModeLine, IsTurnedAway, RunsWords};
@@ -44,6 +45,12 @@ pub fn run_words<'a, W: AsStr, S: Source, T: Sink>(
     ensures memory { result ≡ Status.OutOfMemory → sink.new ≡ sink.old }
     ensures ended { IsAnswered result → IsAtEnd (S.remaining source.new) }
     ensures within { S.reads source.new ≤ raised read_limit (S.reads source.old) }
+    ensures short { IsAnswered result
+        → IfSome (S.remaining source.old) (λ input. length input ≤ input_limit) }
+    ensures reads { IfSome (S.remaining source.old) (λ input.
+        S.reads source.new ≤ raised (length input + 1) (S.reads source.old)) }
+    ensures writes { IfSome (S.remaining source.old) (λ input.
+        T.writes sink.new ≤ raised (length (fold_text input).text) (T.writes sink.old)) }
     ensures fine { IsUnfailed result
         → (S.failed source.new ≡ S.failed source.old) × (T.failed sink.new ≡ T.failed sink.old) }
 {
@@ -56,15 +63,20 @@ pub fn run_words<'a, W: AsStr, S: Source, T: Sink>(
     }
 }
 
+// What follows the text of a command line that is refused and asks for no help: it may name a file.
+const HINT: &str = "hint: the script is read on standard input: proxy_run < script.json\n";
+
 // The status of a refused command line.
 fn refusal(alloc: Global, error: &Error) -> Status
     ensures turned { IsTurnedAway result }
     ensures memory { kind_of error.now ≡ kinds.OutOfMemory → result ≡ Status.OutOfMemory }
 {
-    if error.kind() == ErrorKind::OutOfMemory {
-        return Status::OutOfMemory;
-    }
-    match format!(in alloc; "{error}") {
+    let hint = match error.kind() {
+        ErrorKind::OutOfMemory => return Status::OutOfMemory,
+        ErrorKind::DisplayHelp => "",
+        _ => HINT,
+    };
+    match format!(in alloc; "{error}{hint}") {
         Ok(text) => Status::CommandLineRefused(text),
         Err(_) => Status::OutOfMemory,
     }

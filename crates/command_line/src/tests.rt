@@ -10,6 +10,25 @@ const SCRIPT: &[u8] = br#"{"resolvers":1,"rows":[],"ask":["a"]}"#;
 
 const TEXT: &str = "version 0\nlocked no\nmetadata_version none\ntags \"a\" none\n";
 
+const TURNS: &str = "error: invalid value 'turns' for '[MODE]'
+  [possible values: fold]
+
+For more information, try '--help'.
+hint: the script is read on standard input: proxy_run < script.json
+";
+
+const HELP: &str =
+    "Reads a JSON script on standard input and prints the resulting routing: proxy_run < script.json
+
+Usage: proxy_run [MODE]
+
+Arguments:
+  [MODE]  What to do with the script [default: fold] [possible values: fold]
+
+Options:
+  -h, --help  Print help
+";
+
 // Room for what is written, with nothing in it yet.
 const ROOM: [u8; 128] = [0; 128];
 
@@ -49,11 +68,11 @@ fn refuses_script(rt: &(impl Abort + AllocGlobal), script: &[u8], text: &str) {
     answers(rt, FOLD, script, text, 1);
 }
 
-// The words are refused with this text, and nothing is read or written.
+// The words are refused with exactly this text, and nothing is read or written.
 fn refuses(rt: &(impl Abort + AllocGlobal), words: &[&str], says: &str) {
     let (status, left, room) = run(rt, words, SCRIPT);
     match status {
-        Status::CommandLineRefused(text) => assert!(rt; text.as_str().contains(says), "{text}"),
+        Status::CommandLineRefused(text) => assert_eq!(rt; text.as_str(), says),
         status => panic!(rt; "{status:?}"),
     }
     assert_eq!(rt; left, SCRIPT.len());
@@ -75,26 +94,90 @@ fn two_hyphens_alone_are_passed_over(rt: HostRuntime) {
     answers(&rt, &["--"], SCRIPT, TEXT, 0);
     answers(&rt, &["--", "fold"], SCRIPT, TEXT, 0);
     answers(&rt, &["fold", "--"], SCRIPT, TEXT, 0);
-    refuses(&rt, &["--", "turns"], "invalid value 'turns' for '[MODE]'");
+    refuses(&rt, &["--", "turns"], TURNS);
 }
 
 #[test]
 fn other_modes_are_refused(rt: HostRuntime) {
-    refuses(&rt, &["turns"], "invalid value 'turns' for '[MODE]'");
-    refuses(&rt, &["threads"], "[possible values: fold]");
+    refuses(&rt, &["turns"], TURNS);
+    refuses(
+        &rt,
+        &["threads"],
+        "error: invalid value 'threads' for '[MODE]'
+  [possible values: fold]
+
+For more information, try '--help'.
+hint: the script is read on standard input: proxy_run < script.json
+",
+    );
+}
+
+#[test]
+fn a_path_is_no_mode(rt: HostRuntime) {
+    refuses(
+        &rt,
+        &["examples/two_servers.json"],
+        "error: invalid value 'examples/two_servers.json' for '[MODE]'
+  [possible values: fold]
+
+For more information, try '--help'.
+hint: the script is read on standard input: proxy_run < script.json
+",
+    );
+    refuses(
+        &rt,
+        &["fold", "script.json"],
+        "error: unexpected argument 'script.json' found
+
+Usage: proxy_run [MODE]
+
+For more information, try '--help'.
+hint: the script is read on standard input: proxy_run < script.json
+",
+    );
 }
 
 #[test]
 fn other_words_are_refused(rt: HostRuntime) {
-    refuses(&rt, &["fold", "fold"], "unexpected argument 'fold' found");
-    refuses(&rt, &["--unknown"], "unexpected argument '--unknown' found");
-    refuses(&rt, &[""], "value");
+    refuses(
+        &rt,
+        &["fold", "fold"],
+        "error: unexpected argument 'fold' found
+
+Usage: proxy_run [MODE]
+
+For more information, try '--help'.
+hint: the script is read on standard input: proxy_run < script.json
+",
+    );
+    refuses(
+        &rt,
+        &["--unknown"],
+        "error: unexpected argument '--unknown' found
+
+Usage: proxy_run [MODE]
+
+For more information, try '--help'.
+hint: the script is read on standard input: proxy_run < script.json
+",
+    );
+    refuses(
+        &rt,
+        &[""],
+        "error: a value is required for '[MODE]' but none was supplied
+  [possible values: fold]
+
+For more information, try '--help'.
+hint: the script is read on standard input: proxy_run < script.json
+",
+    );
 }
 
 #[test]
 fn a_call_for_help_is_refused_with_the_help(rt: HostRuntime) {
-    refuses(&rt, &["--help"], "Usage: proxy_run [MODE]");
-    refuses(&rt, &["fold", "-h"], "Usage: proxy_run [MODE]");
+    for words in [["--help"].as_slice(), &["-h"], &["fold", "-h"]] {
+        refuses(&rt, words, HELP);
+    }
 }
 
 #[test]

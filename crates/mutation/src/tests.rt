@@ -4,6 +4,7 @@
 
 use super::*;
 use std::alloc::{AllocError, Global};
+use std::fmt::Display;
 use std::process::Abort;
 use std::test::Fail;
 use system_keys::{Bytes, Change, Items, KeyRange, OutOfMemory};
@@ -688,4 +689,36 @@ fn refusals_have_numbers_and_names(rt: HostRuntime) {
     assert_eq!(rt; Refusal::EmptyRange.name(), "EmptyRange");
     assert_eq!(rt; Refusal::BadStamp.name(), "BadStamp");
     assert_eq!(rt; Refusal::BatchTooLarge.name(), "BatchTooLarge");
+}
+
+fn is_shown_as<T: Display>(alloc: Global, error: T, text: &str) -> Result<bool, AllocError> {
+    let shown = twice!(format!(in alloc; "{error}"), _)?;
+    Ok(shown.as_str() == text)
+}
+
+#[test]
+fn refusals_are_shown_in_words(rt: HostRuntime) -> Result<(), Fail> {
+    for (refusal, text) in [
+        (Refusal::KeyTooLong, "a key is too long"),
+        (Refusal::ValueTooLong, "a value is too long"),
+        (Refusal::KeyOutside, "a key lies outside the key space"),
+        (Refusal::EmptyRange, "a range is empty"),
+        (
+            Refusal::BadRow,
+            "the value of a system row does not decode",
+        ),
+        (Refusal::BadStamp, "a value has no place for its stamp"),
+        (Refusal::BatchTooLarge, "a batch is too large"),
+        (Refusal::OutOfMemory, "out of memory"),
+    ] {
+        assert!(rt; is_shown_as(rt.alloc(), refusal, text)?);
+    }
+    Ok(())
+}
+
+#[test]
+fn a_refused_configuration_is_shown_in_words(rt: HostRuntime) -> Result<(), Fail> {
+    let text = "a number of the configuration is outside its limits";
+    assert!(rt; is_shown_as(rt.alloc(), model::Refusal::BadConfig, text)?);
+    Ok(())
 }

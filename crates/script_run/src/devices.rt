@@ -3,7 +3,7 @@ ghost use Rattle.std.specs.Prelude.{◌≡◌, ◌⊎◌, ◌+◌, ◌-◌, ◌^
 ghost use Rattle.std.specs.Prelude.{IsErrOf, OnErr, OnOk};
 ghost use Rattle.std.specs.Io.{ReadsAtMost, WritesAtMost};
 ghost use Rattle.std.specs.Io.KnownBytes.{Appends, IsAtEnd, ReadConsumes, WriteAppends};
-ghost use Rattle.script_run.specs.Devices.{AppendsBeginning, IsOneMore, raised, read_limit};
+ghost use Rattle.script_run.specs.Devices.{AppendsBeginning, IsOneMore, input_limit, raised, read_limit};
 ghost use Rattle.script_run.specs.declared.devices.ReadFault.TheVariants as faults;
 
 use std::alloc::{AllocError, Global};
@@ -41,13 +41,16 @@ pub trait Sink {
 
     ghost failed: { Self → ℕ };
 
+    ghost writes: { Self → ℕ };
+
     /// Takes bytes from the front, and says how many. A call that is given some and takes none has failed.
     fn write(&mut self, bytes: &[u8]) -> Result<usize, Failed>
         ensures bound { WritesAtMost result bytes.now }
         ensures put { WriteAppends (written self.old) (written self.new) result bytes.now }
         ensures fine { IfOk result (λ n. (0 < n) ⊎ (bytes.now ≡ []) → failed self.new ≡ failed self.old) }
         ensures none { IfOk result (λ n. n ≡ 0 → 0 < length bytes.now → IsOneMore (failed self.old) (failed self.new)) }
-        ensures counted { OnErr result (IsOneMore (failed self.old) (failed self.new)) };
+        ensures counted { OnErr result (IsOneMore (failed self.old) (failed self.new)) }
+        ensures called { IsOneMore (writes self.old) (writes self.new) };
 
     /// How many calls have failed.
     fn failures(&self) -> u64
@@ -105,6 +108,7 @@ impl<R: Read> Source for Reader<R> {
 pub struct Writer<W: Write> {
     inner: W,
     failures: u64,
+    writes: u64,
 }
 
 impl<W: Write> Writer<W> {
@@ -112,8 +116,13 @@ impl<W: Write> Writer<W> {
     pub fn new(inner: W) -> Writer<W>
         ensures bytes { ⟦<Writer<W> as Sink>⟧.written result ≡ W.contents inner }
         ensures failed { ⟦<Writer<W> as Sink>⟧.failed result ≡ 0 }
+        ensures writes { ⟦<Writer<W> as Sink>⟧.writes result ≡ 0 }
     {
-        Writer { inner, failures: 0 }
+        Writer {
+            inner,
+            failures: 0,
+            writes: 0,
+        }
     }
 }
 
@@ -122,7 +131,10 @@ impl<W: Write> Sink for Writer<W> {
 
     ghost failed = { λ s. s.failures };
 
+    ghost writes = { λ s. s.writes };
+
     fn write(&mut self, bytes: &[u8]) -> Result<usize, Failed> {
+        self.writes = self.writes.saturating_add(1);
         match self.inner.write(bytes) {
             Ok(count) => {
                 if count == 0 && !bytes.is_empty() {
@@ -173,13 +185,14 @@ impl From<Failed> for ReadFault {
 /// is one of them.
 pub const READ_LIMIT: u64 = 1_048_576;
 
-// How many bytes one read call asks for.
-const CHUNK: usize = 65_536;
+/// How many bytes one read call asks for (this project's profile). An input without an end is refused
+/// after `READ_LIMIT` calls, so this says how much memory it can take before that.
+const READ_SIZE: usize = 4_096;
 
 /// All bytes that the source has.
 ///
-/// The source is then at its end. Answers `Device` where a read failed, `Limit` where the last call allowed did not meet the end, and
-/// `OutOfMemory` where there is no memory for the bytes.
+/// The source is then at its end, and is not called again. Returns `Device` if a read failed, `Limit` if the
+/// last call allowed did not meet the end, and `OutOfMemory` if there is no memory for the bytes.
 pub fn read_all<S: Source>(alloc: Global, source: &mut S) -> Result<Vec<u8>, ReadFault>
     requires { S.failed source.old < 2 ^ 64 - 1 }
     ensures whole { IfOk result (λ bytes.
@@ -191,13 +204,18 @@ pub fn read_all<S: Source>(alloc: Global, source: &mut S) -> Result<Vec<u8>, Rea
         → S.failed source.new ≡ S.failed source.old }
     ensures ended { OnOk result (IsAtEnd (S.remaining source.new)) }
     ensures within { S.reads source.new ≤ raised read_limit (S.reads source.old) }
+    ensures calls { IfSome (S.remaining source.old) (λ input.
+        S.reads source.new ≤ raised (length input + 1) (S.reads source.old)) }
+    ensures once { IfOk result (λ bytes.
+        S.reads source.new ≤ raised (length bytes.items + 1) (S.reads source.old)) }
+    ensures short { IfOk result (λ bytes. length bytes.items ≤ input_limit) }
     ensures limit { IsErrOf result ReadFault.Limit → (S.failed source.new ≡ S.failed source.old)
         × (S.reads source.new ≡ raised read_limit (S.reads source.old)) }
     ensures long { IsErrOf result ReadFault.Limit
         → IfSome (S.remaining source.old) (λ input. read_limit ≤ length input) }
 {
     let mut bytes = Vec::new(alloc);
-    let mut chunk = [0u8; CHUNK];
+    let mut chunk = [0u8; READ_SIZE];
     for _call in 0..READ_LIMIT {
         let count = source.read(&mut chunk)?;
         if count == 0 {
@@ -208,7 +226,8 @@ pub fn read_all<S: Source>(alloc: Global, source: &mut S) -> Result<Vec<u8>, Rea
     Err(ReadFault::Limit)
 }
 
-/// Writes all bytes, in as many calls as it takes.
+/// Writes all bytes, in as many calls as it takes: each takes a byte or fails, and none follows one that
+/// failed.
 pub fn write_all<T: Sink>(sink: &mut T, bytes: &[u8]) -> Result<(), Failed>
     requires { T.failed sink.old < 2 ^ 64 - 1 }
     ensures ok { OnOk result (Appends (T.written sink.old) (T.written sink.new) bytes.now) }
@@ -216,6 +235,7 @@ pub fn write_all<T: Sink>(sink: &mut T, bytes: &[u8]) -> Result<(), Failed>
         (AppendsBeginning (T.written sink.old) (T.written sink.new) bytes.now) }
     ensures counted { OnErr result (T.failed sink.new ≡ T.failed sink.old + 1) }
     ensures fine { OnOk result (T.failed sink.new ≡ T.failed sink.old) }
+    ensures calls { T.writes sink.new ≤ raised (length bytes.now) (T.writes sink.old) }
 {
     let mut rest = bytes;
     while !rest.is_empty() {

@@ -401,6 +401,38 @@ fn the_last_of_a_doubled_field_is_read(rt: HostRuntime) {
 }
 
 #[test]
+fn refusals_of_scripts_are_shown_in_words(rt: HostRuntime) -> Result<(), Fail> {
+    for (fault, text) in [
+        (ScriptFault::NotJson, "the script is not JSON"),
+        (
+            ScriptFault::BadShape,
+            "the value is not of a script's shape",
+        ),
+        (
+            ScriptFault::Refused(system_keys::Refusal::KeyTooLong),
+            "a key is too long",
+        ),
+        (
+            ScriptFault::Refused(system_keys::Refusal::BadRow),
+            "the value of a system row does not decode",
+        ),
+        (
+            ScriptFault::RefusedBatch(mutation::Refusal::BadStamp),
+            "a value has no place for its stamp",
+        ),
+        (
+            ScriptFault::RefusedBatch(mutation::Refusal::BatchTooLarge),
+            "a batch is too large",
+        ),
+        (ScriptFault::OutOfMemory, "out of memory"),
+    ] {
+        let shown = written!(rt.alloc(); "{fault}");
+        assert_eq!(rt; shown.as_str(), text);
+    }
+    Ok(())
+}
+
+#[test]
 fn a_script_is_read(rt: HostRuntime) -> Result<(), Fail> {
     let script = twice!(
         read_script(rt.alloc(), TWO_SERVERS),

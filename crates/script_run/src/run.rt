@@ -1,7 +1,8 @@
 //! A run of a fold script, over any source and sink.
-ghost use Rattle.std.specs.Prelude.{◌≡◌, ◌⊎◌, ◌+◌, ◌-◌, ◌^◌, ◌<◌, ◌≤◌};
+ghost use Rattle.std.specs.Prelude.{◌≡◌, ◌⊎◌, ◌+◌, ◌-◌, ◌^◌, ◌<◌, ◌≤◌, IfSome, length};
 ghost use Rattle.std.specs.Io.KnownBytes.{IsAtEnd};
-ghost use Rattle.script_run.specs.Devices.{raised, read_limit};
+ghost use Rattle.script_run.specs.Devices.{input_limit, raised, read_limit};
+ghost use Rattle.script_run.specs.FoldText.{fold_text};
 ghost use Rattle.script_run.specs.Runs.{Folds, PassesLimit};
 ghost use Rattle.script_run.specs.Statuses.{IsAnswered, IsUnfailed};
 
@@ -25,6 +26,12 @@ pub fn run_fold<S: Source, T: Sink>(alloc: Global, source: &mut S, sink: &mut T)
     ensures memory { result ≡ Status.OutOfMemory → sink.new ≡ sink.old }
     ensures ended { IsAnswered result → IsAtEnd (S.remaining source.new) }
     ensures within { S.reads source.new ≤ raised read_limit (S.reads source.old) }
+    ensures short { IsAnswered result
+        → IfSome (S.remaining source.old) (λ input. length input ≤ input_limit) }
+    ensures reads { IfSome (S.remaining source.old) (λ input.
+        S.reads source.new ≤ raised (length input + 1) (S.reads source.old)) }
+    ensures writes { IfSome (S.remaining source.old) (λ input.
+        T.writes sink.new ≤ raised (length (fold_text input).text) (T.writes sink.old)) }
     ensures fine { IsUnfailed result
         → (S.failed source.new ≡ S.failed source.old) × (T.failed sink.new ≡ T.failed sink.old) }
 {

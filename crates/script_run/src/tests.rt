@@ -2,6 +2,7 @@
 //! that the tests also pass where any one allocation fails.
 pub(crate) mod again;
 pub(crate) mod fakes;
+mod std_devices;
 
 use crate::devices::{Reader, Sink, Source, Writer};
 use crate::run::run_fold;
@@ -58,9 +59,12 @@ fn run(
 
 #[test]
 fn a_script_is_folded(rt: HostRuntime) {
-    let (status, _source, sink) = run(&rt, SCRIPT, FINE);
+    let (status, source, sink) = run(&rt, SCRIPT, FINE);
     assert!(rt; matches!(status, Status::Done));
     assert_eq!(rt; sink.bytes(), TEXT);
+    // The script and the text fit in one call; the other read meets the end.
+    assert_eq!(rt; source.reads(), 2);
+    assert_eq!(rt; sink.writes(), 1);
 }
 
 #[test]
@@ -82,17 +86,19 @@ fn a_refused_script_is_answered_with_its_line(rt: HostRuntime) {
     assert_eq!(rt; sink.bytes(), b"refused 70 NotJson\n".as_slice());
 }
 
-// One write fails, and the run ends with what was taken before it.
-fn ends_after(
+// The write of this number fails, and the run ends with what was taken before it.
+fn ends_at(
     rt: &(impl Abort + AllocGlobal),
     script: &'static [u8],
     devices: Devices,
+    call: u64,
     taken: &[u8],
 ) {
     let (status, source, sink) = run(&rt, script, devices);
     assert!(rt; matches!(status, Status::DeviceFailed));
     assert_eq!(rt; source.failures(), 0);
     assert_eq!(rt; sink.failures(), 1);
+    assert_eq!(rt; sink.writes(), call);
     assert_eq!(rt; sink.bytes(), taken);
 }
 
@@ -110,6 +116,7 @@ fn read_fails(rt: &(impl Abort + AllocGlobal), script: &'static [u8], most: usiz
     );
     assert_eq!(rt; source.reads(), call);
     assert_eq!(rt; source.failures(), 1);
+    assert_eq!(rt; sink.writes(), 0);
     assert!(rt; sink.bytes().is_empty(), "at read {call} of {most} bytes");
 }
 
@@ -138,13 +145,13 @@ fn write_fails(rt: &(impl Abort + AllocGlobal), most: usize, call: u64, taken: &
         failing_write: call,
         ..FINE
     };
-    ends_after(rt, SCRIPT, failing, taken);
+    ends_at(rt, SCRIPT, failing, call, taken);
     let full = Devices {
         written_at_most: most,
         full_write: call,
         ..FINE
     };
-    ends_after(rt, SCRIPT, full, taken);
+    ends_at(rt, SCRIPT, full, call, taken);
 }
 
 #[test]
@@ -169,7 +176,7 @@ fn the_line_of_a_refusal_may_fail(rt: HostRuntime) {
         failing_write: 2,
         ..FINE
     };
-    ends_after(&rt, b"\xff", devices, b"refused ");
+    ends_at(&rt, b"\xff", devices, 2, b"refused ");
 }
 
 #[test]
@@ -186,14 +193,18 @@ fn a_byte_at_a_time_is_the_same_script(rt: HostRuntime) {
 
 #[test]
 fn a_short_write_is_no_failure(rt: HostRuntime) {
-    let devices = Devices {
-        written_at_most: 2,
-        ..FINE
-    };
-    let (status, _source, sink) = run(&rt, SCRIPT, devices);
-    assert!(rt; matches!(status, Status::Done));
-    assert_eq!(rt; sink.failures(), 0);
-    assert_eq!(rt; sink.bytes(), TEXT);
+    // The text has 56 bytes.
+    for (most, calls) in [(1, 56), (2, 28), (55, 2)] {
+        let devices = Devices {
+            written_at_most: most,
+            ..FINE
+        };
+        let (status, _source, sink) = run(&rt, SCRIPT, devices);
+        assert!(rt; matches!(status, Status::Done));
+        assert_eq!(rt; sink.failures(), 0);
+        assert_eq!(rt; sink.writes(), calls);
+        assert_eq!(rt; sink.bytes(), TEXT);
+    }
 }
 
 fn run_over_spaces_once(rt: &impl AllocGlobal, count: u64) -> (Status, Spaces, Kept) {
@@ -223,6 +234,7 @@ fn more_reads_than_the_limit_are_a_failure(rt: HostRuntime) {
         assert!(rt; matches!(status, Status::DeviceFailed), "{count} spaces");
         assert_eq!(rt; source.reads(), 1_048_576);
         assert_eq!(rt; source.failures(), 0);
+        assert_eq!(rt; sink.writes(), 0);
         assert!(rt; sink.bytes().is_empty());
     }
 }

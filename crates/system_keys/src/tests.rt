@@ -8,6 +8,7 @@ use crate::{
     print_bytes, read_bytes,
 };
 use std::alloc::{AllocError, Global};
+use std::fmt::Display;
 use std::test::Fail;
 
 /// The call, made once more where it was refused memory.
@@ -672,4 +673,48 @@ fn refusals_have_their_numbers_and_names(rt: HostRuntime) {
     ] {
         assert!(rt; is_row_fault(fault, number, name));
     }
+}
+
+fn is_shown_as<T: Display>(alloc: Global, error: T, text: &str) -> Result<bool, AllocError> {
+    let shown = twice!(format!(in alloc; "{error}"), _)?;
+    Ok(shown.as_str() == text)
+}
+
+#[test]
+fn refusals_are_shown_in_words(rt: HostRuntime) -> Result<(), Fail> {
+    for (refusal, text) in [
+        (Refusal::KeyTooLong, "a key is too long"),
+        (Refusal::ValueTooLong, "a value is too long"),
+        (Refusal::KeyOutside, "a key lies outside the key space"),
+        (Refusal::EmptyRange, "a range is empty"),
+        (Refusal::BadRow, "the value of a system row does not decode"),
+        (Refusal::OutOfMemory, "out of memory"),
+    ] {
+        assert!(rt; is_shown_as(rt.alloc(), refusal, text)?);
+    }
+    Ok(())
+}
+
+#[test]
+fn faults_of_values_are_shown_in_words(rt: HostRuntime) -> Result<(), Fail> {
+    for (fault, text) in [
+        (RowFault::Truncated, "bytes are missing"),
+        (RowFault::NotRising, "server ids do not rise"),
+        (RowFault::Trailing, "bytes stand after the end"),
+        (RowFault::BadText, "the text is no spelling of bytes"),
+        (RowFault::OutOfMemory, "out of memory"),
+    ] {
+        assert!(rt; is_shown_as(rt.alloc(), fault, text)?);
+    }
+    for (fault, text) in [
+        (
+            TeamsFault::TooManyServers,
+            "a list has more than 255 servers",
+        ),
+        (TeamsFault::NotRising, "server ids do not rise"),
+    ] {
+        assert!(rt; is_shown_as(rt.alloc(), fault, text)?);
+    }
+    assert!(rt; is_shown_as(rt.alloc(), OutOfMemory, "out of memory")?);
+    Ok(())
 }

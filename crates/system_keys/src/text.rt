@@ -1,7 +1,7 @@
 //! Bytes as text: a byte from 0x21 to 0x7e, other than the double quote and the backslash, is its ASCII
 //! character, and every other byte is `\x` and two lower-case hexadecimal digits (this project's profile).
 
-ghost use Rattle.std.specs.Prelude.{◌≡◌, ◌+◌, ◌<◌, ◌≤◌, IfOk, IfSome, OnOk, IsSome, IsTrue, Some, ◌++◌, string_bytes, option_map, length};
+ghost use Rattle.std.specs.Prelude.{◌≡◌, ◌+◌, ◌-◌, ◌^◌, ◌<◌, ◌≤◌, IfOk, IfSome, OnOk, IsSome, IsTrue, Some, ◌++◌, string_bytes, option_map, length, min};
 ghost use Rattle.std.specs.Char.{digit_char};
 ghost use Rattle.system_keys.specs.Text.{text_of, byte_text, bytes_of, first_of, is_plain, is_escape, is_digit, digit_of, byte_of, Spells};
 
@@ -24,12 +24,21 @@ pub fn print_bytes(alloc: Global, bytes: &[u8]) -> Result<String, OutOfMemory>
 }
 
 /// How many characters the text of the bytes has, or the greatest number where they are more.
-fn text_length(bytes: &[u8]) -> usize {
+fn text_length(bytes: &[u8]) -> usize
+    ensures { result ≡ min (length (text_of bytes.now)) (2 ^ 64 - 1) }
+{
     let mut length = 0usize;
     for byte in bytes {
-        length = length.saturating_add(if is_plain(*byte) { 1 } else { 4 });
+        length = length.saturating_add(byte_length(*byte));
     }
     length
+}
+
+/// How many characters the text of the byte has.
+fn byte_length(byte: u8) -> usize
+    ensures { result ≡ length (byte_text byte) }
+{
+    if is_plain(byte) { 1 } else { 4 }
 }
 
 fn is_plain(byte: u8) -> bool

@@ -1,8 +1,10 @@
-//! Devices over memory that fail at one call, take nothing at one, give or take a few bytes a call, or never end.
+//! Devices over memory that fail at one call, take nothing at one, give or take a few bytes a call, or never end;
+//! and a reader and a writer of the standard library that fail at one call and count their calls.
 ghost use Rattle.std.specs.Prelude.{◌≡◌, ◌++◌, Some, None, [], IsTrue, IsFalse};
 
 use crate::devices::{Failed, Sink, Source};
 use std::alloc::Global;
+use std::io::{self, ErrorKind, Read, Write};
 
 /// A source over memory.
 #[derive(Drop)]
@@ -170,12 +172,19 @@ impl Kept {
     pub fn bytes(&self) -> &[u8] {
         &self.bytes
     }
+
+    /// How many calls were made.
+    pub fn writes(&self) -> u64 {
+        self.writes
+    }
 }
 
 impl Sink for Kept {
     ghost written = { λ s. Some s.bytes.items };
 
     ghost failed = { λ s. s.failures };
+
+    ghost writes = { λ s. s.writes };
 
     fn write(&mut self, bytes: &[u8]) -> Result<usize, Failed> {
         self.writes = self.writes.saturating_add(1);
@@ -195,5 +204,60 @@ impl Sink for Kept {
 
     fn failures(&self) -> u64 {
         self.failures
+    }
+}
+
+/// A reader of the standard library that gives at most `most` bytes a call, and whose call of the number
+/// `fails_at` fails. It would go on after that.
+#[derive(Drop)]
+pub struct Faltering<'a> {
+    pub rest: &'a [u8],
+    pub most: usize,
+    pub fails_at: u64,
+    pub error: ErrorKind,
+    pub calls: u64,
+}
+
+impl Read for Faltering<'_> {
+    fn read(&mut self, buffer: &mut [u8]) -> io::Result<usize> {
+        self.calls = self.calls.saturating_add(1);
+        if self.calls == self.fails_at {
+            return Err(io::Error::from(self.error));
+        }
+        let count = self.rest.len().min(buffer.len()).min(self.most);
+        let (front, rest) = self.rest.split_at(count);
+        buffer[..count].copy_from_slice(front);
+        self.rest = rest;
+        Ok(count)
+    }
+}
+
+/// A writer of the standard library that takes at most `most` bytes a call and forgets them, and whose call of
+/// the number `fails_at` fails, or takes no byte where there is no error. It would go on after that.
+#[derive(Drop)]
+pub struct Halting {
+    pub taken: usize,
+    pub most: usize,
+    pub fails_at: u64,
+    pub error: Option<ErrorKind>,
+    pub calls: u64,
+}
+
+impl Write for Halting {
+    fn write(&mut self, bytes: &[u8]) -> io::Result<usize> {
+        self.calls = self.calls.saturating_add(1);
+        if self.calls == self.fails_at {
+            return match self.error {
+                Some(error) => Err(io::Error::from(error)),
+                None => Ok(0),
+            };
+        }
+        let count = bytes.len().min(self.most);
+        self.taken = self.taken.saturating_add(count);
+        Ok(count)
+    }
+
+    fn flush(&mut self) -> io::Result<()> {
+        Ok(())
     }
 }

@@ -1,4 +1,4 @@
-use Rattle.std.proofs.Common.{◌≡◌, ℕ, List, ◌++◌, ◌-◌, ◌<◌, length, take, drop, ap, ◌∙◌, append_assoc, take-append-drop, inl, arith}
+use Rattle.std.proofs.Common.{◌≡◌, ℕ, List, ◌++◌, ◌-◌, ◌<◌, length, take, drop, ap, ◌∙◌, append_assoc, take-append-drop, inl, arith, length-drop}
 use Rattle.std.proofs.KnownBytes.{Appends-trans}
 use Rattle.std.proofs.lemmas.List.{take_rest}
 use Rattle.script_run.proofs.devices.write_all.Goals as goal
@@ -16,4 +16,6 @@ loop-rest-preserved g c =
     record {
       split = (front ++ take n c.loop-rest.rest.now, moves_front _ front c.loop-rest.rest.now n whole, Appends-trans _ _ _ _ _ appended c.in_ok-count.ensures.put);
       fine = c.in_ok-count.ensures.fine (inl some) ∙ c.loop-rest.invariant.fine;
+      front = omega (arith, length-drop {A = ℕ}, c.loop-rest.invariant.front);
+      called = omega (arith, length-drop {A = ℕ}, some, c.in_ok-count.ensures.bound, c.in_ok-count.ensures.called, c.loop-rest.invariant.called);
     }
