@@ -8,12 +8,17 @@ import os
 import resource
 import signal
 import subprocess
+import threading
 import time
 
 SCRIPT_REFUSED, COMMAND_LINE_REFUSED, DEVICE_FAILED, OUT_OF_MEMORY = 1, 2, 3, 4
 
-# how many read calls a run may make, that which meets the end among them
+# how many read calls a run may make, that which meets the end among them, and how many bytes each asks for
 READ_LIMIT = 1_048_576
+READ_SIZE = 4_096
+
+# what a run takes beside its input, at most: the program, the C library and the stack
+BESIDE = 2**26
 
 
 def examples(root):
@@ -132,6 +137,39 @@ def want_space(trial):
     trial.expect(got == (OUT_OF_MEMORY, b"", b""), "ends wrong in a small address space: %r" % (ended,))
 
 
+def run_endless(trial, source, space):
+    """A run over an input without an end in this much address space: its status, what it wrote, and its peak of memory."""
+    def limit():
+        resource.setrlimit(resource.RLIMIT_AS, (space, space))
+
+    started = subprocess.Popen([trial.program], stdin=source, stdout=subprocess.PIPE, stderr=subprocess.PIPE, preexec_fn=limit)
+    watch = threading.Timer(120, started.kill)
+    watch.start()
+    written = started.stdout.read() + started.stderr.read()
+    _, ended, usage = os.wait4(started.pid, 0)
+    watch.cancel()
+    started.stdout.close()
+    started.stderr.close()
+    return os.waitstatus_to_exitcode(ended), written, usage.ru_maxrss * 1024
+
+
+def try_endless_inputs(trial):
+    """An input without an end is refused by the limit on reads, in the memory that the bytes of all reads take.
+
+    Full reads fill a buffer that doubles to just this size. A C library may copy it then, so the address space has room
+    for half as much again. In a smaller one it is want of memory.
+    """
+    most = READ_LIMIT * READ_SIZE
+    for space, status, peak in ((most * 3 // 2 + BESIDE, DEVICE_FAILED, most + BESIDE), (2**28, OUT_OF_MEMORY, 2**28)):
+        with open("/dev/zero", "rb") as source:
+            got = run_endless(trial, source, space)
+        trial.expect(got[:2] == (status, b"") and got[2] <= peak, "ends wrong on an endless input in %d bytes: %r" % (space, got))
+    with subprocess.Popen(["cat", "/dev/zero"], stdout=subprocess.PIPE) as feeder:
+        got = run_endless(trial, feeder.stdout, 2**28)
+        feeder.stdout.close()
+    trial.expect(got[:2] == (OUT_OF_MEMORY, b""), "ends wrong on a pipe that is fed for ever: %r" % (got,))
+
+
 def run_shell(trial, redirections, words=""):
     """One run with these redirections of a shell: its status, and what came on standard output and standard error."""
     line = 'exec "$0" %s %s' % (words, redirections)
@@ -232,6 +270,7 @@ def try_program(program, root, shim, folder):
     reach_read_limit(trial, example)
     refuse_in_words(trial)
     want_space(trial)
+    try_endless_inputs(trial)
     try_devices(trial, root, folder)
     try_words(trial)
     return trial.runs, trial.faults

@@ -1,14 +1,14 @@
 """Large scripts: of sizes about those of one read, and with more lines of output than one write takes."""
 from script import ANSWER, BAD_SHAPE, KEY_SERVERS, METADATA_VERSION, NOT_JSON, SERVER_TAG, changed, good, write
 
-# how many bytes a pipe and a read of the program take at once
-READ = 65_536
+# how many bytes a read of the program takes at once, and how many a pipe
+TAKEN_AT_ONCE = (4_096, 65_536)
 
 
 def sizes_about_reads():
     """Scripts of these sizes, made long by white space at either end or by a value."""
     whole = write(good())
-    for size in (READ - 1, READ, READ + 1, 2 * READ - 1, 2 * READ, 2 * READ + 1, 20 * READ):
+    for size in sorted({size for once in TAKEN_AT_ONCE for size in (once - 1, once, once + 1, 2 * once - 1, 2 * once, 2 * once + 1, 20 * once)}):
         yield "%d bytes, white space behind" % size, whole.ljust(size), ANSWER
         yield "%d bytes, white space before" % size, whole.rjust(size), ANSWER
         yield "%d bytes, and one behind" % size, whole.ljust(size) + "x", NOT_JSON

@@ -691,7 +691,7 @@ fn refusals_have_numbers_and_names(rt: HostRuntime) {
     assert_eq!(rt; Refusal::BatchTooLarge.name(), "BatchTooLarge");
 }
 
-fn is_shown_as<T: Display>(alloc: Global, error: T, text: &str) -> Result<bool, AllocError> {
+fn is_shown_as<T: Display + Drop>(alloc: Global, error: T, text: &str) -> Result<bool, AllocError> {
     let shown = twice!(format!(in alloc; "{error}"), _)?;
     Ok(shown.as_str() == text)
 }
@@ -703,10 +703,7 @@ fn refusals_are_shown_in_words(rt: HostRuntime) -> Result<(), Fail> {
         (Refusal::ValueTooLong, "a value is too long"),
         (Refusal::KeyOutside, "a key lies outside the key space"),
         (Refusal::EmptyRange, "a range is empty"),
-        (
-            Refusal::BadRow,
-            "the value of a system row does not decode",
-        ),
+        (Refusal::BadRow, "the value of a system row does not decode"),
         (Refusal::BadStamp, "a value has no place for its stamp"),
         (Refusal::BatchTooLarge, "a batch is too large"),
         (Refusal::OutOfMemory, "out of memory"),

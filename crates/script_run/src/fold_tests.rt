@@ -218,14 +218,31 @@ fn read_in_full_chunks(rt: &impl AllocGlobal, text: &[u8]) -> (Status, u64, Kept
     (status, source.reads(), sink)
 }
 
-#[test]
-fn a_read_asks_for_65_536_bytes(rt: HostRuntime) -> Result<(), Fail> {
-    let text = letters(rt.alloc(), 1_100_000)?;
-    let (status, reads, sink) = run_twice!(read_in_full_chunks(&rt, text.as_bytes()));
+/// A script of this many letters is read in this many calls.
+fn is_read_in(rt: &(impl Abort + AllocGlobal), count: usize, calls: u64) -> Result<(), Fail> {
+    let text = letters(rt.alloc(), count)?;
+    let (status, reads, sink) = run_twice!(read_in_full_chunks(rt, text.as_bytes()));
     assert!(rt; matches!(status, Status::ScriptRefused));
-    // 16 times 65,536 bytes are 1,048,576: the seventeenth call has the rest, and the next meets the end.
-    assert_eq!(rt; reads, 18);
+    assert_eq!(rt; reads, calls, "for {count} bytes");
+    assert_eq!(rt; sink.writes(), 1);
     assert_eq!(rt; sink.bytes(), NOT_JSON.as_bytes());
+    Ok(())
+}
+
+#[test]
+fn a_read_asks_for_4_096_bytes(rt: HostRuntime) -> Result<(), Fail> {
+    // The last call meets the end; 256 times 4,096 bytes are 1,048,576.
+    for (count, calls) in [
+        (0, 1),
+        (1, 2),
+        (4_095, 2),
+        (4_096, 2),
+        (4_097, 3),
+        (1_048_576, 257),
+        (1_048_577, 258),
+    ] {
+        is_read_in(&rt, count, calls)?;
+    }
     Ok(())
 }
 

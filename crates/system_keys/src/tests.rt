@@ -675,7 +675,7 @@ fn refusals_have_their_numbers_and_names(rt: HostRuntime) {
     }
 }
 
-fn is_shown_as<T: Display>(alloc: Global, error: T, text: &str) -> Result<bool, AllocError> {
+fn is_shown_as<T: Display + Drop>(alloc: Global, error: T, text: &str) -> Result<bool, AllocError> {
     let shown = twice!(format!(in alloc; "{error}"), _)?;
     Ok(shown.as_str() == text)
 }

@@ -164,6 +164,7 @@ impl Kept {
         ensures kept { IsTrue result → self.new.bytes.items ≡ self.old.bytes.items ++ bytes.now }
         ensures lost { IsFalse result → self.new.bytes.items ≡ self.old.bytes.items }
         ensures failures { self.new.failures ≡ self.old.failures }
+        ensures writes { self.new.writes ≡ self.old.writes }
     {
         self.bytes.extend_from_slice(bytes).is_ok() || self.bytes.extend_from_slice(bytes).is_ok()
     }
