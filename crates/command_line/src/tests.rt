@@ -155,6 +155,8 @@ hint: the script is read on standard input: proxy_run < script.json
         &["--unknown"],
         "error: unexpected argument '--unknown' found
 
+  tip: to pass '--unknown' as a value, use '-- --unknown'
+
 Usage: proxy_run [MODE]
 
 For more information, try '--help'.
