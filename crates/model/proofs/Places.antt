@@ -129,8 +129,8 @@ parts_from_split config r rec m (t ∷ ts) front u back e = go (asks config rec 
 -- ---- places
 
 -- a record of a history is at its row
-pub row_at : (config : Config) (h : List Record) (i : ℕ) (rec : Record) → IsHistory config h → slice_get h i ≡ Some rec → rec.row ≡ i
-row_at config h i rec history at =
+pub entry_value : (config : Config) (h : List Record) (i : ℕ) (rec : Record) → IsHistory config h → slice_get h i ≡ Some rec → rec.row ≡ i
+entry_value config h i rec history at =
     let within = slice_get_within h i rec at in
     (history i rec at).row ∙ length-take-le i h (omega arith)
 
@@ -145,7 +145,7 @@ pub same_record : {h : List Record} (a b : Place h) → a.i ≡ b.i → a.rec �
 same_record {h} a b same =
     let left = a.record_is in
     let right = b.record_is in
-    let moved : slice_get h a.i ≡ slice_get h b.i = ap (λ (i : ℕ). slice_get h i) same in
+    let handle_move : slice_get h a.i ≡ slice_get h b.i = ap (λ (i : ℕ). slice_get h i) same in
     cc
 
 pub length_earlier : {h : List Record} (a : Place h) → length (take a.n a.rec.batch) ≡ a.n

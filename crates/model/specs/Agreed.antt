@@ -5,7 +5,7 @@ use Rattle.model.specs.declared.verdict.Verdict.{Verdict}
 use Rattle.model.specs.declared.journal.JournalRow.{JournalRow}
 use Rattle.model.specs.Records.{Record, IsHistory}
 use Rattle.model.specs.Verdicts.{share_verdicts}
-use Rattle.model.specs.Journal.{list_at, known_in, journal}
+use Rattle.model.specs.Journal.{list_at, cell_verdicts, journal}
 
 -- a column of verdict cells of one resolver: a cell for each row known, and in it the verdicts of the resolver on its share
 abbrev pub Column : Type 0
@@ -31,7 +31,7 @@ pub record IsAgreed (config : Config) (records : List Record) (columns : Columns
 
 -- the journal is that of the first n records known, by what the columns say
 abbrev pub IsKnownJournal : Config → List Record → Columns → ℕ → List JournalRow → Type 0
-IsKnownJournal config records columns n rows = rows ≡ journal config (known_in config records columns) (take n records)
+IsKnownJournal config records columns n rows = rows ≡ journal config (cell_verdicts config records columns) (take n records)
 
 -- each cell of the rows of the history has the verdicts of its resolver on its share; beside `IsAgreed`, which says that the cells are there
 abbrev pub AreVerdicts : Config → List Record → Columns → Type 0

@@ -5,7 +5,7 @@ use Rattle.model.specs.Configs.{Config, IsConfig}
 use Rattle.model.specs.declared.outcome.Outcome.TheVariants.{Committed}
 use Rattle.model.specs.Transactions.{Transaction, is_state_transaction, locked_key}
 use Rattle.model.specs.Records.{Record, IsHistory}
-use Rattle.model.specs.Journal.{verdict_in}
+use Rattle.model.specs.Journal.{history_verdicts}
 use Rattle.model.specs.Outcomes.{outcomes}
 use Rattle.model.specs.Serial.{Place, IsBetween, IsCommitted, IsSerial}
 
@@ -41,7 +41,7 @@ HistoriesKeepTheLockRow =
 -- the outcome told of the transaction in that place is Committed, with this version and this number
 abbrev pub IsToldCommitted : Config → (h : List Record) → Place h → ℕ → ℕ → Type 0
 IsToldCommitted config h a version number =
-    slice_get (outcomes config (verdict_in config h) (take a.i h) a.rec) a.n
+    slice_get (outcomes config (history_verdicts config h) (take a.i h) a.rec) a.n
     ≡ Some (Committed version number)
 
 -- a transaction is committed exactly where it is told Committed with the version of its record and

@@ -11,29 +11,29 @@ use Rattle.model.specs.declared.unseen.Carried.{Carried}
 use Rattle.model.specs.declared.unseen.UnseenState.{UnseenState}
 use Rattle.model.specs.declared.unseen.UnseenRow.{UnseenRow}
 use Rattle.model.specs.Transactions.{Transaction, is_state_transaction}
-use Rattle.model.specs.Records.{Record, last_version, of_proxy}
+use Rattle.model.specs.Records.{Record, last_version, records_of_proxy}
 use Rattle.model.specs.Shares.{share, asks, each_below}
 use Rattle.model.specs.Verdicts.{verdict_of}
 
 -- ---- what the resolvers say
 
 -- what each resolver says of each transaction: by the resolver, the row of the record, and the number in its batch
-abbrev pub Sayings : Type 0
-Sayings = ℕ → ℕ → ℕ → Verdict
+abbrev pub VerdictSource : Type 0
+VerdictSource = ℕ → ℕ → ℕ → Verdict
 
 -- the verdict of resolver r on transaction n of a record, if it is there, after the records before; what is not there counts as refused
-abbrev pub verdict_in_record : Config → ℕ → List Record → Record → ℕ → Option Transaction → Verdict
-verdict_in_record config r before rec n None = Conflict
-verdict_in_record config r before rec n (Some t) = verdict_of config r before rec (take n rec.batch) t
+abbrev pub history_verdict_in_record : Config → ℕ → List Record → Record → ℕ → Option Transaction → Verdict
+history_verdict_in_record config r before rec n None = Conflict
+history_verdict_in_record config r before rec n (Some t) = verdict_of config r before rec (take n rec.batch) t
 
 -- the verdict of resolver r on transaction n of row i of a history, whose record is given if it is there; what is not there counts as refused
-abbrev pub verdict_in_row : Config → List Record → ℕ → ℕ → ℕ → Option Record → Verdict
-verdict_in_row config h r i n None = Conflict
-verdict_in_row config h r i n (Some rec) = verdict_in_record config r (take i h) rec n (slice_get rec.batch n)
+abbrev pub history_verdict_in_row : Config → List Record → ℕ → ℕ → ℕ → Option Record → Verdict
+history_verdict_in_row config h r i n None = Conflict
+history_verdict_in_row config h r i n (Some rec) = history_verdict_in_record config r (take i h) rec n (slice_get rec.batch n)
 
 -- what the resolvers say by a history: the verdict of resolver r on transaction n of row i (release 7.1), and Conflict where there is none
-unfoldable pub verdict_in : Config → List Record → Sayings
-verdict_in config h r i n = verdict_in_row config h r i n (slice_get h i)
+unfoldable pub history_verdicts : Config → List Record → VerdictSource
+history_verdicts config h r i n = history_verdict_in_row config h r i n (slice_get h i)
 
 -- the verdict at the part with number n, in a list with one verdict for each part of a share; what nobody said counts as refused: Conflict where there is none
 abbrev pub verdict_at : List Part → List Verdict → ℕ → Verdict
@@ -48,13 +48,13 @@ list_at (list ∷ lists) zero = list
 list_at (list ∷ lists) (suc i) = list_at lists i
 
 -- what resolver r says of transaction n of a record, if it is there, by the verdicts in its cell; what is not there counts as refused
-abbrev pub known_in_row : Config → List Verdict → ℕ → ℕ → Option Record → Verdict
-known_in_row config verdicts r n None = Conflict
-known_in_row config verdicts r n (Some rec) = verdict_at (share config rec r) verdicts n
+abbrev pub cell_verdict_in_row : Config → List Verdict → ℕ → ℕ → Option Record → Verdict
+cell_verdict_in_row config verdicts r n None = Conflict
+cell_verdict_in_row config verdicts r n (Some rec) = verdict_at (share config rec r) verdicts n
 
 -- what the resolvers say by the verdict cells: a column of cells for each resolver, a cell for each row, and in it a verdict for each part of the resolver's share; Conflict where a cell is missing or too short
-unfoldable pub known_in : Config → List Record → List (List (List Verdict)) → Sayings
-known_in config h columns r i n = known_in_row config (list_at (list_at columns r) i) r n (slice_get h i)
+unfoldable pub cell_verdicts : Config → List Record → List (List (List Verdict)) → VerdictSource
+cell_verdicts config h columns r i n = cell_verdict_in_row config (list_at (list_at columns r) i) r n (slice_get h i)
 
 -- a cell of resolver r says that transaction n of the record is Committed: the share has a part of that number, which stands for a transaction that asks r, and the verdict at its place in the cell is Committed
 pub record CellCommits (config : Config) (rec : Record) (r n : ℕ) (verdicts : List Verdict) : Type 0 where
@@ -68,29 +68,29 @@ pub record CellCommits (config : Config) (rec : Record) (r n : ℕ) (verdicts : 
   pub committed : slice_get verdicts place ≡ Some Committed
 
 -- two sayings are alike on a record: of each of its transactions, each resolver asked says the same
-pub record SaysAlike (config : Config) (says other : Sayings) (rec : Record) : Type 0 where
-  pub same : (r n : ℕ) (t : Transaction) → r < config.resolvers → slice_get rec.batch n ≡ Some t → IsTrue (asks config rec r t) → says r rec.row n ≡ other r rec.row n
+pub record AgreeOn (config : Config) (verdict_by other : VerdictSource) (rec : Record) : Type 0 where
+  pub same : (r n : ℕ) (t : Transaction) → r < config.resolvers → slice_get rec.batch n ≡ Some t → IsTrue (asks config rec r t) → verdict_by r rec.row n ≡ other r rec.row n
 
 -- ---- the journal
 
 -- a state transaction, number n of the record: its state mutations, its lock-aware flag, and what every resolver says of it (release 7.1)
-abbrev pub state_of : Config → Sayings → Record → ℕ → Transaction → StateTxn
-state_of config says rec n t =
-    record { mutations = filter is_state t.changes; lock_aware = t.lock_aware; verdicts = map (λ (r : ℕ). says r rec.row n) (each_below config.resolvers) }
+abbrev pub state_of : Config → VerdictSource → Record → ℕ → Transaction → StateTxn
+state_of config verdict_by rec n t =
+    record { mutations = filter is_state t.changes; lock_aware = t.lock_aware; verdicts = map (λ (r : ℕ). verdict_by r rec.row n) (each_below config.resolvers) }
 
 -- the state transactions among some transactions of the record, numbered from n
-abbrev pub states_from : Config → Sayings → Record → ℕ → List Transaction → List StateTxn
-states_from config says rec n [] = []
-states_from config says rec n (t ∷ ts) =
-    if is_state_transaction t then state_of config says rec n t ∷ states_from config says rec (suc n) ts else states_from config says rec (suc n) ts
+abbrev pub states_from : Config → VerdictSource → Record → ℕ → List Transaction → List StateTxn
+states_from config verdict_by rec n [] = []
+states_from config verdict_by rec n (t ∷ ts) =
+    if is_state_transaction t then state_of config verdict_by rec n t ∷ states_from config verdict_by rec (suc n) ts else states_from config verdict_by rec (suc n) ts
 
 -- the journal row of a record: its version and its state transactions (release 7.1)
-unfoldable pub journal_row : Config → Sayings → Record → JournalRow
-journal_row config says rec = record { version = rec.version; states = states_from config says rec 0 rec.batch }
+unfoldable pub journal_row : Config → VerdictSource → Record → JournalRow
+journal_row config verdict_by rec = record { version = rec.version; states = states_from config verdict_by rec 0 rec.batch }
 
 -- the journal of some records: a row for each (release 7.1)
-unfoldable pub journal : Config → Sayings → List Record → List JournalRow
-journal config says h = map (journal_row config says) h
+unfoldable pub journal : Config → VerdictSource → List Record → List JournalRow
+journal config verdict_by h = map (journal_row config verdict_by) h
 
 -- ---- what a resolver tells of it
 
@@ -99,35 +99,35 @@ abbrev pub carried_by : ℕ → Transaction → Option Carried
 carried_by r t = if nat_eq r 0 then Some (record { mutations = filter is_state t.changes; lock_aware = t.lock_aware }) else None
 
 -- what resolver r tells of the state transactions among some transactions of the record, numbered from n
-abbrev pub told_from : Sayings → ℕ → Record → ℕ → List Transaction → List UnseenState
-told_from says r rec n [] = []
-told_from says r rec n (t ∷ ts) =
-    if is_state_transaction t then record { verdict = says r rec.row n; carried = carried_by r t } ∷ told_from says r rec (suc n) ts else told_from says r rec (suc n) ts
+abbrev pub reply_states_from : VerdictSource → ℕ → Record → ℕ → List Transaction → List UnseenState
+reply_states_from verdict_by r rec n [] = []
+reply_states_from verdict_by r rec n (t ∷ ts) =
+    if is_state_transaction t then record { verdict = verdict_by r rec.row n; carried = carried_by r t } ∷ reply_states_from verdict_by r rec (suc n) ts else reply_states_from verdict_by r rec (suc n) ts
 
 -- the row of a record as resolver r tells of it (release 7.1)
-unfoldable pub told_row : Sayings → ℕ → Record → UnseenRow
-told_row says r rec = record { version = rec.version; states = told_from says r rec 0 rec.batch }
+unfoldable pub reply_row : VerdictSource → ℕ → Record → UnseenRow
+reply_row verdict_by r rec = record { version = rec.version; states = reply_states_from verdict_by r rec 0 rec.batch }
 
 -- what is left of a state transaction where resolver r tells it: its own verdict (Conflict if it has none), and from resolver 0 the mutations and the lock-aware flag
-abbrev pub told_of_state : ℕ → StateTxn → UnseenState
-told_of_state r t =
+abbrev pub reply_state_of : ℕ → StateTxn → UnseenState
+reply_state_of r t =
     record { verdict = unwrap_or (slice_get t.verdicts r) Conflict; carried = if nat_eq r 0 then Some (record { mutations = t.mutations; lock_aware = t.lock_aware }) else None }
 
 -- what is left of a journal's row where resolver r tells it
-abbrev pub told_of_row : ℕ → JournalRow → UnseenRow
-told_of_row r row = record { version = row.version; states = map (told_of_state r) row.states }
+abbrev pub reply_row_of : ℕ → JournalRow → UnseenRow
+reply_row_of r row = record { version = row.version; states = map (reply_state_of r) row.states }
 
 -- each state transaction of the row has so many verdicts
-abbrev pub HaveVerdicts : ℕ → JournalRow → Type 0
-HaveVerdicts resolvers row = (t : StateTxn) → Contains row.states t → length t.verdicts ≡ resolvers
+abbrev pub HaveVerdictCount : ℕ → JournalRow → Type 0
+HaveVerdictCount resolvers row = (t : StateTxn) → Contains row.states t → length t.verdicts ≡ resolvers
 
 -- the record is after the version
 abbrev pub is_after : ℕ → Record → Bool
 is_after version rec = nat_lt version rec.version
 
 -- the rows that the record's proxy has not seen, as resolver r tells of them: those after that proxy's record before, and before this one (release 7.1; that those without state transactions are told too, as empty ones, is this project's profile)
-unfoldable pub unseen : Sayings → ℕ → List Record → Record → List UnseenRow
-unseen says r before rec = map (told_row says r) (filter (is_after rec.own_previous) before)
+unfoldable pub unseen : VerdictSource → ℕ → List Record → Record → List UnseenRow
+unseen verdict_by r before rec = map (reply_row verdict_by r) (filter (is_after rec.own_previous) before)
 
 -- the least number of a list, or 0 of none
 abbrev pub least : List ℕ → ℕ
@@ -136,9 +136,9 @@ least (n ∷ []) = n
 least (n ∷ m ∷ ns) = min n (least (m ∷ ns))
 
 -- the version that every proxy has reached with its requests: the least of their last records' versions, and 0 while some proxy has none (release 7.1, in effect: it keeps a map of the proxies' last versions)
-abbrev pub reached : Config → List Record → ℕ
-reached config judged = least (map (λ (p : ℕ). last_version (of_proxy p judged)) (each_below config.proxies))
+abbrev pub oldest_proxy_version : Config → List Record → ℕ
+oldest_proxy_version config judged = least (map (λ (p : ℕ). last_version (records_of_proxy p judged)) (each_below config.proxies))
 
 -- the records whose rows a resolver remembers after it judged these: those that some proxy has not reached (release 7.1, in effect: it trims its rows at each request)
 unfoldable pub remembered : Config → List Record → List Record
-remembered config judged = filter (is_after (reached config judged)) judged
+remembered config judged = filter (is_after (oldest_proxy_version config judged)) judged

@@ -25,24 +25,24 @@ use Rattle.model.specs.Verdicts.{is_committed}
 -- ---- the fold
 
 -- a row: its key, and its value
-abbrev pub Row : Type 0
-Row = Key × List ℕ
+abbrev pub Entry : Type 0
+Entry = Key × List ℕ
 
 -- the kept rows, in the order of their keys
-abbrev pub Rows : Type 0
-Rows = List Row
+abbrev pub Entries : Type 0
+Entries = List Entry
 
 -- the rows are in the strict order of their keys, so that no key has two
-abbrev pub IsInOrder : Rows → Type 0
+abbrev pub IsInOrder : Entries → Type 0
 IsInOrder rows = IsStrictlySortedBy (slice_cmp nat_cmp) (keys_of rows)
 
 -- each row has a kept key
-abbrev pub AreKept : Rows → Type 0
-AreKept rows = (row : Row) → Contains rows row → IsTrue (is_kept row.0)
+abbrev pub AreKept : Entries → Type 0
+AreKept rows = (row : Entry) → Contains rows row → IsTrue (is_kept row.0)
 
 -- the value of the row at a key
-abbrev pub row_at : Rows → Key → Option (List ℕ)
-row_at rows key = lookup (is_at (slice_cmp nat_cmp key)) rows
+abbrev pub entry_value : Entries → Key → Option (List ℕ)
+entry_value rows key = lookup (is_at (slice_cmp nat_cmp key)) rows
 
 -- the row is there, and its value is not empty: an empty value is no lock (release 7.1)
 abbrev pub is_filled : Option (List ℕ) → Bool
@@ -51,68 +51,68 @@ is_filled (Some []) = false
 is_filled (Some (byte ∷ bytes)) = true
 
 -- the row `\xff/dbLocked` is there and not empty (release 7.1)
-abbrev pub is_locked : Rows → Bool
-is_locked rows = is_filled (row_at rows locked_key)
+abbrev pub is_locked : Entries → Bool
+is_locked rows = is_filled (entry_value rows locked_key)
 
 -- the rows after a change: a Set of a kept row puts it, a Clear removes the rows of its range, and nothing else changes them (release 7.1)
-abbrev pub changed : Rows → Change → Rows
-changed kept (Set key value) = if is_kept key then insert_entry (slice_cmp nat_cmp) kept key value else kept
-changed kept (Clear range) = filter (λ (row : Row). not (holds range row.0)) kept
+abbrev pub after_change : Entries → Change → Entries
+after_change kept (Set key value) = if is_kept key then insert_entry (slice_cmp nat_cmp) kept key value else kept
+after_change kept (Clear range) = filter (λ (row : Entry). not (holds range row.0)) kept
 
 -- the rows after some changes, one after another
-abbrev pub after_changes : Rows → List Change → Rows
-after_changes kept changes = fold changed kept changes
+abbrev pub after_changes : Entries → List Change → Entries
+after_changes kept changes = fold after_change kept changes
 
 -- every resolver committed the transaction, and it is lock aware or meets no lock (release 7.1; that the proxies test the lock for the transactions of others too is this project's profile)
-abbrev pub is_let_pass : Bool → StateTxn → Bool
-is_let_pass locked t = list_all is_committed t.verdicts && (t.lock_aware || not locked)
+abbrev pub is_applied : Bool → StateTxn → Bool
+is_applied locked t = list_all is_committed t.verdicts && (t.lock_aware || not locked)
 
 -- the rows after a state transaction that met a lock or not: one that is not let pass changes nothing
-abbrev pub after_state : Bool → Rows → StateTxn → Rows
-after_state locked kept t = if is_let_pass locked t then after_changes kept t.mutations else kept
+abbrev pub after_state : Bool → Entries → StateTxn → Entries
+after_state locked kept t = if is_applied locked t then after_changes kept t.mutations else kept
 
 -- the rows after one row of a journal: the lock is read once, before its first transaction (release 7.1)
-abbrev pub after_row : Rows → JournalRow → Rows
-after_row kept row = fold (after_state (is_locked kept)) kept row.states
+abbrev pub after_journal_row : Entries → JournalRow → Entries
+after_journal_row kept row = fold (after_state (is_locked kept)) kept row.states
 
 -- the changes of a journal's row that are let pass, where its transactions met a lock or not, in order
-abbrev pub let_pass : Bool → JournalRow → List Change
-let_pass locked row = flat_map (λ (t : StateTxn). t.mutations) (filter (is_let_pass locked) row.states)
+abbrev pub applied_changes : Bool → JournalRow → List Change
+applied_changes locked row = flat_map (λ (t : StateTxn). t.mutations) (filter (is_applied locked) row.states)
 
 -- the metadata of a journal: its fold, from no rows (release 7.1)
-unfoldable pub metadata : List JournalRow → Rows
-metadata journal = fold after_row [] journal
+unfoldable pub metadata : List JournalRow → Entries
+metadata journal = fold after_journal_row [] journal
 
 -- ---- the tags
 
 -- the row is a keyServers row, which says which storage servers have a range of keys (release 7.1)
-abbrev pub is_key_servers : Row → Bool
+abbrev pub is_key_servers : Entry → Bool
 is_key_servers row = is_in key_servers_family row.0
 
 -- the row under the key that follows the prefix `\xff/keyServers/`
-abbrev pub behind_prefix : Row → Row
+abbrev pub behind_prefix : Entry → Entry
 behind_prefix row = (drop (length key_servers_family.prefix) row.0, row.1)
 
 -- the keyServers rows in the order of keys, each under the key that follows the prefix
-abbrev pub key_servers : Rows → Rows
-key_servers rows = map behind_prefix (filter is_key_servers rows)
+abbrev pub key_servers_entries : Entries → Entries
+key_servers_entries rows = map behind_prefix (filter is_key_servers rows)
 
 -- the row is at or before the key
-abbrev pub is_row_up_to : Key → Row → Bool
-is_row_up_to key row = is_key_up_to row.0 key
+abbrev pub is_entry_up_to : Key → Entry → Bool
+is_entry_up_to key row = is_key_up_to row.0 key
 
 -- the greatest of these rows at or before the key (release 7.1), and none where there is none (this project's profile); they are in the order of keys
-abbrev pub row_of : Rows → Key → Option Row
-row_of rows key = last_or None (filter (is_row_up_to key) rows)
+abbrev pub serving_entry : Entries → Key → Option Entry
+serving_entry rows key = last_or None (filter (is_entry_up_to key) rows)
 
 -- the row is after the begin of the range, and before its end
-abbrev pub is_row_inside : Range → Row → Bool
-is_row_inside range row = is_key_below range.begin row.0 && is_key_below row.0 range.end
+abbrev pub is_entry_inside : Range → Entry → Bool
+is_entry_inside range row = is_key_below range.begin row.0 && is_key_below row.0 range.end
 
 -- those of these rows that a change meets: of a Set that of its key, of a Clear that of its begin and each one after its begin and before its end (release 7.1); where a key has no row, it adds none (this project's profile)
-abbrev pub met_rows : Rows → Change → Rows
-met_rows rows (Set key value) = option_to_list (row_of rows key)
-met_rows rows (Clear range) = option_to_list (row_of rows range.begin) ++ filter (is_row_inside range) rows
+abbrev pub touched_entries : Entries → Change → Entries
+touched_entries rows (Set key value) = option_to_list (serving_entry rows key)
+touched_entries rows (Clear range) = option_to_list (serving_entry rows range.begin) ++ filter (is_entry_inside range) rows
 
 -- the sources and then the destinations of a value that decodes, and none of one that does not
 abbrev pub all_servers : Result Servers RowFault → List Id
@@ -134,36 +134,36 @@ tag_of None = []
 tag_of (Some value) = one_tag (tag_at value)
 
 -- the tag of a server: none where it has no serverTag row (this project's profile)
-unfoldable pub server_tags : Rows → Id → List Tag
-server_tags rows id = tag_of (row_at rows (server_tag_family.prefix ++ id))
+unfoldable pub server_tags : Entries → Id → List Tag
+server_tags rows id = tag_of (entry_value rows (server_tag_family.prefix ++ id))
 
 -- the tags of the servers that a keyServers row names, in the order of the value
-unfoldable pub row_tags : Rows → Row → List Tag
-row_tags rows row = flat_map (server_tags rows) (servers_of row.1)
+unfoldable pub entry_tags : Entries → Entry → List Tag
+entry_tags rows row = flat_map (server_tags rows) (servers_of row.1)
 
 -- tags are ordered by their locality, and then by their id
 abbrev pub tag_cmp : Tag → Tag → Ordering
 tag_cmp a b = ordering_then (nat_cmp a.locality b.locality) (nat_cmp a.id b.id)
 
 -- the tags of a list, rising and without repeats (the order is this project's profile)
-abbrev pub rising : List Tag → List Tag
-rising tags = fold (insert_key tag_cmp) [] tags
+abbrev pub sorted_tags : List Tag → List Tag
+sorted_tags tags = fold (insert_key tag_cmp) [] tags
 
 -- the tags of a change: those of the servers named by the keyServers rows that it meets (release 7.1); the order, and that a key without a row and a server without a tag add none, is this project's profile
-unfoldable pub tags : Rows → Change → List Tag
-tags rows change = rising (flat_map (row_tags rows) (met_rows (key_servers rows) change))
+unfoldable pub tags : Entries → Change → List Tag
+tags rows change = sorted_tags (flat_map (entry_tags rows) (touched_entries (key_servers_entries rows) change))
 
 -- ---- the routing
 
 -- the tags of a key: those of a Set of it, whose value does not matter
-abbrev pub tags_of_key : Rows → Key → List Tag
+abbrev pub tags_of_key : Entries → Key → List Tag
 tags_of_key rows key = tags rows (Set key [])
 
 -- a keyServers row, with the tags of its key
-abbrev pub route_of : Rows → Row → Route
+abbrev pub route_of : Entries → Entry → Route
 route_of rows row = record { key = row.0; tags = tags_of_key rows row.0 }
 
 -- what the rows say of the whole key space: the lock, the value of `\xff/metadataVersion` or none, and a route for each keyServers row, in the order of keys (this project's profile)
-unfoldable pub routing : ℕ → Rows → Routing
+unfoldable pub routing : ℕ → Entries → Routing
 routing version rows =
-    record { version = version; locked = is_locked rows; metadata_version = row_at rows metadata_version_family.prefix; routes = map (route_of rows) (key_servers rows) }
+    record { version = version; locked = is_locked rows; metadata_version = entry_value rows metadata_version_family.prefix; routes = map (route_of rows) (key_servers_entries rows) }

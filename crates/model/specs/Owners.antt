@@ -29,9 +29,9 @@ abbrev pub none_dated_below : ℕ → List Owner → Bool
 none_dated_below bound later = list_all (λ (o : Owner). not (nat_lt o.date bound)) later
 
 -- the walk from the back, which takes each owner and stops after the first whose date is below the bound, meets the resolver: no later owner stops the walk before one of its own (this project's profile)
-abbrev pub is_met : ℕ → ℕ → List Owner → Bool
-is_met bound r [] = false
-is_met bound r (o ∷ later) = (nat_eq o.resolver r && none_dated_below bound later) || is_met bound r later
+abbrev pub walk_visits : ℕ → ℕ → List Owner → Bool
+walk_visits bound r [] = false
+walk_visits bound r (o ∷ later) = (nat_eq o.resolver r && none_dated_below bound later) || walk_visits bound r later
 
 -- resolver r is asked to write the range: it is the last owner of some key of it (release 7.1)
 pub record AsksWrite (moves : List Move) (r : ℕ) (range : Range) : Type 0 where
@@ -43,16 +43,16 @@ pub record AsksWrite (moves : List Move) (r : ℕ) (range : Range) : Type 0 wher
 pub record AsksRead (moves : List Move) (bound r : ℕ) (range : Range) : Type 0 where
   pub key : Key
   pub inside : IsTrue (holds range key)
-  pub met : IsTrue (is_met bound r (owners moves key))
+  pub met : IsTrue (walk_visits bound r (owners moves key))
 
 -- the keys at which the list of owners can change: both ends of each move
-abbrev pub edges : List Move → List Key
-edges [] = []
-edges (m ∷ moves) = m.range.begin ∷ m.range.end ∷ edges moves
+abbrev pub move_ends : List Move → List Key
+move_ends [] = []
+move_ends (m ∷ moves) = m.range.begin ∷ m.range.end ∷ move_ends moves
 
 -- the owners of some key of the range pass the test: it is enough to try the begin of the range, and the edges in it
 abbrev pub some_key : List Move → (List Owner → Bool) → Range → Bool
-some_key moves test range = list_any (λ (key : Key). holds range key && test (owners moves key)) (range.begin ∷ edges moves)
+some_key moves test range = list_any (λ (key : Key). holds range key && test (owners moves key)) (range.begin ∷ move_ends moves)
 
 -- the test of `AsksWrite`
 abbrev pub asks_write : List Move → ℕ → Range → Bool
@@ -60,7 +60,7 @@ asks_write moves r range = some_key moves (is_last r) range
 
 -- the test of `AsksRead`
 abbrev pub asks_read : List Move → ℕ → ℕ → Range → Bool
-asks_read moves bound r range = some_key moves (is_met bound r) range
+asks_read moves bound r range = some_key moves (walk_visits bound r) range
 
 -- the resolvers that a walk takes from the front of a list on, where it stops after the first owner whose date is below the bound
 abbrev pub walk : ℕ → List Owner → List ℕ
@@ -68,12 +68,12 @@ walk bound [] = []
 walk bound (o ∷ rest) = o.resolver ∷ cond (nat_lt o.date bound) [] (walk bound rest)
 
 -- the list without its front: the first owner is dropped while the second one's date is below `oldest` (this project's profile: release 7.1 drops fronts only from time to time)
-abbrev pub without_front : ℕ → List Owner → List Owner
-without_front oldest [] = []
-without_front oldest (o ∷ []) = o ∷ []
-without_front oldest (o ∷ p ∷ later) = cond (nat_lt p.date oldest) (without_front oldest (p ∷ later)) (o ∷ p ∷ later)
+abbrev pub trimmed : ℕ → List Owner → List Owner
+trimmed oldest [] = []
+trimmed oldest (o ∷ []) = o ∷ []
+trimmed oldest (o ∷ p ∷ later) = cond (nat_lt p.date oldest) (trimmed oldest (p ∷ later)) (o ∷ p ∷ later)
 
 -- the dates of the list never go back, from `date` on
-abbrev pub NeverBack : ℕ → List Owner → Type 0
-NeverBack date [] = Unit {0}
-NeverBack date (o ∷ later) = (date ≤ o.date) × NeverBack o.date later
+abbrev pub DatesNeverDecrease : ℕ → List Owner → Type 0
+DatesNeverDecrease date [] = Unit {0}
+DatesNeverDecrease date (o ∷ later) = (date ≤ o.date) × DatesNeverDecrease o.date later

@@ -27,9 +27,9 @@ last_moves (rec ∷ []) = rec.moves
 last_moves (rec ∷ next ∷ rest) = last_moves (next ∷ rest)
 
 -- the records of one proxy, in order
-abbrev pub of_proxy : ℕ → List Record → List Record
-of_proxy p [] = []
-of_proxy p (rec ∷ rest) = if nat_eq rec.proxy p then rec ∷ of_proxy p rest else of_proxy p rest
+abbrev pub records_of_proxy : ℕ → List Record → List Record
+records_of_proxy p [] = []
+records_of_proxy p (rec ∷ rest) = if nat_eq rec.proxy p then rec ∷ records_of_proxy p rest else records_of_proxy p rest
 
 -- a move made after version `previous` was given out and before the next one, to a resolver that is there (release 7.1)
 pub record IsMadeAfter (config : Config) (previous : ℕ) (m : Move) : Type 0 where
@@ -42,7 +42,7 @@ pub record Follows (config : Config) (before : List Record) (rec : Record) : Typ
   pub previous : rec.previous ≡ last_version before
   pub version : rec.version ≡ rec.previous + config.step
   pub representable : rec.version < version_limit
-  pub own_previous : rec.own_previous ≡ last_version (of_proxy rec.proxy before)
+  pub own_previous : rec.own_previous ≡ last_version (records_of_proxy rec.proxy before)
   pub proxy : rec.proxy < config.proxies
   pub kept_moves : take (length (last_moves before)) rec.moves ≡ last_moves before
   pub further_moves : All (IsMadeAfter config rec.previous) (drop (length (last_moves before)) rec.moves)

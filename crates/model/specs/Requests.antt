@@ -59,17 +59,17 @@ unfoldable pub request_verdicts : ℕ → List Request → Request → List Verd
 request_verdicts window before q = verdicts_after window (judged_of before) (judged_at q.version q.share)
 
 -- a marked state transaction, with the verdict on its part
-abbrev pub told_mark : List Part → List Verdict → StateMark → UnseenState
-told_mark parts verdicts mark = record { verdict = verdict_at parts verdicts mark.number; carried = mark.carried }
+abbrev pub reply_state_of_mark : List Part → List Verdict → StateMark → UnseenState
+reply_state_of_mark parts verdicts mark = record { verdict = verdict_at parts verdicts mark.number; carried = mark.carried }
 
 -- the row of a request as its resolver tells of it, with the verdicts on it (release 7.1)
-unfoldable pub request_row : Request → List Verdict → UnseenRow
-request_row q verdicts = record { version = q.version; states = map (told_mark q.share verdicts) q.states }
+unfoldable pub request_reply_row : Request → List Verdict → UnseenRow
+request_reply_row q verdicts = record { version = q.version; states = map (reply_state_of_mark q.share verdicts) q.states }
 
 -- the rows of some requests as their resolver tells of them, judged one after another, where `before` were judged before them (release 7.1)
-abbrev pub told_requests : ℕ → List Request → List Request → List UnseenRow
-told_requests window before [] = []
-told_requests window before (q ∷ rest) = request_row q (request_verdicts window before q) ∷ told_requests window (before ++ q ∷ []) rest
+abbrev pub request_reply_rows : ℕ → List Request → List Request → List UnseenRow
+request_reply_rows window before [] = []
+request_reply_rows window before (q ∷ rest) = request_reply_row q (request_verdicts window before q) ∷ request_reply_rows window (before ++ q ∷ []) rest
 
 -- the requests of one proxy, in order
 abbrev pub requests_of_proxy : ℕ → List Request → List Request
@@ -84,7 +84,7 @@ last_request_version (q ∷ next ∷ rest) = last_request_version (next ∷ rest
 -- the rows that the proxy of a request has not seen: those after its request before (release 7.1)
 abbrev pub request_unseen : ℕ → List Request → Request → List UnseenRow
 request_unseen window before q =
-    filter (λ (row : UnseenRow). nat_lt (last_request_version (requests_of_proxy q.proxy before)) row.version) (told_requests window [] before)
+    filter (λ (row : UnseenRow). nat_lt (last_request_version (requests_of_proxy q.proxy before)) row.version) (request_reply_rows window [] before)
 
 -- the reply to a request, after those that the resolver judged before (release 7.1)
 unfoldable pub request_reply : ℕ → List Request → Request → Reply
@@ -92,9 +92,9 @@ request_reply window before q =
     record { resolver = q.resolver; proxy = q.proxy; row = q.row; version = q.version; verdicts = request_verdicts window before q; unseen = request_unseen window before q }
 
 -- the version that every proxy has reached with its requests (release 7.1, in effect: it keeps a map of the proxies' last versions)
-abbrev pub requests_reached : ℕ → List Request → ℕ
-requests_reached proxies judged = least (map (λ (p : ℕ). last_request_version (requests_of_proxy p judged)) (each_below proxies))
+abbrev pub request_oldest_proxy_version : ℕ → List Request → ℕ
+request_oldest_proxy_version proxies judged = least (map (λ (p : ℕ). last_request_version (requests_of_proxy p judged)) (each_below proxies))
 
 -- the requests whose rows a resolver remembers after it judged these: those that some proxy has not reached (release 7.1, in effect: it trims its rows at each request)
 unfoldable pub remembered_requests : ℕ → List Request → List Request
-remembered_requests proxies judged = filter (λ (q : Request). nat_lt (requests_reached proxies judged) q.version) judged
+remembered_requests proxies judged = filter (λ (q : Request). nat_lt (request_oldest_proxy_version proxies judged) q.version) judged

@@ -9,7 +9,7 @@ use Rattle.model.specs.Records.{Record}
 use Rattle.model.specs.Shares.{part_of, asks}
 use Rattle.model.specs.Verdicts.{JudgedPart, is_too_old, verdict_of}
 use Rattle.model.specs.Metadata.{is_locked, metadata}
-use Rattle.model.specs.Journal.{verdict_in, journal}
+use Rattle.model.specs.Journal.{history_verdicts, journal}
 use Rattle.model.specs.declared.outcome.Outcome.TheVariants.{Committed}
 use Rattle.model.specs.Outcomes.{outcome}
 
@@ -31,7 +31,7 @@ IsBetween a b = ((a.i ≡ b.i) × (a.n < b.n)) ⊎ ((a.i < b.i) × (b.transactio
 -- the transaction in that place has the outcome Committed, by the verdicts of the history and by the lock in the metadata before its record
 abbrev pub IsCommitted : Config → (h : List Record) → Place h → Type 0
 IsCommitted config h a =
-    outcome config (verdict_in config h) (is_locked (metadata (journal config (verdict_in config h) (take a.i h)))) a.rec a.n a.transaction ≡ Committed a.rec.version a.n
+    outcome config (history_verdicts config h) (is_locked (metadata (journal config (history_verdicts config h) (take a.i h)))) a.rec a.n a.transaction ≡ Committed a.rec.version a.n
 
 -- of each two committed transactions, where the first stands between the snapshot of the second and the second itself, no
 -- write of the first overlaps a read of the second, the added read of the lock row among them (the rule of commit of the 2021 paper)
