@@ -1,4 +1,5 @@
--- The metadata: the kept rows as the fold of a journal, whether they are locked, and the tags of a change.
+-- The metadata: the kept rows as the fold of a journal, whether they are locked, and the tags of a
+-- change.
 use Rattle.std.specs.Prelude.{ℕ, List, [], ◌∷◌, ◌++◌, length, drop, map, Bool, true, false, ◌&&◌, ◌||◌, not, if◌then◌else◌, Option, Some, None, Result, Ok, Err, option_to_list, fold, filter, flat_map, Contains, IsTrue}
 use Rattle.std.specs.List.{list_all, last_or}
 use Rattle.std.specs.List.Sorted.{IsStrictlySortedBy}
@@ -54,7 +55,8 @@ is_filled (Some (byte ∷ bytes)) = true
 abbrev pub is_locked : Entries → Bool
 is_locked rows = is_filled (entry_value rows locked_key)
 
--- the rows after a change: a Set of a kept row puts it, a Clear removes the rows of its range, and nothing else changes them (release 7.1)
+-- the rows after a change: a Set of a kept row puts it, a Clear removes the rows of its range, and
+-- nothing else changes them (release 7.1)
 abbrev pub after_change : Entries → Change → Entries
 after_change kept (Set key value) = if is_kept key then insert_entry (slice_cmp nat_cmp) kept key value else kept
 after_change kept (Clear range) = filter (λ (row : Entry). not (holds range row.0)) kept
@@ -63,19 +65,23 @@ after_change kept (Clear range) = filter (λ (row : Entry). not (holds range row
 abbrev pub after_changes : Entries → List Change → Entries
 after_changes kept changes = fold after_change kept changes
 
--- every resolver committed the transaction, and it is lock aware or meets no lock (release 7.1; that the proxies test the lock for the transactions of others too is this project's profile)
+-- every resolver committed the transaction, and it is lock aware or meets no lock (release 7.1;
+-- that the proxies test the lock for the transactions of others too is this project's profile)
 abbrev pub is_applied : Bool → StateTxn → Bool
 is_applied locked t = list_all is_committed t.verdicts && (t.lock_aware || not locked)
 
--- the rows after a state transaction that met a lock or not: one that is not let pass changes nothing
+-- the rows after a state transaction that met a lock or not: one that is not let pass changes
+-- nothing
 abbrev pub after_state : Bool → Entries → StateTxn → Entries
 after_state locked kept t = if is_applied locked t then after_changes kept t.mutations else kept
 
--- the rows after one row of a journal: the lock is read once, before its first transaction (release 7.1)
+-- the rows after one row of a journal: the lock is read once, before its first transaction (release
+-- 7.1)
 abbrev pub after_journal_row : Entries → JournalRow → Entries
 after_journal_row kept row = fold (after_state (is_locked kept)) kept row.states
 
--- the changes of a journal's row that are let pass, where its transactions met a lock or not, in order
+-- the changes of a journal's row that are let pass, where its transactions met a lock or not, in
+-- order
 abbrev pub applied_changes : Bool → JournalRow → List Change
 applied_changes locked row = flat_map (λ (t : StateTxn). t.mutations) (filter (is_applied locked) row.states)
 
@@ -101,7 +107,8 @@ key_servers_entries rows = map behind_prefix (filter is_key_servers rows)
 abbrev pub is_entry_up_to : Key → Entry → Bool
 is_entry_up_to key row = is_key_up_to row.0 key
 
--- the greatest of these rows at or before the key (release 7.1), and none where there is none (this project's profile); they are in the order of keys
+-- the greatest of these rows at or before the key (release 7.1), and none where there is none (this
+-- project's profile); they are in the order of keys
 abbrev pub serving_entry : Entries → Key → Option Entry
 serving_entry rows key = last_or None (filter (is_entry_up_to key) rows)
 
@@ -109,7 +116,9 @@ serving_entry rows key = last_or None (filter (is_entry_up_to key) rows)
 abbrev pub is_entry_inside : Range → Entry → Bool
 is_entry_inside range row = is_key_below range.begin row.0 && is_key_below row.0 range.end
 
--- those of these rows that a change meets: of a Set that of its key, of a Clear that of its begin and each one after its begin and before its end (release 7.1); where a key has no row, it adds none (this project's profile)
+-- those of these rows that a change meets: of a Set that of its key, of a Clear that of its begin
+-- and each one after its begin and before its end (release 7.1); where a key has no row, it adds
+-- none (this project's profile)
 abbrev pub touched_entries : Entries → Change → Entries
 touched_entries rows (Set key value) = option_to_list (serving_entry rows key)
 touched_entries rows (Clear range) = option_to_list (serving_entry rows range.begin) ++ filter (is_entry_inside range) rows
@@ -119,7 +128,8 @@ abbrev pub all_servers : Result Servers RowFault → List Id
 all_servers (Ok servers) = servers.sources ++ servers.destinations
 all_servers (Err fault) = []
 
--- the sources and the destinations of a keyServers value (release 7.1); a value that does not decode names none (this project's profile)
+-- the sources and the destinations of a keyServers value (release 7.1); a value that does not
+-- decode names none (this project's profile)
 abbrev pub servers_of : List ℕ → List Id
 servers_of value = all_servers (servers_at value)
 
@@ -128,7 +138,8 @@ abbrev pub one_tag : Result Tag RowFault → List Tag
 one_tag (Ok tag) = tag ∷ []
 one_tag (Err fault) = []
 
--- the tag of a serverTag value, if it is there; one that does not decode gives none (this project's profile)
+-- the tag of a serverTag value, if it is there; one that does not decode gives none (this project's
+-- profile)
 abbrev pub tag_of : Option (List ℕ) → List Tag
 tag_of None = []
 tag_of (Some value) = one_tag (tag_at value)
@@ -149,7 +160,9 @@ tag_cmp a b = ordering_then (nat_cmp a.locality b.locality) (nat_cmp a.id b.id)
 abbrev pub sorted_tags : List Tag → List Tag
 sorted_tags tags = fold (insert_key tag_cmp) [] tags
 
--- the tags of a change: those of the servers named by the keyServers rows that it meets (release 7.1); the order, and that a key without a row and a server without a tag add none, is this project's profile
+-- the tags of a change: those of the servers named by the keyServers rows that it meets (release
+-- 7.1); the order, and that a key without a row and a server without a tag add none, is this
+-- project's profile
 unfoldable pub tags : Entries → Change → List Tag
 tags rows change = sorted_tags (flat_map (entry_tags rows) (touched_entries (key_servers_entries rows) change))
 
@@ -163,7 +176,8 @@ tags_of_key rows key = tags rows (Set key [])
 abbrev pub route_of : Entries → Entry → Route
 route_of rows row = record { key = row.0; tags = tags_of_key rows row.0 }
 
--- what the rows say of the whole key space: the lock, the value of `\xff/metadataVersion` or none, and a route for each keyServers row, in the order of keys (this project's profile)
+-- what the rows say of the whole key space: the lock, the value of `\xff/metadataVersion` or none,
+-- and a route for each keyServers row, in the order of keys (this project's profile)
 unfoldable pub routing : ℕ → Entries → Routing
 routing version rows =
     record { version = version; locked = is_locked rows; metadata_version = entry_value rows metadata_version_family.prefix; routes = map (route_of rows) (key_servers_entries rows) }

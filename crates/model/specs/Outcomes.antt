@@ -21,13 +21,15 @@ joined_verdict config verdict_by rec n t = joined (map (λ (r : ℕ). verdict_by
 abbrev pub is_refused : Bool → Transaction → Bool
 is_refused locked t = not t.lock_aware && locked
 
--- the outcome by the joined verdict: what the resolvers committed the lock may still refuse (release 7.1; that Locked is an answer of its own is this project's profile)
+-- the outcome by the joined verdict: what the resolvers committed the lock may still refuse
+-- (release 7.1; that Locked is an answer of its own is this project's profile)
 abbrev pub outcome_by : Verdict → Bool → ℕ → ℕ → Outcome
 outcome_by verdicts.Conflict refused version number = Conflict
 outcome_by verdicts.TooOld refused version number = TooOld
 outcome_by verdicts.Committed refused version number = if refused then Locked else Committed version number
 
--- the outcome of transaction n of the record, where the metadata before the record is locked or not (release 7.1)
+-- the outcome of transaction n of the record, where the metadata before the record is locked or not
+-- (release 7.1)
 unfoldable pub outcome : Config → VerdictSource → Bool → Record → ℕ → Transaction → Outcome
 outcome config verdict_by locked rec n t = outcome_by (joined_verdict config verdict_by rec n t) (is_refused locked t) rec.version n
 
@@ -36,7 +38,8 @@ abbrev pub outcomes_from : Config → VerdictSource → Bool → Record → ℕ 
 outcomes_from config verdict_by locked rec n [] = []
 outcomes_from config verdict_by locked rec n (t ∷ ts) = outcome config verdict_by locked rec n t ∷ outcomes_from config verdict_by locked rec (suc n) ts
 
--- the outcomes of a record's batch, after a journal of the records before it; the lock is read once, before its first transaction (release 7.1)
+-- the outcomes of a record's batch, after a journal of the records before it; the lock is read
+-- once, before its first transaction (release 7.1)
 unfoldable pub outcomes_after : Config → VerdictSource → List JournalRow → Record → List Outcome
 outcomes_after config verdict_by journal_before rec = outcomes_from config verdict_by (is_locked (metadata journal_before)) rec 0 rec.batch
 

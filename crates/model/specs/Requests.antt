@@ -13,13 +13,15 @@ use Rattle.model.specs.Shares.{share_back_to, each_below}
 use Rattle.model.specs.Verdicts.{JudgedPart, judged_at, verdicts_after}
 use Rattle.model.specs.Journal.{carried_by, verdict_at, least}
 
--- the marks of the state transactions among some transactions, numbered from n, as resolver r gets them
+-- the marks of the state transactions among some transactions, numbered from n, as resolver r gets
+-- them
 abbrev pub marks_from : ℕ → ℕ → List Transaction → List StateMark
 marks_from r n [] = []
 marks_from r n (t ∷ ts) =
     if is_state_transaction t then record { number = n; carried = carried_by r t } ∷ marks_from r (suc n) ts else marks_from r (suc n) ts
 
--- a request: the numbers of the record, the version of the last record that the proxy had finished when it sent this, the resolver's share, and the marks of the state transactions (release 7.1)
+-- a request: the numbers of the record, the version of the last record that the proxy had finished
+-- when it sent this, the resolver's share, and the marks of the state transactions (release 7.1)
 pub record Request : Type 0 where
   pub resolver : ℕ
   pub proxy : ℕ
@@ -30,7 +32,8 @@ pub record Request : Type 0 where
   pub share : List Part
   pub states : List StateMark
 
--- the request for a record to resolver r, empty or not, where owners are remembered back to `oldest` (release 7.1)
+-- the request for a record to resolver r, empty or not, where owners are remembered back to
+-- `oldest` (release 7.1)
 unfoldable pub request_back_to : ℕ → Record → ℕ → ℕ → Request
 request_back_to oldest rec last_received r =
     record {
@@ -54,7 +57,8 @@ request config rec last_received r = request_back_to (oldest config rec) rec las
 abbrev pub judged_of : List Request → List JudgedPart
 judged_of requests = flat_map (λ (q : Request). judged_at q.version q.share) requests
 
--- the verdicts on a request, after those that the resolver judged before: one for each part of its share (release 7.1)
+-- the verdicts on a request, after those that the resolver judged before: one for each part of its
+-- share (release 7.1)
 unfoldable pub request_verdicts : ℕ → List Request → Request → List Verdict
 request_verdicts window before q = verdicts_after window (judged_of before) (judged_at q.version q.share)
 
@@ -66,7 +70,8 @@ reply_state_of_mark parts verdicts mark = record { verdict = verdict_at parts ve
 unfoldable pub request_reply_row : Request → List Verdict → UnseenRow
 request_reply_row q verdicts = record { version = q.version; states = map (reply_state_of_mark q.share verdicts) q.states }
 
--- the rows of some requests as their resolver tells of them, judged one after another, where `before` were judged before them (release 7.1)
+-- the rows of some requests as their resolver tells of them, judged one after another, where
+-- `before` were judged before them (release 7.1)
 abbrev pub request_reply_rows : ℕ → List Request → List Request → List UnseenRow
 request_reply_rows window before [] = []
 request_reply_rows window before (q ∷ rest) = request_reply_row q (request_verdicts window before q) ∷ request_reply_rows window (before ++ q ∷ []) rest
@@ -91,10 +96,12 @@ unfoldable pub request_reply : ℕ → List Request → Request → Reply
 request_reply window before q =
     record { resolver = q.resolver; proxy = q.proxy; row = q.row; version = q.version; verdicts = request_verdicts window before q; unseen = request_unseen window before q }
 
--- the version that every proxy has reached with its requests (release 7.1, in effect: it keeps a map of the proxies' last versions)
+-- the version that every proxy has reached with its requests (release 7.1, in effect: it keeps a
+-- map of the proxies' last versions)
 abbrev pub request_oldest_proxy_version : ℕ → List Request → ℕ
 request_oldest_proxy_version proxies judged = least (map (λ (p : ℕ). last_request_version (requests_of_proxy p judged)) (each_below proxies))
 
--- the requests whose rows a resolver remembers after it judged these: those that some proxy has not reached (release 7.1, in effect: it trims its rows at each request)
+-- the requests whose rows a resolver remembers after it judged these: those that some proxy has not
+-- reached (release 7.1, in effect: it trims its rows at each request)
 unfoldable pub remembered_requests : ℕ → List Request → List Request
 remembered_requests proxies judged = filter (λ (q : Request). nat_lt (request_oldest_proxy_version proxies judged) q.version) judged

@@ -6,7 +6,8 @@ use Rattle.system_keys.specs.Keys.{Key, Range, is_key_up_to, holds}
 use Rattle.system_keys.specs.Rows.{Id}
 use Rattle.model.specs.Metadata.{Entry, Entries, touched_entries, key_servers_entries, servers_of, server_tags}
 
--- of these rows, this is the one that serves the key: it is at or before the key, and no other such row is above it (release 7.1)
+-- of these rows, this is the one that serves the key: it is at or before the key, and no other such
+-- row is above it (release 7.1)
 pub record Serves (rows : Entries) (key : Key) (row : Entry) : Type 0 where
   pub there : Contains rows row
   pub up_to : IsTrue (is_key_up_to row.0 key)
@@ -18,7 +19,8 @@ pub record ServesSome (rows : Entries) (range : Range) (row : Entry) : Type 0 wh
   pub inside : IsTrue (holds range key)
   pub serves : Serves rows key row
 
--- the change has the tag: that of a server which a keyServers row names, and the change meets that row (release 7.1)
+-- the change has the tag: that of a server which a keyServers row names, and the change meets that
+-- row (release 7.1)
 pub record HasTag (rows : Entries) (change : Change) (tag : Tag) : Type 0 where
   pub row : Entry
   pub met : Contains (touched_entries (key_servers_entries rows) change) row

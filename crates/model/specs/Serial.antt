@@ -1,4 +1,5 @@
--- The rule of commit: no committed transaction read what another committed one wrote between its snapshot and itself.
+-- The rule of commit: no committed transaction read what another committed one wrote between its
+-- snapshot and itself.
 use Rattle.std.specs.Prelude.{◌≡◌, ℕ, ◌<◌, ◌⊎◌, List, take, slice_get, Some, IsTrue, IsFalse, Contains}
 use Rattle.system_keys.specs.Keys.{Range, Overlap}
 use Rattle.model.specs.Configs.{Config}
@@ -22,19 +23,22 @@ pub record Place (h : List Record) : Type 0 where
   pub record_is : slice_get h i ≡ Some rec
   pub transaction_is : slice_get rec.batch n ≡ Some transaction
 
--- a stands before b and is not in b's snapshot: it is earlier in b's batch, or in an earlier record whose version is above b's snapshot (the rule of commit of the 2021 paper)
+-- a stands before b and is not in b's snapshot: it is earlier in b's batch, or in an earlier record
+-- whose version is above b's snapshot (the rule of commit of the 2021 paper)
 abbrev pub IsBetween : {h : List Record} → Place h → Place h → Type 0
 IsBetween a b = ((a.i ≡ b.i) × (a.n < b.n)) ⊎ ((a.i < b.i) × (b.transaction.snapshot < a.rec.version))
 
 -- ---- the rule
 
--- the transaction in that place has the outcome Committed, by the verdicts of the history and by the lock in the metadata before its record
+-- the transaction in that place has the outcome Committed, by the verdicts of the history and by
+-- the lock in the metadata before its record
 abbrev pub IsCommitted : Config → (h : List Record) → Place h → Type 0
 IsCommitted config h a =
     outcome config (history_verdicts config h) (is_locked (metadata (journal config (history_verdicts config h) (take a.i h)))) a.rec a.n a.transaction ≡ Committed a.rec.version a.n
 
--- of each two committed transactions, where the first stands between the snapshot of the second and the second itself, no
--- write of the first overlaps a read of the second, the added read of the lock row among them (the rule of commit of the 2021 paper)
+-- of each two committed transactions, where the first stands between the snapshot of the second and
+-- the second itself, no write of the first overlaps a read of the second, the added read of the
+-- lock row among them (the rule of commit of the 2021 paper)
 abbrev pub IsSerial : Config → List Record → Type 0
 IsSerial config h =
     (a b : Place h) → IsCommitted config h a → IsCommitted config h b → IsBetween a b →
@@ -50,8 +54,9 @@ seen_at config r a = record { version = a.rec.version; part = part_of config a.r
 abbrev pub verdict_at_place : Config → ℕ → (h : List Record) → Place h → Verdict
 verdict_at_place config r h a = verdict_of config r (take a.i h) a.rec (take a.n a.rec.batch) a.transaction
 
--- a Conflict, by all pairs of the history: b is in time, and some read of it in r's share overlaps a write, in r's share, of
--- some a that r committed and that stands between b's snapshot and b (release 7.1)
+-- a Conflict, by all pairs of the history: b is in time, and some read of it in r's share overlaps
+-- a write, in r's share, of some a that r committed and that stands between b's snapshot and b
+-- (release 7.1)
 pub record HasConflictWith (config : Config) (r : ℕ) (h : List Record) (b : Place h) : Type 0 where
   pub in_time : IsFalse (is_too_old config.window (seen_at config r b))
   pub a : Place h

@@ -1,4 +1,5 @@
--- The world without threads: a history, the moves so far, and how far each resolver and each proxy has come; its events and their answers.
+-- The world without threads: a history, the moves so far, and how far each resolver and each proxy
+-- has come; its events and their answers.
 use Rattle.std.specs.Prelude.{◌≡◌, ℕ, suc, ◌+◌, ◌<◌, ◌≤◌, max, List, [], ◌∷◌, ◌++◌, length, take, replicate, filter, nat_eq, nat_lt, nat_le, if◌then◌else◌, slice_get, slice_index, slice_set, Option, Some, None}
 use Rattle.system_keys.specs.declared.change.Change.{Change}
 use Rattle.system_keys.specs.Keys.{Range}
@@ -21,7 +22,9 @@ use Rattle.model.specs.Metadata.{Entries, metadata, tags, routing}
 use Rattle.model.specs.Journal.{VerdictSource, history_verdicts, journal_row, journal, unseen, remembered}
 use Rattle.model.specs.Outcomes.{outcomes_after}
 
--- the history, the moves so far, for each record the version of the last record that its proxy had finished, for each resolver how many rows it has judged, and for each proxy how many of its records are finished (this project's profile)
+-- the history, the moves so far, for each record the version of the last record that its proxy had
+-- finished, for each resolver how many rows it has judged, and for each proxy how many of its
+-- records are finished (this project's profile)
 pub record World : Type 0 where
   pub history : List Record
   pub moves : List Move
@@ -29,14 +32,16 @@ pub record World : Type 0 where
   pub judged_counts : List ℕ
   pub finished : List ℕ
 
--- what can happen: a proxy's batch gets its record, a range moves to a resolver, the request for a row comes to a resolver, a proxy finishes its earliest record that is not finished
+-- what can happen: a proxy's batch gets its record, a range moves to a resolver, the request for a
+-- row comes to a resolver, a proxy finishes its earliest record that is not finished
 pub data Event : Type 0 where
   Sequence : (proxy : ℕ) (batch : List Given) → Event
   MoveRange : (range : Range) (destination : ℕ) → Event
   Offer : (row resolver : ℕ) → Event
   Finish : (proxy : ℕ) → Event
 
--- why an event is refused; an early request with the version of the last row judged, 0 if none, and a finish out of turn with the row awaited, if one is
+-- why an event is refused; an early request with the version of the last row judged, 0 if none, and
+-- a finish out of turn with the row awaited, if one is
 pub data Refusal : Type 0 where
   NoSuchResolver : Refusal
   Early : (version : ℕ) → Refusal
@@ -76,7 +81,8 @@ refuse w why = record { world = w; answer = Refused why }
 abbrev pub finished_version : World → ℕ → ℕ
 finished_version w p = last_version (take (slice_index w.finished p) (records_of_proxy p w.history))
 
--- the record that the next batch gets, with all moves so far (release 7.1; the step is this project's profile)
+-- the record that the next batch gets, with all moves so far (release 7.1; the step is this
+-- project's profile)
 abbrev pub next_record : Config → World → ℕ → List Given → Record
 next_record config w p batch =
     let previous = last_version w.history in
@@ -90,7 +96,8 @@ next_record config w p batch =
       batch = stamped_from (previous + config.step) 0 batch;
     }
 
--- a batch gets the next record, of all moves so far (release 7.1); refused are first a proxy that is not there, and then a version that reaches the limit (this project's profile)
+-- a batch gets the next record, of all moves so far (release 7.1); refused are first a proxy that
+-- is not there, and then a version that reaches the limit (this project's profile)
 abbrev pub handle_sequence : Config → World → ℕ → List Given → Handled
 handle_sequence config w p batch =
     let rec = next_record config w p batch in
@@ -100,7 +107,8 @@ handle_sequence config w p batch =
 
 -- ---- a range moves
 
--- a range moves to a resolver from the version after the last one given out (release 7.1); refused is a resolver that is not there (this project's profile)
+-- a range moves to a resolver from the version after the last one given out (release 7.1); refused
+-- is a resolver that is not there (this project's profile)
 abbrev pub handle_move : Config → World → Range → ℕ → Handled
 handle_move config w range destination =
     let date = last_version w.history + 1 in
@@ -109,7 +117,8 @@ handle_move config w range destination =
 
 -- ---- a request comes to a resolver
 
--- the reply of resolver r to a record, after the records before it: these verdicts on its share, and the rows that the proxy has not seen (release 7.1)
+-- the reply of resolver r to a record, after the records before it: these verdicts on its share,
+-- and the rows that the proxy has not seen (release 7.1)
 abbrev pub reply_with : List Verdict → VerdictSource → ℕ → List Record → Record → Reply
 reply_with verdicts verdict_by r before rec =
     record { resolver = r; proxy = rec.proxy; row = rec.row; version = rec.version; verdicts = verdicts; unseen = unseen verdict_by r before rec }
@@ -123,29 +132,36 @@ abbrev pub greatest : List ℕ → ℕ
 greatest [] = 0
 greatest (n ∷ ns) = max n (greatest ns)
 
--- of some records, what those of one proxy say that it has received; the list has a number for each record
+-- of some records, what those of one proxy say that it has received; the list has a number for each
+-- record
 abbrev pub received_of : ℕ → List Record → List ℕ → List ℕ
 received_of p [] ns = []
 received_of p (rec ∷ rest) [] = []
 received_of p (rec ∷ rest) (n ∷ ns) = if nat_eq rec.proxy p then n ∷ received_of p rest ns else received_of p rest ns
 
--- the version that a proxy has acknowledged to a resolver that judged so many rows: the greatest that it had received (release 7.1)
+-- the version that a proxy has acknowledged to a resolver that judged so many rows: the greatest
+-- that it had received (release 7.1)
 abbrev pub acknowledged : World → ℕ → ℕ → ℕ
 acknowledged w front p = greatest (received_of p (take front w.history) w.received)
 
--- a row that the resolver has judged already: its reply is given up once the proxy has acknowledged it, and else the same again (release 7.1; that a repeat of one given up is refused is this project's profile)
+-- a row that the resolver has judged already: its reply is given up once the proxy has acknowledged
+-- it, and else the same again (release 7.1; that a repeat of one given up is refused is this
+-- project's profile)
 abbrev pub handle_repeat : World → Reply → ℕ → Handled
 handle_repeat w reply received =
     if nat_le reply.version received then refuse w (GivenUp received) else record { world = w; answer = Again reply }
 
--- the row comes to a resolver that has judged `front` rows: again, or in its turn (release 7.1), or too early, which this call refuses with the version of the last row judged, 0 if none, where release 7.1 holds the request back
+-- the row comes to a resolver that has judged `front` rows: again, or in its turn (release 7.1), or
+-- too early, which this call refuses with the version of the last row judged, 0 if none, where
+-- release 7.1 holds the request back
 abbrev pub handle_offer_at : World → ℕ → ℕ → Reply → Handled
 handle_offer_at w front r reply =
     if nat_lt front reply.row then refuse w (Early (last_version (take front w.history)))
     else if nat_lt reply.row front then handle_repeat w reply (acknowledged w front reply.proxy)
     else record { world = record w { judged_counts = slice_set w.judged_counts r (suc front) }; answer = Judged reply }
 
--- the request for a row comes to resolver r: refused are first a row that is not there, and then a resolver that is not there (this project's profile)
+-- the request for a row comes to resolver r: refused are first a row that is not there, and then a
+-- resolver that is not there (this project's profile)
 abbrev pub handle_offer : Config → World → ℕ → ℕ → Option Record → Handled
 handle_offer config w row r None = refuse w NoSuchRow
 handle_offer config w row r (Some rec) =
@@ -154,7 +170,8 @@ handle_offer config w row r (Some rec) =
 
 -- ---- a proxy finishes
 
--- the mutations of transaction `number`, from place n on, each with its tags in these rows (release 7.1)
+-- the mutations of transaction `number`, from place n on, each with its tags in these rows (release
+-- 7.1)
 abbrev pub tagged_from : Entries → ℕ → ℕ → List Change → List Tagged
 tagged_from rows number n [] = []
 tagged_from rows number n (change ∷ changes) = record { number = number; place = n; change = change; tags = tags rows change } ∷ tagged_from rows number (suc n) changes
@@ -172,7 +189,8 @@ tagged_all rows [] outcomes = []
 tagged_all rows (t ∷ ts) [] = []
 tagged_all rows (t ∷ ts) (outcome ∷ outcomes) = tagged_one rows t outcome ++ tagged_all rows ts outcomes
 
--- a finished record, after a journal of the records before it: its outcomes, and its mutations with the tags of the metadata after the whole batch (release 7.1)
+-- a finished record, after a journal of the records before it: its outcomes, and its mutations with
+-- the tags of the metadata after the whole batch (release 7.1)
 unfoldable pub finished_after : Config → VerdictSource → List JournalRow → Record → Finished
 finished_after config verdict_by journal_before rec =
     let told = outcomes_after config verdict_by journal_before rec in
@@ -182,17 +200,21 @@ finished_after config verdict_by journal_before rec =
 abbrev pub finished_batch : Config → VerdictSource → List Record → Record → Finished
 finished_batch config verdict_by before rec = finished_after config verdict_by (journal config verdict_by before) rec
 
--- of some resolvers, those that have not judged the row, whose replies the proxy cannot have (release 7.1)
+-- of some resolvers, those that have not judged the row, whose replies the proxy cannot have
+-- (release 7.1)
 abbrev pub missing_replies : World → ℕ → List ℕ → List ℕ
 missing_replies w row rs = filter (λ (r : ℕ). nat_le (slice_index w.judged_counts r) row) rs
 
--- the proxy finishes a record for which the replies of these resolvers are missing: refused with the first of them, else finished (this project's profile)
+-- the proxy finishes a record for which the replies of these resolvers are missing: refused with
+-- the first of them, else finished (this project's profile)
 abbrev pub finish_record : Config → World → ℕ → Record → List ℕ → Handled
 finish_record config w p rec (r ∷ rs) = refuse w (MissingReply r)
 finish_record config w p rec [] =
     record { world = record w { finished = slice_set w.finished p (suc (slice_index w.finished p)) }; answer = Completed (finished_batch config (history_verdicts config w.history) (take rec.row w.history) rec) }
 
--- the proxy's earliest record that is not finished, if there is one, is finished once every resolver has judged it (release 7.1); where there is none, it is nobody's turn (this project's profile)
+-- the proxy's earliest record that is not finished, if there is one, is finished once every
+-- resolver has judged it (release 7.1); where there is none, it is nobody's turn (this project's
+-- profile)
 abbrev pub handle_finish : Config → World → ℕ → Option Record → Handled
 handle_finish config w p None = refuse w (OutOfTurn None)
 handle_finish config w p (Some rec) = finish_record config w p rec (missing_replies w rec.row (each_below config.resolvers))
@@ -228,7 +250,8 @@ up_to_version version h = filter (λ (rec : Record). nat_le rec.version version)
 abbrev pub rows_up_to : ℕ → List Record → ℕ
 rows_up_to version h = length (up_to_version version h)
 
--- the journal of a proxy: that of the records up to its version, the last that it finished (release 7.1)
+-- the journal of a proxy: that of the records up to its version, the last that it finished (release
+-- 7.1)
 unfoldable pub proxy_journal : Config → World → ℕ → List JournalRow
 proxy_journal config w p = journal config (history_verdicts config w.history) (up_to_version (finished_version w p) w.history)
 
@@ -244,7 +267,9 @@ proxy_routing config w p = routing (finished_version w p) (proxy_metadata config
 abbrev pub remembered_by : Config → World → ℕ → List Record
 remembered_by config w r = remembered config (take (slice_index w.judged_counts r) w.history)
 
--- what every world keeps: what the sequencer keeps; a number received with each record, up to its previous version; a number of judged rows for each resolver, and of finished records for each proxy, no more than are there; and each finished record is judged by every resolver
+-- what every world keeps: what the sequencer keeps; a number received with each record, up to its
+-- previous version; a number of judged rows for each resolver, and of finished records for each
+-- proxy, no more than are there; and each finished record is judged by every resolver
 pub record IsSound (config : Config) (w : World) : Type 0 where
   pub sequencer : MovesFollow config w.history w.moves
   pub received : length w.received ≡ length w.history
