@@ -9,7 +9,7 @@ use Rattle.model.specs.World.{World, IsSound, greatest, received_of, acknowledge
 use Rattle.model.specs.Acknowledged.{acknowledged_requests}
 use Rattle.model.proofs.HistoryLaws.{index_there}
 use Rattle.model.proofs.Members.{Has, Has-from_Contains, Contains-from_Has}
-use Rattle.model.proofs.Places.{entry_value, slice_get-take}
+use Rattle.model.proofs.Places.{row_at, slice_get-take}
 
 -- the numbers that the requests of a proxy say, where the list has one for each record
 received_is : (config : Config) (received : Record → ℕ) (r p : ℕ) (records : List Record) (ns : List ℕ) → ((j : ℕ) (s : Record) → slice_get records j ≡ Some s → slice_get ns j ≡ Some (received s)) →
@@ -35,7 +35,7 @@ acknowledged_is config w front r p sound = ap greatest (received_is config (λ (
     each j s at =
         let there : slice_get w.history j ≡ Some s = (slice_get-take w.history front j s at).1 in
         let within : j < length w.history = slice_get_within w.history j s there in
-        let row : s.row ≡ j = entry_value config w.history j s sound.sequencer.history there in
+        let row : s.row ≡ j = row_at config w.history j s sound.sequencer.history there in
         index_there w.received j (omega (arith, within, sound.received)) ∙ ap (λ (k : ℕ). Some (slice_index w.received k)) (sym row)
 
 -- ---- the greatest number

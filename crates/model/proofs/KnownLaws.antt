@@ -18,7 +18,7 @@ use Rattle.model.specs.World.{tagged_from, tagged_one, tagged_all, finished_afte
 use Rattle.model.specs.Agreed.{Column, Columns, IsVerdictColumn}
 use Rattle.model.proofs.Members.{Has, Has-from_Contains, Has-append_cases}
 use Rattle.model.proofs.HistoryLaws.{push_cases}
-use Rattle.model.proofs.Places.{entry_value, slice_get-take, slice_get-take_back, take-take_le}
+use Rattle.model.proofs.Places.{row_at, slice_get-take, slice_get-take_back, take-take_le}
 use Rattle.model.proofs.SayingLaws.{finished_alike, known_alike}
 
 -- ---- columns
@@ -62,7 +62,7 @@ finished_meet config h g mine theirs m i rec history below same cells at =
     alike : (k : ℕ) (s : Record) → k < m → slice_get h k ≡ Some s → AgreeOn config (cell_verdicts config h mine) (cell_verdicts config g theirs) s
     alike k s within there =
         let in_g : slice_get g k ≡ Some s = (slice_get-take g m k s (ap (λ (rs : List Record). slice_get rs k) (sym same) ∙ slice_get-take_back h m k s within there)).1 in
-        known_alike config h g mine theirs k s (entry_value config h k s history there) there in_g (λ r resolver. cells r k resolver within)
+        known_alike config h g mine theirs k s (row_at config h k s history there) there in_g (λ r resolver. cells r k resolver within)
 
 -- ---- rows of a journal
 

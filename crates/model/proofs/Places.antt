@@ -129,8 +129,8 @@ parts_from_split config r rec m (t ∷ ts) front u back e = go (asks config rec 
 -- ---- places
 
 -- a record of a history is at its row
-pub entry_value : (config : Config) (h : List Record) (i : ℕ) (rec : Record) → IsHistory config h → slice_get h i ≡ Some rec → rec.row ≡ i
-entry_value config h i rec history at =
+pub row_at : (config : Config) (h : List Record) (i : ℕ) (rec : Record) → IsHistory config h → slice_get h i ≡ Some rec → rec.row ≡ i
+row_at config h i rec history at =
     let within = slice_get_within h i rec at in
     (history i rec at).row ∙ length-take-le i h (omega arith)
 

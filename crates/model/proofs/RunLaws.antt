@@ -15,7 +15,7 @@ use Rattle.model.specs.Shares.{each_below}
 use Rattle.model.specs.Journal.{VerdictSource, history_verdicts, journal_row, journal, is_after}
 use Rattle.model.specs.World.{World, Event, Sequence, MoveRange, Offer, Finish, Handled, Answer, Sequenced, Moved, Judged, Again, Completed, Refused, IsSound, initial_world, next_record, handle_sequence, handle_move, reply_of, acknowledged, handle_offer, finished_batch, finished_after, missing_replies, finish_record, handle_finish, handle_event, answers, world_after, refuse, finished_version, up_to_version, proxy_journal, NoSuchProxy}
 use Rattle.model.proofs.Members.{Has, Has-from_Contains}
-use Rattle.model.proofs.Places.{entry_value}
+use Rattle.model.proofs.Places.{row_at}
 use Rattle.model.proofs.ShareLaws.{slice_get-append_left, verdict_in_later}
 use Rattle.model.proofs.SayingLaws.{AllAlike, journal_alike, journal_append, journal_push, history_take, finished_later, replies_later}
 use Rattle.model.proofs.HistoryLaws.{own_version_up_to, records_of_proxy-append, index_there}
@@ -71,7 +71,7 @@ turn_is config w p rec sound at =
 alike_later : (config : Config) (h later : List Record) → IsHistory config h → AllAlike config (history_verdicts config (h ++ later)) (history_verdicts config h) h
 alike_later config h later history i rec at =
     let within = slice_get_within h i rec at in
-    let row = entry_value config h i rec history at in
+    let row = row_at config h i rec history at in
     record { same = λ r n t resolver there asking. verdict_in_later config h later r rec.row n (omega arith) }
 
 -- what a filter leaves stands in the list
@@ -233,7 +233,7 @@ journal_grown config w p rec limits sound there at none =
     ∙ journal_push config verdict_by (up_to_version rec.own_previous w.history ++ filter (is_after rec.own_previous) (take place.i w.history)) rec
     ∙ ap (λ (rows : List JournalRow). rows ++ journal_row config verdict_by rec ∷ []) (journal_append config verdict_by (up_to_version rec.own_previous w.history) (filter (is_after rec.own_previous) (take place.i w.history)))
     ∙ ap (λ (version : ℕ). journal config verdict_by (up_to_version version w.history) ++ journal config verdict_by (filter (is_after rec.own_previous) (take place.i w.history)) ++ journal_row config verdict_by rec ∷ []) (sym (turn_is config w p rec sound at))
-    ∙ ap (λ (row : ℕ). journal config verdict_by (up_to_version (finished_version w p) w.history) ++ journal config verdict_by (filter (is_after rec.own_previous) (take row w.history)) ++ journal_row config verdict_by rec ∷ []) (sym (entry_value config w.history place.i rec sound.sequencer.history place.at))
+    ∙ ap (λ (row : ℕ). journal config verdict_by (up_to_version (finished_version w p) w.history) ++ journal config verdict_by (filter (is_after rec.own_previous) (take row w.history)) ++ journal_row config verdict_by rec ∷ []) (sym (row_at config w.history place.i rec sound.sequencer.history place.at))
   where
     place : OwnPlace p w.history (slice_index w.finished p) rec
     place = own_place p w.history (slice_index w.finished p) rec at
@@ -329,14 +329,14 @@ either_told config h false first second one other = other
 
 reply_told : (config : Config) (h : List Record) (row r : ℕ) (rec : Record) → IsHistory config h → slice_get h row ≡ Some rec → IsReplyBy config h (reply_of config (history_verdicts config h) r (take row h) rec)
 reply_told config h row r rec history at =
-    let same : rec.row ≡ row = entry_value config h row rec history at in
+    let same : rec.row ≡ row = row_at config h row rec history at in
     (rec, ap (slice_get h) same ∙ at, ap (λ (k : ℕ). reply_of config (history_verdicts config h) r (take k h) rec) (sym same))
 
 batch_told : (config : Config) (w : World) (p : ℕ) (rec : Record) → IsHistory config w.history → slice_get (records_of_proxy p w.history) (slice_index w.finished p) ≡ Some rec → IsFinishedBy config w.history (finished_batch config (history_verdicts config w.history) (take rec.row w.history) rec)
 unfolding finished_after
 batch_told config w p rec history at =
     let place = own_place p w.history (slice_index w.finished p) rec at in
-    let same : rec.row ≡ place.i = entry_value config w.history place.i rec history place.at in
+    let same : rec.row ≡ place.i = row_at config w.history place.i rec history place.at in
     (rec, ap (slice_get w.history) same ∙ place.at, refl)
 
 event_told : (config : Config) (w : World) (event : Event) → IsSound config w → IsToldBy config w.history (handle_event config w event).answer

@@ -22,7 +22,7 @@ use Rattle.model.specs.Journal.{VerdictSource, AgreeOn, history_verdicts, histor
 use Rattle.model.specs.Outcomes.{joined_verdict, outcome_by, outcome, outcomes_from, outcomes_after, outcomes}
 use Rattle.model.specs.World.{reply_of, tagged_all, finished_after, finished_batch}
 use Rattle.model.specs.Agreed.{Columns, AreVerdicts}
-use Rattle.model.proofs.Places.{entry_value, slice_get-take, slice_get-take_back, take-take_le}
+use Rattle.model.proofs.Places.{row_at, slice_get-take, slice_get-take_back, take-take_le}
 use Rattle.model.proofs.ShareLaws.{share_part, known_in_is, slice_get-append_left, verdict_in_later, journal_row_alike}
 
 -- ---- the journal of more and of fewer records
@@ -122,7 +122,7 @@ history_take config h n history i rec at =
 later_alike : (config : Config) (h later : List Record) → IsHistory config h → AllAlike config (history_verdicts config (h ++ later)) (history_verdicts config h) h
 later_alike config h later history i rec at =
     let within = slice_get_within h i rec at in
-    let row = entry_value config h i rec history at in
+    let row = row_at config h i rec history at in
     record { same = λ r n t resolver there asking. verdict_in_later config h later r rec.row n (omega arith) }
 
 pub journal_later : (config : Config) (h later : List Record) → IsHistory config h → journal config (history_verdicts config (h ++ later)) (h ++ later) ≡ journal config (history_verdicts config h) h ++ journal config (history_verdicts config (h ++ later)) later
@@ -153,7 +153,7 @@ known_in_later config h later columns r i n within = rw (slice_get-append_left h
 cells_alike : (config : Config) (h : List Record) (columns : Columns) (n : ℕ) → IsHistory config h → AreVerdicts config (take n h) columns → AllAlike config (cell_verdicts config h columns) (history_verdicts config (take n h)) (take n h)
 cells_alike config h columns n history cells i rec at =
     let within = slice_get_within (take n h) i rec at in
-    let row = entry_value config (take n h) i rec (history_take config h n history) at in
+    let row = row_at config (take n h) i rec (history_take config h n history) at in
     let there : slice_get (take n h) rec.row ≡ Some rec = subst (λ (k : ℕ). slice_get (take n h) k ≡ Some rec) (sym row) at in
     let below : rec.row < length (take n h) = omega arith in
     record {
@@ -261,7 +261,7 @@ journals_meet config h g mine theirs m n history fewer same cells =
     alike i rec at =
         let in_g = slice_get-take g m i rec at in
         let in_h = slice_get-take h m i rec (ap (λ (rs : List Record). slice_get rs i) same ∙ at) in
-        known_alike config h g mine theirs i rec (entry_value config h i rec history in_h.1) in_h.1 in_g.1 (λ r resolver. cells r i resolver in_g.0)
+        known_alike config h g mine theirs i rec (row_at config h i rec history in_h.1) in_h.1 in_g.1 (λ r resolver. cells r i resolver in_g.0)
 
 -- ---- replies
 
@@ -293,7 +293,7 @@ unseen_later config h later r i rec history =
     (λ k s at.
     let there = (slice_get-take h i k s at).1 in
     let within = slice_get_within h k s there in
-    let row = entry_value config h k s history there in
+    let row = row_at config h k s history there in
     told_row_alike (history_verdicts config (h ++ later)) (history_verdicts config h) r s (λ n. verdict_in_later config h later r s.row n (omega arith)))
 
 pub replies_later : (config : Config) (h later : List Record) (r i : ℕ) (rec : Record) → IsHistory config h → slice_get h i ≡ Some rec → reply_of config (history_verdicts config (h ++ later)) r (take i (h ++ later)) rec ≡ reply_of config (history_verdicts config h) r (take i h) rec

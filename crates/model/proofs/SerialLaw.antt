@@ -24,7 +24,7 @@ use Rattle.model.proofs.MoveLaws.{grows}
 use Rattle.model.proofs.AskedLaws.{some_last, last_met, met_or_old}
 use Rattle.model.proofs.JoinLaws.{joined_committed}
 use Rattle.model.proofs.Members.{Has, Has-map, Has-from_Contains, Contains-from_Has, list_any-from_Has, Has-filter}
-use Rattle.model.proofs.Places.{entry_value, same_record, judged_before_place, verdict_at_place_is}
+use Rattle.model.proofs.Places.{row_at, same_record, judged_before_place, verdict_at_place_is}
 use Rattle.model.proofs.PlaceLaws.{verdict-from_HasConflictWith}
 
 -- ---- committed by all that were asked
@@ -39,7 +39,7 @@ outcome_by_committed verdicts.Committed refused version number e = refl
 
 verdict_in_at_place : (config : Config) (r : ℕ) (h : List Record) (a : Place h) → IsHistory config h → history_verdicts config h r a.rec.row a.n ≡ verdict_at_place config r h a
 unfolding history_verdicts
-verdict_in_at_place config r h a history = ap (λ (i : ℕ). history_verdict_in_row config h r i a.n (slice_get h i)) (entry_value config h a.i a.rec history a.record_is) ∙ rw (a.record_is, a.transaction_is) refl
+verdict_in_at_place config r h a history = ap (λ (i : ℕ). history_verdict_in_row config h r i a.n (slice_get h i)) (row_at config h a.i a.rec history a.record_is) ∙ rw (a.record_is, a.transaction_is) refl
 
 -- each resolver that a committed transaction asks committed it
 pub committed_by_asked : (config : Config) (r : ℕ) (h : List Record) (a : Place h) → IsHistory config h → IsCommitted config h a → r < config.resolvers → asks config a.rec r a.transaction ≡ true → verdict_at_place config r h a ≡ verdicts.Committed

@@ -148,8 +148,8 @@ HasTag-from_tags rows change tag h = by (Has-from_fold [] (flat_map (entry_tags 
         let met = Giver-from_Has (entry_tags rows) (touched_entries (key_servers_entries rows) change) tag has in
         let named = Giver-from_Has (server_tags rows) (servers_of met.giver.1) tag met.gives in
         record {
-          row = met.giver;
-          met = Contains-from_Has (touched_entries (key_servers_entries rows) change) met.giver met.there;
+          entry = met.giver;
+          touched = Contains-from_Has (touched_entries (key_servers_entries rows) change) met.giver met.there;
           server = named.giver;
           named = Contains-from_Has (servers_of met.giver.1) named.giver named.there;
           tagged = Contains-from_Has (server_tags rows named.giver) tag named.gives;
@@ -158,6 +158,6 @@ HasTag-from_tags rows change tag h = by (Has-from_fold [] (flat_map (entry_tags 
 pub tags-from_HasTag : (rows : Entries) (change : Change) (tag : Tag) → HasTag rows change tag → Contains (tags rows change) tag
 unfolding tags entry_tags
 tags-from_HasTag rows change tag h =
-    let named = Has-from_Giver (server_tags rows) (servers_of h.row.1) h.server tag (Has-from_Contains (servers_of h.row.1) h.server h.named) (Has-from_Contains (server_tags rows h.server) tag h.tagged) in
-    let met = Has-from_Giver (entry_tags rows) (touched_entries (key_servers_entries rows) change) h.row tag (Has-from_Contains (touched_entries (key_servers_entries rows) change) h.row h.met) named in
+    let named = Has-from_Giver (server_tags rows) (servers_of h.entry.1) h.server tag (Has-from_Contains (servers_of h.entry.1) h.server h.named) (Has-from_Contains (server_tags rows h.server) tag h.tagged) in
+    let met = Has-from_Giver (entry_tags rows) (touched_entries (key_servers_entries rows) change) h.entry tag (Has-from_Contains (touched_entries (key_servers_entries rows) change) h.entry h.touched) named in
     Contains-from_Has (sorted_tags (flat_map (entry_tags rows) (touched_entries (key_servers_entries rows) change))) tag (Has-fold [] (flat_map (entry_tags rows) (touched_entries (key_servers_entries rows) change)) tag (inr met))

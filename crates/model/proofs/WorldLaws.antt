@@ -14,7 +14,7 @@ use Rattle.model.specs.Journal.{history_verdicts}
 use Rattle.model.specs.World.{World, Event, Sequence, MoveRange, Offer, Finish, Handled, IsSound, initial_world, next_record, handle_sequence, handle_move, reply_of, acknowledged, handle_repeat, handle_offer_at, handle_offer, missing_replies, finish_record, handle_finish, handle_event, world_after, refuse, finished_version, Early, Judged, Sequenced, Moved, NoSuchProxy, NoSuchResolver, VersionsEnd}
 use Rattle.model.proofs.Members.{Has, Has-filter}
 use Rattle.model.proofs.HistoryLaws.{push_cases, index_there, set_cases, Has-each_below, no_moves, moves_follow_record, moves_follow_move, records_of_proxy-append, own_version_up_to}
-use Rattle.model.proofs.Places.{entry_value}
+use Rattle.model.proofs.Places.{row_at}
 use Rattle.model.proofs.ShareLaws.{slice_get-append_left}
 
 -- ---- a batch gets its record
@@ -142,7 +142,7 @@ offered_sound : (config : Config) (w : World) (row r : ℕ) (found : Option Reco
 offered_sound config w row r None is sound = sound
 offered_sound config w row r (Some rec) is sound =
     either_sound config (nat_le config.resolvers r) _ _ (λ unknown. sound)
-    (λ known. offered_at_sound config w r (reply_of config (history_verdicts config w.history) r (take row w.history) rec) (omega (arith, entry_value config w.history row rec sound.sequencer.history is, slice_get_within w.history row rec is)) (within_limit r config.resolvers known) sound)
+    (λ known. offered_at_sound config w r (reply_of config (history_verdicts config w.history) r (take row w.history) rec) (omega (arith, row_at config w.history row rec sound.sequencer.history is, slice_get_within w.history row rec is)) (within_limit r config.resolvers known) sound)
 
 -- ---- a proxy finishes a record
 

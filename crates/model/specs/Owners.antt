@@ -68,8 +68,8 @@ move_ends (m ∷ moves) = m.range.begin ∷ m.range.end ∷ move_ends moves
 -- and the ends of moves that lie in it.
 abbrev pub some_key : List Move → (List Owner → Bool) → Range → Bool
 some_key moves test range =
-    list_any (λ (key : Key). holds range key && test (owners moves key))
-    (range.begin ∷ move_ends moves)
+    let passes = λ (key : Key). holds range key && test (owners moves key) in
+    list_any passes (range.begin ∷ move_ends moves)
 
 -- the test of `AsksWrite`
 abbrev pub asks_write : List Move → ResolverNumber → Range → Bool

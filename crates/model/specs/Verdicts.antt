@@ -63,8 +63,9 @@ pub record IsTooOld (window : ℕ) (t : JudgedPart) : Type 0 where
 -- some read of t overlaps some write of u
 abbrev pub reads_a_write : (t u : JudgedPart) → Bool
 reads_a_write t u =
-    list_any (λ (read : Range). list_any (λ (write : Range). overlaps read write) u.part.writes)
-    t.part.reads
+    let overlaps_a_write = λ (read : Range).
+    list_any (λ (write : Range). overlaps read write) u.part.writes in
+    list_any overlaps_a_write t.part.reads
 
 -- u, judged before t, belongs to t's record, or its version is above t's snapshot
 abbrev pub is_after_snapshot : (t u : JudgedPart) → Bool
@@ -137,16 +138,17 @@ unfoldable pub verdict_of :
     Config → ResolverNumber → (before : List Record) (rec : Record) (earlier : List Transaction)
     → (t : Transaction) → Verdict
 verdict_of config r before rec earlier t =
-    verdict config.window (judged_before config r before rec earlier)
-    (record { version = rec.version; part = part_of config rec r (length earlier) t })
+    let part = part_of config rec r (length earlier) t in
+    let judged : JudgedPart = record { version = rec.version; part = part } in
+    verdict config.window (judged_before config r before rec earlier) judged
 
 -- the verdicts of resolver r on its share of a record, after the records before it: one for each
 -- part
 unfoldable pub share_verdicts :
     Config → ResolverNumber → (before : List Record) (rec : Record) → List Verdict
 share_verdicts config r before rec =
-    verdicts_after config.window (judged_before config r before rec [])
-    (judged_at rec.version (share config rec r))
+    let parts = judged_at rec.version (share config rec r) in
+    verdicts_after config.window (judged_before config r before rec []) parts
 
 -- The verdicts of resolver r on those of some transactions of a record that it gets a part of, in
 -- order. The transactions `earlier` come before them in the batch.
@@ -155,8 +157,5 @@ abbrev pub verdicts_of_askers :
     → (earlier transactions : List Transaction) → List Verdict
 verdicts_of_askers config r before rec earlier [] = []
 verdicts_of_askers config r before rec earlier (t ∷ ts) =
-    if asks config rec r t
-    then
-      verdict_of config r before rec earlier t
-      ∷ verdicts_of_askers config r before rec (earlier ++ t ∷ []) ts
-    else verdicts_of_askers config r before rec (earlier ++ t ∷ []) ts
+    let rest = verdicts_of_askers config r before rec (earlier ++ t ∷ []) ts in
+    if asks config rec r t then verdict_of config r before rec earlier t ∷ rest else rest
