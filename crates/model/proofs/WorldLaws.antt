@@ -50,10 +50,10 @@ with_record config w rec received sound follows all below =
       judged_counts = sound.judged_counts;
       finished = sound.finished;
       received_before = λ i n s is told. before i n s (push_cases w.history rec i s is) (push_cases w.received received i n told);
-      judged_there = λ r front is. omega (arith, sound.judged_there r front is, length-append w.history (rec ∷ []));
+      judged_there = λ r judged_count is. omega (arith, sound.judged_there r judged_count is, length-append w.history (rec ∷ []));
       finished_there = λ q done is. omega (arith, sound.finished_there q done is, of_proxy_longer q w.history rec);
-      judged_first = λ q done k r front s is below_done at front_is.
-          sound.judged_first q done k r front s is below_done (of_proxy_at q w.history rec k s (omega (arith, sound.finished_there q done is, below_done)) at) front_is;
+      judged_first = λ q done k r judged_count s is below_done at count_is.
+          sound.judged_first q done k r judged_count s is below_done (of_proxy_at q w.history rec k s (omega (arith, sound.finished_there q done is, below_done)) at) count_is;
     }
   where
     before : (i n : ℕ) (s : Record) → ((i ≡ length w.history) × (rec ≡ s)) ⊎ ((i < length w.history) × (slice_get w.history i ≡ Some s)) → ((i ≡ length w.received) × (received ≡ n)) ⊎ ((i < length w.received) × (slice_get w.received i ≡ Some n)) → n ≤ s.previous
@@ -101,29 +101,29 @@ either_sound : (config : Config) (t : Bool) (first second : Handled) → (t ≡ 
 either_sound config true first second one other = one refl
 either_sound config false first second one other = other refl
 
-with_front : (config : Config) (w : World) (r : ℕ) → IsSound config w → r < config.resolvers → slice_index w.judged_counts r < length w.history → IsSound config (record w { judged_counts = slice_set w.judged_counts r (suc (slice_index w.judged_counts r)) })
-with_front config w r sound there more =
+with_judged_count : (config : Config) (w : World) (r : ℕ) → IsSound config w → r < config.resolvers → slice_index w.judged_counts r < length w.history → IsSound config (record w { judged_counts = slice_set w.judged_counts r (suc (slice_index w.judged_counts r)) })
+with_judged_count config w r sound there more =
     record {
       sequencer = sound.sequencer;
       received = sound.received;
       judged_counts = length-set w.judged_counts r (suc (slice_index w.judged_counts r)) ∙ sound.judged_counts;
       finished = sound.finished;
       received_before = sound.received_before;
-      judged_there = λ s front is. up_to s front (set_cases w.judged_counts r (suc (slice_index w.judged_counts r)) s front is);
+      judged_there = λ s judged_count is. up_to s judged_count (set_cases w.judged_counts r (suc (slice_index w.judged_counts r)) s judged_count is);
       finished_there = sound.finished_there;
-      judged_first = λ p done k s front rec is below at front_is. first p done k s front rec is below at (set_cases w.judged_counts r (suc (slice_index w.judged_counts r)) s front front_is);
+      judged_first = λ p done k s judged_count rec is below at count_is. first p done k s judged_count rec is below at (set_cases w.judged_counts r (suc (slice_index w.judged_counts r)) s judged_count count_is);
     }
   where
     own : slice_get w.judged_counts r ≡ Some (slice_index w.judged_counts r)
     own = index_there w.judged_counts r (omega (arith, there, sound.judged_counts))
 
-    up_to : (s front : ℕ) → ((s ≡ r) × (front ≡ suc (slice_index w.judged_counts r))) ⊎ (slice_get w.judged_counts s ≡ Some front) → front ≤ length w.history
-    up_to s front (inl here) = omega (arith, here.1, more)
-    up_to s front (inr old) = sound.judged_there s front old
+    up_to : (s judged_count : ℕ) → ((s ≡ r) × (judged_count ≡ suc (slice_index w.judged_counts r))) ⊎ (slice_get w.judged_counts s ≡ Some judged_count) → judged_count ≤ length w.history
+    up_to s judged_count (inl here) = omega (arith, here.1, more)
+    up_to s judged_count (inr old) = sound.judged_there s judged_count old
 
-    first : (p done k s front : ℕ) (rec : Record) → slice_get w.finished p ≡ Some done → k < done → slice_get (records_of_proxy p w.history) k ≡ Some rec → ((s ≡ r) × (front ≡ suc (slice_index w.judged_counts r))) ⊎ (slice_get w.judged_counts s ≡ Some front) → rec.row < front
-    first p done k s front rec is below at (inl here) = omega (arith, here.1, sound.judged_first p done k r (slice_index w.judged_counts r) rec is below at own)
-    first p done k s front rec is below at (inr old) = sound.judged_first p done k s front rec is below at old
+    first : (p done k s judged_count : ℕ) (rec : Record) → slice_get w.finished p ≡ Some done → k < done → slice_get (records_of_proxy p w.history) k ≡ Some rec → ((s ≡ r) × (judged_count ≡ suc (slice_index w.judged_counts r))) ⊎ (slice_get w.judged_counts s ≡ Some judged_count) → rec.row < judged_count
+    first p done k s judged_count rec is below at (inl here) = omega (arith, here.1, sound.judged_first p done k r (slice_index w.judged_counts r) rec is below at own)
+    first p done k s judged_count rec is below at (inr old) = sound.judged_first p done k s judged_count rec is below at old
 
 repeated_sound : (config : Config) (w : World) (reply : Reply) (received : ℕ) → IsSound config w → IsSound config (handle_repeat w reply received).world
 repeated_sound config w reply received sound = either_sound config (nat_le reply.version received) _ _ (λ given_up. sound) (λ again. sound)
@@ -136,7 +136,7 @@ offered_at_sound config w r reply within there sound =
         IsSound config (if s then refuse w (Early (last_version (take (slice_index w.judged_counts r) w.history))) else if t then handle_repeat w reply (acknowledged w (slice_index w.judged_counts r) reply.proxy) else record { world = record w { judged_counts = slice_set w.judged_counts r (suc (slice_index w.judged_counts r)) }; answer = Judged reply }).world
     by true t is = sound
     by false true again = repeated_sound config w reply (acknowledged w (slice_index w.judged_counts r) reply.proxy) sound
-    by false false turn = let up : slice_index w.judged_counts r ≤ reply.row = ltb-false reply.row (slice_index w.judged_counts r) turn in with_front config w r sound there (omega (arith, within, up))
+    by false false turn = let up : slice_index w.judged_counts r ≤ reply.row = ltb-false reply.row (slice_index w.judged_counts r) turn in with_judged_count config w r sound there (omega (arith, within, up))
 
 offered_sound : (config : Config) (w : World) (row r : ℕ) (found : Option Record) → slice_get w.history row ≡ found → IsSound config w → IsSound config (handle_offer config w row r found).world
 offered_sound config w row r None is sound = sound
@@ -165,7 +165,7 @@ with_finished config w p rec sound there at none =
       received_before = sound.received_before;
       judged_there = sound.judged_there;
       finished_there = λ q done is. up_to q done (set_cases w.finished p (suc (slice_index w.finished p)) q done is);
-      judged_first = λ q done k r front s is below s_is front_is. first q done k r front s (set_cases w.finished p (suc (slice_index w.finished p)) q done is) below s_is front_is;
+      judged_first = λ q done k r judged_count s is below s_is count_is. first q done k r judged_count s (set_cases w.finished p (suc (slice_index w.finished p)) q done is) below s_is count_is;
     }
   where
     own : slice_get w.finished p ≡ Some (slice_index w.finished p)
@@ -175,31 +175,31 @@ with_finished config w p rec sound there at none =
     up_to q done (inl here) = omega (arith, here.1, slice_get_within (records_of_proxy p w.history) (slice_index w.finished p) rec at, ap (λ (s : ℕ). length (records_of_proxy s w.history)) here.0)
     up_to q done (inr old) = sound.finished_there q done old
 
-    front_of : (r front : ℕ) → slice_get w.judged_counts r ≡ Some front → rec.row < front
-    front_of r front is =
-        let within = slice_get_within w.judged_counts r front is in
-        let same : Some front ≡ Some (slice_index w.judged_counts r) = sym is ∙ index_there w.judged_counts r within in
-        let here : front ≡ slice_index w.judged_counts r = cc in
+    count_of : (r judged_count : ℕ) → slice_get w.judged_counts r ≡ Some judged_count → rec.row < judged_count
+    count_of r judged_count is =
+        let within = slice_get_within w.judged_counts r judged_count is in
+        let same : Some judged_count ≡ Some (slice_index w.judged_counts r) = sym is ∙ index_there w.judged_counts r within in
+        let here : judged_count ≡ slice_index w.judged_counts r = cc in
         omega (arith, here, none_missing config w rec.row r none (omega (arith, within, sound.judged_counts)))
 
-    last : (k r front : ℕ) (s : Record) → slice_get (records_of_proxy p w.history) k ≡ Some s → slice_get w.judged_counts r ≡ Some front → k ≡ slice_index w.finished p → s.row < front
-    last k r front s s_is front_is here =
+    last : (k r judged_count : ℕ) (s : Record) → slice_get (records_of_proxy p w.history) k ≡ Some s → slice_get w.judged_counts r ≡ Some judged_count → k ≡ slice_index w.finished p → s.row < judged_count
+    last k r judged_count s s_is count_is here =
         let both : Some s ≡ Some rec = sym s_is ∙ ap (slice_get (records_of_proxy p w.history)) here ∙ at in
         let same : rec ≡ s = cc in
-        subst (λ (other : Record). other.row < front) same (front_of r front front_is)
+        subst (λ (other : Record). other.row < judged_count) same (count_of r judged_count count_is)
 
-    own_first : (k r front : ℕ) (s : Record) → k < suc (slice_index w.finished p) → slice_get (records_of_proxy p w.history) k ≡ Some s → slice_get w.judged_counts r ≡ Some front → s.row < front
-    own_first k r front s below s_is front_is = go (cases_order k (slice_index w.finished p))
+    own_first : (k r judged_count : ℕ) (s : Record) → k < suc (slice_index w.finished p) → slice_get (records_of_proxy p w.history) k ≡ Some s → slice_get w.judged_counts r ≡ Some judged_count → s.row < judged_count
+    own_first k r judged_count s below s_is count_is = go (cases_order k (slice_index w.finished p))
       where
-        go : (k ≡ slice_index w.finished p) ⊎ ((k < slice_index w.finished p) ⊎ (slice_index w.finished p < k)) → s.row < front
-        go (inl here) = last k r front s s_is front_is here
-        go (inr (inl sooner)) = sound.judged_first p (slice_index w.finished p) k r front s own sooner s_is front_is
+        go : (k ≡ slice_index w.finished p) ⊎ ((k < slice_index w.finished p) ⊎ (slice_index w.finished p < k)) → s.row < judged_count
+        go (inl here) = last k r judged_count s s_is count_is here
+        go (inr (inl sooner)) = sound.judged_first p (slice_index w.finished p) k r judged_count s own sooner s_is count_is
         go (inr (inr past)) = absurd (omega (arith, below, past))
 
-    first : (q done k r front : ℕ) (s : Record) → ((q ≡ p) × (done ≡ suc (slice_index w.finished p))) ⊎ (slice_get w.finished q ≡ Some done) → k < done → slice_get (records_of_proxy q w.history) k ≡ Some s → slice_get w.judged_counts r ≡ Some front → s.row < front
-    first q done k r front s (inl here) below s_is front_is =
-        own_first k r front s (subst (λ (n : ℕ). k < n) here.1 below) (subst (λ (o : ℕ). slice_get (records_of_proxy o w.history) k ≡ Some s) here.0 s_is) front_is
-    first q done k r front s (inr old) below s_is front_is = sound.judged_first q done k r front s old below s_is front_is
+    first : (q done k r judged_count : ℕ) (s : Record) → ((q ≡ p) × (done ≡ suc (slice_index w.finished p))) ⊎ (slice_get w.finished q ≡ Some done) → k < done → slice_get (records_of_proxy q w.history) k ≡ Some s → slice_get w.judged_counts r ≡ Some judged_count → s.row < judged_count
+    first q done k r judged_count s (inl here) below s_is count_is =
+        own_first k r judged_count s (subst (λ (n : ℕ). k < n) here.1 below) (subst (λ (o : ℕ). slice_get (records_of_proxy o w.history) k ≡ Some s) here.0 s_is) count_is
+    first q done k r judged_count s (inr old) below s_is count_is = sound.judged_first q done k r judged_count s old below s_is count_is
 
 finishing_sound : (config : Config) (w : World) (p : ℕ) (rec : Record) (waiting : List ℕ) → missing_replies w rec.row (each_below config.resolvers) ≡ waiting → p < config.proxies → slice_get (records_of_proxy p w.history) (slice_index w.finished p) ≡ Some rec → IsSound config w → IsSound config (finish_record config w p rec waiting).world
 finishing_sound config w p rec [] none there at sound = with_finished config w p rec sound there at none
@@ -232,9 +232,9 @@ start_sound config =
       judged_counts = length-replicate config.resolvers 0;
       finished = length-replicate config.proxies 0;
       received_before = λ i received rec at told. absurd (cc);
-      judged_there = λ r front is. let none = zeros config.resolvers r front is in omega arith;
+      judged_there = λ r judged_count is. let none = zeros config.resolvers r judged_count is in omega arith;
       finished_there = λ p done is. let none = zeros config.proxies p done is in omega arith;
-      judged_first = λ p done k r front rec is below at front_is. let none = zeros config.proxies p done is in absurd (omega arith);
+      judged_first = λ p done k r judged_count rec is below at count_is. let none = zeros config.proxies p done is in absurd (omega arith);
     }
 
 pub world_after_sound : (config : Config) (w : World) (events : List Event) → IsSound config w → IsSound config (world_after config w events)

@@ -98,7 +98,8 @@ pub record CellCommits
 
 -- two sources agree on a record: they give the same verdict of each resolver on each transaction
 -- that asks it
-pub record AgreeOn (config : Config) (verdict_by other : VerdictSource) (rec : Record) : Type 0 where
+pub record AgreeOn (config : Config) (verdict_by other : VerdictSource) (rec : Record) :
+    Type 0 where
   pub same :
       (r : ResolverNumber) (n : TransactionNumber) (t : Transaction)
       → r < config.resolvers → slice_get rec.batch n ≡ Some t → IsTrue (asks config rec r t)

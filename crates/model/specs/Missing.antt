@@ -1,5 +1,7 @@
--- A missing verdict counts as Conflict: what a history, a cell or a list of verdicts does not have.
+-- A missing verdict counts as Conflict: one that a history, a cell or a list of verdicts does not
+-- have. *Profile*: all of it.
 use Rattle.std.specs.Prelude.{◌≡◌, ℕ, List, slice_get, Some, None}
+use Rattle.model.specs.Numbers.{ResolverNumber, RowNumber, TransactionNumber}
 use Rattle.model.specs.Configs.{Config}
 use Rattle.model.specs.declared.part.Part.{Part}
 use Rattle.model.specs.declared.verdict.Verdict.{Verdict}
@@ -13,48 +15,52 @@ use Rattle.model.specs.Requests.{reply_state_of_mark}
 use Rattle.model.specs.Agreed.{Columns}
 
 -- no place has both a part of this number and a verdict
-abbrev pub HasNoVerdict : List Part → List Verdict → ℕ → Type 0
+abbrev pub HasNoVerdict : List Part → List Verdict → (number : TransactionNumber) → Type 0
 HasNoVerdict parts verdicts number =
     (place : ℕ) (part : Part) → slice_get parts place ≡ Some part → part.number ≡ number
     → slice_get verdicts place ≡ None
 
--- by a history without a record in this row, each verdict in the row is Conflict
+-- if a history has no record in this row, each verdict in the row is Conflict
 abbrev pub NoRecordIsConflict : Type 0
 NoRecordIsConflict =
-    (config : Config) (h : List Record) (r row number : ℕ) → slice_get h row ≡ None
-    → history_verdicts config h r row number ≡ Conflict
+    (config : Config) (h : List Record)
+    (r : ResolverNumber) (row : RowNumber) (number : TransactionNumber)
+    → slice_get h row ≡ None → history_verdicts config h r row number ≡ Conflict
 
--- by a history whose record has no transaction of this number, its verdict is Conflict
+-- if the record of a row has no transaction of this number, the verdict on it is Conflict
 abbrev pub NoTransactionIsConflict : Type 0
 NoTransactionIsConflict =
-    (config : Config) (h : List Record) (r row number : ℕ) (rec : Record)
+    (config : Config) (h : List Record)
+    (r : ResolverNumber) (row : RowNumber) (number : TransactionNumber) (rec : Record)
     → slice_get h row ≡ Some rec → slice_get rec.batch number ≡ None
     → history_verdicts config h r row number ≡ Conflict
 
--- by cells whose holder has no record in this row, each verdict in the row is Conflict
+-- if a view has no record in this row, each verdict by its cells in the row is Conflict
 abbrev pub UnknownRecordIsConflict : Type 0
 UnknownRecordIsConflict =
-    (config : Config) (h : List Record) (columns : Columns) (r row number : ℕ)
+    (config : Config) (h : List Record) (columns : Columns)
+    (r : ResolverNumber) (row : RowNumber) (number : TransactionNumber)
     → slice_get h row ≡ None → cell_verdicts config h columns r row number ≡ Conflict
 
--- by a cell without a verdict on a part of this number, because the cell is missing or too short
--- or because the share has no such part, the verdict is Conflict
+-- If a cell has no verdict on a part of this number, the verdict is Conflict. The cell may be
+-- missing or too short, or the share may have no such part.
 abbrev pub NoVerdictInCellIsConflict : Type 0
 NoVerdictInCellIsConflict =
-    (config : Config) (h : List Record) (columns : Columns) (r row number : ℕ) (rec : Record)
+    (config : Config) (h : List Record) (columns : Columns)
+    (r : ResolverNumber) (row : RowNumber) (number : TransactionNumber) (rec : Record)
     → slice_get h row ≡ Some rec
     → HasNoVerdict (share config rec r) (list_at (list_at columns r) row) number
     → cell_verdicts config h columns r row number ≡ Conflict
 
--- a mark of a state transaction without a verdict is told as Conflict
+-- a resolver replies Conflict for a marked state transaction without a verdict
 abbrev pub UnjudgedMarkIsConflict : Type 0
 UnjudgedMarkIsConflict =
     (parts : List Part) (verdicts : List Verdict) (mark : StateMark)
     → HasNoVerdict parts verdicts mark.number
     → (reply_state_of_mark parts verdicts mark).verdict ≡ Conflict
 
--- a state transaction without a verdict of resolver r is told as Conflict by r
+-- resolver r replies Conflict for a state transaction that has no verdict of r
 abbrev pub NoVerdictIsToldAsConflict : Type 0
 NoVerdictIsToldAsConflict =
-    (r : ℕ) (t : StateTxn) → slice_get t.verdicts r ≡ None
+    (r : ResolverNumber) (t : StateTxn) → slice_get t.verdicts r ≡ None
     → (reply_state_of r t).verdict ≡ Conflict

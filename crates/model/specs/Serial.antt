@@ -2,7 +2,7 @@
 -- snapshot and itself. The rule is that of the 2021 paper "FoundationDB: A Distributed Unbundled
 -- Transactional Key Value Store"; the verdicts by places are those of release 7.1,
 -- `Resolver.actor.cpp`, resolveBatch.
-use Rattle.std.specs.Prelude.{◌≡◌, ℕ, ◌<◌, ◌⊎◌, List, take, slice_get, Some, IsTrue, IsFalse}
+use Rattle.std.specs.Prelude.{◌≡◌, ◌<◌, ◌⊎◌, List, take, slice_get, Some, IsTrue, IsFalse}
 use Rattle.std.specs.Prelude.{Contains}
 use Rattle.system_keys.specs.Keys.{Range, Overlap}
 use Rattle.model.specs.Numbers.{ResolverNumber, RowNumber, TransactionNumber}
