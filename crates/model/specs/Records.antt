@@ -3,7 +3,7 @@
 -- `last_version` and `records_of_proxy` are the definitions; their counterparts over requests,
 -- `last_request_version` and `requests_of_proxy`, follow them by `request_law`.
 use Rattle.std.specs.Prelude.{◌≡◌, ℕ, ◌+◌, ◌-◌, ◌<◌, List, [], ◌∷◌, length, take, drop, nat_eq}
-use Rattle.std.specs.Prelude.{if◌then◌else◌, slice_get, Some, All}
+use Rattle.std.specs.Prelude.{filter, slice_get, Some, All}
 use Rattle.model.specs.Numbers.{Version, ProxyNumber, RowNumber}
 use Rattle.model.specs.Configs.{Config, version_limit}
 use Rattle.model.specs.declared.moves.Move.{Move}
@@ -21,11 +21,15 @@ pub record Record : Type 0 where
   pub moves : List Move
   pub batch : List Transaction
 
+-- the version of the last element of a list, or 0 if the list is empty
+abbrev pub last_version_by : {X : Type 0} → (version_of : X → Version) → List X → Version
+last_version_by version_of [] = 0
+last_version_by version_of (x ∷ []) = version_of x
+last_version_by version_of (x ∷ next ∷ rest) = last_version_by version_of (next ∷ rest)
+
 -- the version of the last record, or 0 if there is none
 abbrev pub last_version : List Record → Version
-last_version [] = 0
-last_version (rec ∷ []) = rec.version
-last_version (rec ∷ next ∷ rest) = last_version (next ∷ rest)
+last_version records = last_version_by (λ (rec : Record). rec.version) records
 
 -- the moves of the last record, or none
 abbrev pub last_moves : List Record → List Move
@@ -35,9 +39,7 @@ last_moves (rec ∷ next ∷ rest) = last_moves (next ∷ rest)
 
 -- the records of one proxy, in order
 abbrev pub records_of_proxy : (p : ProxyNumber) (records : List Record) → List Record
-records_of_proxy p [] = []
-records_of_proxy p (rec ∷ rest) =
-    if nat_eq rec.proxy p then rec ∷ records_of_proxy p rest else records_of_proxy p rest
+records_of_proxy p records = filter (λ (rec : Record). nat_eq rec.proxy p) records
 
 -- The sequencer made the move after it gave out version `previous` and before it gave out the next
 -- one. Its destination is a resolver of the cluster.

@@ -16,7 +16,7 @@ use Rattle.model.specs.declared.unseen.StateMark.{StateMark}
 use Rattle.model.specs.declared.unseen.UnseenState.{UnseenState}
 use Rattle.model.specs.declared.unseen.UnseenRow.{UnseenRow}
 use Rattle.model.specs.Transactions.{Transaction, is_state_transaction}
-use Rattle.model.specs.Records.{Record, oldest}
+use Rattle.model.specs.Records.{Record, last_version_by, oldest}
 use Rattle.model.specs.Shares.{share_back_to, each_below}
 use Rattle.model.specs.Verdicts.{JudgedPart, judged_at, verdicts_after}
 use Rattle.model.specs.Journal.{carried_by, verdict_at, least}
@@ -102,9 +102,7 @@ requests_of_proxy p requests = filter (λ (q : Request). nat_eq q.proxy p) reque
 
 -- the version of the last request, or 0 if there is none
 abbrev pub last_request_version : List Request → Version
-last_request_version [] = 0
-last_request_version (q ∷ []) = q.version
-last_request_version (q ∷ next ∷ rest) = last_request_version (next ∷ rest)
+last_request_version requests = last_version_by (λ (q : Request). q.version) requests
 
 -- the rows that the proxy of a request has not seen: those after its request before
 abbrev pub request_unseen :

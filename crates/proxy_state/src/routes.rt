@@ -45,7 +45,7 @@ fn add_route(
 }
 
 /// The route of a keyServers row by its own value; `key` is what follows the prefix.
-#[tactic(auto, unfolding(model::specs::Metadata::row_tags))]
+#[tactic(auto, unfolding(model::specs::Metadata::entry_tags))]
 fn own_route(
     alloc: Global,
     rows: &BTreeMap<Vec<u8>, Bytes>,
