@@ -1,5 +1,5 @@
 -- Who is asked about a key that one transaction wrote and a later one reads.
-use Rattle.std.proofs.Common.{◌≡◌, ℕ, ◌<◌, max, ◌⊎◌, inl, inr, ⊎_elim, refl, ap, ◌∙◌, Bool, true, false, not, ◌&&◌, cond, nat_eq, nat_lt, List, [], ◌∷◌, ◌++◌, All, Some, slice_get, arith}
+use Rattle.std.proofs.Common.{◌≡◌, ℕ, ◌<◌, max, ◌⊎◌, inl, inr, ⊎_elim, refl, ap, ◌∙◌, Bool, true, false, not, ◌&&◌, if◌then◌else◌, nat_eq, nat_lt, List, [], ◌∷◌, ◌++◌, All, Some, slice_get, arith}
 use Rattle.std.proofs.lemmas.Bool.{and_from, or_right, or_left, eq-eqb, ltb-true}
 use Rattle.std.proofs.lemmas.List.Elements.{All-head, All-tail}
 use Rattle.system_keys.specs.Keys.{Key, Range, holds}
@@ -19,8 +19,8 @@ later_owners_append (m ∷ xs) ys key = by (holds range key) (later_owners_appen
     range = m.range
 
     by : (t : Bool) → later_owners (xs ++ ys) key ≡ later_owners xs key ++ later_owners ys key →
-        cond t (record { date = m.date; resolver = m.dest } ∷ later_owners (xs ++ ys) key) (later_owners (xs ++ ys) key)
-        ≡ cond t (record { date = m.date; resolver = m.dest } ∷ later_owners xs key) (later_owners xs key) ++ later_owners ys key
+        (if t then record { date = m.date; resolver = m.dest } ∷ later_owners (xs ++ ys) key else later_owners (xs ++ ys) key)
+        ≡ (if t then record { date = m.date; resolver = m.dest } ∷ later_owners xs key else later_owners xs key) ++ later_owners ys key
     by true e = ap (λ later. record { date = m.date; resolver = m.dest } ∷ later) e
     by false e = e
 
@@ -47,7 +47,7 @@ last_among n o (m ∷ moves) key h all =
     behind : (p : Owner) (later : List Owner) → LastBelow n (p ∷ later) → LastBelow n (o ∷ p ∷ later)
     behind p later l = record { resolver = l.resolver; there = l.there; last = l.last }
 
-    by : (t : Bool) → ((p : Owner) → p.resolver < n → LastBelow n (p ∷ later_owners moves key)) → LastBelow n (o ∷ cond t (record { date = m.date; resolver = m.dest } ∷ later_owners moves key) (later_owners moves key))
+    by : (t : Bool) → ((p : Owner) → p.resolver < n → LastBelow n (p ∷ later_owners moves key)) → LastBelow n (o ∷ (if t then record { date = m.date; resolver = m.dest } ∷ later_owners moves key else later_owners moves key))
     by true more = behind (record { date = m.date; resolver = m.dest }) (later_owners moves key) (more (record { date = m.date; resolver = m.dest }) (All-head (λ (m : Move). m.dest < n) m moves all))
     by false more = more o h
 
@@ -83,7 +83,7 @@ none_or_old snapshot low version (m ∷ moves) key h all =
     above = All-head (λ (m : Move). version < m.date) m moves all
 
     by : (t s : Bool) → nat_lt m.date (max snapshot low) ≡ s → none_dated_below (max snapshot low) (later_owners moves key) ≡ true →
-        (none_dated_below (max snapshot low) (cond t (record { date = m.date; resolver = m.dest } ∷ later_owners moves key) (later_owners moves key)) ≡ true) ⊎ (snapshot < low)
+        (none_dated_below (max snapshot low) (if t then record { date = m.date; resolver = m.dest } ∷ later_owners moves key else later_owners moves key) ≡ true) ⊎ (snapshot < low)
     by false s e none = inl none
     by true true e none = inr (omega (arith, ltb-true m.date (max snapshot low) e, above))
     by true false e none = inl (and_from (not (nat_lt m.date (max snapshot low))) (none_dated_below (max snapshot low) (later_owners moves key)) (ap not e) none)

@@ -1,5 +1,5 @@
 -- Where the moves of a record go, how their dates lie, and what that says of the owners of a key; and walks over lists whose front was dropped.
-use Rattle.std.proofs.Common.{◌≡◌, refl, sym, ap, ◌∙◌, ℕ, zero, suc, ◌+◌, ◌<◌, ◌≤◌, ◌⊎◌, inl, inr, List, [], ◌∷◌, ◌++◌, Bool, true, false, ◌&&◌, cond, nat_eq, nat_lt, if◌then◌else◌, slice_get, Some, All, append-nil, arith}
+use Rattle.std.proofs.Common.{◌≡◌, refl, sym, ap, ◌∙◌, ℕ, zero, suc, ◌+◌, ◌<◌, ◌≤◌, ◌⊎◌, inl, inr, List, [], ◌∷◌, ◌++◌, Bool, true, false, ◌&&◌, nat_eq, nat_lt, if◌then◌else◌, slice_get, Some, All, append-nil, arith}
 use Rattle.std.proofs.lemmas.Bool.{ltb-true, eqb-true, and_parts, or_cases}
 use Rattle.std.proofs.lemmas.List.Elements.{All-nil, All-cons, All-head, All-tail}
 use Rattle.system_keys.specs.Keys.{Key, Range, holds}
@@ -62,7 +62,7 @@ later_below n (m ∷ moves) key all = by (holds range key) (later_below n moves 
     range : Range
     range = m.range
 
-    by : (t : Bool) → OwnersBelow n (later_owners moves key) → OwnersBelow n (cond t (record { date = m.date; resolver = m.dest } ∷ later_owners moves key) (later_owners moves key))
+    by : (t : Bool) → OwnersBelow n (later_owners moves key) → OwnersBelow n (if t then record { date = m.date; resolver = m.dest } ∷ later_owners moves key else later_owners moves key)
     by true rest = (All-head (λ (m : Move). m.dest < n) m moves all, rest)
     by false rest = rest
 
@@ -94,7 +94,7 @@ one_move_more moves m key = owners_append moves (m ∷ []) key ∙ by (holds ran
     range : Range
     range = m.range
 
-    by : (t : Bool) → owners moves key ++ cond t (record { date = m.date; resolver = m.dest } ∷ []) [] ≡ (if t then owners moves key ++ (record { date = m.date; resolver = m.dest }) ∷ [] else owners moves key)
+    by : (t : Bool) → owners moves key ++ (if t then record { date = m.date; resolver = m.dest } ∷ [] else []) ≡ (if t then owners moves key ++ (record { date = m.date; resolver = m.dest }) ∷ [] else owners moves key)
     by true = refl
     by false = append-nil (owners moves key)
 
@@ -105,7 +105,7 @@ met_with_newer bound oldest r [] newer up_to = refl
 met_with_newer bound oldest r (o ∷ []) newer up_to = refl
 met_with_newer bound oldest r (o ∷ p ∷ list) newer up_to = by (nat_lt p.date oldest) refl (met_with_newer bound oldest r (p ∷ list) newer up_to)
   where
-    by : (t : Bool) → nat_lt p.date oldest ≡ t → walk_visits bound r (trimmed oldest (p ∷ list) ++ newer) ≡ walk_visits bound r (p ∷ list ++ newer) → walk_visits bound r (cond t (trimmed oldest (p ∷ list)) (o ∷ p ∷ list) ++ newer) ≡ walk_visits bound r (o ∷ p ∷ list ++ newer)
+    by : (t : Bool) → nat_lt p.date oldest ≡ t → walk_visits bound r (trimmed oldest (p ∷ list) ++ newer) ≡ walk_visits bound r (p ∷ list ++ newer) → walk_visits bound r ((if t then trimmed oldest (p ∷ list) else o ∷ p ∷ list) ++ newer) ≡ walk_visits bound r (o ∷ p ∷ list ++ newer)
     by true e rest = let below : p.date < oldest = ltb-true p.date oldest e in rest ∙ sym (not_met_before bound r o p (list ++ newer) (omega (arith, below, up_to)))
     by false e rest = refl
 
@@ -114,7 +114,7 @@ never_back_behind date oldest [] rise = tt
 never_back_behind date oldest (o ∷ []) rise = rise
 never_back_behind date oldest (o ∷ p ∷ list) rise = by (nat_lt p.date oldest) (never_back_behind date oldest (p ∷ list) (omega (arith, rise.0, rise.1.0), rise.1.1))
   where
-    by : (t : Bool) → DatesNeverDecrease date (trimmed oldest (p ∷ list)) → DatesNeverDecrease date (cond t (trimmed oldest (p ∷ list)) (o ∷ p ∷ list))
+    by : (t : Bool) → DatesNeverDecrease date (trimmed oldest (p ∷ list)) → DatesNeverDecrease date (if t then trimmed oldest (p ∷ list) else o ∷ p ∷ list)
     by true rest = rest
     by false rest = rise
 

@@ -1,5 +1,5 @@
 -- The moves of the records of a history: how they grow from record to record, and what holds of all of them.
-use Rattle.std.proofs.Common.{◌≡◌, ℕ, zero, suc, ◌+◌, ◌<◌, ◌≤◌, ⊎_elim, refl, sym, ap, ◌∙◌, subst, Bool, true, false, cond, List, [], ◌∷◌, ◌++◌, length, take, drop, slice_get, Some, All, append_assoc, take-append-drop, arith}
+use Rattle.std.proofs.Common.{◌≡◌, ℕ, zero, suc, ◌+◌, ◌<◌, ◌≤◌, ⊎_elim, refl, sym, ap, ◌∙◌, subst, Bool, true, false, if◌then◌else◌, List, [], ◌∷◌, ◌++◌, length, take, drop, slice_get, Some, All, append_assoc, take-append-drop, arith}
 use Rattle.std.proofs.Math.Seq.{take-append_seam, drop-append_seam}
 use Rattle.std.proofs.lemmas.Bool.{cases_order}
 use Rattle.std.proofs.lemmas.List.Elements.{All-head, All-tail, All-append, All-weaker}
@@ -165,7 +165,7 @@ never_back_from first last (m ∷ moves) key h = by (holds range key) (never_bac
     weaker [] k = tt
     weaker (o ∷ later) k = (omega (arith, h.0, k.0), k.1)
 
-    by : (t : Bool) → DatesNeverDecrease m.date (later_owners moves key) → DatesNeverDecrease first (cond t (record { date = m.date; resolver = m.dest } ∷ later_owners moves key) (later_owners moves key))
+    by : (t : Bool) → DatesNeverDecrease m.date (later_owners moves key) → DatesNeverDecrease first (if t then record { date = m.date; resolver = m.dest } ∷ later_owners moves key else later_owners moves key)
     by true k = (h.0, k)
     by false k = weaker (later_owners moves key) k
 

@@ -1,5 +1,5 @@
 -- Which resolvers are asked about a range: the test at finitely many keys says what holds of some key.
-use Rattle.std.proofs.Common.{◌≡◌, ℕ, ◌↔◌, ⊎_elim, refl, sym, ap, ap₂, ◌∙◌, Bool, true, false, not, ◌&&◌, cond, List, [], ◌∷◌, IsTrue}
+use Rattle.std.proofs.Common.{◌≡◌, ℕ, ◌↔◌, ⊎_elim, refl, sym, ap, ap₂, ◌∙◌, Bool, true, false, not, ◌&&◌, if◌then◌else◌, List, [], ◌∷◌, IsTrue}
 use Rattle.std.proofs.lemmas.Bool.{and_parts, and_from, or_cases, or_right, or_left}
 use Rattle.std.specs.List.{list_any}
 use Rattle.system_keys.specs.Keys.{Key, Range, is_key_below, holds}
@@ -23,7 +23,7 @@ same_later_owners (m ∷ moves) key other same =
     let range : Range = m.range in
     let here = same_holds range key other same.0 same.1.0 in
     let rest = same_later_owners moves key other same.1.1 in
-    ap₂ (λ (b : Bool) (later : List Owner). cond b (record { date = m.date; resolver = m.dest } ∷ later) later) here rest
+    ap₂ (λ (b : Bool) (later : List Owner). (if b then record { date = m.date; resolver = m.dest } ∷ later else later)) here rest
 
 pub same_owners : (moves : List Move) (key other : Key) → OnSameSide key other (move_ends moves) → owners moves key ≡ owners moves other
 same_owners moves key other same = ap (λ later. record { date = 0; resolver = 0 } ∷ later) (same_later_owners moves key other same)

@@ -1,5 +1,5 @@
 -- The walk over the owners of a key, and the fronts of lists that it does not need.
-use Rattle.std.proofs.Common.{◌≡◌, ℕ, ◌<◌, ◌≤◌, max, ◌↔◌, refl, sym, ap, ap₂, ◌∙◌, subst, Bool, true, false, not, ◌&&◌, ◌||◌, cond, nat_eq, nat_lt, List, [], ◌∷◌, ◌++◌, reverse, IsTrue, Contains, arith}
+use Rattle.std.proofs.Common.{◌≡◌, ℕ, ◌<◌, ◌≤◌, max, ◌↔◌, refl, sym, ap, ap₂, ◌∙◌, subst, Bool, true, false, not, ◌&&◌, ◌||◌, if◌then◌else◌, nat_eq, nat_lt, List, [], ◌∷◌, ◌++◌, reverse, IsTrue, Contains, arith}
 use Rattle.std.proofs.lemmas.Bool.{cond-true, ltb-true, ltb-false, lt-ltb, le-ltb, eqb-true, eq-eqb}
 use Rattle.std.proofs.lemmas.List.{reverse-append}
 use Rattle.std.proofs.lemmas.List.Folds.{list_any-append, list_all-append, Any-from_list_any, list_any-from_Any}
@@ -9,16 +9,16 @@ use Rattle.model.specs.Owners.{Owner, none_dated_below, walk_visits, walk, trimm
 -- ---- the walk from the back
 
 -- a walk over a list with one more owner behind takes that one if none before it stops the walk
-walk_more : (bound : ℕ) (list : List Owner) (o : Owner) → walk bound (list ++ o ∷ []) ≡ walk bound list ++ cond (none_dated_below bound list) (o.resolver ∷ []) []
+walk_more : (bound : ℕ) (list : List Owner) (o : Owner) → walk bound (list ++ o ∷ []) ≡ walk bound list ++ (if none_dated_below bound list then o.resolver ∷ [] else [])
 walk_more bound [] o = by (nat_lt o.date bound)
   where
-    by : (t : Bool) → (o.resolver ∷ cond t [] []) ≡ o.resolver ∷ []
+    by : (t : Bool) → (o.resolver ∷ (if t then [] else [])) ≡ o.resolver ∷ []
     by true = refl
     by false = refl
 walk_more bound (p ∷ list) o = by (nat_lt p.date bound) (walk_more bound list o)
   where
-    by : (t : Bool) → walk bound (list ++ o ∷ []) ≡ walk bound list ++ cond (none_dated_below bound list) (o.resolver ∷ []) [] →
-        (p.resolver ∷ cond t [] (walk bound (list ++ o ∷ []))) ≡ (p.resolver ∷ cond t [] (walk bound list)) ++ cond (not t && none_dated_below bound list) (o.resolver ∷ []) []
+    by : (t : Bool) → walk bound (list ++ o ∷ []) ≡ walk bound list ++ (if none_dated_below bound list then o.resolver ∷ [] else []) →
+        (p.resolver ∷ (if t then [] else walk bound (list ++ o ∷ []))) ≡ (p.resolver ∷ (if t then [] else walk bound list)) ++ (if not t && none_dated_below bound list then o.resolver ∷ [] else [])
     by true e = refl
     by false e = ap (λ rest. p.resolver ∷ rest) e
 
@@ -34,10 +34,10 @@ none_reversed bound (o ∷ list) =
     turned false true u e = refl
     turned false false u e = refl
 
-any_taken : (r : ℕ) (o : Owner) (t : Bool) → list_any (λ (n : ℕ). nat_eq n r) (cond t (o.resolver ∷ []) []) ≡ (nat_eq o.resolver r && t)
+any_taken : (r : ℕ) (o : Owner) (t : Bool) → list_any (λ (n : ℕ). nat_eq n r) (if t then o.resolver ∷ [] else []) ≡ (nat_eq o.resolver r && t)
 any_taken r o t = by t (nat_eq o.resolver r) refl
   where
-    by : (t s : Bool) → nat_eq o.resolver r ≡ s → list_any (λ (n : ℕ). nat_eq n r) (cond t (o.resolver ∷ []) []) ≡ (s && t)
+    by : (t s : Bool) → nat_eq o.resolver r ≡ s → list_any (λ (n : ℕ). nat_eq n r) (if t then o.resolver ∷ [] else []) ≡ (s && t)
     by true true e = ap (λ b. b || false) e
     by true false e = ap (λ b. b || false) e
     by false true e = refl
@@ -49,7 +49,7 @@ walk_meets bound r (o ∷ list) =
     let test = λ (n : ℕ). nat_eq n r in
     ap (λ xs. list_any test (walk bound xs)) (reverse-append (o ∷ []) list)
     ∙ ap (list_any test) (walk_more bound (reverse list) o)
-    ∙ list_any-append test (walk bound (reverse list)) (cond (none_dated_below bound (reverse list)) (o.resolver ∷ []) [])
+    ∙ list_any-append test (walk bound (reverse list)) (if none_dated_below bound (reverse list) then o.resolver ∷ [] else [])
     ∙ ap₂ (λ s t. s || t) (walk_meets bound r list) (any_taken r o (none_dated_below bound (reverse list)) ∙ ap (λ t. nat_eq o.resolver r && t) (none_reversed bound list))
     ∙ swapped (walk_visits bound r list) (nat_eq o.resolver r && none_dated_below bound list)
   where
@@ -110,7 +110,7 @@ met_without_front bound oldest r date [] h = refl
 met_without_front bound oldest r date (o ∷ []) h = refl
 met_without_front bound oldest r date (o ∷ p ∷ list) h = by (nat_lt p.date oldest) refl (met_without_front bound oldest r o.date (p ∷ list) h.1)
   where
-    by : (t : Bool) → nat_lt p.date oldest ≡ t → walk_visits bound r (trimmed oldest (p ∷ list)) ≡ walk_visits (max bound oldest) r (p ∷ list) → walk_visits bound r (cond t (trimmed oldest (p ∷ list)) (o ∷ p ∷ list)) ≡ walk_visits (max bound oldest) r (o ∷ p ∷ list)
+    by : (t : Bool) → nat_lt p.date oldest ≡ t → walk_visits bound r (trimmed oldest (p ∷ list)) ≡ walk_visits (max bound oldest) r (p ∷ list) → walk_visits bound r (if t then trimmed oldest (p ∷ list) else o ∷ p ∷ list) ≡ walk_visits (max bound oldest) r (o ∷ p ∷ list)
     by true e rest = rest ∙ sym (not_met_before (max bound oldest) r o p list (omega (arith, ltb-true p.date oldest e)))
     by false e rest =
         let later : oldest ≤ p.date = ltb-false p.date oldest e in
@@ -122,6 +122,6 @@ without_front_again earlier later [] newer h = refl
 without_front_again earlier later (o ∷ []) newer h = refl
 without_front_again earlier later (o ∷ p ∷ list) newer h = by (nat_lt p.date earlier) refl (without_front_again earlier later (p ∷ list) newer h)
   where
-    by : (t : Bool) → nat_lt p.date earlier ≡ t → trimmed later (trimmed earlier (p ∷ list) ++ newer) ≡ trimmed later (p ∷ list ++ newer) → trimmed later (cond t (trimmed earlier (p ∷ list)) (o ∷ p ∷ list) ++ newer) ≡ trimmed later (o ∷ p ∷ list ++ newer)
+    by : (t : Bool) → nat_lt p.date earlier ≡ t → trimmed later (trimmed earlier (p ∷ list) ++ newer) ≡ trimmed later (p ∷ list ++ newer) → trimmed later ((if t then trimmed earlier (p ∷ list) else o ∷ p ∷ list) ++ newer) ≡ trimmed later (o ∷ p ∷ list ++ newer)
     by true e rest = rest ∙ sym (cond-true (nat_lt p.date later) (trimmed later (p ∷ list ++ newer)) (o ∷ p ∷ list ++ newer) (lt-ltb p.date later (omega (arith, ltb-true p.date earlier e))))
     by false e rest = refl

@@ -38,8 +38,8 @@ abbrev pub none_dated_below : (bound : Version) → List Owner → Bool
 none_dated_below bound later = list_all (λ (o : Owner). not (nat_lt o.date bound)) later
 
 -- The walk goes from the newest owner to the oldest, takes each, and stops after the first whose
--- date is below the bound. It visits the resolver if no owner after one of the resolver's own stops
--- it (*profile*).
+-- date is below the bound. It visits resolver r if r is one of the owners that it takes
+-- (*profile*).
 abbrev pub walk_visits : (bound : Version) (r : ResolverNumber) → List Owner → Bool
 walk_visits bound r [] = false
 walk_visits bound r (o ∷ later) =
@@ -79,8 +79,8 @@ asks_write moves r range = some_key moves (is_last r) range
 abbrev pub asks_read : List Move → (bound : Version) (r : ResolverNumber) → Range → Bool
 asks_read moves bound r range = some_key moves (walk_visits bound r) range
 
--- the resolvers that a walk takes from the first element of a list on, if it stops after the first
--- owner whose date is below the bound
+-- the resolvers that a walk takes if it starts at the first element of the list, takes each owner,
+-- and stops after the first whose date is below the bound
 abbrev pub walk : (bound : Version) → List Owner → List ResolverNumber
 walk bound [] = []
 walk bound (o ∷ rest) = o.resolver ∷ (if nat_lt o.date bound then [] else walk bound rest)

@@ -1,7 +1,7 @@
 -- The history: the records that the sequencer gave to batches, and what each must be after those
 -- before it. Release 7.1, `masterserver.actor.cpp`, getVersion; what differs is marked *profile*.
--- `last_version` and `records_of_proxy` are the definitions; their counterparts over requests,
--- `last_request_version` and `requests_of_proxy`, follow them by `request_law`.
+-- `last_version` and `records_of_proxy` are the definitions over records. Those over requests,
+-- `last_request_version` and `requests_of_proxy` of Requests.antt, have the same form.
 use Rattle.std.specs.Prelude.{◌≡◌, ℕ, ◌+◌, ◌-◌, ◌<◌, List, [], ◌∷◌, length, take, drop, nat_eq}
 use Rattle.std.specs.Prelude.{filter, slice_get, Some, All}
 use Rattle.model.specs.Numbers.{Version, ProxyNumber, RowNumber}

@@ -49,7 +49,7 @@ has_some [] = false
 has_some (range ∷ ranges) = true
 
 -- The part has a read, and its snapshot lies more than the window before its version.
--- *Profile*: the snapshot is compared with this version.
+-- *Profile*: the window is counted back from this version.
 abbrev pub is_too_old : (window : ℕ) → JudgedPart → Bool
 is_too_old window t = has_some t.part.reads && nat_lt t.part.snapshot (t.version - window)
 
@@ -63,9 +63,8 @@ pub record IsTooOld (window : ℕ) (t : JudgedPart) : Type 0 where
 -- some read of t overlaps some write of u
 abbrev pub reads_a_write : (t u : JudgedPart) → Bool
 reads_a_write t u =
-    let overlaps_a_write = λ (read : Range).
-    list_any (λ (write : Range). overlaps read write) u.part.writes in
-    list_any overlaps_a_write t.part.reads
+    let is_written = λ (read : Range). list_any (overlaps read) u.part.writes in
+    list_any is_written t.part.reads
 
 -- u, judged before t, belongs to t's record, or its version is above t's snapshot
 abbrev pub is_after_snapshot : (t u : JudgedPart) → Bool
