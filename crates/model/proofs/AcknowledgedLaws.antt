@@ -28,12 +28,12 @@ received_is config received r p (rec ∷ records) (n ∷ ns) each = by (nat_eq r
     by true rest = λ i. same i ∷ rest i
     by false rest = rest
 
-pub acknowledged_is : (config : Config) (w : World) (front r p : ℕ) → IsSound config w → acknowledged w front p ≡ acknowledged_requests p (map (λ (s : Record). request config s (slice_index w.received s.row) r) (take front w.history))
-acknowledged_is config w front r p sound = ap greatest (received_is config (λ (s : Record). slice_index w.received s.row) r p (take front w.history) w.received each)
+pub acknowledged_is : (config : Config) (w : World) (judged_count r p : ℕ) → IsSound config w → acknowledged w judged_count p ≡ acknowledged_requests p (map (λ (s : Record). request config s (slice_index w.received s.row) r) (take judged_count w.history))
+acknowledged_is config w judged_count r p sound = ap greatest (received_is config (λ (s : Record). slice_index w.received s.row) r p (take judged_count w.history) w.received each)
   where
-    each : (j : ℕ) (s : Record) → slice_get (take front w.history) j ≡ Some s → slice_get w.received j ≡ Some (slice_index w.received s.row)
+    each : (j : ℕ) (s : Record) → slice_get (take judged_count w.history) j ≡ Some s → slice_get w.received j ≡ Some (slice_index w.received s.row)
     each j s at =
-        let there : slice_get w.history j ≡ Some s = (slice_get-take w.history front j s at).1 in
+        let there : slice_get w.history j ≡ Some s = (slice_get-take w.history judged_count j s at).1 in
         let within : j < length w.history = slice_get_within w.history j s there in
         let row : s.row ≡ j = row_at config w.history j s sound.sequencer.history there in
         index_there w.received j (omega (arith, within, sound.received)) ∙ ap (λ (k : ℕ). Some (slice_index w.received k)) (sym row)

@@ -6,7 +6,7 @@ use Rattle.model.specs.Configs.{Config}
 use Rattle.model.specs.declared.verdict.Verdict.{Verdict}
 use Rattle.model.specs.declared.journal.JournalRow.{JournalRow}
 use Rattle.model.specs.Records.{Record}
-use Rattle.model.specs.Journal.{verdict_in, list_at, known_in, journal_row, journal}
+use Rattle.model.specs.Journal.{history_verdicts, list_at, cell_verdicts, journal_row, journal}
 use Rattle.model.specs.Agreed.{Columns, IsAgreed, IsKnownJournal, AreVerdicts}
 use Rattle.model.proofs.HistoryLaws.{no_history}
 use Rattle.model.proofs.SayingLaws.{journal_known}
@@ -38,13 +38,13 @@ agreed_cell config records columns n i r agreed below there = stands_there (list
 pub agreed_rows : (config : Config) (records : List Record) (columns : Columns) (n : ℕ) (rows : List JournalRow) → IsAgreed config records columns n → IsKnownJournal config records columns n rows → length rows ≡ n
 unfolding journal
 agreed_rows config records columns n rows agreed known =
-    let mapped : length (journal config (known_in config records columns) (take n records)) ≡ length (take n records) = length-map (take n records) (journal_row config (known_in config records columns)) in
-    let whole : length rows ≡ length (journal config (known_in config records columns) (take n records)) = ap length known in
+    let mapped : length (journal config (cell_verdicts config records columns) (take n records)) ≡ length (take n records) = length-map (take n records) (journal_row config (cell_verdicts config records columns)) in
+    let whole : length rows ≡ length (journal config (cell_verdicts config records columns) (take n records)) = ap length known in
     let taken = length-take n records in
     let there = agreed.rows in
     omega (arith, mapped, whole, taken, there)
 
 -- and where the cells have the verdicts, it is that of the history of these rows
 pub agreed_journal : (config : Config) (records : List Record) (columns : Columns) (n : ℕ) (rows : List JournalRow) → IsAgreed config records columns n → IsKnownJournal config records columns n rows → AreVerdicts config (take n records) columns
-    → rows ≡ journal config (verdict_in config (take n records)) (take n records)
+    → rows ≡ journal config (history_verdicts config (take n records)) (take n records)
 agreed_journal config records columns n rows agreed known cells = known ∙ journal_known config records columns n agreed.history cells

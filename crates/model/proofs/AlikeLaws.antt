@@ -6,7 +6,7 @@ use Rattle.model.specs.Transactions.{Transaction, is_state_transaction}
 use Rattle.model.specs.Records.{Record}
 use Rattle.model.specs.Shares.{asks}
 use Rattle.model.specs.Metadata.{is_locked, metadata}
-use Rattle.model.specs.Journal.{Sayings, SaysAlike, journal_row, carried_by, told_from, told_row, is_after, unseen}
+use Rattle.model.specs.Journal.{VerdictSource, AgreeOn, journal_row, carried_by, reply_states_from, reply_row, is_after, unseen}
 use Rattle.model.specs.Outcomes.{outcomes_after}
 use Rattle.model.specs.World.{tagged_all, finished_after}
 use Rattle.model.proofs.ShareLaws.{journal_row_alike}
@@ -27,40 +27,40 @@ from_whole batch k t there = let same : 0 + k ≡ k = omega arith in rw same the
 
 -- ---- outcomes
 
-pub outcomes_after_alike : (config : Config) (says other : Sayings) (journal_before : List JournalRow) (rec : Record) → SaysAlike config says other rec → outcomes_after config says journal_before rec ≡ outcomes_after config other journal_before rec
+pub outcomes_after_alike : (config : Config) (verdict_by other : VerdictSource) (journal_before : List JournalRow) (rec : Record) → AgreeOn config verdict_by other rec → outcomes_after config verdict_by journal_before rec ≡ outcomes_after config other journal_before rec
 unfolding outcomes_after
-outcomes_after_alike config says other journal_before rec alike = outcomes_from_alike config says other (is_locked (metadata journal_before)) rec 0 rec.batch alike (from_whole rec.batch)
+outcomes_after_alike config verdict_by other journal_before rec alike = outcomes_from_alike config verdict_by other (is_locked (metadata journal_before)) rec 0 rec.batch alike (from_whole rec.batch)
 
-pub finished_after_alike : (config : Config) (says other : Sayings) (journal_before : List JournalRow) (rec : Record) → SaysAlike config says other rec → finished_after config says journal_before rec ≡ finished_after config other journal_before rec
+pub finished_after_alike : (config : Config) (verdict_by other : VerdictSource) (journal_before : List JournalRow) (rec : Record) → AgreeOn config verdict_by other rec → finished_after config verdict_by journal_before rec ≡ finished_after config other journal_before rec
 unfolding finished_after
-finished_after_alike config says other journal_before rec alike =
-    let own : journal_row config says rec ≡ journal_row config other rec = journal_row_alike config says other rec alike in
-    let answers : outcomes_after config says journal_before rec ≡ outcomes_after config other journal_before rec = outcomes_after_alike config says other journal_before rec alike in
+finished_after_alike config verdict_by other journal_before rec alike =
+    let own : journal_row config verdict_by rec ≡ journal_row config other rec = journal_row_alike config verdict_by other rec alike in
+    let answers : outcomes_after config verdict_by journal_before rec ≡ outcomes_after config other journal_before rec = outcomes_after_alike config verdict_by other journal_before rec alike in
     λ i. record { row = rec.row; version = rec.version; outcomes = answers i; tagged = tagged_all (metadata (journal_before ++ own i ∷ [])) rec.batch (answers i) }
 
 -- ---- what one resolver tells
 
 -- of the transactions of the record that ask the resolver, it says the same
-abbrev OneSaysAlike : Config → Sayings → Sayings → ℕ → Record → Type 0
-OneSaysAlike config says other r rec = (n : ℕ) (t : Transaction) → slice_get rec.batch n ≡ Some t → asks config rec r t ≡ true → says r rec.row n ≡ other r rec.row n
+abbrev OneSaysAlike : Config → VerdictSource → VerdictSource → ℕ → Record → Type 0
+OneSaysAlike config verdict_by other r rec = (n : ℕ) (t : Transaction) → slice_get rec.batch n ≡ Some t → asks config rec r t ≡ true → verdict_by r rec.row n ≡ other r rec.row n
 
-told_some : (config : Config) (says other : Sayings) (r : ℕ) (rec : Record) (n : ℕ) (ts : List Transaction) → OneSaysAlike config says other r rec → From rec.batch n ts → told_from says r rec n ts ≡ told_from other r rec n ts
-told_some config says other r rec n [] alike at = refl
-told_some config says other r rec n (t ∷ ts) alike at = by (is_state_transaction t) refl (told_some config says other r rec (suc n) ts alike (from_next rec.batch n t ts at))
+told_some : (config : Config) (verdict_by other : VerdictSource) (r : ℕ) (rec : Record) (n : ℕ) (ts : List Transaction) → OneSaysAlike config verdict_by other r rec → From rec.batch n ts → reply_states_from verdict_by r rec n ts ≡ reply_states_from other r rec n ts
+told_some config verdict_by other r rec n [] alike at = refl
+told_some config verdict_by other r rec n (t ∷ ts) alike at = by (is_state_transaction t) refl (told_some config verdict_by other r rec (suc n) ts alike (from_next rec.batch n t ts at))
   where
-    by : (b : Bool) → is_state_transaction t ≡ b → told_from says r rec (suc n) ts ≡ told_from other r rec (suc n) ts
-        → (if b then (record { verdict = says r rec.row n; carried = carried_by r t }) ∷ told_from says r rec (suc n) ts else told_from says r rec (suc n) ts) ≡ (if b then (record { verdict = other r rec.row n; carried = carried_by r t }) ∷ told_from other r rec (suc n) ts else told_from other r rec (suc n) ts)
+    by : (b : Bool) → is_state_transaction t ≡ b → reply_states_from verdict_by r rec (suc n) ts ≡ reply_states_from other r rec (suc n) ts
+        → (if b then (record { verdict = verdict_by r rec.row n; carried = carried_by r t }) ∷ reply_states_from verdict_by r rec (suc n) ts else reply_states_from verdict_by r rec (suc n) ts) ≡ (if b then (record { verdict = other r rec.row n; carried = carried_by r t }) ∷ reply_states_from other r rec (suc n) ts else reply_states_from other r rec (suc n) ts)
     by true state rest =
-        let same : says r rec.row n ≡ other r rec.row n = alike n t (from_here rec.batch n t ts at) (rw state) in
+        let same : verdict_by r rec.row n ≡ other r rec.row n = alike n t (from_here rec.batch n t ts at) (rw state) in
         λ i. (record { verdict = same i; carried = carried_by r t }) ∷ rest i
     by false none rest = rest
 
-pub told_row_of_one : (config : Config) (says other : Sayings) (r : ℕ) (rec : Record) → OneSaysAlike config says other r rec → told_row says r rec ≡ told_row other r rec
-unfolding told_row
-told_row_of_one config says other r rec alike =
-    let states = told_some config says other r rec 0 rec.batch alike (from_whole rec.batch) in
+pub told_row_of_one : (config : Config) (verdict_by other : VerdictSource) (r : ℕ) (rec : Record) → OneSaysAlike config verdict_by other r rec → reply_row verdict_by r rec ≡ reply_row other r rec
+unfolding reply_row
+told_row_of_one config verdict_by other r rec alike =
+    let states = told_some config verdict_by other r rec 0 rec.batch alike (from_whole rec.batch) in
     λ i. record { version = rec.version; states = states i }
 
-pub unseen_of_one : (config : Config) (says other : Sayings) (r : ℕ) (before : List Record) (rec : Record) → ((k : ℕ) (s : Record) → slice_get before k ≡ Some s → OneSaysAlike config says other r s) → unseen says r before rec ≡ unseen other r before rec
+pub unseen_of_one : (config : Config) (verdict_by other : VerdictSource) (r : ℕ) (before : List Record) (rec : Record) → ((k : ℕ) (s : Record) → slice_get before k ≡ Some s → OneSaysAlike config verdict_by other r s) → unseen verdict_by r before rec ≡ unseen other r before rec
 unfolding unseen
-unseen_of_one config says other r before rec alike = map_passing (told_row says r) (told_row other r) (is_after rec.own_previous) before (λ k s at. told_row_of_one config says other r s (alike k s at))
+unseen_of_one config verdict_by other r before rec alike = map_passing (reply_row verdict_by r) (reply_row other r) (is_after rec.own_previous) before (λ k s at. told_row_of_one config verdict_by other r s (alike k s at))

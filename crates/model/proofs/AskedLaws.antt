@@ -1,11 +1,11 @@
 -- Who is asked about a key that one transaction wrote and a later one reads.
-use Rattle.std.proofs.Common.{◌≡◌, ℕ, ◌<◌, max, ◌⊎◌, inl, inr, ⊎_elim, refl, ap, ◌∙◌, Bool, true, false, not, ◌&&◌, cond, nat_eq, nat_lt, List, [], ◌∷◌, ◌++◌, All, Some, slice_get, arith}
+use Rattle.std.proofs.Common.{◌≡◌, ℕ, ◌<◌, max, ◌⊎◌, inl, inr, ⊎_elim, refl, ap, ◌∙◌, Bool, true, false, not, ◌&&◌, if◌then◌else◌, nat_eq, nat_lt, List, [], ◌∷◌, ◌++◌, All, Some, slice_get, arith}
 use Rattle.std.proofs.lemmas.Bool.{and_from, or_right, or_left, eq-eqb, ltb-true}
 use Rattle.std.proofs.lemmas.List.Elements.{All-head, All-tail}
 use Rattle.system_keys.specs.Keys.{Key, Range, holds}
 use Rattle.model.specs.Configs.{Config}
 use Rattle.model.specs.declared.moves.Move.{Move}
-use Rattle.model.specs.Owners.{Owner, later_owners, owners, is_last, none_dated_below, is_met}
+use Rattle.model.specs.Owners.{Owner, later_owners, owners, is_last, none_dated_below, walk_visits}
 use Rattle.model.specs.Records.{Record, oldest, IsHistory}
 use Rattle.model.proofs.MoveLaws.{Grows, destinations_within}
 
@@ -19,8 +19,8 @@ later_owners_append (m ∷ xs) ys key = by (holds range key) (later_owners_appen
     range = m.range
 
     by : (t : Bool) → later_owners (xs ++ ys) key ≡ later_owners xs key ++ later_owners ys key →
-        cond t (record { date = m.date; resolver = m.dest } ∷ later_owners (xs ++ ys) key) (later_owners (xs ++ ys) key)
-        ≡ cond t (record { date = m.date; resolver = m.dest } ∷ later_owners xs key) (later_owners xs key) ++ later_owners ys key
+        (if t then record { date = m.date; resolver = m.dest } ∷ later_owners (xs ++ ys) key else later_owners (xs ++ ys) key)
+        ≡ (if t then record { date = m.date; resolver = m.dest } ∷ later_owners xs key else later_owners xs key) ++ later_owners ys key
     by true e = ap (λ later. record { date = m.date; resolver = m.dest } ∷ later) e
     by false e = e
 
@@ -47,7 +47,7 @@ last_among n o (m ∷ moves) key h all =
     behind : (p : Owner) (later : List Owner) → LastBelow n (p ∷ later) → LastBelow n (o ∷ p ∷ later)
     behind p later l = record { resolver = l.resolver; there = l.there; last = l.last }
 
-    by : (t : Bool) → ((p : Owner) → p.resolver < n → LastBelow n (p ∷ later_owners moves key)) → LastBelow n (o ∷ cond t (record { date = m.date; resolver = m.dest } ∷ later_owners moves key) (later_owners moves key))
+    by : (t : Bool) → ((p : Owner) → p.resolver < n → LastBelow n (p ∷ later_owners moves key)) → LastBelow n (o ∷ (if t then record { date = m.date; resolver = m.dest } ∷ later_owners moves key else later_owners moves key))
     by true more = behind (record { date = m.date; resolver = m.dest }) (later_owners moves key) (more (record { date = m.date; resolver = m.dest }) (All-head (λ (m : Move). m.dest < n) m moves all))
     by false more = more o h
 
@@ -58,17 +58,17 @@ some_last config h i rec key some history is = last_among config.resolvers (reco
 -- ---- the walk meets it
 
 -- an owner that stands last, and then owners that do not stop the walk
-pub met_behind : (bound r : ℕ) (list later : List Owner) → is_last r list ≡ true → none_dated_below bound later ≡ true → is_met bound r (list ++ later) ≡ true
+pub met_behind : (bound r : ℕ) (list later : List Owner) → is_last r list ≡ true → none_dated_below bound later ≡ true → walk_visits bound r (list ++ later) ≡ true
 met_behind bound r [] later h k = absurd (cc)
-met_behind bound r (o ∷ []) later h k = or_left (nat_eq o.resolver r && none_dated_below bound later) (is_met bound r later) (and_from (nat_eq o.resolver r) (none_dated_below bound later) h k)
+met_behind bound r (o ∷ []) later h k = or_left (nat_eq o.resolver r && none_dated_below bound later) (walk_visits bound r later) (and_from (nat_eq o.resolver r) (none_dated_below bound later) h k)
 met_behind bound r (o ∷ p ∷ list) later h k =
-    or_right (nat_eq o.resolver r && none_dated_below bound (p ∷ list ++ later)) (is_met bound r (p ∷ list ++ later)) (met_behind bound r (p ∷ list) later h k)
+    or_right (nat_eq o.resolver r && none_dated_below bound (p ∷ list ++ later)) (walk_visits bound r (p ∷ list ++ later)) (met_behind bound r (p ∷ list) later h k)
 
 -- the last owner is always met
-pub last_met : (bound r : ℕ) (list : List Owner) → is_last r list ≡ true → is_met bound r list ≡ true
+pub last_met : (bound r : ℕ) (list : List Owner) → is_last r list ≡ true → walk_visits bound r list ≡ true
 last_met bound r [] h = absurd (cc)
 last_met bound r (o ∷ []) h = or_left (nat_eq o.resolver r && true) false (and_from (nat_eq o.resolver r) true h refl)
-last_met bound r (o ∷ p ∷ list) h = or_right (nat_eq o.resolver r && none_dated_below bound (p ∷ list)) (is_met bound r (p ∷ list)) (last_met bound r (p ∷ list) h)
+last_met bound r (o ∷ p ∷ list) h = or_right (nat_eq o.resolver r && none_dated_below bound (p ∷ list)) (walk_visits bound r (p ∷ list)) (last_met bound r (p ∷ list) h)
 
 -- a walk that newer owners stop stops at a date below `low`, where all of them are dated above the snapshot
 none_or_old : (snapshot low version : ℕ) (moves : List Move) (key : Key) → snapshot < version → All (λ (m : Move). version < m.date) moves → (none_dated_below (max snapshot low) (later_owners moves key) ≡ true) ⊎ (snapshot < low)
@@ -83,17 +83,17 @@ none_or_old snapshot low version (m ∷ moves) key h all =
     above = All-head (λ (m : Move). version < m.date) m moves all
 
     by : (t s : Bool) → nat_lt m.date (max snapshot low) ≡ s → none_dated_below (max snapshot low) (later_owners moves key) ≡ true →
-        (none_dated_below (max snapshot low) (cond t (record { date = m.date; resolver = m.dest } ∷ later_owners moves key) (later_owners moves key)) ≡ true) ⊎ (snapshot < low)
+        (none_dated_below (max snapshot low) (if t then record { date = m.date; resolver = m.dest } ∷ later_owners moves key else later_owners moves key) ≡ true) ⊎ (snapshot < low)
     by false s e none = inl none
     by true true e none = inr (omega (arith, ltb-true m.date (max snapshot low) e, above))
     by true false e none = inl (and_from (not (nat_lt m.date (max snapshot low))) (none_dated_below (max snapshot low) (later_owners moves key)) (ap not e) none)
 
 -- the resolver that stood last for a writer is met by a later reader whose snapshot is below the writer's version, or the snapshot is below the reader's oldest version
 pub met_or_old : (config : Config) (a b : Record) (key : Key) (r snapshot : ℕ) → Grows a b → snapshot < a.version → is_last r (owners a.moves key) ≡ true →
-    (is_met (max snapshot (oldest config b)) r (owners b.moves key) ≡ true) ⊎ (snapshot < oldest config b)
+    (walk_visits (max snapshot (oldest config b)) r (owners b.moves key) ≡ true) ⊎ (snapshot < oldest config b)
 met_or_old config a b key r snapshot g h last =
     ⊎_elim (λ none. inl (list_is ∙ met_behind (max snapshot (oldest config b)) r (owners a.moves key) (later_owners g.newer key) last none)) inr
     (none_or_old snapshot (oldest config b) a.version g.newer key h g.dated)
   where
-    list_is : is_met (max snapshot (oldest config b)) r (owners b.moves key) ≡ is_met (max snapshot (oldest config b)) r (owners a.moves key ++ later_owners g.newer key)
-    list_is = ap (λ list. is_met (max snapshot (oldest config b)) r list) (ap (λ (ms : List Move). owners ms key) g.moves ∙ owners_append a.moves g.newer key)
+    list_is : walk_visits (max snapshot (oldest config b)) r (owners b.moves key) ≡ walk_visits (max snapshot (oldest config b)) r (owners a.moves key ++ later_owners g.newer key)
+    list_is = ap (λ list. walk_visits (max snapshot (oldest config b)) r list) (ap (λ (ms : List Move). owners ms key) g.moves ∙ owners_append a.moves g.newer key)

@@ -8,7 +8,7 @@ use Rattle.std.proofs.lemmas.Option.{slice_get_within}
 use Rattle.model.specs.Configs.{Config, version_limit}
 use Rattle.model.specs.declared.moves.Move.{Move}
 use Rattle.model.specs.Transactions.{Transaction}
-use Rattle.model.specs.Records.{Record, IsHistory, Follows, MovesFollow, last_version, of_proxy, oldest}
+use Rattle.model.specs.Records.{Record, IsHistory, Follows, MovesFollow, last_version, records_of_proxy, oldest}
 use Rattle.model.specs.World.{up_to_version, rows_up_to}
 use Rattle.model.proofs.HistoryLaws.{up_to_last, own_version_up_to}
 use Rattle.model.proofs.MoveLaws.{grows, last_version_at}
@@ -84,17 +84,17 @@ oldest_rises config h i j a b history less is_a is_b =
 pub own_up_to_previous : (config : Config) (h : List Record) (i : ℕ) (rec : Record) → IsHistory config h → slice_get h i ≡ Some rec → rec.own_previous ≤ rec.previous
 own_up_to_previous config h i rec history at =
     let follows = history i rec at in
-    let own : rec.own_previous ≡ last_version (of_proxy rec.proxy (take i h)) = follows.own_previous in
+    let own : rec.own_previous ≡ last_version (records_of_proxy rec.proxy (take i h)) = follows.own_previous in
     let previous : rec.previous ≡ last_version (take i h) = follows.previous in
-    let all : take (length (of_proxy rec.proxy (take i h))) (of_proxy rec.proxy (take i h)) ≡ of_proxy rec.proxy (take i h) = take_all (length (of_proxy rec.proxy (take i h))) (of_proxy rec.proxy (take i h)) (omega arith) in
-    let whole : last_version (take (length (of_proxy rec.proxy (take i h))) (of_proxy rec.proxy (take i h))) ≡ last_version (of_proxy rec.proxy (take i h)) = ap last_version all in
-    let below : last_version (take (length (of_proxy rec.proxy (take i h))) (of_proxy rec.proxy (take i h))) ≤ last_version (take i h) = own_version_up_to config (take i h) rec.proxy (length (of_proxy rec.proxy (take i h))) (history_take config h i history) in
+    let all : take (length (records_of_proxy rec.proxy (take i h))) (records_of_proxy rec.proxy (take i h)) ≡ records_of_proxy rec.proxy (take i h) = take_all (length (records_of_proxy rec.proxy (take i h))) (records_of_proxy rec.proxy (take i h)) (omega arith) in
+    let whole : last_version (take (length (records_of_proxy rec.proxy (take i h))) (records_of_proxy rec.proxy (take i h))) ≡ last_version (records_of_proxy rec.proxy (take i h)) = ap last_version all in
+    let below : last_version (take (length (records_of_proxy rec.proxy (take i h))) (records_of_proxy rec.proxy (take i h))) ≤ last_version (take i h) = own_version_up_to config (take i h) rec.proxy (length (records_of_proxy rec.proxy (take i h))) (history_take config h i history) in
     omega (arith, own, previous, whole, below)
 
 -- ---- the next record
 
 pub next_follows_moves : (config : Config) (h : List Record) (moves : List Move) (p : ℕ) (batch : List Transaction) → MovesFollow config h moves → p < config.proxies → last_version h + config.step < version_limit →
-    Follows config h (record { row = length h; previous = last_version h; version = last_version h + config.step; own_previous = last_version (of_proxy p h); proxy = p; moves = moves; batch = batch })
+    Follows config h (record { row = length h; previous = last_version h; version = last_version h + config.step; own_previous = last_version (records_of_proxy p h); proxy = p; moves = moves; batch = batch })
 next_follows_moves config h moves p batch kept there below =
     record {
       row = refl;

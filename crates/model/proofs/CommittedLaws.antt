@@ -10,7 +10,7 @@ use Rattle.model.specs.declared.outcome.Outcome.TheVariants.{Committed}
 use Rattle.model.specs.Transactions.{Transaction, is_state_transaction, lock_read, all_reads, locked_key}
 use Rattle.model.specs.Records.{Record}
 use Rattle.model.specs.Metadata.{is_locked, metadata}
-use Rattle.model.specs.Journal.{verdict_in, journal}
+use Rattle.model.specs.Journal.{history_verdicts, journal}
 use Rattle.model.specs.Outcomes.{joined_verdict, is_refused, outcome_by, outcome, outcomes}
 use Rattle.model.specs.Serial.{Place}
 use Rattle.model.specs.Committed.{SerialKeepsTheLockRow, HistoriesKeepTheLockRow, CommittedIsTold, ToldNumbersAreItsOwn}
@@ -42,13 +42,13 @@ histories_keep_the_lock_row config h limits history = serial_keeps_the_lock_row 
 
 -- ---- what is told
 
-told_at : (config : Config) (h : List Record) (a : Place h) → slice_get (outcomes config (verdict_in config h) (take a.i h) a.rec) a.n ≡ Some (outcome config (verdict_in config h) (is_locked (metadata (journal config (verdict_in config h) (take a.i h)))) a.rec a.n a.transaction)
-told_at config h a = outcomes_at config (verdict_in config h) (take a.i h) a.rec a.n a.transaction a.transaction_is
+told_at : (config : Config) (h : List Record) (a : Place h) → slice_get (outcomes config (history_verdicts config h) (take a.i h) a.rec) a.n ≡ Some (outcome config (history_verdicts config h) (is_locked (metadata (journal config (history_verdicts config h) (take a.i h)))) a.rec a.n a.transaction)
+told_at config h a = outcomes_at config (history_verdicts config h) (take a.i h) a.rec a.n a.transaction a.transaction_is
 
 pub committed_is_told : CommittedIsTold
 committed_is_told config h a = (
   λ committed. told_at config h a ∙ ap (λ (o : Outcome). Some o) committed,
-  λ told. let same : Some (outcome config (verdict_in config h) (is_locked (metadata (journal config (verdict_in config h) (take a.i h)))) a.rec a.n a.transaction) ≡ Some (Committed a.rec.version a.n) = sym (told_at config h a) ∙ told in cc,
+  λ told. let same : Some (outcome config (history_verdicts config h) (is_locked (metadata (journal config (history_verdicts config h) (take a.i h)))) a.rec a.n a.transaction) ≡ Some (Committed a.rec.version a.n) = sym (told_at config h a) ∙ told in cc,
 )
 
 numbers_of_outcome : (v : Verdict) (refused : Bool) (version number other_version other : ℕ) → outcome_by v refused version number ≡ Committed other_version other → (other_version ≡ version) × (other ≡ number)
@@ -60,5 +60,5 @@ numbers_of_outcome verdicts.Committed false version number other_version other e
 pub told_numbers_are_its_own : ToldNumbersAreItsOwn
 unfolding outcome
 told_numbers_are_its_own config h a version number told =
-    numbers_of_outcome (joined_verdict config (verdict_in config h) a.rec a.n a.transaction) (is_refused (is_locked (metadata (journal config (verdict_in config h) (take a.i h)))) a.transaction) a.rec.version a.n version number
-    (let same : Some (outcome config (verdict_in config h) (is_locked (metadata (journal config (verdict_in config h) (take a.i h)))) a.rec a.n a.transaction) ≡ Some (Committed version number) = sym (told_at config h a) ∙ told in cc)
+    numbers_of_outcome (joined_verdict config (history_verdicts config h) a.rec a.n a.transaction) (is_refused (is_locked (metadata (journal config (history_verdicts config h) (take a.i h)))) a.transaction) a.rec.version a.n version number
+    (let same : Some (outcome config (history_verdicts config h) (is_locked (metadata (journal config (history_verdicts config h) (take a.i h)))) a.rec a.n a.transaction) ≡ Some (Committed version number) = sym (told_at config h a) ∙ told in cc)

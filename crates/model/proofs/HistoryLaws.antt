@@ -7,7 +7,7 @@ use Rattle.std.proofs.lemmas.List.{take_all, take-append-le, drop-append-le, len
 use Rattle.std.proofs.lemmas.List.Elements.{All-nil, All-push, All-same}
 use Rattle.model.specs.Configs.{Config}
 use Rattle.model.specs.declared.moves.Move.{Move}
-use Rattle.model.specs.Records.{Record, IsHistory, Follows, IsMadeAfter, MovesFollow, last_version, last_moves, of_proxy}
+use Rattle.model.specs.Records.{Record, IsHistory, Follows, IsMadeAfter, MovesFollow, last_version, last_moves, records_of_proxy}
 use Rattle.model.specs.Shares.{each_below}
 use Rattle.model.proofs.Members.{Has, Has-append_left, Has-append_right}
 use Rattle.model.proofs.MoveLaws.{Grows, grows}
@@ -134,11 +134,11 @@ up_to_last config h i rec history at = up_to_last_from config h 0 h i rec histor
 
 -- ---- the records of a proxy
 
-pub of_proxy-append : (p : ℕ) (xs ys : List Record) → of_proxy p (xs ++ ys) ≡ of_proxy p xs ++ of_proxy p ys
-of_proxy-append p [] ys = refl
-of_proxy-append p (x ∷ xs) ys = by (nat_eq x.proxy p) (of_proxy-append p xs ys)
+pub records_of_proxy-append : (p : ℕ) (xs ys : List Record) → records_of_proxy p (xs ++ ys) ≡ records_of_proxy p xs ++ records_of_proxy p ys
+records_of_proxy-append p [] ys = refl
+records_of_proxy-append p (x ∷ xs) ys = by (nat_eq x.proxy p) (records_of_proxy-append p xs ys)
   where
-    by : (t : Bool) → of_proxy p (xs ++ ys) ≡ of_proxy p xs ++ of_proxy p ys → (if t then x ∷ of_proxy p (xs ++ ys) else of_proxy p (xs ++ ys)) ≡ (if t then x ∷ of_proxy p xs else of_proxy p xs) ++ of_proxy p ys
+    by : (t : Bool) → records_of_proxy p (xs ++ ys) ≡ records_of_proxy p xs ++ records_of_proxy p ys → (if t then x ∷ records_of_proxy p (xs ++ ys) else records_of_proxy p (xs ++ ys)) ≡ (if t then x ∷ records_of_proxy p xs else records_of_proxy p xs) ++ records_of_proxy p ys
     by true rest = ap (λ (rs : List Record). x ∷ rs) rest
     by false rest = rest
 
@@ -147,14 +147,14 @@ record Found (h : List Record) (rec : Record) : Type 0 where
   i : ℕ
   at : slice_get h i ≡ Some rec
 
-of_proxy_found : (p : ℕ) (h : List Record) (k : ℕ) (rec : Record) → slice_get (of_proxy p h) k ≡ Some rec → Found h rec
+of_proxy_found : (p : ℕ) (h : List Record) (k : ℕ) (rec : Record) → slice_get (records_of_proxy p h) k ≡ Some rec → Found h rec
 of_proxy_found p [] k rec at = absurd (cc)
-of_proxy_found p (x ∷ h) k rec at = by (nat_eq x.proxy p) k at (λ (k : ℕ) (is : slice_get (of_proxy p h) k ≡ Some rec). of_proxy_found p h k rec is)
+of_proxy_found p (x ∷ h) k rec at = by (nat_eq x.proxy p) k at (λ (k : ℕ) (is : slice_get (records_of_proxy p h) k ≡ Some rec). of_proxy_found p h k rec is)
   where
     behind : Found h rec → Found (x ∷ h) rec
     behind found = record { i = suc found.i; at = found.at }
 
-    by : (t : Bool) (k : ℕ) → slice_get (if t then x ∷ of_proxy p h else of_proxy p h) k ≡ Some rec → ((k : ℕ) → slice_get (of_proxy p h) k ≡ Some rec → Found h rec) → Found (x ∷ h) rec
+    by : (t : Bool) (k : ℕ) → slice_get (if t then x ∷ records_of_proxy p h else records_of_proxy p h) k ≡ Some rec → ((k : ℕ) → slice_get (records_of_proxy p h) k ≡ Some rec → Found h rec) → Found (x ∷ h) rec
     by true zero is later = record { i = 0; at = is }
     by true (suc k) is later = behind (later k is)
     by false k is later = behind (later k is)
@@ -169,6 +169,6 @@ last_of bound (x ∷ []) (suc (suc n)) below = below 0 x refl
 last_of bound (x ∷ y ∷ h) (suc zero) below = below 0 x refl
 last_of bound (x ∷ y ∷ h) (suc (suc n)) below = last_of bound (y ∷ h) (suc n) (λ k rec at. below (suc k) rec at)
 
-pub own_version_up_to : (config : Config) (h : List Record) (p n : ℕ) → IsHistory config h → last_version (take n (of_proxy p h)) ≤ last_version h
+pub own_version_up_to : (config : Config) (h : List Record) (p n : ℕ) → IsHistory config h → last_version (take n (records_of_proxy p h)) ≤ last_version h
 own_version_up_to config h p n history =
-    last_of (last_version h) (of_proxy p h) n (λ k rec at. let found = of_proxy_found p h k rec at in up_to_last config h found.i rec history found.at)
+    last_of (last_version h) (records_of_proxy p h) n (λ k rec at. let found = of_proxy_found p h k rec at in up_to_last config h found.i rec history found.at)

@@ -11,8 +11,8 @@ use Rattle.model.specs.declared.outcome.Tagged.{Tagged}
 use Rattle.model.specs.Transactions.{Transaction}
 use Rattle.model.specs.Records.{Record, IsHistory}
 use Rattle.model.specs.Verdicts.{share_verdicts}
-use Rattle.model.specs.Metadata.{Rows, metadata, tags}
-use Rattle.model.specs.Journal.{Sayings, SaysAlike, list_at, known_in, journal_row, journal}
+use Rattle.model.specs.Metadata.{Entries, metadata, tags}
+use Rattle.model.specs.Journal.{VerdictSource, AgreeOn, list_at, cell_verdicts, journal_row, journal}
 use Rattle.model.specs.Outcomes.{outcomes_after}
 use Rattle.model.specs.World.{tagged_from, tagged_one, tagged_all, finished_after, finished_batch, up_to_version}
 use Rattle.model.specs.Agreed.{Column, Columns, IsVerdictColumn}
@@ -54,42 +54,42 @@ column_more config h rec r column cells same i s at = by (push_cases h rec i s a
 
 pub finished_meet : (config : Config) (h g : List Record) (mine theirs : Columns) (m i : ℕ) (rec : Record) → IsHistory config h → i < m → take m h ≡ take m g
     → ((r k : ℕ) → r < config.resolvers → k < m → list_at (list_at mine r) k ≡ list_at (list_at theirs r) k) → slice_get h i ≡ Some rec
-    → finished_batch config (known_in config h mine) (take i h) rec ≡ finished_batch config (known_in config g theirs) (take i g) rec
+    → finished_batch config (cell_verdicts config h mine) (take i h) rec ≡ finished_batch config (cell_verdicts config g theirs) (take i g) rec
 finished_meet config h g mine theirs m i rec history below same cells at =
-    finished_alike config (known_in config h mine) (known_in config g theirs) (take i h) rec (λ k s there. let both = slice_get-take h i k s there in alike k s (omega (arith, below, both.0)) both.1) (alike i rec below at)
-    ∙ ap (λ (before : List Record). finished_batch config (known_in config g theirs) before rec) (sym (take-take_le h i m (omega (arith, below))) ∙ ap (take i) same ∙ take-take_le g i m (omega (arith, below)))
+    finished_alike config (cell_verdicts config h mine) (cell_verdicts config g theirs) (take i h) rec (λ k s there. let both = slice_get-take h i k s there in alike k s (omega (arith, below, both.0)) both.1) (alike i rec below at)
+    ∙ ap (λ (before : List Record). finished_batch config (cell_verdicts config g theirs) before rec) (sym (take-take_le h i m (omega (arith, below))) ∙ ap (take i) same ∙ take-take_le g i m (omega (arith, below)))
   where
-    alike : (k : ℕ) (s : Record) → k < m → slice_get h k ≡ Some s → SaysAlike config (known_in config h mine) (known_in config g theirs) s
+    alike : (k : ℕ) (s : Record) → k < m → slice_get h k ≡ Some s → AgreeOn config (cell_verdicts config h mine) (cell_verdicts config g theirs) s
     alike k s within there =
         let in_g : slice_get g k ≡ Some s = (slice_get-take g m k s (ap (λ (rs : List Record). slice_get rs k) (sym same) ∙ slice_get-take_back h m k s within there)).1 in
         known_alike config h g mine theirs k s (row_at config h k s history there) there in_g (λ r resolver. cells r k resolver within)
 
 -- ---- rows of a journal
 
-pub rows_up_to_version : (config : Config) (says : Sayings) (h : List Record) (version : ℕ) → filter (λ (row : JournalRow). nat_le row.version version) (journal config says h) ≡ journal config says (up_to_version version h)
+pub rows_up_to_version : (config : Config) (verdict_by : VerdictSource) (h : List Record) (version : ℕ) → filter (λ (row : JournalRow). nat_le row.version version) (journal config verdict_by h) ≡ journal config verdict_by (up_to_version version h)
 unfolding journal journal_row
-rows_up_to_version config says [] version = refl
-rows_up_to_version config says (rec ∷ h) version = by (nat_le rec.version version) (rows_up_to_version config says h version)
+rows_up_to_version config verdict_by [] version = refl
+rows_up_to_version config verdict_by (rec ∷ h) version = by (nat_le rec.version version) (rows_up_to_version config verdict_by h version)
   where
-    by : (b : Bool) → filter (λ (row : JournalRow). nat_le row.version version) (journal config says h) ≡ journal config says (up_to_version version h)
-        → cond b (journal_row config says rec ∷ filter (λ (row : JournalRow). nat_le row.version version) (journal config says h)) (filter (λ (row : JournalRow). nat_le row.version version) (journal config says h)) ≡ journal config says (cond b (rec ∷ up_to_version version h) (up_to_version version h))
-    by true rest = ap (λ (rows : List JournalRow). journal_row config says rec ∷ rows) rest
+    by : (b : Bool) → filter (λ (row : JournalRow). nat_le row.version version) (journal config verdict_by h) ≡ journal config verdict_by (up_to_version version h)
+        → cond b (journal_row config verdict_by rec ∷ filter (λ (row : JournalRow). nat_le row.version version) (journal config verdict_by h)) (filter (λ (row : JournalRow). nat_le row.version version) (journal config verdict_by h)) ≡ journal config verdict_by (cond b (rec ∷ up_to_version version h) (up_to_version version h))
+    by true rest = ap (λ (rows : List JournalRow). journal_row config verdict_by rec ∷ rows) rest
     by false rest = rest
 
 -- ---- tags
 
-from_changes : (rows : Rows) (number n : ℕ) (changes : List Change) (x : Tagged) → Has (tagged_from rows number n changes) x → x.tags ≡ tags rows x.change
+from_changes : (rows : Entries) (number n : ℕ) (changes : List Change) (x : Tagged) → Has (tagged_from rows number n changes) x → x.tags ≡ tags rows x.change
 from_changes rows number n [] x has = absurd has
 from_changes rows number n (change ∷ changes) x (inl same) = subst (λ (y : Tagged). y.tags ≡ tags rows y.change) same refl
 from_changes rows number n (change ∷ changes) x (inr later) = from_changes rows number (suc n) changes x later
 
-from_one : (rows : Rows) (t : Transaction) (outcome : Outcome) (x : Tagged) → Has (tagged_one rows t outcome) x → x.tags ≡ tags rows x.change
+from_one : (rows : Entries) (t : Transaction) (outcome : Outcome) (x : Tagged) → Has (tagged_one rows t outcome) x → x.tags ≡ tags rows x.change
 from_one rows t (Committed version number) x has = from_changes rows number 0 t.changes x has
 from_one rows t Conflict x has = absurd has
 from_one rows t TooOld x has = absurd has
 from_one rows t Locked x has = absurd has
 
-from_all : (rows : Rows) (ts : List Transaction) (outcomes : List Outcome) (x : Tagged) → Has (tagged_all rows ts outcomes) x → x.tags ≡ tags rows x.change
+from_all : (rows : Entries) (ts : List Transaction) (outcomes : List Outcome) (x : Tagged) → Has (tagged_all rows ts outcomes) x → x.tags ≡ tags rows x.change
 from_all rows [] outcomes x has = absurd has
 from_all rows (t ∷ ts) [] x has = absurd has
 from_all rows (t ∷ ts) (outcome ∷ outcomes) x has = by (Has-append_cases (tagged_one rows t outcome) (tagged_all rows ts outcomes) x has) (from_all rows ts outcomes x)
@@ -98,12 +98,12 @@ from_all rows (t ∷ ts) (outcome ∷ outcomes) x has = by (Has-append_cases (ta
     by (inl here) rest = from_one rows t outcome x here
     by (inr later) rest = rest later
 
-pub finished_tags : (config : Config) (says : Sayings) (journal_before : List JournalRow) (rec : Record) (x : Tagged) → Contains (finished_after config says journal_before rec).tagged x → x.tags ≡ tags (metadata (journal_before ++ journal_row config says rec ∷ [])) x.change
+pub finished_tags : (config : Config) (verdict_by : VerdictSource) (journal_before : List JournalRow) (rec : Record) (x : Tagged) → Contains (finished_after config verdict_by journal_before rec).tagged x → x.tags ≡ tags (metadata (journal_before ++ journal_row config verdict_by rec ∷ [])) x.change
 unfolding finished_after
-finished_tags config says journal_before rec x there =
-    from_all (metadata (journal_before ++ journal_row config says rec ∷ [])) rec.batch (outcomes_after config says journal_before rec) x
-    (Has-from_Contains (tagged_all (metadata (journal_before ++ journal_row config says rec ∷ [])) rec.batch (outcomes_after config says journal_before rec)) x there)
+finished_tags config verdict_by journal_before rec x there =
+    from_all (metadata (journal_before ++ journal_row config verdict_by rec ∷ [])) rec.batch (outcomes_after config verdict_by journal_before rec) x
+    (Has-from_Contains (tagged_all (metadata (journal_before ++ journal_row config verdict_by rec ∷ [])) rec.batch (outcomes_after config verdict_by journal_before rec)) x there)
 
-pub finished_outcomes : (config : Config) (says : Sayings) (journal_before : List JournalRow) (rec : Record) → (finished_after config says journal_before rec).outcomes ≡ outcomes_after config says journal_before rec
+pub finished_outcomes : (config : Config) (verdict_by : VerdictSource) (journal_before : List JournalRow) (rec : Record) → (finished_after config verdict_by journal_before rec).outcomes ≡ outcomes_after config verdict_by journal_before rec
 unfolding finished_after
-finished_outcomes config says journal_before rec = refl
+finished_outcomes config verdict_by journal_before rec = refl

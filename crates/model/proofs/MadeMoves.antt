@@ -1,11 +1,11 @@
 -- Where the moves of a record go, how their dates lie, and what that says of the owners of a key; and walks over lists whose front was dropped.
-use Rattle.std.proofs.Common.{◌≡◌, refl, sym, ap, ◌∙◌, ℕ, zero, suc, ◌+◌, ◌<◌, ◌≤◌, ◌⊎◌, inl, inr, List, [], ◌∷◌, ◌++◌, Bool, true, false, ◌&&◌, cond, nat_eq, nat_lt, if◌then◌else◌, slice_get, Some, All, append-nil, arith}
+use Rattle.std.proofs.Common.{◌≡◌, refl, sym, ap, ◌∙◌, ℕ, zero, suc, ◌+◌, ◌<◌, ◌≤◌, ◌⊎◌, inl, inr, List, [], ◌∷◌, ◌++◌, Bool, true, false, ◌&&◌, nat_eq, nat_lt, if◌then◌else◌, slice_get, Some, All, append-nil, arith}
 use Rattle.std.proofs.lemmas.Bool.{ltb-true, eqb-true, and_parts, or_cases}
 use Rattle.std.proofs.lemmas.List.Elements.{All-nil, All-cons, All-head, All-tail}
 use Rattle.system_keys.specs.Keys.{Key, Range, holds}
 use Rattle.model.specs.Configs.{Config}
 use Rattle.model.specs.declared.moves.Move.{Move}
-use Rattle.model.specs.Owners.{Owner, later_owners, owners, is_last, none_dated_below, is_met, without_front, NeverBack}
+use Rattle.model.specs.Owners.{Owner, later_owners, owners, is_last, none_dated_below, walk_visits, trimmed, DatesNeverDecrease}
 use Rattle.model.specs.Records.{Record, IsHistory}
 use Rattle.model.proofs.WalkLaws.{not_met_before}
 use Rattle.model.proofs.MoveLaws.{DatesRise, dates_rise, destinations_within}
@@ -62,15 +62,15 @@ later_below n (m ∷ moves) key all = by (holds range key) (later_below n moves 
     range : Range
     range = m.range
 
-    by : (t : Bool) → OwnersBelow n (later_owners moves key) → OwnersBelow n (cond t (record { date = m.date; resolver = m.dest } ∷ later_owners moves key) (later_owners moves key))
+    by : (t : Bool) → OwnersBelow n (later_owners moves key) → OwnersBelow n (if t then record { date = m.date; resolver = m.dest } ∷ later_owners moves key else later_owners moves key)
     by true rest = (All-head (λ (m : Move). m.dest < n) m moves all, rest)
     by false rest = rest
 
-met_below : (bound r n : ℕ) (list : List Owner) → OwnersBelow n list → is_met bound r list ≡ true → r < n
+met_below : (bound r n : ℕ) (list : List Owner) → OwnersBelow n list → walk_visits bound r list ≡ true → r < n
 met_below bound r n [] below met = absurd (cc)
-met_below bound r n (o ∷ list) below met = by (or_cases (nat_eq o.resolver r && none_dated_below bound list) (is_met bound r list) met) (met_below bound r n list below.1)
+met_below bound r n (o ∷ list) below met = by (or_cases (nat_eq o.resolver r && none_dated_below bound list) (walk_visits bound r list) met) (met_below bound r n list below.1)
   where
-    by : ((nat_eq o.resolver r && none_dated_below bound list) ≡ true) ⊎ (is_met bound r list ≡ true) → (is_met bound r list ≡ true → r < n) → r < n
+    by : ((nat_eq o.resolver r && none_dated_below bound list) ≡ true) ⊎ (walk_visits bound r list ≡ true) → (walk_visits bound r list ≡ true → r < n) → r < n
     by (inl here) rest = let same : o.resolver ≡ r = eqb-true o.resolver r (and_parts (nat_eq o.resolver r) (none_dated_below bound list) here).0 in omega (arith, same, below.0)
     by (inr later) rest = rest later
 
@@ -82,7 +82,7 @@ last_below r n (o ∷ p ∷ list) below last = last_below r n (p ∷ list) below
 owners_below : (config : Config) (h : List Record) (i : ℕ) (rec : Record) (key : Key) → 0 < config.resolvers → IsHistory config h → slice_get h i ≡ Some rec → OwnersBelow config.resolvers (owners rec.moves key)
 owners_below config h i rec key some history at = (some, later_below config.resolvers rec.moves key (destinations_within config h i rec history at))
 
-pub met_within : (config : Config) (h : List Record) (i : ℕ) (rec : Record) (key : Key) (bound r : ℕ) → 0 < config.resolvers → IsHistory config h → slice_get h i ≡ Some rec → is_met bound r (owners rec.moves key) ≡ true → r < config.resolvers
+pub met_within : (config : Config) (h : List Record) (i : ℕ) (rec : Record) (key : Key) (bound r : ℕ) → 0 < config.resolvers → IsHistory config h → slice_get h i ≡ Some rec → walk_visits bound r (owners rec.moves key) ≡ true → r < config.resolvers
 met_within config h i rec key bound r some history at met = met_below bound r config.resolvers (owners rec.moves key) (owners_below config h i rec key some history at) met
 
 pub last_within : (config : Config) (h : List Record) (i : ℕ) (rec : Record) (key : Key) (r : ℕ) → 0 < config.resolvers → IsHistory config h → slice_get h i ≡ Some rec → is_last r (owners rec.moves key) ≡ true → r < config.resolvers
@@ -94,29 +94,29 @@ one_move_more moves m key = owners_append moves (m ∷ []) key ∙ by (holds ran
     range : Range
     range = m.range
 
-    by : (t : Bool) → owners moves key ++ cond t (record { date = m.date; resolver = m.dest } ∷ []) [] ≡ (if t then owners moves key ++ (record { date = m.date; resolver = m.dest }) ∷ [] else owners moves key)
+    by : (t : Bool) → owners moves key ++ (if t then record { date = m.date; resolver = m.dest } ∷ [] else []) ≡ (if t then owners moves key ++ (record { date = m.date; resolver = m.dest }) ∷ [] else owners moves key)
     by true = refl
     by false = append-nil (owners moves key)
 
 -- ---- walks over lists whose front was dropped
 
-pub met_with_newer : (bound oldest r : ℕ) (list newer : List Owner) → oldest ≤ bound → is_met bound r (without_front oldest list ++ newer) ≡ is_met bound r (list ++ newer)
+pub met_with_newer : (bound oldest r : ℕ) (list newer : List Owner) → oldest ≤ bound → walk_visits bound r (trimmed oldest list ++ newer) ≡ walk_visits bound r (list ++ newer)
 met_with_newer bound oldest r [] newer up_to = refl
 met_with_newer bound oldest r (o ∷ []) newer up_to = refl
 met_with_newer bound oldest r (o ∷ p ∷ list) newer up_to = by (nat_lt p.date oldest) refl (met_with_newer bound oldest r (p ∷ list) newer up_to)
   where
-    by : (t : Bool) → nat_lt p.date oldest ≡ t → is_met bound r (without_front oldest (p ∷ list) ++ newer) ≡ is_met bound r (p ∷ list ++ newer) → is_met bound r (cond t (without_front oldest (p ∷ list)) (o ∷ p ∷ list) ++ newer) ≡ is_met bound r (o ∷ p ∷ list ++ newer)
+    by : (t : Bool) → nat_lt p.date oldest ≡ t → walk_visits bound r (trimmed oldest (p ∷ list) ++ newer) ≡ walk_visits bound r (p ∷ list ++ newer) → walk_visits bound r ((if t then trimmed oldest (p ∷ list) else o ∷ p ∷ list) ++ newer) ≡ walk_visits bound r (o ∷ p ∷ list ++ newer)
     by true e rest = let below : p.date < oldest = ltb-true p.date oldest e in rest ∙ sym (not_met_before bound r o p (list ++ newer) (omega (arith, below, up_to)))
     by false e rest = refl
 
-never_back_behind : (date oldest : ℕ) (list : List Owner) → NeverBack date list → NeverBack date (without_front oldest list)
+never_back_behind : (date oldest : ℕ) (list : List Owner) → DatesNeverDecrease date list → DatesNeverDecrease date (trimmed oldest list)
 never_back_behind date oldest [] rise = tt
 never_back_behind date oldest (o ∷ []) rise = rise
 never_back_behind date oldest (o ∷ p ∷ list) rise = by (nat_lt p.date oldest) (never_back_behind date oldest (p ∷ list) (omega (arith, rise.0, rise.1.0), rise.1.1))
   where
-    by : (t : Bool) → NeverBack date (without_front oldest (p ∷ list)) → NeverBack date (cond t (without_front oldest (p ∷ list)) (o ∷ p ∷ list))
+    by : (t : Bool) → DatesNeverDecrease date (trimmed oldest (p ∷ list)) → DatesNeverDecrease date (if t then trimmed oldest (p ∷ list) else o ∷ p ∷ list)
     by true rest = rest
     by false rest = rise
 
-pub never_back_kept : (oldest : ℕ) (list : List Owner) → NeverBack 0 list → NeverBack 0 (without_front oldest list)
+pub never_back_kept : (oldest : ℕ) (list : List Owner) → DatesNeverDecrease 0 list → DatesNeverDecrease 0 (trimmed oldest list)
 never_back_kept oldest list rise = never_back_behind 0 oldest list rise

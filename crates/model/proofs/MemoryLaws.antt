@@ -4,12 +4,12 @@ use Rattle.std.proofs.lemmas.Bool.{cases_order, ltb-true, lt-ltb, eqb-true}
 use Rattle.std.proofs.lemmas.List.Elements.{filter-append}
 use Rattle.model.specs.Configs.{Config}
 use Rattle.model.specs.declared.unseen.UnseenRow.{UnseenRow}
-use Rattle.model.specs.Records.{Record, IsHistory, Follows, last_version, of_proxy}
+use Rattle.model.specs.Records.{Record, IsHistory, Follows, last_version, records_of_proxy}
 use Rattle.model.specs.Shares.{each_below}
-use Rattle.model.specs.Journal.{Sayings, told_row, is_after, unseen, least, reached, remembered}
-use Rattle.model.specs.Requests.{Request, request_verdicts, request_row, told_requests, requests_of_proxy, last_request_version, request_unseen, requests_reached, remembered_requests}
+use Rattle.model.specs.Journal.{VerdictSource, reply_row, is_after, unseen, least, oldest_proxy_version, remembered}
+use Rattle.model.specs.Requests.{Request, request_verdicts, request_reply_row, request_reply_rows, requests_of_proxy, last_request_version, request_unseen, request_oldest_proxy_version, remembered_requests}
 use Rattle.model.proofs.Members.{Has, Has-map, Has-append_cases}
-use Rattle.model.proofs.HistoryLaws.{slice_get-push, Has-each_below, history_last, last_version-push, of_proxy-append}
+use Rattle.model.proofs.HistoryLaws.{slice_get-push, Has-each_below, history_last, last_version-push, records_of_proxy-append}
 use Rattle.model.proofs.ChainLaws.{own_up_to_previous}
 
 -- ---- the least of some numbers
@@ -102,82 +102,82 @@ filter_on {X} version low high xs x up =
 
 -- ---- records
 
-pub reached_up_to : (config : Config) (judged : List Record) (p : ℕ) → p < config.proxies → reached config judged ≤ last_version (of_proxy p judged)
-reached_up_to config judged p below = least_of_each (λ (q : ℕ). last_version (of_proxy q judged)) config.proxies p below
+pub reached_up_to : (config : Config) (judged : List Record) (p : ℕ) → p < config.proxies → oldest_proxy_version config judged ≤ last_version (records_of_proxy p judged)
+reached_up_to config judged p below = least_of_each (λ (q : ℕ). last_version (records_of_proxy q judged)) config.proxies p below
 
-pub reached_by : (config : Config) (judged : List Record) → 0 < config.proxies → (p : ℕ) × (p < config.proxies) × (reached config judged ≡ last_version (of_proxy p judged))
-reached_by config judged some = least_of_one (λ (q : ℕ). last_version (of_proxy q judged)) config.proxies some
+pub reached_by : (config : Config) (judged : List Record) → 0 < config.proxies → (p : ℕ) × (p < config.proxies) × (oldest_proxy_version config judged ≡ last_version (records_of_proxy p judged))
+reached_by config judged some = least_of_one (λ (q : ℕ). last_version (records_of_proxy q judged)) config.proxies some
 
 pub remembered_enough : (config : Config) (h : List Record) (i : ℕ) (rec : Record) → IsHistory config h → slice_get h i ≡ Some rec → filter (is_after rec.own_previous) (remembered config (take i h)) ≡ filter (is_after rec.own_previous) (take i h)
 unfolding remembered
 remembered_enough config h i rec history at =
-    filter_twice (is_after rec.own_previous) (is_after (reached config (take i h))) (take i h) (λ s after. lt-ltb (reached config (take i h)) s.version (let past : rec.own_previous < s.version = ltb-true rec.own_previous s.version after in omega (arith, past, up_to)))
+    filter_twice (is_after rec.own_previous) (is_after (oldest_proxy_version config (take i h))) (take i h) (λ s after. lt-ltb (oldest_proxy_version config (take i h)) s.version (let past : rec.own_previous < s.version = ltb-true rec.own_previous s.version after in omega (arith, past, up_to)))
   where
     follows : Follows config (take i h) rec
     follows = history i rec at
 
-    up_to : reached config (take i h) ≤ rec.own_previous
+    up_to : oldest_proxy_version config (take i h) ≤ rec.own_previous
     up_to =
-        let own : rec.own_previous ≡ last_version (of_proxy rec.proxy (take i h)) = follows.own_previous in
-        let least_one : reached config (take i h) ≤ last_version (of_proxy rec.proxy (take i h)) = reached_up_to config (take i h) rec.proxy follows.proxy in
+        let own : rec.own_previous ≡ last_version (records_of_proxy rec.proxy (take i h)) = follows.own_previous in
+        let least_one : oldest_proxy_version config (take i h) ≤ last_version (records_of_proxy rec.proxy (take i h)) = reached_up_to config (take i h) rec.proxy follows.proxy in
         omega (arith, own, least_one)
 
-pub unseen_remembered : (config : Config) (says : Sayings) (h : List Record) (r i : ℕ) (rec : Record) → IsHistory config h → slice_get h i ≡ Some rec → unseen says r (remembered config (take i h)) rec ≡ unseen says r (take i h) rec
+pub unseen_remembered : (config : Config) (verdict_by : VerdictSource) (h : List Record) (r i : ℕ) (rec : Record) → IsHistory config h → slice_get h i ≡ Some rec → unseen verdict_by r (remembered config (take i h)) rec ≡ unseen verdict_by r (take i h) rec
 unfolding unseen
-unseen_remembered config says h r i rec history at = ap (λ (records : List Record). map (told_row says r) records) (remembered_enough config h i rec history at)
+unseen_remembered config verdict_by h r i rec history at = ap (λ (records : List Record). map (reply_row verdict_by r) records) (remembered_enough config h i rec history at)
 
 -- the last version of a proxy rises with each record
-last_of_proxy_rises : (config : Config) (h : List Record) (rec : Record) → IsHistory config (h ++ rec ∷ []) → (p : ℕ) → last_version (of_proxy p h) ≤ last_version (of_proxy p (h ++ rec ∷ []))
+last_of_proxy_rises : (config : Config) (h : List Record) (rec : Record) → IsHistory config (h ++ rec ∷ []) → (p : ℕ) → last_version (records_of_proxy p h) ≤ last_version (records_of_proxy p (h ++ rec ∷ []))
 last_of_proxy_rises config h rec history p = by (nat_eq rec.proxy p) refl
   where
     follows : Follows config h rec
     follows = history_last config h rec history
 
-    whole : of_proxy p (h ++ rec ∷ []) ≡ of_proxy p h ++ of_proxy p (rec ∷ [])
-    whole = of_proxy-append p h (rec ∷ [])
+    whole : records_of_proxy p (h ++ rec ∷ []) ≡ records_of_proxy p h ++ records_of_proxy p (rec ∷ [])
+    whole = records_of_proxy-append p h (rec ∷ [])
 
-    by : (b : Bool) → nat_eq rec.proxy p ≡ b → last_version (of_proxy p h) ≤ last_version (of_proxy p (h ++ rec ∷ []))
+    by : (b : Bool) → nat_eq rec.proxy p ≡ b → last_version (records_of_proxy p h) ≤ last_version (records_of_proxy p (h ++ rec ∷ []))
     by true own =
         let same : rec.proxy ≡ p = eqb-true rec.proxy p own in
-        let one : of_proxy p (rec ∷ []) ≡ rec ∷ [] = rw own refl in
-        let last : last_version (of_proxy p (h ++ rec ∷ [])) ≡ rec.version = ap last_version (whole ∙ ap (λ (rs : List Record). of_proxy p h ++ rs) one) ∙ last_version-push (of_proxy p h) rec in
-        let own_previous : rec.own_previous ≡ last_version (of_proxy rec.proxy h) = follows.own_previous in
-        let moved : last_version (of_proxy rec.proxy h) ≡ last_version (of_proxy p h) = ap (λ (q : ℕ). last_version (of_proxy q h)) same in
+        let one : records_of_proxy p (rec ∷ []) ≡ rec ∷ [] = rw own refl in
+        let last : last_version (records_of_proxy p (h ++ rec ∷ [])) ≡ rec.version = ap last_version (whole ∙ ap (λ (rs : List Record). records_of_proxy p h ++ rs) one) ∙ last_version-push (records_of_proxy p h) rec in
+        let own_previous : rec.own_previous ≡ last_version (records_of_proxy rec.proxy h) = follows.own_previous in
+        let handle_move : last_version (records_of_proxy rec.proxy h) ≡ last_version (records_of_proxy p h) = ap (λ (q : ℕ). last_version (records_of_proxy q h)) same in
         let up_to : rec.own_previous ≤ rec.previous = own_up_to_previous config (h ++ rec ∷ []) (length h) rec history (slice_get-push h rec) in
         let version : rec.version ≡ rec.previous + config.step = follows.version in
-        omega (arith, last, own_previous, moved, up_to, version)
+        omega (arith, last, own_previous, handle_move, up_to, version)
     by false other =
-        let none : of_proxy p (rec ∷ []) ≡ [] = rw other refl in
-        let last : last_version (of_proxy p (h ++ rec ∷ [])) ≡ last_version (of_proxy p h) = ap last_version (whole ∙ ap (λ (rs : List Record). of_proxy p h ++ rs) none ∙ append-nil (of_proxy p h)) in
+        let none : records_of_proxy p (rec ∷ []) ≡ [] = rw other refl in
+        let last : last_version (records_of_proxy p (h ++ rec ∷ [])) ≡ last_version (records_of_proxy p h) = ap last_version (whole ∙ ap (λ (rs : List Record). records_of_proxy p h ++ rs) none ∙ append-nil (records_of_proxy p h)) in
         omega (arith, last)
 
-pub remembered_more : (config : Config) (h : List Record) (rec : Record) → IsHistory config (h ++ rec ∷ []) → remembered config (h ++ rec ∷ []) ≡ filter (is_after (reached config (h ++ rec ∷ []))) (remembered config h ++ rec ∷ [])
+pub remembered_more : (config : Config) (h : List Record) (rec : Record) → IsHistory config (h ++ rec ∷ []) → remembered config (h ++ rec ∷ []) ≡ filter (is_after (oldest_proxy_version config (h ++ rec ∷ []))) (remembered config h ++ rec ∷ [])
 unfolding remembered
 remembered_more config h rec history =
-    filter_on (λ (s : Record). s.version) (reached config h) (reached config (h ++ rec ∷ [])) h rec
-    (least_rises (λ (p : ℕ). last_version (of_proxy p h)) (λ (p : ℕ). last_version (of_proxy p (h ++ rec ∷ []))) config.proxies (last_of_proxy_rises config h rec history))
+    filter_on (λ (s : Record). s.version) (oldest_proxy_version config h) (oldest_proxy_version config (h ++ rec ∷ [])) h rec
+    (least_rises (λ (p : ℕ). last_version (records_of_proxy p h)) (λ (p : ℕ). last_version (records_of_proxy p (h ++ rec ∷ []))) config.proxies (last_of_proxy_rises config h rec history))
 
 -- ---- requests
 
-pub requests_reached_up_to : (proxies : ℕ) (judged : List Request) (p : ℕ) → p < proxies → requests_reached proxies judged ≤ last_request_version (requests_of_proxy p judged)
+pub requests_reached_up_to : (proxies : ℕ) (judged : List Request) (p : ℕ) → p < proxies → request_oldest_proxy_version proxies judged ≤ last_request_version (requests_of_proxy p judged)
 requests_reached_up_to proxies judged p below = least_of_each (λ (q : ℕ). last_request_version (requests_of_proxy q judged)) proxies p below
 
-pub requests_reached_by : (proxies : ℕ) (judged : List Request) → 0 < proxies → (p : ℕ) × (p < proxies) × (requests_reached proxies judged ≡ last_request_version (requests_of_proxy p judged))
+pub requests_reached_by : (proxies : ℕ) (judged : List Request) → 0 < proxies → (p : ℕ) × (p < proxies) × (request_oldest_proxy_version proxies judged ≡ last_request_version (requests_of_proxy p judged))
 requests_reached_by proxies judged some = least_of_one (λ (q : ℕ). last_request_version (requests_of_proxy q judged)) proxies some
 
 -- the rows above the version that every proxy has reached are enough for any request
 pub request_unseen_remembered : (proxies window : ℕ) (before : List Request) (q : Request) → q.proxy < proxies →
-    filter (λ (row : UnseenRow). nat_lt (last_request_version (requests_of_proxy q.proxy before)) row.version) (filter (λ (row : UnseenRow). nat_lt (requests_reached proxies before) row.version) (told_requests window [] before)) ≡ request_unseen window before q
+    filter (λ (row : UnseenRow). nat_lt (last_request_version (requests_of_proxy q.proxy before)) row.version) (filter (λ (row : UnseenRow). nat_lt (request_oldest_proxy_version proxies before) row.version) (request_reply_rows window [] before)) ≡ request_unseen window before q
 request_unseen_remembered proxies window before q there =
-    filter_twice (λ (row : UnseenRow). nat_lt (last_request_version (requests_of_proxy q.proxy before)) row.version) (λ (row : UnseenRow). nat_lt (requests_reached proxies before) row.version) (told_requests window [] before)
-    (λ row after. lt-ltb (requests_reached proxies before) row.version (let past : last_request_version (requests_of_proxy q.proxy before) < row.version = ltb-true (last_request_version (requests_of_proxy q.proxy before)) row.version after in let up_to = requests_reached_up_to proxies before q.proxy there in omega (arith, past, up_to)))
+    filter_twice (λ (row : UnseenRow). nat_lt (last_request_version (requests_of_proxy q.proxy before)) row.version) (λ (row : UnseenRow). nat_lt (request_oldest_proxy_version proxies before) row.version) (request_reply_rows window [] before)
+    (λ row after. lt-ltb (request_oldest_proxy_version proxies before) row.version (let past : last_request_version (requests_of_proxy q.proxy before) < row.version = ltb-true (last_request_version (requests_of_proxy q.proxy before)) row.version after in let up_to = requests_reached_up_to proxies before q.proxy there in omega (arith, past, up_to)))
 
 pub requests_remembered_enough : (proxies : ℕ) (before : List Request) (q : Request) → q.proxy < proxies →
     filter (λ (s : Request). nat_lt (last_request_version (requests_of_proxy q.proxy before)) s.version) (remembered_requests proxies before) ≡ filter (λ (s : Request). nat_lt (last_request_version (requests_of_proxy q.proxy before)) s.version) before
 unfolding remembered_requests
 requests_remembered_enough proxies before q there =
-    filter_twice (λ (s : Request). nat_lt (last_request_version (requests_of_proxy q.proxy before)) s.version) (λ (s : Request). nat_lt (requests_reached proxies before) s.version) before
-    (λ s after. lt-ltb (requests_reached proxies before) s.version (let past : last_request_version (requests_of_proxy q.proxy before) < s.version = ltb-true (last_request_version (requests_of_proxy q.proxy before)) s.version after in let up_to = requests_reached_up_to proxies before q.proxy there in omega (arith, past, up_to)))
+    filter_twice (λ (s : Request). nat_lt (last_request_version (requests_of_proxy q.proxy before)) s.version) (λ (s : Request). nat_lt (request_oldest_proxy_version proxies before) s.version) before
+    (λ s after. lt-ltb (request_oldest_proxy_version proxies before) s.version (let past : last_request_version (requests_of_proxy q.proxy before) < s.version = ltb-true (last_request_version (requests_of_proxy q.proxy before)) s.version after in let up_to = requests_reached_up_to proxies before q.proxy there in omega (arith, past, up_to)))
 
 last_request-push : (judged : List Request) (q : Request) → last_request_version (judged ++ q ∷ []) ≡ q.version
 last_request-push [] q = refl
@@ -195,27 +195,27 @@ last_request_rises judged q up p = by (nat_eq q.proxy p) refl
         let same : q.proxy ≡ p = eqb-true q.proxy p own in
         let one : requests_of_proxy p (q ∷ []) ≡ q ∷ [] = rw own refl in
         let last : last_request_version (requests_of_proxy p (judged ++ q ∷ [])) ≡ q.version = ap last_request_version (whole ∙ ap (λ (rs : List Request). requests_of_proxy p judged ++ rs) one) ∙ last_request-push (requests_of_proxy p judged) q in
-        let moved : last_request_version (requests_of_proxy q.proxy judged) ≡ last_request_version (requests_of_proxy p judged) = ap (λ (r : ℕ). last_request_version (requests_of_proxy r judged)) same in
-        omega (arith, last, moved, up)
+        let handle_move : last_request_version (requests_of_proxy q.proxy judged) ≡ last_request_version (requests_of_proxy p judged) = ap (λ (r : ℕ). last_request_version (requests_of_proxy r judged)) same in
+        omega (arith, last, handle_move, up)
     by false other =
         let none : requests_of_proxy p (q ∷ []) ≡ [] = rw other refl in
         let last : last_request_version (requests_of_proxy p (judged ++ q ∷ [])) ≡ last_request_version (requests_of_proxy p judged) = ap last_request_version (whole ∙ ap (λ (rs : List Request). requests_of_proxy p judged ++ rs) none ∙ append-nil (requests_of_proxy p judged)) in
         omega (arith, last)
 
 pub remembered_requests_more : (proxies : ℕ) (judged : List Request) (q : Request) → last_request_version (requests_of_proxy q.proxy judged) ≤ q.version →
-    remembered_requests proxies (judged ++ q ∷ []) ≡ filter (λ (s : Request). nat_lt (requests_reached proxies (judged ++ q ∷ [])) s.version) (remembered_requests proxies judged ++ q ∷ [])
+    remembered_requests proxies (judged ++ q ∷ []) ≡ filter (λ (s : Request). nat_lt (request_oldest_proxy_version proxies (judged ++ q ∷ [])) s.version) (remembered_requests proxies judged ++ q ∷ [])
 unfolding remembered_requests
 remembered_requests_more proxies judged q up =
-    filter_on (λ (s : Request). s.version) (requests_reached proxies judged) (requests_reached proxies (judged ++ q ∷ [])) judged q
+    filter_on (λ (s : Request). s.version) (request_oldest_proxy_version proxies judged) (request_oldest_proxy_version proxies (judged ++ q ∷ [])) judged q
     (least_rises (λ (p : ℕ). last_request_version (requests_of_proxy p judged)) (λ (p : ℕ). last_request_version (requests_of_proxy p (judged ++ q ∷ []))) proxies (last_request_rises judged q up))
 
 -- ---- told rows, one request after another
 
-told_requests_append : (window : ℕ) (before xs ys : List Request) → told_requests window before (xs ++ ys) ≡ told_requests window before xs ++ told_requests window (before ++ xs) ys
-told_requests_append window before [] ys = ap (λ (judged : List Request). told_requests window judged ys) (sym (append-nil before))
+told_requests_append : (window : ℕ) (before xs ys : List Request) → request_reply_rows window before (xs ++ ys) ≡ request_reply_rows window before xs ++ request_reply_rows window (before ++ xs) ys
+told_requests_append window before [] ys = ap (λ (judged : List Request). request_reply_rows window judged ys) (sym (append-nil before))
 told_requests_append window before (q ∷ xs) ys =
-    ap (λ (rows : List UnseenRow). request_row q (request_verdicts window before q) ∷ rows)
-    (told_requests_append window (before ++ q ∷ []) xs ys ∙ ap (λ (judged : List Request). told_requests window (before ++ q ∷ []) xs ++ told_requests window judged ys) (append_assoc before (q ∷ []) xs))
+    ap (λ (rows : List UnseenRow). request_reply_row q (request_verdicts window before q) ∷ rows)
+    (told_requests_append window (before ++ q ∷ []) xs ys ∙ ap (λ (judged : List Request). request_reply_rows window (before ++ q ∷ []) xs ++ request_reply_rows window judged ys) (append_assoc before (q ∷ []) xs))
 
-pub told_requests_more : (window : ℕ) (before : List Request) (q : Request) → told_requests window [] (before ++ q ∷ []) ≡ told_requests window [] before ++ request_row q (request_verdicts window before q) ∷ []
+pub told_requests_more : (window : ℕ) (before : List Request) (q : Request) → request_reply_rows window [] (before ++ q ∷ []) ≡ request_reply_rows window [] before ++ request_reply_row q (request_verdicts window before q) ∷ []
 told_requests_more window before q = told_requests_append window [] before (q ∷ [])

@@ -14,7 +14,7 @@ use Rattle.system_keys.specs.Keys.{Key, holds}
 use Rattle.system_keys.specs.Families.{is_kept}
 use Rattle.model.specs.declared.journal.StateTxn.{StateTxn}
 use Rattle.model.specs.declared.journal.JournalRow.{JournalRow}
-use Rattle.model.specs.Metadata.{Row, Rows, IsInOrder, changed, after_changes, is_let_pass, after_state, after_row, metadata, is_locked, let_pass}
+use Rattle.model.specs.Metadata.{Entry, Entries, IsInOrder, after_change, after_changes, is_applied, after_state, after_journal_row, metadata, is_locked, applied_changes}
 
 -- ---- a fold keeps what each step keeps
 
@@ -35,7 +35,7 @@ behind_trans : (a b : Key) (keys : List Key) → key_cmp a b ≡ Less → Behind
 behind_trans a b [] h all = tt
 behind_trans a b (k ∷ keys) h all = (nat_list_cmp_total.trans a b k h all.0, behind_trans a b keys h all.1)
 
-behind_insert : (a : Key) (rows : Rows) (key : Key) (value : List ℕ) → key_cmp a key ≡ Less → Behind a (keys_of rows) → Behind a (keys_of (insert_entry key_cmp rows key value))
+behind_insert : (a : Key) (rows : Entries) (key : Key) (value : List ℕ) → key_cmp a key ≡ Less → Behind a (keys_of rows) → Behind a (keys_of (insert_entry key_cmp rows key value))
 behind_insert a [] key value h all = (h, tt)
 behind_insert a (e ∷ rows) key value h all = by (key_cmp key e.0) (behind_insert a rows key value h all.1)
   where
@@ -47,7 +47,7 @@ behind_insert a (e ∷ rows) key value h all = by (key_cmp key e.0) (behind_inse
 turned : (a b : Key) → key_cmp a b ≡ Greater → key_cmp b a ≡ Less
 turned a b h = nat_list_cmp_total.antisymm b a ∙ ap ordering_reverse h
 
-insert_in_order : (rows : Rows) (key : Key) (value : List ℕ) → IsInOrder rows → IsInOrder (insert_entry key_cmp rows key value)
+insert_in_order : (rows : Entries) (key : Key) (value : List ℕ) → IsInOrder rows → IsInOrder (insert_entry key_cmp rows key value)
 unfolding IsStrictlySortedBy
 insert_in_order [] key value s = (tt, tt)
 insert_in_order (e ∷ rows) key value s = by (key_cmp key e.0) refl (insert_in_order rows key value s.1)
@@ -57,7 +57,7 @@ insert_in_order (e ∷ rows) key value s = by (key_cmp key e.0) refl (insert_in_
     by Equal h rest = s
     by Greater h rest = (behind_insert e.0 rows key value (turned key e.0 h) s.0, rest)
 
-behind_filter : (a : Key) (p : Row → Bool) (rows : Rows) → Behind a (keys_of rows) → Behind a (keys_of (filter p rows))
+behind_filter : (a : Key) (p : Entry → Bool) (rows : Entries) → Behind a (keys_of rows) → Behind a (keys_of (filter p rows))
 behind_filter a p [] all = tt
 behind_filter a p (e ∷ rows) all = by (p e) (behind_filter a p rows all.1)
   where
@@ -65,7 +65,7 @@ behind_filter a p (e ∷ rows) all = by (p e) (behind_filter a p rows all.1)
     by true rest = (all.0, rest)
     by false rest = rest
 
-pub filter_in_order : (p : Row → Bool) (rows : Rows) → IsInOrder rows → IsInOrder (filter p rows)
+pub filter_in_order : (p : Entry → Bool) (rows : Entries) → IsInOrder rows → IsInOrder (filter p rows)
 unfolding IsStrictlySortedBy
 filter_in_order p [] s = tt
 filter_in_order p (e ∷ rows) s = by (p e) (behind_filter e.0 p rows s.0) (filter_in_order p rows s.1)
@@ -74,48 +74,48 @@ filter_in_order p (e ∷ rows) s = by (p e) (behind_filter e.0 p rows s.0) (filt
     by true first rest = (first, rest)
     by false first rest = rest
 
-pub changed_in_order : (rows : Rows) (change : Change) → IsInOrder rows → IsInOrder (changed rows change)
+pub changed_in_order : (rows : Entries) (change : Change) → IsInOrder rows → IsInOrder (after_change rows change)
 changed_in_order rows (Set key value) s = by (is_kept key)
   where
     by : (t : Bool) → IsInOrder (if t then insert_entry key_cmp rows key value else rows)
     by true = insert_in_order rows key value s
     by false = s
-changed_in_order rows (Clear range) s = filter_in_order (λ (row : Row). not (holds range row.0)) rows s
+changed_in_order rows (Clear range) s = filter_in_order (λ (row : Entry). not (holds range row.0)) rows s
 
-pub after_changes_in_order : (rows : Rows) (changes : List Change) → IsInOrder rows → IsInOrder (after_changes rows changes)
-after_changes_in_order rows changes s = fold_keeps IsInOrder changed changed_in_order rows changes s
+pub after_changes_in_order : (rows : Entries) (changes : List Change) → IsInOrder rows → IsInOrder (after_changes rows changes)
+after_changes_in_order rows changes s = fold_keeps IsInOrder after_change changed_in_order rows changes s
 
-after_state_in_order : (locked : Bool) (rows : Rows) (t : StateTxn) → IsInOrder rows → IsInOrder (after_state locked rows t)
-after_state_in_order locked rows t s = by (is_let_pass locked t)
+after_state_in_order : (locked : Bool) (rows : Entries) (t : StateTxn) → IsInOrder rows → IsInOrder (after_state locked rows t)
+after_state_in_order locked rows t s = by (is_applied locked t)
   where
     by : (b : Bool) → IsInOrder (if b then after_changes rows t.mutations else rows)
     by true = after_changes_in_order rows t.mutations s
     by false = s
 
-pub after_row_in_order : (rows : Rows) (row : JournalRow) → IsInOrder rows → IsInOrder (after_row rows row)
+pub after_row_in_order : (rows : Entries) (row : JournalRow) → IsInOrder rows → IsInOrder (after_journal_row rows row)
 after_row_in_order rows row s = fold_keeps IsInOrder _ (λ now t. after_state_in_order _ now t) rows row.states s
 
 -- the rows of every metadata are in the strict order of their keys
 pub metadata_in_order : (journal : List JournalRow) → IsInOrder (metadata journal)
 unfolding metadata IsStrictlySortedBy
-metadata_in_order journal = fold_keeps IsInOrder after_row after_row_in_order [] journal tt
+metadata_in_order journal = fold_keeps IsInOrder after_journal_row after_row_in_order [] journal tt
 
 -- ---- the journal
 
-pub metadata_append : (j k : List JournalRow) → metadata (j ++ k) ≡ fold after_row (metadata j) k
+pub metadata_append : (j k : List JournalRow) → metadata (j ++ k) ≡ fold after_journal_row (metadata j) k
 unfolding metadata
-metadata_append j k = fold-append after_row [] j k
+metadata_append j k = fold-append after_journal_row [] j k
 
 -- what a row does: it makes the changes that are let pass, by the lock before it
-states_let_pass : (states : List StateTxn) (locked : Bool) (rows : Rows) → fold (after_state locked) rows states ≡ after_changes rows (flat_map (λ (t : StateTxn). t.mutations) (filter (is_let_pass locked) states))
+states_let_pass : (states : List StateTxn) (locked : Bool) (rows : Entries) → fold (after_state locked) rows states ≡ after_changes rows (flat_map (λ (t : StateTxn). t.mutations) (filter (is_applied locked) states))
 states_let_pass [] locked rows = refl
-states_let_pass (t ∷ states) locked rows = by (is_let_pass locked t) (states_let_pass states locked (after_changes rows t.mutations)) (states_let_pass states locked rows)
+states_let_pass (t ∷ states) locked rows = by (is_applied locked t) (states_let_pass states locked (after_changes rows t.mutations)) (states_let_pass states locked rows)
   where
-    by : (b : Bool) → fold (after_state locked) (after_changes rows t.mutations) states ≡ after_changes (after_changes rows t.mutations) (flat_map (λ (t : StateTxn). t.mutations) (filter (is_let_pass locked) states))
-        → fold (after_state locked) rows states ≡ after_changes rows (flat_map (λ (t : StateTxn). t.mutations) (filter (is_let_pass locked) states))
-        → fold (after_state locked) (if b then after_changes rows t.mutations else rows) states ≡ after_changes rows (flat_map (λ (t : StateTxn). t.mutations) (cond b (t ∷ filter (is_let_pass locked) states) (filter (is_let_pass locked) states)))
-    by true passed rest = passed ∙ sym (fold-append changed rows t.mutations (flat_map (λ (t : StateTxn). t.mutations) (filter (is_let_pass locked) states)))
+    by : (b : Bool) → fold (after_state locked) (after_changes rows t.mutations) states ≡ after_changes (after_changes rows t.mutations) (flat_map (λ (t : StateTxn). t.mutations) (filter (is_applied locked) states))
+        → fold (after_state locked) rows states ≡ after_changes rows (flat_map (λ (t : StateTxn). t.mutations) (filter (is_applied locked) states))
+        → fold (after_state locked) (if b then after_changes rows t.mutations else rows) states ≡ after_changes rows (flat_map (λ (t : StateTxn). t.mutations) (cond b (t ∷ filter (is_applied locked) states) (filter (is_applied locked) states)))
+    by true passed rest = passed ∙ sym (fold-append after_change rows t.mutations (flat_map (λ (t : StateTxn). t.mutations) (filter (is_applied locked) states)))
     by false passed rest = rest
 
-pub row_let_pass : (rows : Rows) (row : JournalRow) → after_row rows row ≡ after_changes rows (let_pass (is_locked rows) row)
+pub row_let_pass : (rows : Entries) (row : JournalRow) → after_journal_row rows row ≡ after_changes rows (applied_changes (is_locked rows) row)
 row_let_pass rows row = states_let_pass row.states (is_locked rows) rows

@@ -8,20 +8,20 @@ use Rattle.model.specs.declared.verdict.Verdict.TheVariants.{Conflict}
 use Rattle.model.specs.Transactions.{Transaction}
 use Rattle.model.specs.Records.{Record}
 use Rattle.model.specs.Shares.{share}
-use Rattle.model.specs.Journal.{verdict_in, verdict_in_row, verdict_in_record, verdict_at, list_at, known_in, known_in_row}
+use Rattle.model.specs.Journal.{history_verdicts, history_verdict_in_row, history_verdict_in_record, verdict_at, list_at, cell_verdicts, cell_verdict_in_row}
 use Rattle.model.specs.Missing.{HasNoVerdict, NoRecordIsConflict, NoTransactionIsConflict, UnknownRecordIsConflict, NoVerdictInCellIsConflict, UnjudgedMarkIsConflict, NoVerdictIsToldAsConflict}
 
 -- ---- by a history
 
 pub no_record_is_conflict : NoRecordIsConflict
-unfolding verdict_in
-no_record_is_conflict config h r row number none = ap (λ (found : Option Record). verdict_in_row config h r row number found) none
+unfolding history_verdicts
+no_record_is_conflict config h r row number none = ap (λ (found : Option Record). history_verdict_in_row config h r row number found) none
 
 pub no_transaction_is_conflict : NoTransactionIsConflict
-unfolding verdict_in
+unfolding history_verdicts
 no_transaction_is_conflict config h r row number rec at none =
-    ap (λ (found : Option Record). verdict_in_row config h r row number found) at
-    ∙ ap (λ (found : Option Transaction). verdict_in_record config r (take row h) rec number found) none
+    ap (λ (found : Option Record). history_verdict_in_row config h r row number found) at
+    ∙ ap (λ (found : Option Transaction). history_verdict_in_record config r (take row h) rec number found) none
 
 -- ---- by verdict cells
 
@@ -43,13 +43,13 @@ no_verdict_is_conflict (part ∷ parts) (verdict ∷ verdicts) number none = by 
     by false other rest = rest
 
 pub unknown_record_is_conflict : UnknownRecordIsConflict
-unfolding known_in
-unknown_record_is_conflict config h columns r row number none = ap (λ (found : Option Record). known_in_row config (list_at (list_at columns r) row) r number found) none
+unfolding cell_verdicts
+unknown_record_is_conflict config h columns r row number none = ap (λ (found : Option Record). cell_verdict_in_row config (list_at (list_at columns r) row) r number found) none
 
 pub no_verdict_in_cell_is_conflict : NoVerdictInCellIsConflict
-unfolding known_in
+unfolding cell_verdicts
 no_verdict_in_cell_is_conflict config h columns r row number rec at none =
-    ap (λ (found : Option Record). known_in_row config (list_at (list_at columns r) row) r number found) at
+    ap (λ (found : Option Record). cell_verdict_in_row config (list_at (list_at columns r) row) r number found) at
     ∙ no_verdict_is_conflict (share config rec r) (list_at (list_at columns r) row) number none
 
 -- ---- as it is told

@@ -1,12 +1,12 @@
 -- The moves of the records of a history: how they grow from record to record, and what holds of all of them.
-use Rattle.std.proofs.Common.{◌≡◌, ℕ, zero, suc, ◌+◌, ◌<◌, ◌≤◌, ⊎_elim, refl, sym, ap, ◌∙◌, subst, Bool, true, false, cond, List, [], ◌∷◌, ◌++◌, length, take, drop, slice_get, Some, All, append_assoc, take-append-drop, arith}
+use Rattle.std.proofs.Common.{◌≡◌, ℕ, zero, suc, ◌+◌, ◌<◌, ◌≤◌, ⊎_elim, refl, sym, ap, ◌∙◌, subst, Bool, true, false, if◌then◌else◌, List, [], ◌∷◌, ◌++◌, length, take, drop, slice_get, Some, All, append_assoc, take-append-drop, arith}
 use Rattle.std.proofs.Math.Seq.{take-append_seam, drop-append_seam}
 use Rattle.std.proofs.lemmas.Bool.{cases_order}
 use Rattle.std.proofs.lemmas.List.Elements.{All-head, All-tail, All-append, All-weaker}
 use Rattle.system_keys.specs.Keys.{Key, Range, holds}
 use Rattle.model.specs.Configs.{Config}
 use Rattle.model.specs.declared.moves.Move.{Move}
-use Rattle.model.specs.Owners.{Owner, later_owners, owners, NeverBack}
+use Rattle.model.specs.Owners.{Owner, later_owners, owners, DatesNeverDecrease}
 use Rattle.model.specs.Records.{Record, last_version, last_moves, IsMadeAfter, Follows, IsHistory}
 
 -- ---- the record before another
@@ -154,23 +154,23 @@ dates_rise config h (suc i) rec history is = by (before h i rec is) (λ mid is_m
         (rise_added config rec.previous (mid.element.previous + 1) (added (take (suc i) h) rec) (omega (arith, chain, up_to)) f.further_moves))
 
 -- so do those of the owners of a key
-never_back_from : (first last : ℕ) (moves : List Move) (key : Key) → DatesRise first moves last → NeverBack first (later_owners moves key)
+never_back_from : (first last : ℕ) (moves : List Move) (key : Key) → DatesRise first moves last → DatesNeverDecrease first (later_owners moves key)
 never_back_from first last [] key h = tt
 never_back_from first last (m ∷ moves) key h = by (holds range key) (never_back_from m.date last moves key h.1)
   where
     range : Range
     range = m.range
 
-    weaker : (later : List Owner) → NeverBack m.date later → NeverBack first later
+    weaker : (later : List Owner) → DatesNeverDecrease m.date later → DatesNeverDecrease first later
     weaker [] k = tt
     weaker (o ∷ later) k = (omega (arith, h.0, k.0), k.1)
 
-    by : (t : Bool) → NeverBack m.date (later_owners moves key) → NeverBack first (cond t (record { date = m.date; resolver = m.dest } ∷ later_owners moves key) (later_owners moves key))
+    by : (t : Bool) → DatesNeverDecrease m.date (later_owners moves key) → DatesNeverDecrease first (if t then record { date = m.date; resolver = m.dest } ∷ later_owners moves key else later_owners moves key)
     by true k = (h.0, k)
     by false k = weaker (later_owners moves key) k
 
 -- in a history the dates of the owners of a key never go back
-pub owners_never_back : (config : Config) (h : List Record) (i : ℕ) (rec : Record) (key : Key) → IsHistory config h → slice_get h i ≡ Some rec → NeverBack 0 (owners rec.moves key)
+pub owners_never_back : (config : Config) (h : List Record) (i : ℕ) (rec : Record) (key : Key) → IsHistory config h → slice_get h i ≡ Some rec → DatesNeverDecrease 0 (owners rec.moves key)
 owners_never_back config h i rec key history is = (omega arith, never_back_from 0 (rec.previous + 1) rec.moves key (dates_rise config h i rec history is))
 
 -- what `Grows` says by the places in the list of moves

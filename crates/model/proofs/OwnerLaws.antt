@@ -1,10 +1,10 @@
 -- Which resolvers are asked about a range: the test at finitely many keys says what holds of some key.
-use Rattle.std.proofs.Common.{◌≡◌, ℕ, ◌↔◌, ⊎_elim, refl, sym, ap, ap₂, ◌∙◌, Bool, true, false, not, ◌&&◌, cond, List, [], ◌∷◌, IsTrue}
+use Rattle.std.proofs.Common.{◌≡◌, ℕ, ◌↔◌, ⊎_elim, refl, sym, ap, ap₂, ◌∙◌, Bool, true, false, not, ◌&&◌, if◌then◌else◌, List, [], ◌∷◌, IsTrue}
 use Rattle.std.proofs.lemmas.Bool.{and_parts, and_from, or_cases, or_right, or_left}
 use Rattle.std.specs.List.{list_any}
 use Rattle.system_keys.specs.Keys.{Key, Range, is_key_below, holds}
 use Rattle.model.specs.declared.moves.Move.{Move}
-use Rattle.model.specs.Owners.{Owner, later_owners, owners, is_last, is_met, AsksWrite, AsksRead, edges, some_key, asks_write, asks_read}
+use Rattle.model.specs.Owners.{Owner, later_owners, owners, is_last, walk_visits, AsksWrite, AsksRead, move_ends, some_key, asks_write, asks_read}
 use Rattle.system_keys.proofs.KeyOrder.{not_below_itself, not_below_back, up_to_trans, up_to_below}
 use Rattle.system_keys.proofs.KeyLaws.{IsInside, inside_from_holds, holds_from_inside}
 
@@ -17,15 +17,15 @@ same_holds : (range : Range) (key other : Key) → is_key_below key range.begin 
 same_holds range key other b e = ap₂ (λ s t. not s && t) b e
 
 -- keys on the same side of each edge of the moves have the same owners
-pub same_later_owners : (moves : List Move) (key other : Key) → OnSameSide key other (edges moves) → later_owners moves key ≡ later_owners moves other
+pub same_later_owners : (moves : List Move) (key other : Key) → OnSameSide key other (move_ends moves) → later_owners moves key ≡ later_owners moves other
 same_later_owners [] key other same = refl
 same_later_owners (m ∷ moves) key other same =
     let range : Range = m.range in
     let here = same_holds range key other same.0 same.1.0 in
     let rest = same_later_owners moves key other same.1.1 in
-    ap₂ (λ (b : Bool) (later : List Owner). cond b (record { date = m.date; resolver = m.dest } ∷ later) later) here rest
+    ap₂ (λ (b : Bool) (later : List Owner). (if b then record { date = m.date; resolver = m.dest } ∷ later else later)) here rest
 
-pub same_owners : (moves : List Move) (key other : Key) → OnSameSide key other (edges moves) → owners moves key ≡ owners moves other
+pub same_owners : (moves : List Move) (key other : Key) → OnSameSide key other (move_ends moves) → owners moves key ≡ owners moves other
 same_owners moves key other same = ap (λ later. record { date = 0; resolver = 0 } ∷ later) (same_later_owners moves key other same)
 
 -- the greatest of a low key and some edges that is at or below a key
@@ -97,12 +97,12 @@ passed_among moves test range (key ∷ keys) h =
     found both = record { key = key; inside = both.0; passes = both.1 }
 
 pub passed_from_some_key : (moves : List Move) (test : List Owner → Bool) (range : Range) → IsTrue (some_key moves test range) → IsPassed moves test range
-passed_from_some_key moves test range h = passed_among moves test range (range.begin ∷ edges moves) h
+passed_from_some_key moves test range h = passed_among moves test range (range.begin ∷ move_ends moves) h
 
 pub some_key_from_passed : (moves : List Move) (test : List Owner → Bool) (range : Range) → IsPassed moves test range → IsTrue (some_key moves test range)
 some_key_from_passed moves test range p =
     let inside = inside_from_holds range p.key p.inside in
-    let f = floor range.begin p.key (edges moves) inside.begun in
+    let f = floor range.begin p.key (move_ends moves) inside.begun in
     let in_range : IsInside range f.at = record { begun = f.from; ended = up_to_below f.at p.key range.end f.upto inside.ended } in
     f.tried (λ (key : Key). holds range key && test (owners moves key))
     (and_from (holds range f.at) (test (owners moves f.at)) (holds_from_inside range f.at in_range) (sym (ap test (same_owners moves p.key f.at f.same)) ∙ p.passes))
@@ -122,7 +122,7 @@ pub asks_read_iff : (moves : List Move) (bound r : ℕ) (range : Range) → IsTr
 asks_read_iff moves bound r range = (to, from)
   where
     to : IsTrue (asks_read moves bound r range) → AsksRead moves bound r range
-    to h = let p = passed_from_some_key moves (is_met bound r) range h in record { key = p.key; inside = p.inside; met = p.passes }
+    to h = let p = passed_from_some_key moves (walk_visits bound r) range h in record { key = p.key; inside = p.inside; met = p.passes }
 
     from : AsksRead moves bound r range → IsTrue (asks_read moves bound r range)
-    from a = some_key_from_passed moves (is_met bound r) range (record { key = a.key; inside = a.inside; passes = a.met })
+    from a = some_key_from_passed moves (walk_visits bound r) range (record { key = a.key; inside = a.inside; passes = a.met })

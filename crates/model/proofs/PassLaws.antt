@@ -6,7 +6,7 @@ use Rattle.model.specs.declared.journal.StateTxn.{StateTxn}
 use Rattle.model.specs.declared.verdict.Verdict.{Verdict}
 use Rattle.model.specs.declared.verdict.Verdict.TheVariants.{Conflict, TooOld, Committed}
 use Rattle.model.specs.Verdicts.{is_committed}
-use Rattle.model.specs.Metadata.{is_let_pass}
+use Rattle.model.specs.Metadata.{is_applied}
 
 -- each verdict of the list is Committed
 abbrev AreCommitted : List Verdict → Type 0
@@ -49,7 +49,7 @@ no_lock_met false true (inr e) = cc
 no_lock_met false false either = refl
 
 pub let_pass_iff : (locked : Bool) (t : StateTxn)
-    → IsTrue (is_let_pass locked t)
+    → IsTrue (is_applied locked t)
     ↔ (((r : ℕ) → r < length t.verdicts → slice_get t.verdicts r ≡ Some Committed) × (IsTrue t.lock_aware ⊎ IsFalse locked))
 let_pass_iff locked t = (
   λ passes. let both = both_true (list_all is_committed t.verdicts) (t.lock_aware || not locked) passes in

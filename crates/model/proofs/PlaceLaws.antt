@@ -44,8 +44,8 @@ after_from_between config r h a b (inr earlier) = or_right (nat_eq a.rec.version
 pub HasConflictWith-from_verdict : (config : Config) (r : ℕ) (h : List Record) (b : Place h) → IsConfig config → IsHistory config h → verdict_at_place config r h b ≡ Conflict → HasConflictWith config r h b
 HasConflictWith-from_verdict config r h b limits history e =
     let c = HasConflict-from_verdict config.window (judged_before_place config r h b) (seen_at config r b) (sym (verdict_at_place_is config r h b) ∙ e) in
-    let p = judged_place config r h b c.front c.u c.back c.before_is in
-    let own : verdict config.window c.front c.u ≡ verdict config.window (judged_before_place config r h p.a) (seen_at config r p.a) = cc (p.front_is, p.u_is) in
+    let p = judged_place config r h b c.earlier c.u c.between c.before_is in
+    let own : verdict config.window c.earlier c.u ≡ verdict config.window (judged_before_place config r h p.a) (seen_at config r p.a) = cc (p.front_is, p.u_is) in
     record {
       in_time = c.in_time;
       a = p.a;
@@ -64,9 +64,9 @@ verdict-from_HasConflictWith config r h b c =
     let near = judged_around config r h c.a b (before_from_between c.a b c.between) c.asked in
     verdict_at_place_is config r h b ∙ verdict-from_HasConflict config.window (judged_before_place config r h b) (seen_at config r b) (record {
       in_time = c.in_time;
-      front = judged_before_place config r h c.a;
+      earlier = judged_before_place config r h c.a;
       u = seen_at config r c.a;
-      back = near.back;
+      between = near.back;
       before_is = near.whole;
       committed = sym (verdict_at_place_is config r h c.a) ∙ c.committed;
       after_snapshot = after_from_between config r h c.a b c.between;

@@ -145,7 +145,7 @@ pub same_record : {h : List Record} (a b : Place h) → a.i ≡ b.i → a.rec �
 same_record {h} a b same =
     let left = a.record_is in
     let right = b.record_is in
-    let moved : slice_get h a.i ≡ slice_get h b.i = ap (λ (i : ℕ). slice_get h i) same in
+    let handle_move : slice_get h a.i ≡ slice_get h b.i = ap (λ (i : ℕ). slice_get h i) same in
     cc
 
 pub length_earlier : {h : List Record} (a : Place h) → length (take a.n a.rec.batch) ≡ a.n

@@ -7,11 +7,11 @@ use Rattle.model.specs.Configs.{Config}
 use Rattle.model.specs.declared.unseen.UnseenRow.{UnseenRow}
 use Rattle.model.specs.Transactions.{Transaction, is_state_transaction, all_reads}
 use Rattle.model.specs.Owners.{asks_read, asks_write}
-use Rattle.model.specs.Records.{Record, oldest, IsHistory, Follows, last_version, of_proxy}
+use Rattle.model.specs.Records.{Record, oldest, IsHistory, Follows, last_version, records_of_proxy}
 use Rattle.model.specs.Shares.{share, share_back_to, asks, read_bound}
 use Rattle.model.specs.Verdicts.{JudgedPart, judged_at, verdicts_after, judged_before, share_verdicts}
-use Rattle.model.specs.Journal.{Sayings, verdict_in, verdict_at, carried_by, told_from, told_row, is_after, unseen, least, reached, remembered}
-use Rattle.model.specs.Requests.{Request, request, request_back_to, marks_from, judged_of, request_verdicts, told_mark, request_row, told_requests, requests_of_proxy, last_request_version, request_unseen, request_reply, requests_reached, remembered_requests}
+use Rattle.model.specs.Journal.{VerdictSource, history_verdicts, verdict_at, carried_by, reply_states_from, reply_row, is_after, unseen, least, oldest_proxy_version, remembered}
+use Rattle.model.specs.Requests.{Request, request, request_back_to, marks_from, judged_of, request_verdicts, reply_state_of_mark, request_reply_row, request_reply_rows, requests_of_proxy, last_request_version, request_unseen, request_reply, request_oldest_proxy_version, remembered_requests}
 use Rattle.model.specs.World.{reply_of}
 use Rattle.model.proofs.Places.{slice_get-take}
 use Rattle.model.proofs.ShareLaws.{share_verdicts_are, verdict_at_asker, map-each_below}
@@ -36,8 +36,8 @@ state_asks : (config : Config) (rec : Record) (r : ℕ) (t : Transaction) → is
 state_asks config rec r t is = ap (λ (b : Bool). b || list_any (asks_read rec.moves (read_bound (oldest config rec) t) r) (all_reads t) || list_any (asks_write rec.moves r) t.writes) is
 
 verdict_here : (config : Config) (h : List Record) (r i n : ℕ) (rec : Record) (t : Transaction) → slice_get h i ≡ Some rec → slice_get rec.batch n ≡ Some t → asks config rec r t ≡ true →
-    verdict_at (share config rec r) (share_verdicts config r (take i h) rec) n ≡ verdict_in config h r i n
-unfolding verdict_in share_back_to
+    verdict_at (share config rec r) (share_verdicts config r (take i h) rec) n ≡ history_verdicts config h r i n
+unfolding history_verdicts share_back_to
 verdict_here config h r i n rec t at there asking =
     rw (at, there, share_verdicts_are config r (take i h) rec) (verdict_at_asker config r (take i h) rec [] rec.batch 0 n n t refl (omega arith) there asking)
 
@@ -48,7 +48,7 @@ place config h i rec chain at =
     follows.row ∙ length-take-le i h (omega arith)
 
 marks_told : (config : Config) (h : List Record) (r i : ℕ) (rec : Record) → slice_get h i ≡ Some rec → rec.row ≡ i → (n : ℕ) (ts : List Transaction) → ((k : ℕ) (t : Transaction) → slice_get ts k ≡ Some t → slice_get rec.batch (n + k) ≡ Some t) →
-    map (told_mark (share config rec r) (share_verdicts config r (take i h) rec)) (marks_from r n ts) ≡ told_from (verdict_in config h) r rec n ts
+    map (reply_state_of_mark (share config rec r) (share_verdicts config r (take i h) rec)) (marks_from r n ts) ≡ reply_states_from (history_verdicts config h) r rec n ts
 marks_told config h r i rec at row n [] here = refl
 marks_told config h r i rec at row n (t ∷ ts) here = by (is_state_transaction t) refl (marks_told config h r i rec at row (suc n) ts later)
   where
@@ -59,18 +59,18 @@ marks_told config h r i rec at row n (t ∷ ts) here = by (is_state_transaction 
     first = let same : n + 0 ≡ n = omega arith in rw same at (here 0 t refl)
 
     by : (b : Bool) → is_state_transaction t ≡ b
-        → map (told_mark (share config rec r) (share_verdicts config r (take i h) rec)) (marks_from r (suc n) ts) ≡ told_from (verdict_in config h) r rec (suc n) ts
-        → map (told_mark (share config rec r) (share_verdicts config r (take i h) rec)) (if b then (record { number = n; carried = carried_by r t }) ∷ marks_from r (suc n) ts else marks_from r (suc n) ts)
-        ≡ (if b then (record { verdict = verdict_in config h r rec.row n; carried = carried_by r t }) ∷ told_from (verdict_in config h) r rec (suc n) ts else told_from (verdict_in config h) r rec (suc n) ts)
+        → map (reply_state_of_mark (share config rec r) (share_verdicts config r (take i h) rec)) (marks_from r (suc n) ts) ≡ reply_states_from (history_verdicts config h) r rec (suc n) ts
+        → map (reply_state_of_mark (share config rec r) (share_verdicts config r (take i h) rec)) (if b then (record { number = n; carried = carried_by r t }) ∷ marks_from r (suc n) ts else marks_from r (suc n) ts)
+        ≡ (if b then (record { verdict = history_verdicts config h r rec.row n; carried = carried_by r t }) ∷ reply_states_from (history_verdicts config h) r rec (suc n) ts else reply_states_from (history_verdicts config h) r rec (suc n) ts)
     by true is rest =
-        let said : verdict_at (share config rec r) (share_verdicts config r (take i h) rec) n ≡ verdict_in config h r rec.row n =
-        verdict_here config h r i n rec t at first (state_asks config rec r t is) ∙ ap (λ (k : ℕ). verdict_in config h r k n) (sym row) in
+        let said : verdict_at (share config rec r) (share_verdicts config r (take i h) rec) n ≡ history_verdicts config h r rec.row n =
+        verdict_here config h r i n rec t at first (state_asks config rec r t is) ∙ ap (λ (k : ℕ). history_verdicts config h r k n) (sym row) in
         λ j. (record { verdict = said j; carried = carried_by r t }) ∷ rest j
     by false is rest = rest
 
 pub request_row_is : (config : Config) (h : List Record) (r i received : ℕ) (rec : Record) → IsHistory config h → slice_get h i ≡ Some rec →
-    request_row (request config rec received r) (share_verdicts config r (take i h) rec) ≡ told_row (verdict_in config h) r rec
-unfolding request_row request_back_to told_row
+    request_reply_row (request config rec received r) (share_verdicts config r (take i h) rec) ≡ reply_row (history_verdicts config h) r rec
+unfolding request_reply_row request_back_to reply_row
 request_row_is config h r i received rec chain at =
     λ j. record { version = rec.version; states = marks_told config h r i rec at (place config h i rec chain at) 0 rec.batch (λ k t there. let same : 0 + k ≡ k = omega arith in rw same there) j }
 
@@ -83,35 +83,35 @@ take_suc (y ∷ ys) (suc k) x at = ap (λ zs. y ∷ zs) (take_suc ys k x at)
 
 -- the rows of the requests are those of the records, from place k of the history on
 told_requests_are : (config : Config) (received : Record → ℕ) (h : List Record) (r k : ℕ) (rest : List Record) → IsHistory config h → ((j : ℕ) (s : Record) → slice_get rest j ≡ Some s → slice_get h (k + j) ≡ Some s) →
-    told_requests config.window (requests_for config received r (take k h)) (requests_for config received r rest) ≡ map (told_row (verdict_in config h) r) rest
+    request_reply_rows config.window (requests_for config received r (take k h)) (requests_for config received r rest) ≡ map (reply_row (history_verdicts config h) r) rest
 told_requests_are config received h r k [] chain there = refl
 told_requests_are config received h r k (s ∷ rest) chain there =
     let same : k + 0 ≡ k = omega arith in
     let here : slice_get h k ≡ Some s = rw same at (there 0 s refl) in
-    let own : request_row (request config s (received s) r) (request_verdicts config.window (requests_for config received r (take k h)) (request config s (received s) r)) ≡ told_row (verdict_in config h) r s =
-    ap (request_row (request config s (received s) r)) (request_verdicts_are config received r (take k h) s) ∙ request_row_is config h r k (received s) s chain here in
+    let own : request_reply_row (request config s (received s) r) (request_verdicts config.window (requests_for config received r (take k h)) (request config s (received s) r)) ≡ reply_row (history_verdicts config h) r s =
+    ap (request_reply_row (request config s (received s) r)) (request_verdicts_are config received r (take k h) s) ∙ request_row_is config h r k (received s) s chain here in
     let more : requests_for config received r (take k h) ++ request config s (received s) r ∷ [] ≡ requests_for config received r (take (suc k) h) =
     sym (map-append (λ (rec : Record). request config rec (received rec) r) (take k h) (s ∷ [])) ∙ ap (requests_for config received r) (take_suc h k s here) in
     let later = told_requests_are config received h r (suc k) rest chain (λ j u is. let goes_on : suc k + j ≡ k + suc j = omega arith in rw goes_on (there (suc j) u is)) in
-    λ i. own i ∷ (ap (λ (before : List Request). told_requests config.window before (requests_for config received r rest)) more ∙ later) i
+    λ i. own i ∷ (ap (λ (before : List Request). request_reply_rows config.window before (requests_for config received r rest)) more ∙ later) i
 
-told_after : (says : Sayings) (r version : ℕ) (h : List Record) → filter (λ (row : UnseenRow). nat_lt version row.version) (map (told_row says r) h) ≡ map (told_row says r) (filter (is_after version) h)
-unfolding told_row
-told_after says r version [] = refl
-told_after says r version (s ∷ h) = by (nat_lt version s.version) (told_after says r version h)
+told_after : (verdict_by : VerdictSource) (r version : ℕ) (h : List Record) → filter (λ (row : UnseenRow). nat_lt version row.version) (map (reply_row verdict_by r) h) ≡ map (reply_row verdict_by r) (filter (is_after version) h)
+unfolding reply_row
+told_after verdict_by r version [] = refl
+told_after verdict_by r version (s ∷ h) = by (nat_lt version s.version) (told_after verdict_by r version h)
   where
-    by : (b : Bool) → filter (λ (row : UnseenRow). nat_lt version row.version) (map (told_row says r) h) ≡ map (told_row says r) (filter (is_after version) h)
-        → cond b (told_row says r s ∷ filter (λ (row : UnseenRow). nat_lt version row.version) (map (told_row says r) h)) (filter (λ (row : UnseenRow). nat_lt version row.version) (map (told_row says r) h)) ≡ map (told_row says r) (cond b (s ∷ filter (is_after version) h) (filter (is_after version) h))
-    by true rest = ap (λ (rows : List UnseenRow). told_row says r s ∷ rows) rest
+    by : (b : Bool) → filter (λ (row : UnseenRow). nat_lt version row.version) (map (reply_row verdict_by r) h) ≡ map (reply_row verdict_by r) (filter (is_after version) h)
+        → cond b (reply_row verdict_by r s ∷ filter (λ (row : UnseenRow). nat_lt version row.version) (map (reply_row verdict_by r) h)) (filter (λ (row : UnseenRow). nat_lt version row.version) (map (reply_row verdict_by r) h)) ≡ map (reply_row verdict_by r) (cond b (s ∷ filter (is_after version) h) (filter (is_after version) h))
+    by true rest = ap (λ (rows : List UnseenRow). reply_row verdict_by r s ∷ rows) rest
     by false rest = rest
 
-requests_of : (config : Config) (received : Record → ℕ) (r p : ℕ) (h : List Record) → requests_of_proxy p (requests_for config received r h) ≡ requests_for config received r (of_proxy p h)
+requests_of : (config : Config) (received : Record → ℕ) (r p : ℕ) (h : List Record) → requests_of_proxy p (requests_for config received r h) ≡ requests_for config received r (records_of_proxy p h)
 unfolding request_back_to
 requests_of config received r p [] = refl
 requests_of config received r p (s ∷ h) = by (nat_eq s.proxy p) (requests_of config received r p h)
   where
-    by : (b : Bool) → requests_of_proxy p (requests_for config received r h) ≡ requests_for config received r (of_proxy p h)
-        → cond b (request config s (received s) r ∷ requests_of_proxy p (requests_for config received r h)) (requests_of_proxy p (requests_for config received r h)) ≡ requests_for config received r (if b then s ∷ of_proxy p h else of_proxy p h)
+    by : (b : Bool) → requests_of_proxy p (requests_for config received r h) ≡ requests_for config received r (records_of_proxy p h)
+        → cond b (request config s (received s) r ∷ requests_of_proxy p (requests_for config received r h)) (requests_of_proxy p (requests_for config received r h)) ≡ requests_for config received r (if b then s ∷ records_of_proxy p h else records_of_proxy p h)
     by true rest = ap (λ (qs : List Request). request config s (received s) r ∷ qs) rest
     by false rest = rest
 
@@ -121,19 +121,19 @@ last_of_requests config received r [] = refl
 last_of_requests config received r (s ∷ []) = refl
 last_of_requests config received r (s ∷ t ∷ h) = last_of_requests config received r (t ∷ h)
 
-last_of_proxy : (config : Config) (received : Record → ℕ) (r p : ℕ) (h : List Record) → last_request_version (requests_of_proxy p (requests_for config received r h)) ≡ last_version (of_proxy p h)
-last_of_proxy config received r p h = ap last_request_version (requests_of config received r p h) ∙ last_of_requests config received r (of_proxy p h)
+last_of_proxy : (config : Config) (received : Record → ℕ) (r p : ℕ) (h : List Record) → last_request_version (requests_of_proxy p (requests_for config received r h)) ≡ last_version (records_of_proxy p h)
+last_of_proxy config received r p h = ap last_request_version (requests_of config received r p h) ∙ last_of_requests config received r (records_of_proxy p h)
 
 unseen_is : (config : Config) (received : Record → ℕ) (h : List Record) (r i : ℕ) (rec : Record) → IsHistory config h → slice_get h i ≡ Some rec →
-    request_unseen config.window (requests_for config received r (take i h)) (request config rec (received rec) r) ≡ unseen (verdict_in config h) r (take i h) rec
+    request_unseen config.window (requests_for config received r (take i h)) (request config rec (received rec) r) ≡ unseen (history_verdicts config h) r (take i h) rec
 unfolding unseen request_back_to
 unseen_is config received h r i rec chain at =
     let previous : last_request_version (requests_of_proxy rec.proxy (requests_for config received r (take i h))) ≡ rec.own_previous = last_of_proxy config received r rec.proxy (take i h) ∙ sym (chain i rec at).own_previous in
-    let rows : told_requests config.window [] (requests_for config received r (take i h)) ≡ map (told_row (verdict_in config h) r) (take i h) = told_requests_are config received h r 0 (take i h) chain (λ j s is. let same : 0 + j ≡ j = omega arith in rw same (slice_get-take h i j s is).1) in
-    (λ k. filter (λ (row : UnseenRow). nat_lt (previous k) row.version) (rows k)) ∙ told_after (verdict_in config h) r rec.own_previous (take i h)
+    let rows : request_reply_rows config.window [] (requests_for config received r (take i h)) ≡ map (reply_row (history_verdicts config h) r) (take i h) = told_requests_are config received h r 0 (take i h) chain (λ j s is. let same : 0 + j ≡ j = omega arith in rw same (slice_get-take h i j s is).1) in
+    (λ k. filter (λ (row : UnseenRow). nat_lt (previous k) row.version) (rows k)) ∙ told_after (history_verdicts config h) r rec.own_previous (take i h)
 
 pub request_reply_is : (config : Config) (received : Record → ℕ) (h : List Record) (r i : ℕ) (rec : Record) → IsHistory config h → slice_get h i ≡ Some rec →
-    request_reply config.window (requests_for config received r (take i h)) (request config rec (received rec) r) ≡ reply_of config (verdict_in config h) r (take i h) rec
+    request_reply config.window (requests_for config received r (take i h)) (request config rec (received rec) r) ≡ reply_of config (history_verdicts config h) r (take i h) rec
 unfolding request_reply request_back_to
 request_reply_is config received h r i rec chain at =
     let verdicts = request_verdicts_are config received r (take i h) rec in
@@ -155,6 +155,6 @@ requests_after config received r version (s ∷ h) = by (nat_lt version s.versio
 pub remembered_requests_are : (config : Config) (received : Record → ℕ) (r : ℕ) (judged : List Record) → remembered_requests config.proxies (requests_for config received r judged) ≡ requests_for config received r (remembered config judged)
 unfolding remembered_requests remembered
 remembered_requests_are config received r judged =
-    let all : requests_reached config.proxies (requests_for config received r judged) ≡ reached config judged =
-    ap least (map-each_below (λ (p : ℕ). last_request_version (requests_of_proxy p (requests_for config received r judged))) (λ (p : ℕ). last_version (of_proxy p judged)) config.proxies (λ p within. last_of_proxy config received r p judged)) in
-    ap (λ (version : ℕ). filter (λ (q : Request). nat_lt version q.version) (requests_for config received r judged)) all ∙ requests_after config received r (reached config judged) judged
+    let all : request_oldest_proxy_version config.proxies (requests_for config received r judged) ≡ oldest_proxy_version config judged =
+    ap least (map-each_below (λ (p : ℕ). last_request_version (requests_of_proxy p (requests_for config received r judged))) (λ (p : ℕ). last_version (records_of_proxy p judged)) config.proxies (λ p within. last_of_proxy config received r p judged)) in
+    ap (λ (version : ℕ). filter (λ (q : Request). nat_lt version q.version) (requests_for config received r judged)) all ∙ requests_after config received r (oldest_proxy_version config judged) judged

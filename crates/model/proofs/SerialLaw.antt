@@ -10,12 +10,12 @@ use Rattle.model.specs.declared.verdict.Verdict.{Verdict}
 use Rattle.model.specs.declared.verdict.Verdict.TheVariants as verdicts
 use Rattle.model.specs.declared.outcome.Outcome.TheVariants.{Committed}
 use Rattle.model.specs.Transactions.{Transaction, is_state_transaction, all_reads}
-use Rattle.model.specs.Owners.{asks_write, asks_read, is_last, is_met, owners}
+use Rattle.model.specs.Owners.{asks_write, asks_read, is_last, walk_visits, owners}
 use Rattle.model.specs.Records.{Record, IsHistory, oldest}
 use Rattle.model.specs.Shares.{asks, asked, each_below, read_bound}
 use Rattle.model.specs.Verdicts.{JudgedPart, has_some, is_too_old, is_after_snapshot, reads_a_write, committed_after, joined}
 use Rattle.model.specs.Metadata.{is_locked, metadata}
-use Rattle.model.specs.Journal.{verdict_in, verdict_in_row, journal}
+use Rattle.model.specs.Journal.{history_verdicts, history_verdict_in_row, journal}
 use Rattle.model.specs.Outcomes.{joined_verdict, outcome_by, outcome}
 use Rattle.model.specs.Serial.{Place, IsBetween, IsCommitted, IsSerial, seen_at, verdict_at_place}
 use Rattle.model.proofs.HistoryLaws.{Has-each_below}
@@ -37,17 +37,17 @@ outcome_by_committed verdicts.Conflict refused version number e = absurd (cc)
 outcome_by_committed verdicts.TooOld refused version number e = absurd (cc)
 outcome_by_committed verdicts.Committed refused version number e = refl
 
-verdict_in_at_place : (config : Config) (r : ℕ) (h : List Record) (a : Place h) → IsHistory config h → verdict_in config h r a.rec.row a.n ≡ verdict_at_place config r h a
-unfolding verdict_in
-verdict_in_at_place config r h a history = ap (λ (i : ℕ). verdict_in_row config h r i a.n (slice_get h i)) (row_at config h a.i a.rec history a.record_is) ∙ rw (a.record_is, a.transaction_is) refl
+verdict_in_at_place : (config : Config) (r : ℕ) (h : List Record) (a : Place h) → IsHistory config h → history_verdicts config h r a.rec.row a.n ≡ verdict_at_place config r h a
+unfolding history_verdicts
+verdict_in_at_place config r h a history = ap (λ (i : ℕ). history_verdict_in_row config h r i a.n (slice_get h i)) (row_at config h a.i a.rec history a.record_is) ∙ rw (a.record_is, a.transaction_is) refl
 
 -- each resolver that a committed transaction asks committed it
 pub committed_by_asked : (config : Config) (r : ℕ) (h : List Record) (a : Place h) → IsHistory config h → IsCommitted config h a → r < config.resolvers → asks config a.rec r a.transaction ≡ true → verdict_at_place config r h a ≡ verdicts.Committed
 unfolding outcome joined_verdict
 committed_by_asked config r h a history committed there asking =
-    let all = outcome_by_committed (joined_verdict config (verdict_in config h) a.rec a.n a.transaction) (not a.transaction.lock_aware && is_locked (metadata (journal config (verdict_in config h) (take a.i h)))) a.rec.version a.n committed in
+    let all = outcome_by_committed (joined_verdict config (history_verdicts config h) a.rec a.n a.transaction) (not a.transaction.lock_aware && is_locked (metadata (journal config (history_verdicts config h) (take a.i h)))) a.rec.version a.n committed in
     let among = Has-filter (λ (s : ℕ). asks config a.rec s a.transaction) (each_below config.resolvers) r (Has-each_below config.resolvers r there) asking in
-    sym (verdict_in_at_place config r h a history) ∙ joined_committed_at (λ (s : ℕ). verdict_in config h s a.rec.row a.n) (asked config a.rec a.transaction) r all among
+    sym (verdict_in_at_place config r h a history) ∙ joined_committed_at (λ (s : ℕ). history_verdicts config h s a.rec.row a.n) (asked config a.rec a.transaction) r all among
 
 -- what a resolver committed was in time
 in_time_from_committed : (old hit : Bool) → (if old then verdicts.TooOld else if hit then verdicts.Conflict else verdicts.Committed) ≡ verdicts.Committed → old ≡ false
@@ -66,7 +66,7 @@ asked_by_write config r rec t write key there inside owns =
     let some = list_any-from_Has (asks_write rec.moves r) t.writes write (Has-from_Contains t.writes write there) test in
     (test, or_right (is_state_transaction t || list_any (asks_read rec.moves (read_bound (oldest config rec) t) r) (all_reads t)) (list_any (asks_write rec.moves r) t.writes) some)
 
-asked_by_read : (config : Config) (r : ℕ) (rec : Record) (t : Transaction) (read : Range) (key : Key) → Contains (all_reads t) read → holds read key ≡ true → is_met (read_bound (oldest config rec) t) r (owners rec.moves key) ≡ true → (asks_read rec.moves (read_bound (oldest config rec) t) r read ≡ true) × (asks config rec r t ≡ true)
+asked_by_read : (config : Config) (r : ℕ) (rec : Record) (t : Transaction) (read : Range) (key : Key) → Contains (all_reads t) read → holds read key ≡ true → walk_visits (read_bound (oldest config rec) t) r (owners rec.moves key) ≡ true → (asks_read rec.moves (read_bound (oldest config rec) t) r read ≡ true) × (asks config rec r t ≡ true)
 asked_by_read config r rec t read key there inside met =
     let test = (asks_read_iff rec.moves (read_bound (oldest config rec) t) r read).1 (record { key = key; inside = inside; met = met }) in
     let some = list_any-from_Has (asks_read rec.moves (read_bound (oldest config rec) t) r) (all_reads t) read (Has-from_Contains (all_reads t) read there) test in
@@ -98,7 +98,7 @@ record Pair (config : Config) (h : List Record) : Type 0 where
   pub inside_read : holds read key ≡ true
 
 -- the owner of the key at the first transaction is asked about the read: it finds the conflict
-refused_by_owner : (config : Config) (h : List Record) (p : Pair config h) (r : ℕ) → IsHistory config h → r < config.resolvers → is_last r (owners p.a.rec.moves p.key) ≡ true → is_met (read_bound (oldest config p.b.rec) p.b.transaction) r (owners p.b.rec.moves p.key) ≡ true → ⊥
+refused_by_owner : (config : Config) (h : List Record) (p : Pair config h) (r : ℕ) → IsHistory config h → r < config.resolvers → is_last r (owners p.a.rec.moves p.key) ≡ true → walk_visits (read_bound (oldest config p.b.rec) p.b.transaction) r (owners p.b.rec.moves p.key) ≡ true → ⊥
 refused_by_owner config h p r history there last met =
     let write = asked_by_write config r p.a.rec p.a.transaction p.write p.key p.write_in p.inside_write last in
     let read = asked_by_read config r p.b.rec p.b.transaction p.read p.key p.read_in p.inside_read met in
@@ -147,7 +147,7 @@ refused config h p limits history (inr later) =
     let grown = grows config h p.a.i p.b.i p.a.rec p.b.rec history later.0 p.a.record_is p.b.record_is in
     go last.resolver last.there last.last (met_or_old config p.a.rec p.b.rec p.key last.resolver p.b.transaction.snapshot grown later.1 last.last)
   where
-    go : (r : ℕ) → r < config.resolvers → is_last r (owners p.a.rec.moves p.key) ≡ true → (is_met (max p.b.transaction.snapshot (oldest config p.b.rec)) r (owners p.b.rec.moves p.key) ≡ true) ⊎ (p.b.transaction.snapshot < oldest config p.b.rec) → ⊥
+    go : (r : ℕ) → r < config.resolvers → is_last r (owners p.a.rec.moves p.key) ≡ true → (walk_visits (max p.b.transaction.snapshot (oldest config p.b.rec)) r (owners p.b.rec.moves p.key) ≡ true) ⊎ (p.b.transaction.snapshot < oldest config p.b.rec) → ⊥
     go r there last (inl met) = refused_by_owner config h p r history there last met
     go r there last (inr old) = refused_by_age config h p limits history old
 

@@ -10,7 +10,7 @@ use Rattle.model.specs.Transactions.{Transaction, is_state_transaction}
 use Rattle.model.specs.Records.{Record}
 use Rattle.model.specs.Shares.{share_back_to, share, part_of, parts_from, asks, each_below}
 use Rattle.model.specs.Verdicts.{JudgedPart, judged_at, judged_before, verdict_of, verdicts_after, share_verdicts, verdicts_of_askers}
-use Rattle.model.specs.Journal.{Sayings, verdict_in, verdict_in_row, verdict_in_record, verdict_at, list_at, known_in, state_of, states_from, journal_row, SaysAlike}
+use Rattle.model.specs.Journal.{VerdictSource, history_verdicts, history_verdict_in_row, history_verdict_in_record, verdict_at, list_at, cell_verdicts, state_of, states_from, journal_row, AgreeOn}
 
 -- ---- parts
 
@@ -113,8 +113,8 @@ verdict_at_asker config r before rec earlier (x ∷ ts) m (suc k) n t e number a
     go false later = rw (later, append_assoc)
 
 pub known_in_is : (config : Config) (h : List Record) (columns : List (List (List Verdict))) (r i n : ℕ) (rec : Record) (t : Transaction) → slice_get h i ≡ Some rec → slice_get rec.batch n ≡ Some t → asks config rec r t ≡ true →
-    list_at (list_at columns r) i ≡ share_verdicts config r (take i h) rec → known_in config h columns r i n ≡ verdict_in config h r i n
-unfolding known_in verdict_in share_back_to
+    list_at (list_at columns r) i ≡ share_verdicts config r (take i h) rec → cell_verdicts config h columns r i n ≡ history_verdicts config h r i n
+unfolding cell_verdicts history_verdicts share_back_to
 known_in_is config h columns r i n rec t at there asking cell =
     rw (at, there, cell, share_verdicts_are config r (take i h) rec) (verdict_at_asker config r (take i h) rec [] rec.batch 0 n n t refl (omega arith) there asking)
 
@@ -125,15 +125,15 @@ slice_get-append_left [] ys i within = absurd (omega arith)
 slice_get-append_left (x ∷ xs) ys zero within = refl
 slice_get-append_left (x ∷ xs) ys (suc i) within = slice_get-append_left xs ys i (omega arith)
 
-pub verdict_in_later : (config : Config) (h later : List Record) (r i n : ℕ) → i < length h → verdict_in config (h ++ later) r i n ≡ verdict_in config h r i n
-unfolding verdict_in
+pub verdict_in_later : (config : Config) (h later : List Record) (r i n : ℕ) → i < length h → history_verdicts config (h ++ later) r i n ≡ history_verdicts config h r i n
+unfolding history_verdicts
 verdict_in_later config h later r i n within =
     let known : i ≤ length h = omega arith in
     rw (slice_get-append_left h later i within) (go (slice_get h i) (take-append-le i h later known))
   where
-    go : (o : Option Record) → take i (h ++ later) ≡ take i h → verdict_in_row config (h ++ later) r i n o ≡ verdict_in_row config h r i n o
+    go : (o : Option Record) → take i (h ++ later) ≡ take i h → history_verdict_in_row config (h ++ later) r i n o ≡ history_verdict_in_row config h r i n o
     go None same = refl
-    go (Some rec) same = ap (λ (before : List Record). verdict_in_record config r before rec n (slice_get rec.batch n)) same
+    go (Some rec) same = ap (λ (before : List Record). history_verdict_in_record config r before rec n (slice_get rec.batch n)) same
 
 -- ---- journals
 
@@ -141,20 +141,20 @@ pub map-each_below : {X : Type 0} (f g : ℕ → X) (n : ℕ) → ((r : ℕ) →
 map-each_below f g zero same = refl
 map-each_below f g (suc n) same = rw (map-append, map-append, map-each_below f g n (λ r within. same r (omega arith)), same n (omega arith))
 
-states_from_alike : (config : Config) (says told : Sayings) (rec : Record) (ts : List Transaction) (n : ℕ) → SaysAlike config says told rec → ((k : ℕ) (t : Transaction) → slice_get ts k ≡ Some t → slice_get rec.batch (n + k) ≡ Some t) → states_from config says rec n ts ≡ states_from config told rec n ts
-states_from_alike config says told rec [] n alike at = refl
-states_from_alike config says told rec (t ∷ ts) n alike at =
-    go (is_state_transaction t) refl (states_from_alike config says told rec ts (suc n) alike (λ k u there. let same : suc n + k ≡ n + suc k = omega arith in rw same (at (suc k) u there)))
+states_from_alike : (config : Config) (verdict_by told : VerdictSource) (rec : Record) (ts : List Transaction) (n : ℕ) → AgreeOn config verdict_by told rec → ((k : ℕ) (t : Transaction) → slice_get ts k ≡ Some t → slice_get rec.batch (n + k) ≡ Some t) → states_from config verdict_by rec n ts ≡ states_from config told rec n ts
+states_from_alike config verdict_by told rec [] n alike at = refl
+states_from_alike config verdict_by told rec (t ∷ ts) n alike at =
+    go (is_state_transaction t) refl (states_from_alike config verdict_by told rec ts (suc n) alike (λ k u there. let same : suc n + k ≡ n + suc k = omega arith in rw same (at (suc k) u there)))
   where
     here : slice_get rec.batch n ≡ Some t
     here = let same : n + 0 ≡ n = omega arith in rw same at (at 0 t refl)
 
-    go : (b : Bool) → is_state_transaction t ≡ b → states_from config says rec (suc n) ts ≡ states_from config told rec (suc n) ts →
-        (if b then state_of config says rec n t ∷ states_from config says rec (suc n) ts else states_from config says rec (suc n) ts) ≡ (if b then state_of config told rec n t ∷ states_from config told rec (suc n) ts else states_from config told rec (suc n) ts)
-    go true state later = rw (later, map-each_below (λ (r : ℕ). says r rec.row n) (λ (r : ℕ). told r rec.row n) config.resolvers (λ r within. alike.same r n t within here (rw state)))
+    go : (b : Bool) → is_state_transaction t ≡ b → states_from config verdict_by rec (suc n) ts ≡ states_from config told rec (suc n) ts →
+        (if b then state_of config verdict_by rec n t ∷ states_from config verdict_by rec (suc n) ts else states_from config verdict_by rec (suc n) ts) ≡ (if b then state_of config told rec n t ∷ states_from config told rec (suc n) ts else states_from config told rec (suc n) ts)
+    go true state later = rw (later, map-each_below (λ (r : ℕ). verdict_by r rec.row n) (λ (r : ℕ). told r rec.row n) config.resolvers (λ r within. alike.same r n t within here (rw state)))
     go false other later = later
 
-pub journal_row_alike : (config : Config) (says told : Sayings) (rec : Record) → SaysAlike config says told rec → journal_row config says rec ≡ journal_row config told rec
+pub journal_row_alike : (config : Config) (verdict_by told : VerdictSource) (rec : Record) → AgreeOn config verdict_by told rec → journal_row config verdict_by rec ≡ journal_row config told rec
 unfolding journal_row
-journal_row_alike config says told rec alike =
-    rw (states_from_alike config says told rec rec.batch 0 alike (λ k t there. let same : 0 + k ≡ k = omega arith in rw same there))
+journal_row_alike config verdict_by told rec alike =
+    rw (states_from_alike config verdict_by told rec rec.batch 0 alike (λ k t there. let same : 0 + k ≡ k = omega arith in rw same there))

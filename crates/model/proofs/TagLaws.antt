@@ -7,7 +7,7 @@ use Rattle.std.specs.Cmp.{IsTotalOrder, on_total, then_total, nat_cmp_total, uns
 use Rattle.std.specs.Ordering.{ordering_reverse, ordering_then, match_ordering}
 use Rattle.system_keys.specs.declared.change.Change.{Change}
 use Rattle.system_keys.specs.declared.tag.Tag.{Tag}
-use Rattle.model.specs.Metadata.{Rows, tag_cmp, rising, tags, row_tags, server_tags, servers_of, met_rows, key_servers}
+use Rattle.model.specs.Metadata.{Entries, tag_cmp, sorted_tags, tags, entry_tags, server_tags, servers_of, touched_entries, key_servers_entries}
 use Rattle.model.specs.Routes.{HasTag}
 use Rattle.model.proofs.Members.{Has, Has-from_Contains, Contains-from_Has, Has-append_left, Has-append_right, Has-append_cases}
 use Rattle.model.proofs.MetadataLaws.{fold_keeps}
@@ -47,9 +47,9 @@ insert_rises (u ∷ ts) t s = by (tag_cmp t u) refl (insert_rises ts t s.1)
     by Equal h rest = s
     by Greater h rest = (behind_insert u ts t (turned t u h) s.0, rest)
 
-pub tags_rise : (rows : Rows) (change : Change) → IsStrictlySortedBy tag_cmp (tags rows change)
+pub tags_rise : (rows : Entries) (change : Change) → IsStrictlySortedBy tag_cmp (tags rows change)
 unfolding tags IsStrictlySortedBy
-tags_rise rows change = fold_keeps (IsStrictlySortedBy tag_cmp) (insert_key tag_cmp) insert_rises [] (flat_map (row_tags rows) (met_rows (key_servers rows) change)) tt
+tags_rise rows change = fold_keeps (IsStrictlySortedBy tag_cmp) (insert_key tag_cmp) insert_rises [] (flat_map (entry_tags rows) (touched_entries (key_servers_entries rows) change)) tt
 
 -- ---- and no others
 
@@ -138,26 +138,26 @@ Has-from_Giver f [] x y h g = absurd h
 Has-from_Giver f (z ∷ xs) x y (inl e) g = Has-append_left (f z) (flat_map f xs) y (subst (λ (w : _). Has (f w) y) (sym e) g)
 Has-from_Giver f (z ∷ xs) x y (inr h) g = Has-append_right (f z) (flat_map f xs) y (Has-from_Giver f xs x y h g)
 
-pub HasTag-from_tags : (rows : Rows) (change : Change) (tag : Tag) → Contains (tags rows change) tag → HasTag rows change tag
-unfolding tags row_tags
-HasTag-from_tags rows change tag h = by (Has-from_fold [] (flat_map (row_tags rows) (met_rows (key_servers rows) change)) tag (Has-from_Contains (rising (flat_map (row_tags rows) (met_rows (key_servers rows) change))) tag h))
+pub HasTag-from_tags : (rows : Entries) (change : Change) (tag : Tag) → Contains (tags rows change) tag → HasTag rows change tag
+unfolding tags entry_tags
+HasTag-from_tags rows change tag h = by (Has-from_fold [] (flat_map (entry_tags rows) (touched_entries (key_servers_entries rows) change)) tag (Has-from_Contains (sorted_tags (flat_map (entry_tags rows) (touched_entries (key_servers_entries rows) change))) tag h))
   where
-    by : Has {X = Tag} [] tag ⊎ Has (flat_map (row_tags rows) (met_rows (key_servers rows) change)) tag → HasTag rows change tag
+    by : Has {X = Tag} [] tag ⊎ Has (flat_map (entry_tags rows) (touched_entries (key_servers_entries rows) change)) tag → HasTag rows change tag
     by (inl none) = absurd none
     by (inr has) =
-        let met = Giver-from_Has (row_tags rows) (met_rows (key_servers rows) change) tag has in
+        let met = Giver-from_Has (entry_tags rows) (touched_entries (key_servers_entries rows) change) tag has in
         let named = Giver-from_Has (server_tags rows) (servers_of met.giver.1) tag met.gives in
         record {
-          row = met.giver;
-          met = Contains-from_Has (met_rows (key_servers rows) change) met.giver met.there;
+          entry = met.giver;
+          touched = Contains-from_Has (touched_entries (key_servers_entries rows) change) met.giver met.there;
           server = named.giver;
           named = Contains-from_Has (servers_of met.giver.1) named.giver named.there;
           tagged = Contains-from_Has (server_tags rows named.giver) tag named.gives;
         }
 
-pub tags-from_HasTag : (rows : Rows) (change : Change) (tag : Tag) → HasTag rows change tag → Contains (tags rows change) tag
-unfolding tags row_tags
+pub tags-from_HasTag : (rows : Entries) (change : Change) (tag : Tag) → HasTag rows change tag → Contains (tags rows change) tag
+unfolding tags entry_tags
 tags-from_HasTag rows change tag h =
-    let named = Has-from_Giver (server_tags rows) (servers_of h.row.1) h.server tag (Has-from_Contains (servers_of h.row.1) h.server h.named) (Has-from_Contains (server_tags rows h.server) tag h.tagged) in
-    let met = Has-from_Giver (row_tags rows) (met_rows (key_servers rows) change) h.row tag (Has-from_Contains (met_rows (key_servers rows) change) h.row h.met) named in
-    Contains-from_Has (rising (flat_map (row_tags rows) (met_rows (key_servers rows) change))) tag (Has-fold [] (flat_map (row_tags rows) (met_rows (key_servers rows) change)) tag (inr met))
+    let named = Has-from_Giver (server_tags rows) (servers_of h.entry.1) h.server tag (Has-from_Contains (servers_of h.entry.1) h.server h.named) (Has-from_Contains (server_tags rows h.server) tag h.tagged) in
+    let met = Has-from_Giver (entry_tags rows) (touched_entries (key_servers_entries rows) change) h.entry tag (Has-from_Contains (touched_entries (key_servers_entries rows) change) h.entry h.touched) named in
+    Contains-from_Has (sorted_tags (flat_map (entry_tags rows) (touched_entries (key_servers_entries rows) change))) tag (Has-fold [] (flat_map (entry_tags rows) (touched_entries (key_servers_entries rows) change)) tag (inr met))

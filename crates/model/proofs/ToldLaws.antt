@@ -16,7 +16,7 @@ use Rattle.model.specs.declared.unseen.UnseenRow.{UnseenRow}
 use Rattle.model.specs.Transactions.{Transaction, is_state_transaction}
 use Rattle.model.specs.Records.{Record, IsHistory, Follows, last_version}
 use Rattle.model.specs.Shares.{each_below}
-use Rattle.model.specs.Journal.{Sayings, state_of, states_from, journal_row, journal, carried_by, told_from, told_row, told_of_state, told_of_row, HaveVerdicts, is_after, unseen}
+use Rattle.model.specs.Journal.{VerdictSource, state_of, states_from, journal_row, journal, carried_by, reply_states_from, reply_row, reply_state_of, reply_row_of, HaveVerdictCount, is_after, unseen}
 use Rattle.model.specs.World.{up_to_version, rows_up_to}
 use Rattle.model.proofs.Members.{Has, Has-from_Contains, Contains-from_Has}
 use Rattle.model.proofs.ShareLaws.{slice_get-append_left}
@@ -37,50 +37,50 @@ slice_get-each_below (suc n) r h = by (cases_order r n) (slice_get-each_below n 
     by (inr (inl below)) rest = slice_get-append_left (each_below n) (n ∷ []) r (omega (arith, length-each_below n)) ∙ rest below
     by (inr (inr above)) rest = absurd (omega arith)
 
-said_by : (config : Config) (says : Sayings) (rec : Record) (n : ℕ) (t : Transaction) (r : ℕ) → r < config.resolvers → unwrap_or (slice_get (state_of config says rec n t).verdicts r) Conflict ≡ says r rec.row n
-said_by config says rec n t r below =
+said_by : (config : Config) (verdict_by : VerdictSource) (rec : Record) (n : ℕ) (t : Transaction) (r : ℕ) → r < config.resolvers → unwrap_or (slice_get (state_of config verdict_by rec n t).verdicts r) Conflict ≡ verdict_by r rec.row n
+said_by config verdict_by rec n t r below =
     ap (λ (found : Option Verdict). unwrap_or found Conflict)
-    (slice_get-map (λ (s : ℕ). says s rec.row n) (each_below config.resolvers) r ∙ ap (option_map (λ (s : ℕ). says s rec.row n)) (slice_get-each_below config.resolvers r below))
+    (slice_get-map (λ (s : ℕ). verdict_by s rec.row n) (each_below config.resolvers) r ∙ ap (option_map (λ (s : ℕ). verdict_by s rec.row n)) (slice_get-each_below config.resolvers r below))
 
-told_states : (config : Config) (says : Sayings) (rec : Record) (r : ℕ) → r < config.resolvers → (n : ℕ) (ts : List Transaction) → told_from says r rec n ts ≡ map (told_of_state r) (states_from config says rec n ts)
-told_states config says rec r below n [] = refl
-told_states config says rec r below n (t ∷ ts) = by (is_state_transaction t) (told_states config says rec r below (suc n) ts)
+told_states : (config : Config) (verdict_by : VerdictSource) (rec : Record) (r : ℕ) → r < config.resolvers → (n : ℕ) (ts : List Transaction) → reply_states_from verdict_by r rec n ts ≡ map (reply_state_of r) (states_from config verdict_by rec n ts)
+told_states config verdict_by rec r below n [] = refl
+told_states config verdict_by rec r below n (t ∷ ts) = by (is_state_transaction t) (told_states config verdict_by rec r below (suc n) ts)
   where
-    by : (b : Bool) → told_from says r rec (suc n) ts ≡ map (told_of_state r) (states_from config says rec (suc n) ts)
-        → (if b then (record { verdict = says r rec.row n; carried = carried_by r t }) ∷ told_from says r rec (suc n) ts else told_from says r rec (suc n) ts) ≡ map (told_of_state r) (if b then state_of config says rec n t ∷ states_from config says rec (suc n) ts else states_from config says rec (suc n) ts)
-    by true rest = λ i. (record { verdict = sym (said_by config says rec n t r below) i; carried = carried_by r t }) ∷ rest i
+    by : (b : Bool) → reply_states_from verdict_by r rec (suc n) ts ≡ map (reply_state_of r) (states_from config verdict_by rec (suc n) ts)
+        → (if b then (record { verdict = verdict_by r rec.row n; carried = carried_by r t }) ∷ reply_states_from verdict_by r rec (suc n) ts else reply_states_from verdict_by r rec (suc n) ts) ≡ map (reply_state_of r) (if b then state_of config verdict_by rec n t ∷ states_from config verdict_by rec (suc n) ts else states_from config verdict_by rec (suc n) ts)
+    by true rest = λ i. (record { verdict = sym (said_by config verdict_by rec n t r below) i; carried = carried_by r t }) ∷ rest i
     by false rest = rest
 
-pub told_row_is : (config : Config) (says : Sayings) (rec : Record) (r : ℕ) → r < config.resolvers → told_row says r rec ≡ told_of_row r (journal_row config says rec)
-unfolding told_row journal_row
-told_row_is config says rec r below = λ i. record { version = rec.version; states = told_states config says rec r below 0 rec.batch i }
+pub told_row_is : (config : Config) (verdict_by : VerdictSource) (rec : Record) (r : ℕ) → r < config.resolvers → reply_row verdict_by r rec ≡ reply_row_of r (journal_row config verdict_by rec)
+unfolding reply_row journal_row
+told_row_is config verdict_by rec r below = λ i. record { version = rec.version; states = told_states config verdict_by rec r below 0 rec.batch i }
 
-told_rows : (config : Config) (says : Sayings) (r : ℕ) → r < config.resolvers → (h : List Record) → map (told_row says r) h ≡ map (told_of_row r) (journal config says h)
+told_rows : (config : Config) (verdict_by : VerdictSource) (r : ℕ) → r < config.resolvers → (h : List Record) → map (reply_row verdict_by r) h ≡ map (reply_row_of r) (journal config verdict_by h)
 unfolding journal
-told_rows config says r below [] = refl
-told_rows config says r below (rec ∷ h) = λ i. told_row_is config says rec r below i ∷ told_rows config says r below h i
+told_rows config verdict_by r below [] = refl
+told_rows config verdict_by r below (rec ∷ h) = λ i. told_row_is config verdict_by rec r below i ∷ told_rows config verdict_by r below h i
 
-pub unseen_is_told : (config : Config) (says : Sayings) (r : ℕ) (before : List Record) (rec : Record) → r < config.resolvers → unseen says r before rec ≡ map (told_of_row r) (journal config says (filter (is_after rec.own_previous) before))
+pub unseen_is_told : (config : Config) (verdict_by : VerdictSource) (r : ℕ) (before : List Record) (rec : Record) → r < config.resolvers → unseen verdict_by r before rec ≡ map (reply_row_of r) (journal config verdict_by (filter (is_after rec.own_previous) before))
 unfolding unseen
-unseen_is_told config says r before rec below = told_rows config says r below (filter (is_after rec.own_previous) before)
+unseen_is_told config verdict_by r before rec below = told_rows config verdict_by r below (filter (is_after rec.own_previous) before)
 
 -- ---- what all resolvers tell leaves no other row
 
-states_verdicts : (config : Config) (says : Sayings) (rec : Record) (n : ℕ) (ts : List Transaction) (t : StateTxn) → Has (states_from config says rec n ts) t → length t.verdicts ≡ config.resolvers
-states_verdicts config says rec n [] t has = absurd has
-states_verdicts config says rec n (u ∷ ts) t has = by (is_state_transaction u) has (states_verdicts config says rec (suc n) ts t)
+states_verdicts : (config : Config) (verdict_by : VerdictSource) (rec : Record) (n : ℕ) (ts : List Transaction) (t : StateTxn) → Has (states_from config verdict_by rec n ts) t → length t.verdicts ≡ config.resolvers
+states_verdicts config verdict_by rec n [] t has = absurd has
+states_verdicts config verdict_by rec n (u ∷ ts) t has = by (is_state_transaction u) has (states_verdicts config verdict_by rec (suc n) ts t)
   where
-    own : state_of config says rec n u ≡ t → length t.verdicts ≡ config.resolvers
-    own same = ap (λ (s : StateTxn). length s.verdicts) (sym same) ∙ length-map (each_below config.resolvers) (λ (r : ℕ). says r rec.row n) ∙ length-each_below config.resolvers
+    own : state_of config verdict_by rec n u ≡ t → length t.verdicts ≡ config.resolvers
+    own same = ap (λ (s : StateTxn). length s.verdicts) (sym same) ∙ length-map (each_below config.resolvers) (λ (r : ℕ). verdict_by r rec.row n) ∙ length-each_below config.resolvers
 
-    by : (b : Bool) → Has (if b then state_of config says rec n u ∷ states_from config says rec (suc n) ts else states_from config says rec (suc n) ts) t → (Has (states_from config says rec (suc n) ts) t → length t.verdicts ≡ config.resolvers) → length t.verdicts ≡ config.resolvers
+    by : (b : Bool) → Has (if b then state_of config verdict_by rec n u ∷ states_from config verdict_by rec (suc n) ts else states_from config verdict_by rec (suc n) ts) t → (Has (states_from config verdict_by rec (suc n) ts) t → length t.verdicts ≡ config.resolvers) → length t.verdicts ≡ config.resolvers
     by true (inl same) rest = own same
     by true (inr later) rest = rest later
     by false later rest = rest later
 
-pub row_verdicts : (config : Config) (says : Sayings) (rec : Record) → HaveVerdicts config.resolvers (journal_row config says rec)
+pub row_verdicts : (config : Config) (verdict_by : VerdictSource) (rec : Record) → HaveVerdictCount config.resolvers (journal_row config verdict_by rec)
 unfolding journal_row
-row_verdicts config says rec t there = states_verdicts config says rec 0 rec.batch t (Has-from_Contains (states_from config says rec 0 rec.batch) t there)
+row_verdicts config verdict_by rec t there = states_verdicts config verdict_by rec 0 rec.batch t (Has-from_Contains (states_from config verdict_by rec 0 rec.batch) t there)
 
 -- lists of one length with the same verdict at each place
 same_verdicts : (vs ws : List Verdict) → length vs ≡ length ws → ((r : ℕ) → r < length vs → unwrap_or (slice_get vs r) Conflict ≡ unwrap_or (slice_get ws r) Conflict) → vs ≡ ws
@@ -92,14 +92,14 @@ same_verdicts (v ∷ vs) (w ∷ ws) same each = λ i. each 0 (omega arith) i ∷
 same_carried : (s t : Carried) → Some s ≡ Some t → s ≡ t
 same_carried s t same = cc
 
-same_state : (n : ℕ) (s t : StateTxn) → 0 < n → length s.verdicts ≡ n → length t.verdicts ≡ n → ((r : ℕ) → r < n → told_of_state r s ≡ told_of_state r t) → s ≡ t
+same_state : (n : ℕ) (s t : StateTxn) → 0 < n → length s.verdicts ≡ n → length t.verdicts ≡ n → ((r : ℕ) → r < n → reply_state_of r s ≡ reply_state_of r t) → s ≡ t
 same_state n s t some in_s in_t each =
     let carried : Some (record { mutations = s.mutations; lock_aware = s.lock_aware }) ≡ Some (record { mutations = t.mutations; lock_aware = t.lock_aware }) = ap (λ (u : UnseenState). u.carried) (each 0 some) in
     let both = same_carried (record { mutations = s.mutations; lock_aware = s.lock_aware }) (record { mutations = t.mutations; lock_aware = t.lock_aware }) carried in
     let verdicts : s.verdicts ≡ t.verdicts = same_verdicts s.verdicts t.verdicts (in_s ∙ sym in_t) (λ r within. ap (λ (u : UnseenState). u.verdict) (each r (omega (arith, within, in_s)))) in
     λ i. record { mutations = (both i).mutations; lock_aware = (both i).lock_aware; verdicts = verdicts i }
 
-same_states : (n : ℕ) (xs ys : List StateTxn) → 0 < n → ((t : StateTxn) → Has xs t → length t.verdicts ≡ n) → ((t : StateTxn) → Has ys t → length t.verdicts ≡ n) → ((r : ℕ) → r < n → map (told_of_state r) xs ≡ map (told_of_state r) ys) → xs ≡ ys
+same_states : (n : ℕ) (xs ys : List StateTxn) → 0 < n → ((t : StateTxn) → Has xs t → length t.verdicts ≡ n) → ((t : StateTxn) → Has ys t → length t.verdicts ≡ n) → ((r : ℕ) → r < n → map (reply_state_of r) xs ≡ map (reply_state_of r) ys) → xs ≡ ys
 same_states n [] [] some in_xs in_ys each = refl
 same_states n [] (y ∷ ys) some in_xs in_ys each = let told = each 0 some in absurd (cc)
 same_states n (x ∷ xs) [] some in_xs in_ys each = let told = each 0 some in absurd (cc)
@@ -107,7 +107,7 @@ same_states n (x ∷ xs) (y ∷ ys) some in_xs in_ys each =
     λ i. same_state n x y some (in_xs x (inl refl)) (in_ys y (inl refl)) (λ r below. let told = each r below in cc) i
     ∷ same_states n xs ys some (λ t has. in_xs t (inr has)) (λ t has. in_ys t (inr has)) (λ r below. let told = each r below in cc) i
 
-pub told_exact : (resolvers : ℕ) (a b : JournalRow) → 0 < resolvers → HaveVerdicts resolvers a → HaveVerdicts resolvers b → ((r : ℕ) → r < resolvers → told_of_row r a ≡ told_of_row r b) → a ≡ b
+pub told_exact : (resolvers : ℕ) (a b : JournalRow) → 0 < resolvers → HaveVerdictCount resolvers a → HaveVerdictCount resolvers b → ((r : ℕ) → r < resolvers → reply_row_of r a ≡ reply_row_of r b) → a ≡ b
 told_exact resolvers a b some in_a in_b each =
     let version : a.version ≡ b.version = ap (λ (row : UnseenRow). row.version) (each 0 some) in
     let states : a.states ≡ b.states = same_states resolvers a.states b.states some (λ t has. in_a t (Contains-from_Has a.states t has)) (λ t has. in_b t (Contains-from_Has b.states t has)) (λ r below. ap (λ (row : UnseenRow). row.states) (each r below)) in

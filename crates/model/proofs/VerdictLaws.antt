@@ -105,7 +105,7 @@ reads_a_write-from_Overlap t u read write read_in write_in overlap =
 pub verdict-from_HasConflict : (window : ℕ) (before : List JudgedPart) (t : JudgedPart) → HasConflict window before t → verdict window before t ≡ Conflict
 verdict-from_HasConflict window before t c =
     conflicts (is_too_old window t) (list_any (λ (u : JudgedPart). is_after_snapshot t u && reads_a_write t u) (committed_after window [] before)) c.in_time
-    (list_any-from_Has (λ (u : JudgedPart). is_after_snapshot t u && reads_a_write t u) (committed_after window [] before) c.u (committed_after_has window before c.front c.back c.u c.before_is c.committed)
+    (list_any-from_Has (λ (u : JudgedPart). is_after_snapshot t u && reads_a_write t u) (committed_after window [] before) c.u (committed_after_has window before c.earlier c.between c.u c.before_is c.committed)
     (and_from (is_after_snapshot t c.u) (reads_a_write t c.u) c.after_snapshot (reads_a_write-from_Overlap t c.u c.read c.write c.read_in c.write_in c.overlap)))
 
 pub HasConflict-from_verdict : (window : ℕ) (before : List JudgedPart) (t : JudgedPart) → verdict window before t ≡ Conflict → HasConflict window before t
@@ -118,7 +118,7 @@ HasConflict-from_verdict window before t e =
     go in_time found both (inl none) = absurd none
     go in_time found both (inr at) =
         let pair = Met-from_test t found.x both.1 in
-        record { in_time = in_time; front = at.front; u = found.x; back = at.back; before_is = at.whole; committed = at.own; after_snapshot = both.0; read = pair.read; write = pair.write; read_in = pair.read_in; write_in = pair.write_in; overlap = pair.overlap }
+        record { in_time = in_time; earlier = at.front; u = found.x; between = at.back; before_is = at.whole; committed = at.own; after_snapshot = both.0; read = pair.read; write = pair.write; read_in = pair.read_in; write_in = pair.write_in; overlap = pair.overlap }
 
 -- ---- too old
 

@@ -1,11 +1,14 @@
--- What the rule of commit says of the lock row, and what a committed transaction is told.
-use Rattle.std.specs.Prelude.{◌≡◌, ◌↔◌, ◌⊎◌, ℕ, List, take, slice_get, Some, Contains, IsTrue, IsFalse}
+-- Two consequences of the rule of commit: what it means for the lock row, and which outcome a
+-- committed transaction gets. The rule is that of the 2021 paper "FoundationDB: A Distributed
+-- Unbundled Transactional Key Value Store".
+use Rattle.std.specs.Prelude.{◌≡◌, ◌↔◌, ◌⊎◌, List, take, slice_get, Some, Contains, IsTrue, IsFalse}
 use Rattle.system_keys.specs.Keys.{Range, holds}
+use Rattle.model.specs.Numbers.{Version, TransactionNumber}
 use Rattle.model.specs.Configs.{Config, IsConfig}
 use Rattle.model.specs.declared.outcome.Outcome.TheVariants.{Committed}
 use Rattle.model.specs.Transactions.{Transaction, is_state_transaction, locked_key}
 use Rattle.model.specs.Records.{Record, IsHistory}
-use Rattle.model.specs.Journal.{verdict_in}
+use Rattle.model.specs.Journal.{history_verdicts}
 use Rattle.model.specs.Outcomes.{outcomes}
 use Rattle.model.specs.Serial.{Place, IsBetween, IsCommitted, IsSerial}
 
@@ -17,8 +20,9 @@ pub record WritesLockRow (t : Transaction) : Type 0 where
   pub write_in : Contains t.writes write
   pub over : IsTrue (holds write locked_key)
 
--- of each two committed transactions, where the first writes over the lock row between the
--- snapshot of the second and the second itself, the second is no state transaction or is lock aware
+-- Take two committed transactions, the second of which comes after the first and does not have it
+-- in its snapshot. If the first writes over the lock row, the second is no state transaction or is
+-- lock aware.
 abbrev pub IsLockRowKept : Config → List Record → Type 0
 IsLockRowKept config h =
     (a b : Place h) → IsCommitted config h a → IsCommitted config h b → IsBetween a b
@@ -30,29 +34,31 @@ abbrev pub SerialKeepsTheLockRow : Type 0
 SerialKeepsTheLockRow =
     (config : Config) (h : List Record) → IsSerial config h → IsLockRowKept config h
 
--- and so does every history
+-- every history keeps the lock row
 abbrev pub HistoriesKeepTheLockRow : Type 0
 HistoriesKeepTheLockRow =
     (config : Config) (h : List Record)
     → IsConfig config → IsHistory config h → IsLockRowKept config h
 
--- ---- what is told
+-- ---- the outcome of a committed transaction
 
--- the outcome told of the transaction in that place is Committed, with this version and this number
-abbrev pub IsToldCommitted : Config → (h : List Record) → Place h → ℕ → ℕ → Type 0
+-- the proxy returns Committed, with this version and this number, for the transaction at that place
+abbrev pub IsToldCommitted :
+    Config → (h : List Record) → Place h → Version → TransactionNumber → Type 0
 IsToldCommitted config h a version number =
-    slice_get (outcomes config (verdict_in config h) (take a.i h) a.rec) a.n
+    slice_get (outcomes config (history_verdicts config h) (take a.i h) a.rec) a.n
     ≡ Some (Committed version number)
 
--- a transaction is committed exactly where it is told Committed with the version of its record and
--- its own number in the batch
+-- a transaction is committed exactly if the proxy returns Committed for it, with the version of its
+-- record and its number in the batch
 abbrev pub CommittedIsTold : Type 0
 CommittedIsTold =
     (config : Config) (h : List Record) (a : Place h)
     → IsCommitted config h a ↔ IsToldCommitted config h a a.rec.version a.n
 
--- and Committed is told with no other version and number
+-- the proxy returns Committed with no other version and number
 abbrev pub ToldNumbersAreItsOwn : Type 0
 ToldNumbersAreItsOwn =
-    (config : Config) (h : List Record) (a : Place h) (version number : ℕ)
+    (config : Config) (h : List Record) (a : Place h)
+    (version : Version) (number : TransactionNumber)
     → IsToldCommitted config h a version number → (version ≡ a.rec.version) × (number ≡ a.n)

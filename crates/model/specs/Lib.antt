@@ -6,6 +6,7 @@ pub mod Growing
 pub mod Journal
 pub mod Metadata
 pub mod Missing
+pub mod Numbers
 pub mod Outcomes
 pub mod OwnRouting
 pub mod Owners

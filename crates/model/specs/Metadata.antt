@@ -1,5 +1,10 @@
--- The metadata: the kept rows as the fold of a journal, whether they are locked, and the tags of a change.
-use Rattle.std.specs.Prelude.{ℕ, List, [], ◌∷◌, ◌++◌, length, drop, map, Bool, true, false, ◌&&◌, ◌||◌, not, if◌then◌else◌, Option, Some, None, Result, Ok, Err, option_to_list, fold, filter, flat_map, Contains, IsTrue}
+-- The metadata: the kept entries as the fold of a journal, the lock, and the tags of a change.
+-- Release 7.1: the fold, `ApplyMetadataMutation.cpp`, applyMetadataMutations, which
+-- `CommitProxyServer.actor.cpp`, applyMetadataEffect, calls for the transactions of other proxies;
+-- the tags, assignMutationsToStorageServers of the same file. What differs is marked *profile*.
+use Rattle.std.specs.Prelude.{ℕ, List, [], ◌∷◌, ◌++◌, length, drop, map, Bool, true, false, ◌&&◌}
+use Rattle.std.specs.Prelude.{◌||◌, not, if◌then◌else◌, Option, Some, None, Result, Ok, Err, fold}
+use Rattle.std.specs.Prelude.{option_to_list, filter, flat_map, Contains, IsTrue}
 use Rattle.std.specs.List.{list_all, last_or}
 use Rattle.std.specs.List.Sorted.{IsStrictlySortedBy}
 use Rattle.std.specs.Map.{lookup, keys_of}
@@ -13,8 +18,10 @@ use Rattle.system_keys.specs.declared.change.Change.TheVariants.{Set, Clear}
 use Rattle.system_keys.specs.declared.refusal.RowFault.{RowFault}
 use Rattle.system_keys.specs.declared.tag.Tag.{Tag}
 use Rattle.system_keys.specs.Keys.{Key, Range, is_key_below, is_key_up_to, holds}
-use Rattle.system_keys.specs.Families.{key_servers_family, server_tag_family, metadata_version_family, is_in, is_kept}
+use Rattle.system_keys.specs.Families.{key_servers_family, server_tag_family}
+use Rattle.system_keys.specs.Families.{metadata_version_family, is_in, is_kept}
 use Rattle.system_keys.specs.Rows.{Id, Servers, servers_at, tag_at}
+use Rattle.model.specs.Numbers.{Version}
 use Rattle.model.specs.declared.journal.StateTxn.{StateTxn}
 use Rattle.model.specs.declared.journal.JournalRow.{JournalRow}
 use Rattle.model.specs.declared.routing.Route.{Route}
@@ -24,146 +31,169 @@ use Rattle.model.specs.Verdicts.{is_committed}
 
 -- ---- the fold
 
--- a row: its key, and its value
-abbrev pub Row : Type 0
-Row = Key × List ℕ
+-- an entry: a key and its value
+abbrev pub Entry : Type 0
+Entry = Key × List ℕ
 
--- the kept rows, in the order of their keys
-abbrev pub Rows : Type 0
-Rows = List Row
+-- the kept entries, in the order of their keys
+abbrev pub Entries : Type 0
+Entries = List Entry
 
--- the rows are in the strict order of their keys, so that no key has two
-abbrev pub IsInOrder : Rows → Type 0
-IsInOrder rows = IsStrictlySortedBy (slice_cmp nat_cmp) (keys_of rows)
+-- the keys of the entries are strictly increasing, so that no key has two entries
+abbrev pub IsInOrder : Entries → Type 0
+IsInOrder entries = IsStrictlySortedBy (slice_cmp nat_cmp) (keys_of entries)
 
--- each row has a kept key
-abbrev pub AreKept : Rows → Type 0
-AreKept rows = (row : Row) → Contains rows row → IsTrue (is_kept row.0)
+-- each entry has a kept key
+abbrev pub AreKept : Entries → Type 0
+AreKept entries = (entry : Entry) → Contains entries entry → IsTrue (is_kept entry.0)
 
--- the value of the row at a key
-abbrev pub row_at : Rows → Key → Option (List ℕ)
-row_at rows key = lookup (is_at (slice_cmp nat_cmp key)) rows
+-- the value at a key, if the key has an entry
+abbrev pub entry_value : Entries → Key → Option (List ℕ)
+entry_value entries key = lookup (is_at (slice_cmp nat_cmp key)) entries
 
--- the row is there, and its value is not empty: an empty value is no lock (release 7.1)
+-- the value is present and not empty; an empty value is no lock
 abbrev pub is_filled : Option (List ℕ) → Bool
 is_filled None = false
 is_filled (Some []) = false
 is_filled (Some (byte ∷ bytes)) = true
 
--- the row `\xff/dbLocked` is there and not empty (release 7.1)
-abbrev pub is_locked : Rows → Bool
-is_locked rows = is_filled (row_at rows locked_key)
+-- the entry of `\xff/dbLocked` is present and not empty
+abbrev pub is_locked : Entries → Bool
+is_locked entries = is_filled (entry_value entries locked_key)
 
--- the rows after a change: a Set of a kept row puts it, a Clear removes the rows of its range, and nothing else changes them (release 7.1)
-abbrev pub changed : Rows → Change → Rows
-changed kept (Set key value) = if is_kept key then insert_entry (slice_cmp nat_cmp) kept key value else kept
-changed kept (Clear range) = filter (λ (row : Row). not (holds range row.0)) kept
+-- The entries after a change. A Set of a kept key puts its value, a Clear removes the entries of
+-- its range, and every other entry is unchanged.
+abbrev pub after_change : Entries → Change → Entries
+after_change entries (Set key value) =
+    if is_kept key then insert_entry (slice_cmp nat_cmp) entries key value else entries
+after_change entries (Clear range) =
+    filter (λ (entry : Entry). not (holds range entry.0)) entries
 
--- the rows after some changes, one after another
-abbrev pub after_changes : Rows → List Change → Rows
-after_changes kept changes = fold changed kept changes
+-- the entries after some changes, one after another
+abbrev pub after_changes : Entries → List Change → Entries
+after_changes entries changes = fold after_change entries changes
 
--- every resolver committed the transaction, and it is lock aware or meets no lock (release 7.1; that the proxies test the lock for the transactions of others too is this project's profile)
-abbrev pub is_let_pass : Bool → StateTxn → Bool
-is_let_pass locked t = list_all is_committed t.verdicts && (t.lock_aware || not locked)
+-- A proxy applies the state transaction: every resolver committed it, and it is lock aware or the
+-- database is not locked. *Profile*: a proxy tests the lock for the transactions of other proxies
+-- too.
+abbrev pub is_applied : (locked : Bool) → StateTxn → Bool
+is_applied locked t = list_all is_committed t.verdicts && (t.lock_aware || not locked)
 
--- the rows after a state transaction that met a lock or not: one that is not let pass changes nothing
-abbrev pub after_state : Bool → Rows → StateTxn → Rows
-after_state locked kept t = if is_let_pass locked t then after_changes kept t.mutations else kept
+-- the entries after a state transaction, which changes nothing if it is not applied
+abbrev pub after_state : (locked : Bool) → Entries → StateTxn → Entries
+after_state locked entries t =
+    if is_applied locked t then after_changes entries t.mutations else entries
 
--- the rows after one row of a journal: the lock is read once, before its first transaction (release 7.1)
-abbrev pub after_row : Rows → JournalRow → Rows
-after_row kept row = fold (after_state (is_locked kept)) kept row.states
+-- the entries after one row of a journal; the lock is read once, before its first transaction
+abbrev pub after_journal_row : Entries → JournalRow → Entries
+after_journal_row entries row = fold (after_state (is_locked entries)) entries row.states
 
--- the changes of a journal's row that are let pass, where its transactions met a lock or not, in order
-abbrev pub let_pass : Bool → JournalRow → List Change
-let_pass locked row = flat_map (λ (t : StateTxn). t.mutations) (filter (is_let_pass locked) row.states)
+-- the changes of a journal row that are applied, in order
+abbrev pub applied_changes : (locked : Bool) → JournalRow → List Change
+applied_changes locked row =
+    flat_map (λ (t : StateTxn). t.mutations) (filter (is_applied locked) row.states)
 
--- the metadata of a journal: its fold, from no rows (release 7.1)
-unfoldable pub metadata : List JournalRow → Rows
-metadata journal = fold after_row [] journal
+-- the metadata of a journal: its fold, from no entries
+unfoldable pub metadata : List JournalRow → Entries
+metadata journal = fold after_journal_row [] journal
 
 -- ---- the tags
 
--- the row is a keyServers row, which says which storage servers have a range of keys (release 7.1)
-abbrev pub is_key_servers : Row → Bool
-is_key_servers row = is_in key_servers_family row.0
+-- the entry is a keyServers row, which names the storage servers of a range of keys
+abbrev pub is_key_servers : Entry → Bool
+is_key_servers entry = is_in key_servers_family entry.0
 
--- the row under the key that follows the prefix `\xff/keyServers/`
-abbrev pub behind_prefix : Row → Row
-behind_prefix row = (drop (length key_servers_family.prefix) row.0, row.1)
+-- the entry with the prefix `\xff/keyServers/` taken off its key
+abbrev pub behind_prefix : Entry → Entry
+behind_prefix entry = (drop (length key_servers_family.prefix) entry.0, entry.1)
 
--- the keyServers rows in the order of keys, each under the key that follows the prefix
-abbrev pub key_servers : Rows → Rows
-key_servers rows = map behind_prefix (filter is_key_servers rows)
+-- the keyServers rows in the order of keys, each without the prefix of its key
+abbrev pub key_servers_entries : Entries → Entries
+key_servers_entries entries = map behind_prefix (filter is_key_servers entries)
 
--- the row is at or before the key
-abbrev pub is_row_up_to : Key → Row → Bool
-is_row_up_to key row = is_key_up_to row.0 key
+-- the entry is at or before the key
+abbrev pub is_entry_up_to : Key → Entry → Bool
+is_entry_up_to key entry = is_key_up_to entry.0 key
 
--- the greatest of these rows at or before the key (release 7.1), and none where there is none (this project's profile); they are in the order of keys
-abbrev pub row_of : Rows → Key → Option Row
-row_of rows key = last_or None (filter (is_row_up_to key) rows)
+-- The greatest of these entries at or before the key; they are in the order of keys.
+-- *Profile*: it may be missing.
+abbrev pub serving_entry : Entries → Key → Option Entry
+serving_entry entries key = last_or None (filter (is_entry_up_to key) entries)
 
--- the row is after the begin of the range, and before its end
-abbrev pub is_row_inside : Range → Row → Bool
-is_row_inside range row = is_key_below range.begin row.0 && is_key_below row.0 range.end
+-- the entry is after the begin of the range, and before its end
+abbrev pub is_entry_inside : Range → Entry → Bool
+is_entry_inside range entry =
+    is_key_below range.begin entry.0 && is_key_below entry.0 range.end
 
--- those of these rows that a change meets: of a Set that of its key, of a Clear that of its begin and each one after its begin and before its end (release 7.1); where a key has no row, it adds none (this project's profile)
-abbrev pub met_rows : Rows → Change → Rows
-met_rows rows (Set key value) = option_to_list (row_of rows key)
-met_rows rows (Clear range) = option_to_list (row_of rows range.begin) ++ filter (is_row_inside range) rows
+-- The entries that a change touches. A Set touches the one that serves its key. A Clear touches the
+-- one that serves its begin, and each entry after its begin and before its end.
+-- *Profile*: a key that no entry serves adds none.
+abbrev pub touched_entries : Entries → Change → Entries
+touched_entries entries (Set key value) = option_to_list (serving_entry entries key)
+touched_entries entries (Clear range) =
+    option_to_list (serving_entry entries range.begin) ++ filter (is_entry_inside range) entries
 
--- the sources and then the destinations of a value that decodes, and none of one that does not
+-- the sources and then the destinations of a decoded value, and none if it does not decode
 abbrev pub all_servers : Result Servers RowFault → List Id
 all_servers (Ok servers) = servers.sources ++ servers.destinations
 all_servers (Err fault) = []
 
--- the sources and the destinations of a keyServers value (release 7.1); a value that does not decode names none (this project's profile)
+-- The sources and the destinations of a keyServers value.
+-- *Profile*: a value that does not decode names none.
 abbrev pub servers_of : List ℕ → List Id
 servers_of value = all_servers (servers_at value)
 
--- the tag of a value that decodes, and none of one that does not
+-- the tag of a decoded value, and none if it does not decode
 abbrev pub one_tag : Result Tag RowFault → List Tag
 one_tag (Ok tag) = tag ∷ []
 one_tag (Err fault) = []
 
--- the tag of a serverTag value, if it is there; one that does not decode gives none (this project's profile)
+-- The tag of a serverTag value, and none if the value is missing.
+-- *Profile*: a value that does not decode gives none.
 abbrev pub tag_of : Option (List ℕ) → List Tag
 tag_of None = []
 tag_of (Some value) = one_tag (tag_at value)
 
--- the tag of a server: none where it has no serverTag row (this project's profile)
-unfoldable pub server_tags : Rows → Id → List Tag
-server_tags rows id = tag_of (row_at rows (server_tag_family.prefix ++ id))
+-- The tag of a server. *Profile*: a server without a serverTag row has none.
+unfoldable pub server_tags : Entries → Id → List Tag
+server_tags entries id = tag_of (entry_value entries (server_tag_family.prefix ++ id))
 
--- the tags of the servers that a keyServers row names, in the order of the value
-unfoldable pub row_tags : Rows → Row → List Tag
-row_tags rows row = flat_map (server_tags rows) (servers_of row.1)
+-- the tags of the servers that a keyServers row names, in the order of its value
+unfoldable pub entry_tags : Entries → Entry → List Tag
+entry_tags entries entry = flat_map (server_tags entries) (servers_of entry.1)
 
--- tags are ordered by their locality, and then by their id
-abbrev pub tag_cmp : Tag → Tag → Ordering
+-- the order of tags: by their locality, and then by their id
+abbrev pub tag_cmp : (a b : Tag) → Ordering
 tag_cmp a b = ordering_then (nat_cmp a.locality b.locality) (nat_cmp a.id b.id)
 
--- the tags of a list, rising and without repeats (the order is this project's profile)
-abbrev pub rising : List Tag → List Tag
-rising tags = fold (insert_key tag_cmp) [] tags
+-- The tags of a list, strictly increasing. *Profile*: the order.
+abbrev pub sorted_tags : List Tag → List Tag
+sorted_tags tags = fold (insert_key tag_cmp) [] tags
 
--- the tags of a change: those of the servers named by the keyServers rows that it meets (release 7.1); the order, and that a key without a row and a server without a tag add none, is this project's profile
-unfoldable pub tags : Rows → Change → List Tag
-tags rows change = rising (flat_map (row_tags rows) (met_rows (key_servers rows) change))
+-- The tags of a change: those of the servers that the touched keyServers rows name.
+-- *Profile*: the order; and a key without a row and a server without a tag add none.
+unfoldable pub tags : Entries → Change → List Tag
+tags entries change =
+    let touched = touched_entries (key_servers_entries entries) change in
+    sorted_tags (flat_map (entry_tags entries) touched)
 
 -- ---- the routing
 
--- the tags of a key: those of a Set of it, whose value does not matter
-abbrev pub tags_of_key : Rows → Key → List Tag
-tags_of_key rows key = tags rows (Set key [])
+-- the tags of a key: those of a Set of it, whatever its value
+abbrev pub tags_of_key : Entries → Key → List Tag
+tags_of_key entries key = tags entries (Set key [])
 
 -- a keyServers row, with the tags of its key
-abbrev pub route_of : Rows → Row → Route
-route_of rows row = record { key = row.0; tags = tags_of_key rows row.0 }
+abbrev pub route_of : Entries → Entry → Route
+route_of entries entry = record { key = entry.0; tags = tags_of_key entries entry.0 }
 
--- what the rows say of the whole key space: the lock, the value of `\xff/metadataVersion` or none, and a route for each keyServers row, in the order of keys (this project's profile)
-unfoldable pub routing : ℕ → Rows → Routing
-routing version rows =
-    record { version = version; locked = is_locked rows; metadata_version = row_at rows metadata_version_family.prefix; routes = map (route_of rows) (key_servers rows) }
+-- The routing that the metadata gives at a version: the lock, the value of `\xff/metadataVersion`
+-- or None, and a route for each keyServers row in the order of keys (*profile*).
+unfoldable pub routing : Version → Entries → Routing
+routing version entries =
+    record {
+      version = version;
+      locked = is_locked entries;
+      metadata_version = entry_value entries metadata_version_family.prefix;
+      routes = map (route_of entries) (key_servers_entries entries);
+    }

@@ -1,5 +1,7 @@
--- A missing verdict counts as Conflict: what a history, a cell or a list of verdicts does not have.
+-- A missing verdict counts as Conflict: one that a history, a cell or a list of verdicts does not
+-- have. *Profile*: all of it.
 use Rattle.std.specs.Prelude.{◌≡◌, ℕ, List, slice_get, Some, None}
+use Rattle.model.specs.Numbers.{ResolverNumber, RowNumber, TransactionNumber}
 use Rattle.model.specs.Configs.{Config}
 use Rattle.model.specs.declared.part.Part.{Part}
 use Rattle.model.specs.declared.verdict.Verdict.{Verdict}
@@ -8,53 +10,57 @@ use Rattle.model.specs.declared.journal.StateTxn.{StateTxn}
 use Rattle.model.specs.declared.unseen.StateMark.{StateMark}
 use Rattle.model.specs.Records.{Record}
 use Rattle.model.specs.Shares.{share}
-use Rattle.model.specs.Journal.{verdict_in, list_at, known_in, told_of_state}
-use Rattle.model.specs.Requests.{told_mark}
+use Rattle.model.specs.Journal.{history_verdicts, list_at, cell_verdicts, reply_state_of}
+use Rattle.model.specs.Requests.{reply_state_of_mark}
 use Rattle.model.specs.Agreed.{Columns}
 
 -- no place has both a part of this number and a verdict
-abbrev pub HasNoVerdict : List Part → List Verdict → ℕ → Type 0
+abbrev pub HasNoVerdict : List Part → List Verdict → (number : TransactionNumber) → Type 0
 HasNoVerdict parts verdicts number =
     (place : ℕ) (part : Part) → slice_get parts place ≡ Some part → part.number ≡ number
     → slice_get verdicts place ≡ None
 
--- by a history without a record in this row, each verdict in the row is Conflict
+-- if a history has no record in this row, each verdict in the row is Conflict
 abbrev pub NoRecordIsConflict : Type 0
 NoRecordIsConflict =
-    (config : Config) (h : List Record) (r row number : ℕ) → slice_get h row ≡ None
-    → verdict_in config h r row number ≡ Conflict
+    (config : Config) (h : List Record)
+    (r : ResolverNumber) (row : RowNumber) (number : TransactionNumber)
+    → slice_get h row ≡ None → history_verdicts config h r row number ≡ Conflict
 
--- by a history whose record has no transaction of this number, its verdict is Conflict
+-- if the record of a row has no transaction of this number, the verdict on it is Conflict
 abbrev pub NoTransactionIsConflict : Type 0
 NoTransactionIsConflict =
-    (config : Config) (h : List Record) (r row number : ℕ) (rec : Record)
+    (config : Config) (h : List Record)
+    (r : ResolverNumber) (row : RowNumber) (number : TransactionNumber) (rec : Record)
     → slice_get h row ≡ Some rec → slice_get rec.batch number ≡ None
-    → verdict_in config h r row number ≡ Conflict
+    → history_verdicts config h r row number ≡ Conflict
 
--- by cells whose holder has no record in this row, each verdict in the row is Conflict
+-- if a view has no record in this row, each verdict by its cells in the row is Conflict
 abbrev pub UnknownRecordIsConflict : Type 0
 UnknownRecordIsConflict =
-    (config : Config) (h : List Record) (columns : Columns) (r row number : ℕ)
-    → slice_get h row ≡ None → known_in config h columns r row number ≡ Conflict
+    (config : Config) (h : List Record) (columns : Columns)
+    (r : ResolverNumber) (row : RowNumber) (number : TransactionNumber)
+    → slice_get h row ≡ None → cell_verdicts config h columns r row number ≡ Conflict
 
--- by a cell without a verdict on a part of this number, because the cell is missing or too short
--- or because the share has no such part, the verdict is Conflict
+-- If a cell has no verdict on a part of this number, the verdict is Conflict. The cell may be
+-- missing or too short, or the share may have no such part.
 abbrev pub NoVerdictInCellIsConflict : Type 0
 NoVerdictInCellIsConflict =
-    (config : Config) (h : List Record) (columns : Columns) (r row number : ℕ) (rec : Record)
+    (config : Config) (h : List Record) (columns : Columns)
+    (r : ResolverNumber) (row : RowNumber) (number : TransactionNumber) (rec : Record)
     → slice_get h row ≡ Some rec
     → HasNoVerdict (share config rec r) (list_at (list_at columns r) row) number
-    → known_in config h columns r row number ≡ Conflict
+    → cell_verdicts config h columns r row number ≡ Conflict
 
--- a mark of a state transaction without a verdict is told as Conflict
+-- a resolver replies Conflict for a marked state transaction without a verdict
 abbrev pub UnjudgedMarkIsConflict : Type 0
 UnjudgedMarkIsConflict =
     (parts : List Part) (verdicts : List Verdict) (mark : StateMark)
     → HasNoVerdict parts verdicts mark.number
-    → (told_mark parts verdicts mark).verdict ≡ Conflict
+    → (reply_state_of_mark parts verdicts mark).verdict ≡ Conflict
 
--- a state transaction without a verdict of resolver r is told as Conflict by r
+-- resolver r replies Conflict for a state transaction that has no verdict of r
 abbrev pub NoVerdictIsToldAsConflict : Type 0
 NoVerdictIsToldAsConflict =
-    (r : ℕ) (t : StateTxn) → slice_get t.verdicts r ≡ None
-    → (told_of_state r t).verdict ≡ Conflict
+    (r : ResolverNumber) (t : StateTxn) → slice_get t.verdicts r ≡ None
+    → (reply_state_of r t).verdict ≡ Conflict

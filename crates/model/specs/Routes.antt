@@ -1,27 +1,34 @@
--- Which keyServers row serves a key, and which tags a change has.
+-- Which keyServers row serves a key, and which tags a change has. Release 7.1,
+-- `CommitProxyServer.actor.cpp`, assignMutationsToStorageServers. Both are stated as predicates
+-- here; `route_law` and `tags_law` say that `serving_entry` and `tags` of Metadata.antt agree with
+-- them.
 use Rattle.std.specs.Prelude.{Contains, IsTrue}
 use Rattle.system_keys.specs.declared.change.Change.{Change}
 use Rattle.system_keys.specs.declared.tag.Tag.{Tag}
 use Rattle.system_keys.specs.Keys.{Key, Range, is_key_up_to, holds}
 use Rattle.system_keys.specs.Rows.{Id}
-use Rattle.model.specs.Metadata.{Row, Rows, met_rows, key_servers, servers_of, server_tags}
+use Rattle.model.specs.Metadata.{Entry, Entries, touched_entries, key_servers_entries}
+use Rattle.model.specs.Metadata.{servers_of, server_tags}
 
--- of these rows, this is the one that serves the key: it is at or before the key, and no other such row is above it (release 7.1)
-pub record Serves (rows : Rows) (key : Key) (row : Row) : Type 0 where
-  pub there : Contains rows row
-  pub up_to : IsTrue (is_key_up_to row.0 key)
-  pub greatest : (other : Row) → Contains rows other → IsTrue (is_key_up_to other.0 key) → IsTrue (is_key_up_to other.0 row.0)
+-- of these entries, this one serves the key: it is at or before the key, and no other such entry
+-- has a greater key
+pub record Serves (entries : Entries) (key : Key) (entry : Entry) : Type 0 where
+  pub there : Contains entries entry
+  pub up_to : IsTrue (is_key_up_to entry.0 key)
+  pub greatest :
+      (other : Entry) → Contains entries other → IsTrue (is_key_up_to other.0 key)
+      → IsTrue (is_key_up_to other.0 entry.0)
 
--- of these rows, this is one that serves some key of the range
-pub record ServesSome (rows : Rows) (range : Range) (row : Row) : Type 0 where
+-- of these entries, this one serves some key of the range
+pub record ServesSome (entries : Entries) (range : Range) (entry : Entry) : Type 0 where
   pub key : Key
   pub inside : IsTrue (holds range key)
-  pub serves : Serves rows key row
+  pub serves : Serves entries key entry
 
--- the change has the tag: that of a server which a keyServers row names, and the change meets that row (release 7.1)
-pub record HasTag (rows : Rows) (change : Change) (tag : Tag) : Type 0 where
-  pub row : Row
-  pub met : Contains (met_rows (key_servers rows) change) row
+-- the change has the tag: it touches a keyServers row that names a server with this tag
+pub record HasTag (entries : Entries) (change : Change) (tag : Tag) : Type 0 where
+  pub entry : Entry
+  pub touched : Contains (touched_entries (key_servers_entries entries) change) entry
   pub server : Id
-  pub named : Contains (servers_of row.1) server
-  pub tagged : Contains (server_tags rows server) tag
+  pub named : Contains (servers_of entry.1) server
+  pub tagged : Contains (server_tags entries server) tag

@@ -1,6 +1,11 @@
--- What each resolver is asked about a record: first by any oldest version back to which owners are remembered, and then by the record's own.
-use Rattle.std.specs.Prelude.{ℕ, zero, suc, max, List, [], ◌∷◌, ◌++◌, Bool, ◌||◌, if◌then◌else◌, filter}
+-- The share of each resolver in a record: the transactions and ranges that the proxy sends to it.
+-- Release 7.1, `CommitProxyServer.actor.cpp`, ResolutionRequestBuilder; what differs is marked
+-- *profile*. The first section takes any oldest version back to which owners are remembered, the
+-- second the record's own.
+use Rattle.std.specs.Prelude.{ℕ, zero, suc, max, List, [], ◌∷◌, ◌++◌, Bool, ◌||◌, if◌then◌else◌}
+use Rattle.std.specs.Prelude.{filter}
 use Rattle.std.specs.List.{list_any}
+use Rattle.model.specs.Numbers.{Version, ResolverNumber, TransactionNumber}
 use Rattle.model.specs.Configs.{Config}
 use Rattle.model.specs.declared.part.Part.{Part}
 use Rattle.model.specs.Transactions.{Transaction, is_state_transaction, all_reads}
@@ -9,12 +14,13 @@ use Rattle.model.specs.Records.{Record, oldest}
 
 -- ---- back to an oldest version
 
--- the walk of a read goes back to the greater of the snapshot and the oldest version (this project's profile)
-abbrev pub read_bound : ℕ → Transaction → ℕ
+-- the walk of a read goes back to the greater of the snapshot and the oldest version (*profile*)
+abbrev pub read_bound : (oldest : Version) → Transaction → Version
 read_bound oldest t = max t.snapshot oldest
 
--- what resolver r sees of transaction t, number n of the record, where owners are remembered back to `oldest`: the whole ranges that r is asked about (release 7.1)
-abbrev pub part_back_to : ℕ → Record → ℕ → ℕ → Transaction → Part
+-- the part of transaction t, number n of the record, that resolver r gets: whole ranges, never cut
+abbrev pub part_back_to :
+    (oldest : Version) → Record → ResolverNumber → TransactionNumber → Transaction → Part
 part_back_to oldest rec r n t =
     record {
       number = n;
@@ -23,48 +29,57 @@ part_back_to oldest rec r n t =
       writes = filter (asks_write rec.moves r) t.writes;
     }
 
--- the transaction asks resolver r: one of its ranges does, or it is a state transaction, which asks every resolver (release 7.1)
-abbrev pub asks_back_to : ℕ → Record → ℕ → Transaction → Bool
+-- Resolver r gets a part of the transaction: r gets one of its ranges, or it is a state
+-- transaction, which every resolver gets.
+abbrev pub asks_back_to : (oldest : Version) → Record → ResolverNumber → Transaction → Bool
 asks_back_to oldest rec r t =
-    is_state_transaction t || list_any (asks_read rec.moves (read_bound oldest t) r) (all_reads t) || list_any (asks_write rec.moves r) t.writes
+    is_state_transaction t
+    || list_any (asks_read rec.moves (read_bound oldest t) r) (all_reads t)
+    || list_any (asks_write rec.moves r) t.writes
 
--- the parts that resolver r sees of these transactions, numbered from n: those that ask it, in batch order (release 7.1)
-abbrev pub parts_back_to : ℕ → Record → ℕ → ℕ → List Transaction → List Part
+-- the parts that resolver r gets of these transactions, numbered from n, in batch order
+abbrev pub parts_back_to :
+    (oldest : Version) → Record → ResolverNumber → TransactionNumber → List Transaction → List Part
 parts_back_to oldest rec r n [] = []
 parts_back_to oldest rec r n (t ∷ ts) =
-    if asks_back_to oldest rec r t then part_back_to oldest rec r n t ∷ parts_back_to oldest rec r (suc n) ts else parts_back_to oldest rec r (suc n) ts
+    if asks_back_to oldest rec r t
+    then part_back_to oldest rec r n t ∷ parts_back_to oldest rec r (suc n) ts
+    else parts_back_to oldest rec r (suc n) ts
 
--- the share of resolver r in a record (release 7.1)
-unfoldable pub share_back_to : ℕ → Record → ℕ → List Part
+-- the share of resolver r in a record
+unfoldable pub share_back_to : (oldest : Version) → Record → ResolverNumber → List Part
 share_back_to oldest rec r = parts_back_to oldest rec r 0 rec.batch
 
--- the numbers below n, rising
+-- the numbers below n, in increasing order
 abbrev pub each_below : ℕ → List ℕ
 each_below zero = []
 each_below (suc n) = each_below n ++ n ∷ []
 
--- the resolvers that a transaction asks, rising
-abbrev pub asked_back_to : ℕ → ℕ → Record → Transaction → List ℕ
-asked_back_to oldest resolvers rec t = filter (λ r. asks_back_to oldest rec r t) (each_below resolvers)
+-- the resolvers that get a part of the transaction, in increasing order
+abbrev pub asked_back_to :
+    (oldest : Version) (resolvers : ℕ) → Record → Transaction → List ResolverNumber
+asked_back_to oldest resolvers rec t =
+    filter (λ r. asks_back_to oldest rec r t) (each_below resolvers)
 
 -- ---- back to the record's oldest version
 
--- what resolver r sees of transaction t, number n of the record
-abbrev pub part_of : Config → Record → ℕ → ℕ → Transaction → Part
+-- the part of transaction t, number n of the record, that resolver r gets
+abbrev pub part_of : Config → Record → ResolverNumber → TransactionNumber → Transaction → Part
 part_of config rec r n t = part_back_to (oldest config rec) rec r n t
 
--- the transaction asks resolver r
-abbrev pub asks : Config → Record → ℕ → Transaction → Bool
+-- resolver r gets a part of the transaction
+abbrev pub asks : Config → Record → ResolverNumber → Transaction → Bool
 asks config rec r t = asks_back_to (oldest config rec) rec r t
 
--- the parts that resolver r sees of these transactions, numbered from n
-abbrev pub parts_from : Config → Record → ℕ → ℕ → List Transaction → List Part
+-- the parts that resolver r gets of these transactions, numbered from n
+abbrev pub parts_from :
+    Config → Record → ResolverNumber → TransactionNumber → List Transaction → List Part
 parts_from config rec r n ts = parts_back_to (oldest config rec) rec r n ts
 
 -- the share of resolver r in a record
-abbrev pub share : Config → Record → ℕ → List Part
+abbrev pub share : Config → Record → ResolverNumber → List Part
 share config rec r = share_back_to (oldest config rec) rec r
 
--- the resolvers that a transaction asks, rising
-abbrev pub asked : Config → Record → Transaction → List ℕ
+-- the resolvers that get a part of the transaction, in increasing order
+abbrev pub asked : Config → Record → Transaction → List ResolverNumber
 asked config rec t = asked_back_to (oldest config rec) config.resolvers rec t

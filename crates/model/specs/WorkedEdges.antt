@@ -21,7 +21,7 @@ use Rattle.model.specs.Transactions.{Transaction, locked_key}
 use Rattle.model.specs.Records.{Record}
 use Rattle.model.specs.Shares.{share, asked}
 use Rattle.model.specs.Metadata.{metadata, tags, tags_of_key, routing}
-use Rattle.model.specs.Journal.{Sayings, verdict_in, known_in, journal_row, told_row, told_of_state}
+use Rattle.model.specs.Journal.{VerdictSource, history_verdicts, cell_verdicts, journal_row, reply_row, reply_state_of}
 use Rattle.model.specs.Requests.{request}
 use Rattle.model.specs.World.{Event, Sequence, MoveRange, Offer, Finish, GivenUp, MissingReply, VersionsEnd, Sequenced, Refused, proxy_metadata, proxy_routing}
 use Rattle.model.specs.Agreed.{Columns}
@@ -221,7 +221,7 @@ TheRequestsForARecord =
     })
 
 -- resolver 0 commits transaction 2 of row 4, and resolver 1 calls transaction 3 of it too old; all else is refused
-abbrev pub said_of_row_4 : Sayings
+abbrev pub said_of_row_4 : VerdictSource
 said_of_row_4 r row number = if nat_eq row 4 then (if nat_eq number (r + 2) then (if nat_eq r 0 then Committed else TooOld) else Conflict) else Conflict
 
 -- the journal row of the record has its state mutations alone and the verdicts of all resolvers in order, and each resolver tells its own
@@ -232,7 +232,7 @@ TheJournalRowOfARecord =
     ((record { mutations = set_tag_row ∷ []; lock_aware = false; verdicts = Committed ∷ Conflict ∷ [] })
     ∷ (record { mutations = set_version_row ∷ []; lock_aware = true; verdicts = Conflict ∷ TooOld ∷ [] })
     ∷ []))
-    × (told_row said_of_row_4 0 mixed_record
+    × (reply_row said_of_row_4 0 mixed_record
     ≡ record {
       version = 30;
       states =
@@ -240,7 +240,7 @@ TheJournalRowOfARecord =
           ∷ (record { verdict = Conflict; carried = Some (record { mutations = set_version_row ∷ []; lock_aware = true }) })
           ∷ [];
     })
-    × (told_row said_of_row_4 1 mixed_record ≡ record { version = 30; states = (record { verdict = Conflict; carried = None }) ∷ (record { verdict = TooOld; carried = None }) ∷ [] })
+    × (reply_row said_of_row_4 1 mixed_record ≡ record { version = 30; states = (record { verdict = Conflict; carried = None }) ∷ (record { verdict = TooOld; carried = None }) ∷ [] })
 
 -- ---- missing verdicts
 
@@ -253,7 +253,7 @@ some_cells =
 -- what the cells say of the transactions of a row, 0 to 4, by resolver r
 abbrev pub said_by_cells : ℕ → ℕ → List Verdict
 said_by_cells r row =
-    map (known_in narrow (mixed_record ∷ []) some_cells r row) (0 ∷ 1 ∷ 2 ∷ 3 ∷ 4 ∷ [])
+    map (cell_verdicts narrow (mixed_record ∷ []) some_cells r row) (0 ∷ 1 ∷ 2 ∷ 3 ∷ 4 ∷ [])
 
 abbrev pub five_conflicts : List Verdict
 five_conflicts = replicate 5 Conflict
@@ -271,8 +271,8 @@ CellsWithoutVerdicts =
 -- those in a second row
 abbrev pub AHistoryWithoutVerdicts : Type 0
 AHistoryWithoutVerdicts =
-    (verdict_in narrow (mixed_record ∷ []) 0 0 4 ≡ Conflict)
-    × (map (verdict_in narrow (mixed_record ∷ []) 0 1) (0 ∷ 1 ∷ 2 ∷ 3 ∷ 4 ∷ []) ≡ five_conflicts)
+    (history_verdicts narrow (mixed_record ∷ []) 0 0 4 ≡ Conflict)
+    × (map (history_verdicts narrow (mixed_record ∷ []) 0 1) (0 ∷ 1 ∷ 2 ∷ 3 ∷ 4 ∷ []) ≡ five_conflicts)
 
 -- a state transaction with the verdicts of two resolvers
 abbrev pub two_verdicts : StateTxn
@@ -286,7 +286,7 @@ told_state verdict carried = record { verdict = verdict; carried = carried }
 -- resolvers 0 and 1 tell their verdicts, and resolver 2, whose verdict is missing, tells Conflict
 abbrev pub TooFewVerdicts : Type 0
 TooFewVerdicts =
-    map (λ (r : ℕ). told_of_state r two_verdicts) (0 ∷ 1 ∷ 2 ∷ [])
+    map (λ (r : ℕ). reply_state_of r two_verdicts) (0 ∷ 1 ∷ 2 ∷ [])
     ≡ told_state Committed (Some (record { mutations = set_tag_row ∷ []; lock_aware = false }))
     ∷ told_state TooOld None
     ∷ told_state Conflict None

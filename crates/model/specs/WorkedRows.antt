@@ -22,11 +22,11 @@ use Rattle.model.specs.declared.outcome.Tagged.{Tagged}
 use Rattle.model.specs.Stamps.{Mutation, Set, Clear, SetStamped, Given, stamped_value}
 use Rattle.model.specs.Transactions.{locked_key}
 use Rattle.model.specs.Records.{Record}
-use Rattle.model.specs.Owners.{Owner, asks_write, asks_read, some_key, is_met, without_front}
+use Rattle.model.specs.Owners.{Owner, asks_write, asks_read, some_key, walk_visits, trimmed}
 use Rattle.model.specs.Shares.{asked, each_below}
 use Rattle.model.specs.Verdicts.{JudgedPart, verdicts_after}
 use Rattle.model.specs.Metadata.{metadata, tags_of_key, routing}
-use Rattle.model.specs.World.{World, Event, Sequence, MoveRange, Offer, Finish, Refusal, NoSuchResolver, Early, GivenUp, NoSuchProxy, WrongResolver, NoSuchRow, OutOfTurn, MissingReply, VersionsEnd, Answer, Sequenced, Moved, Again, Completed, Refused, start, answers, world_after, proxy_journal, proxy_metadata, proxy_routing, remembered_by}
+use Rattle.model.specs.World.{World, Event, Sequence, MoveRange, Offer, Finish, Refusal, NoSuchResolver, Early, GivenUp, NoSuchProxy, WrongResolver, NoSuchRow, OutOfTurn, MissingReply, VersionsEnd, Answer, Sequenced, Moved, Again, Completed, Refused, initial_world, answers, world_after, proxy_journal, proxy_metadata, proxy_routing, remembered_by}
 use Rattle.model.specs.World as world
 
 -- ---- words of the rows
@@ -37,10 +37,10 @@ cluster = record { proxies = 2; resolvers = 2; window = 100; step = 10 }
 
 -- the answers to some events from the start, and the world after them
 abbrev pub told : Config → List Event → List Answer
-told config events = answers config (start config) events
+told config events = answers config (initial_world config) events
 
 abbrev pub after : Config → List Event → World
-after config events = world_after config (start config) events
+after config events = world_after config (initial_world config) events
 
 -- some keys
 abbrev pub a : Key
@@ -330,11 +330,11 @@ writers ranges = filter (λ (r : ℕ). asks_write two_moves r ranges) (each_belo
 -- what remains of a list whose front was dropped by some oldest versions, one after another
 abbrev pub remaining : List ℕ → List Owner → List Owner
 remaining [] list = list
-remaining (oldest ∷ rest) list = remaining rest (without_front oldest list)
+remaining (oldest ∷ rest) list = remaining rest (trimmed oldest list)
 
 -- the same readers, where the fronts of all lists were dropped by these oldest versions
 abbrev pub readers_after : List ℕ → ℕ → Range → List ℕ
-readers_after forgotten bound ranges = filter (λ (r : ℕ). some_key two_moves (λ (list : List Owner). is_met bound r (remaining forgotten list)) ranges) (each_below 3)
+readers_after forgotten bound ranges = filter (λ (r : ℕ). some_key two_moves (λ (list : List Owner). walk_visits bound r (remaining forgotten list)) ranges) (each_below 3)
 
 -- three resolvers, and a move inside a move: reads back to 20 and to 30, and writes of all and of the part that moved; once the fronts before 30 are dropped, a read back to 20 asks as one back to 30, and a smaller oldest drops nothing more
 abbrev pub DatedOwnersOfThreeResolvers : Type 0

@@ -1,7 +1,14 @@
--- The world without threads: a history, the moves so far, and how far each resolver and each proxy has come; its events and their answers.
-use Rattle.std.specs.Prelude.{◌≡◌, ℕ, suc, ◌+◌, ◌<◌, ◌≤◌, max, List, [], ◌∷◌, ◌++◌, length, take, replicate, filter, nat_eq, nat_lt, nat_le, if◌then◌else◌, slice_get, slice_index, slice_set, Option, Some, None}
+-- The cluster as a world of events: a history, the moves so far, and how far each resolver and each
+-- proxy has come. Release 7.1: a batch gets its version, `masterserver.actor.cpp`, getVersion; a
+-- request comes to a resolver, `Resolver.actor.cpp`, resolveBatch; a proxy finishes a batch,
+-- `CommitProxyServer.actor.cpp`, applyMetadataEffect and assignMutationsToStorageServers. What
+-- differs is marked *profile*.
+use Rattle.std.specs.Prelude.{◌≡◌, ℕ, suc, ◌+◌, ◌<◌, ◌≤◌, max, List, [], ◌∷◌, ◌++◌, length, take}
+use Rattle.std.specs.Prelude.{replicate, filter, nat_eq, nat_lt, nat_le, if◌then◌else◌, slice_get}
+use Rattle.std.specs.Prelude.{slice_index, slice_set, Option, Some, None}
 use Rattle.system_keys.specs.declared.change.Change.{Change}
 use Rattle.system_keys.specs.Keys.{Range}
+use Rattle.model.specs.Numbers.{Version, ResolverNumber, ProxyNumber, RowNumber, TransactionNumber}
 use Rattle.model.specs.Configs.{Config, version_limit}
 use Rattle.model.specs.declared.moves.Move.{Move}
 use Rattle.model.specs.declared.journal.JournalRow.{JournalRow}
@@ -14,243 +21,335 @@ use Rattle.model.specs.declared.outcome.Tagged.{Tagged}
 use Rattle.model.specs.declared.outcome.Finished.{Finished}
 use Rattle.model.specs.Stamps.{Given, stamped_from}
 use Rattle.model.specs.Transactions.{Transaction}
-use Rattle.model.specs.Records.{Record, MovesFollow, last_version, of_proxy}
+use Rattle.model.specs.Records.{Record, MovesFollow, last_version, records_of_proxy}
 use Rattle.model.specs.Shares.{each_below}
 use Rattle.model.specs.Verdicts.{share_verdicts}
-use Rattle.model.specs.Metadata.{Rows, metadata, tags, routing}
-use Rattle.model.specs.Journal.{Sayings, verdict_in, journal_row, journal, unseen, remembered}
+use Rattle.model.specs.Metadata.{Entries, metadata, tags, routing}
+use Rattle.model.specs.Journal.{VerdictSource, history_verdicts, journal_row, journal, unseen}
+use Rattle.model.specs.Journal.{remembered}
 use Rattle.model.specs.Outcomes.{outcomes_after}
 
--- the history, the moves so far, for each record the version of the last record that its proxy had finished, for each resolver how many rows it has judged, and for each proxy how many of its records are finished (this project's profile)
+-- The history and the moves so far. `received` has for each record the version of the last record
+-- that its proxy had finished. `judged_counts` has for each resolver the number of rows that it has
+-- judged. `finished` has for each proxy the number of its records that are finished. *Profile*: all
+-- of it.
 pub record World : Type 0 where
   pub history : List Record
   pub moves : List Move
-  pub received : List ℕ
-  pub fronts : List ℕ
+  pub received : List Version
+  pub judged_counts : List ℕ
   pub finished : List ℕ
 
--- what can happen: a proxy's batch gets its record, a range moves to a resolver, the request for a row comes to a resolver, a proxy finishes its earliest record that is not finished
+-- An event: a proxy's batch gets its record, a range moves to a resolver, a resolver gets the
+-- request for a row, or a proxy finishes its earliest unfinished record.
 pub data Event : Type 0 where
-  Sequence : (proxy : ℕ) (batch : List Given) → Event
-  MoveRange : (range : Range) (destination : ℕ) → Event
-  Offer : (row resolver : ℕ) → Event
-  Finish : (proxy : ℕ) → Event
+  Sequence : (proxy : ProxyNumber) (batch : List Given) → Event
+  MoveRange : (range : Range) (destination : ResolverNumber) → Event
+  Offer : (row : RowNumber) (resolver : ResolverNumber) → Event
+  Finish : (proxy : ProxyNumber) → Event
 
--- why an event is refused; an early request with the version of the last row judged, 0 if none, and a finish out of turn with the row awaited, if one is
+-- Why an event is refused. An early request comes back with the version of the last row judged, 0
+-- if there is none. A finish out of turn comes back with the row expected, if any.
 pub data Refusal : Type 0 where
   NoSuchResolver : Refusal
-  Early : (version : ℕ) → Refusal
-  GivenUp : (acknowledged : ℕ) → Refusal
+  Early : (version : Version) → Refusal
+  GivenUp : (acknowledged : Version) → Refusal
   NoSuchProxy : Refusal
   WrongResolver : Refusal
   NoSuchRow : Refusal
-  OutOfTurn : (expected : Option ℕ) → Refusal
-  MissingReply : (resolver : ℕ) → Refusal
+  OutOfTurn : (expected : Option RowNumber) → Refusal
+  MissingReply : (resolver : ResolverNumber) → Refusal
   VersionsEnd : Refusal
 
--- what an event is answered
+-- the answer to an event
 pub data Answer : Type 0 where
-  Sequenced : (row version : ℕ) → Answer
-  Moved : (date : ℕ) → Answer
+  Sequenced : (row : RowNumber) (version : Version) → Answer
+  Moved : (date : Version) → Answer
   Judged : (reply : Reply) → Answer
   Again : (reply : Reply) → Answer
   Completed : (finished : Finished) → Answer
   Refused : (refusal : Refusal) → Answer
 
--- the world after an event, and the answer to it
-pub record Happened : Type 0 where
+-- the world after an event, and the answer to the event
+pub record Handled : Type 0 where
   pub world : World
   pub answer : Answer
 
--- the world before the first event: nothing sequenced, moved, judged or finished
-abbrev pub start : Config → World
-start config = record { history = []; moves = []; received = []; fronts = replicate config.resolvers 0; finished = replicate config.proxies 0 }
+-- the world before the first event
+abbrev pub initial_world : Config → World
+initial_world config =
+    record {
+      history = [];
+      moves = [];
+      received = [];
+      judged_counts = replicate config.resolvers 0;
+      finished = replicate config.proxies 0;
+    }
 
--- a refused event changes nothing
-abbrev pub refuse : World → Refusal → Happened
+-- a refused event leaves the world unchanged
+abbrev pub refuse : World → Refusal → Handled
 refuse w why = record { world = w; answer = Refused why }
 
 -- ---- a batch gets its record
 
--- the version of the last record of proxy p that is finished, or 0
-abbrev pub finished_version : World → ℕ → ℕ
-finished_version w p = last_version (take (slice_index w.finished p) (of_proxy p w.history))
+-- the version of the last record that proxy p finished, or 0
+abbrev pub finished_version : World → (p : ProxyNumber) → Version
+finished_version w p =
+    last_version (take (slice_index w.finished p) (records_of_proxy p w.history))
 
--- the record that the next batch gets, with all moves so far (release 7.1; the step is this project's profile)
-abbrev pub next_record : Config → World → ℕ → List Given → Record
+-- The record that the next batch gets, with all moves so far.
+-- *Profile*: its version is one step after the last.
+abbrev pub next_record : Config → World → (p : ProxyNumber) → List Given → Record
 next_record config w p batch =
     let previous = last_version w.history in
     record {
       row = length w.history;
       previous = previous;
       version = previous + config.step;
-      own_previous = last_version (of_proxy p w.history);
+      own_previous = last_version (records_of_proxy p w.history);
       proxy = p;
       moves = w.moves;
       batch = stamped_from (previous + config.step) 0 batch;
     }
 
--- a batch gets the next record, of all moves so far (release 7.1); refused are first a proxy that is not there, and then a version that reaches the limit (this project's profile)
-abbrev pub sequenced : Config → World → ℕ → List Given → Happened
-sequenced config w p batch =
+-- A batch gets the next record. *Profile*: it is refused first if the cluster has no such proxy,
+-- and then if the version reaches the limit.
+abbrev pub handle_sequence : Config → World → (p : ProxyNumber) → List Given → Handled
+handle_sequence config w p batch =
     let rec = next_record config w p batch in
+    let received = w.received ++ finished_version w p ∷ [] in
+    let world : World = record w { history = w.history ++ rec ∷ []; received = received } in
     if nat_le config.proxies p then refuse w NoSuchProxy
     else if nat_le version_limit rec.version then refuse w VersionsEnd
-    else record { world = record w { history = w.history ++ rec ∷ []; received = w.received ++ finished_version w p ∷ [] }; answer = Sequenced rec.row rec.version }
+    else record { world = world; answer = Sequenced rec.row rec.version }
 
 -- ---- a range moves
 
--- a range moves to a resolver from the version after the last one given out (release 7.1); refused is a resolver that is not there (this project's profile)
-abbrev pub moved : Config → World → Range → ℕ → Happened
-moved config w range destination =
+-- A range moves to a resolver, from the version after the last one given out.
+-- *Profile*: the move is refused if the cluster has no such resolver.
+abbrev pub handle_move : Config → World → Range → (destination : ResolverNumber) → Handled
+handle_move config w range destination =
     let date = last_version w.history + 1 in
+    let move : Move = record { range = range; date = date; dest = destination } in
     if nat_le config.resolvers destination then refuse w NoSuchResolver
-    else record { world = record w { moves = w.moves ++ (record { range = range; date = date; dest = destination }) ∷ [] }; answer = Moved date }
+    else record { world = record w { moves = w.moves ++ move ∷ [] }; answer = Moved date }
 
--- ---- a request comes to a resolver
+-- ---- a resolver gets a request
 
--- the reply of resolver r to a record, after the records before it: these verdicts on its share, and the rows that the proxy has not seen (release 7.1)
-abbrev pub reply_with : List Verdict → Sayings → ℕ → List Record → Record → Reply
-reply_with verdicts says r before rec =
-    record { resolver = r; proxy = rec.proxy; row = rec.row; version = rec.version; verdicts = verdicts; unseen = unseen says r before rec }
+-- the reply of resolver r to a record, after the records before it: these verdicts on its share,
+-- and the rows that the proxy has not seen
+abbrev pub reply_with :
+    (verdicts : List Verdict) → VerdictSource → ResolverNumber
+    → (before : List Record) (rec : Record) → Reply
+reply_with verdicts verdict_by r before rec =
+    record {
+      resolver = r;
+      proxy = rec.proxy;
+      row = rec.row;
+      version = rec.version;
+      verdicts = verdicts;
+      unseen = unseen verdict_by r before rec;
+    }
 
--- the reply of resolver r to a record, with its own verdicts
-abbrev pub reply_of : Config → Sayings → ℕ → List Record → Record → Reply
-reply_of config says r before rec = reply_with (share_verdicts config r before rec) says r before rec
+-- the reply of resolver r to a record, with its verdicts
+abbrev pub reply_of :
+    Config → VerdictSource → ResolverNumber → (before : List Record) (rec : Record) → Reply
+reply_of config verdict_by r before rec =
+    reply_with (share_verdicts config r before rec) verdict_by r before rec
 
--- the greatest number of a list, or 0
+-- the greatest number of a list, or 0 if the list is empty
 abbrev pub greatest : List ℕ → ℕ
 greatest [] = 0
 greatest (n ∷ ns) = max n (greatest ns)
 
--- of some records, what those of one proxy say that it has received; the list has a number for each record
-abbrev pub received_of : ℕ → List Record → List ℕ → List ℕ
+-- of a list with a version for each record, those of the records of proxy p
+abbrev pub received_of :
+    (p : ProxyNumber) → List Record → (received : List Version) → List Version
 received_of p [] ns = []
 received_of p (rec ∷ rest) [] = []
-received_of p (rec ∷ rest) (n ∷ ns) = if nat_eq rec.proxy p then n ∷ received_of p rest ns else received_of p rest ns
+received_of p (rec ∷ rest) (n ∷ ns) =
+    if nat_eq rec.proxy p then n ∷ received_of p rest ns else received_of p rest ns
 
--- the version that a proxy has acknowledged to a resolver that judged so many rows: the greatest that it had received (release 7.1)
-abbrev pub acknowledged : World → ℕ → ℕ → ℕ
-acknowledged w front p = greatest (received_of p (take front w.history) w.received)
+-- The version that proxy p has acknowledged to a resolver that judged this many rows: the greatest
+-- that it had received. This is the definition, over records; `acknowledged_requests`, over
+-- requests, follows it by `acknowledged_law`.
+abbrev pub acknowledged : World → (judged_count : ℕ) (p : ProxyNumber) → Version
+acknowledged w judged_count p =
+    greatest (received_of p (take judged_count w.history) w.received)
 
--- a row that the resolver has judged already: its reply is given up once the proxy has acknowledged it, and else the same again (release 7.1; that a repeat of one given up is refused is this project's profile)
-abbrev pub repeated : World → Reply → ℕ → Happened
-repeated w reply received =
-    if nat_le reply.version received then refuse w (GivenUp received) else record { world = w; answer = Again reply }
+-- A request for a row that the resolver has already judged gets the same reply again, until the
+-- proxy has acknowledged the reply. *Profile*: after that the request is refused.
+abbrev pub handle_repeat : World → Reply → (received : Version) → Handled
+handle_repeat w reply received =
+    if nat_le reply.version received then refuse w (GivenUp received)
+    else record { world = w; answer = Again reply }
 
--- the row comes to a resolver that has judged `front` rows: again, or in its turn (release 7.1), or too early, which this call refuses with the version of the last row judged, 0 if none, where release 7.1 holds the request back
-abbrev pub offered_at : World → ℕ → ℕ → Reply → Happened
-offered_at w front r reply =
-    if nat_lt front reply.row then refuse w (Early (last_version (take front w.history)))
-    else if nat_lt reply.row front then repeated w reply (acknowledged w front reply.proxy)
-    else record { world = record w { fronts = slice_set w.fronts r (suc front) }; answer = Judged reply }
+-- The request for a row comes to a resolver that has judged `judged_count` rows: again, in its
+-- turn, or too early. *Profile*: an early request is refused with the version of the last row
+-- judged, 0 if there is none. Release 7.1 holds it back.
+abbrev pub handle_offer_at : World → (judged_count : ℕ) (r : ResolverNumber) → Reply → Handled
+handle_offer_at w judged_count r reply =
+    let last_judged = last_version (take judged_count w.history) in
+    let counts = slice_set w.judged_counts r (suc judged_count) in
+    if nat_lt judged_count reply.row then refuse w (Early last_judged)
+    else if nat_lt reply.row judged_count
+    then handle_repeat w reply (acknowledged w judged_count reply.proxy)
+    else record { world = record w { judged_counts = counts }; answer = Judged reply }
 
--- the request for a row comes to resolver r: refused are first a row that is not there, and then a resolver that is not there (this project's profile)
-abbrev pub offered : Config → World → ℕ → ℕ → Option Record → Happened
-offered config w row r None = refuse w NoSuchRow
-offered config w row r (Some rec) =
+-- The request for a row comes to resolver r. The last argument is the row's record. *Profile*: the
+-- request is refused first if there is no such row, and then if the cluster has no such resolver.
+abbrev pub handle_offer :
+    Config → World → (row : RowNumber) (r : ResolverNumber) → Option Record → Handled
+handle_offer config w row r None = refuse w NoSuchRow
+handle_offer config w row r (Some rec) =
+    let verdict_by = history_verdicts config w.history in
+    let reply = reply_of config verdict_by r (take row w.history) rec in
     if nat_le config.resolvers r then refuse w WrongResolver
-    else offered_at w (slice_index w.fronts r) r (reply_of config (verdict_in config w.history) r (take row w.history) rec)
+    else handle_offer_at w (slice_index w.judged_counts r) r reply
 
--- ---- a proxy finishes
+-- ---- a proxy finishes a record
 
--- the mutations of transaction `number`, from place n on, each with its tags in these rows (release 7.1)
-abbrev pub tagged_from : Rows → ℕ → ℕ → List Change → List Tagged
-tagged_from rows number n [] = []
-tagged_from rows number n (change ∷ changes) = record { number = number; place = n; change = change; tags = tags rows change } ∷ tagged_from rows number (suc n) changes
+-- the mutations of transaction `number`, from place n on, each with its tags in these entries
+abbrev pub tagged_from :
+    Entries → (number : TransactionNumber) (n : ℕ) → List Change → List Tagged
+tagged_from entries number n [] = []
+tagged_from entries number n (change ∷ changes) =
+    record { number = number; place = n; change = change; tags = tags entries change }
+    ∷ tagged_from entries number (suc n) changes
 
--- only the mutations of a committed transaction go on, state mutations too (release 7.1)
-abbrev pub tagged_one : Rows → Transaction → Outcome → List Tagged
-tagged_one rows t (outcomes.Committed version number) = tagged_from rows number 0 t.changes
-tagged_one rows t outcomes.Conflict = []
-tagged_one rows t outcomes.TooOld = []
-tagged_one rows t outcomes.Locked = []
+-- the tagged mutations of a transaction, state mutations too, if it is committed; otherwise none
+abbrev pub tagged_one : Entries → Transaction → Outcome → List Tagged
+tagged_one entries t (outcomes.Committed version number) = tagged_from entries number 0 t.changes
+tagged_one entries t outcomes.Conflict = []
+tagged_one entries t outcomes.TooOld = []
+tagged_one entries t outcomes.Locked = []
 
--- the mutations of a batch with these outcomes, in order
-abbrev pub tagged_all : Rows → List Transaction → List Outcome → List Tagged
-tagged_all rows [] outcomes = []
-tagged_all rows (t ∷ ts) [] = []
-tagged_all rows (t ∷ ts) (outcome ∷ outcomes) = tagged_one rows t outcome ++ tagged_all rows ts outcomes
+-- the tagged mutations of a batch with these outcomes, in order
+abbrev pub tagged_all : Entries → List Transaction → List Outcome → List Tagged
+tagged_all entries [] outcomes = []
+tagged_all entries (t ∷ ts) [] = []
+tagged_all entries (t ∷ ts) (outcome ∷ outcomes) =
+    tagged_one entries t outcome ++ tagged_all entries ts outcomes
 
--- a finished record, after a journal of the records before it: its outcomes, and its mutations with the tags of the metadata after the whole batch (release 7.1)
-unfoldable pub finished_after : Config → Sayings → List JournalRow → Record → Finished
-finished_after config says journal_before rec =
-    let told = outcomes_after config says journal_before rec in
-    record { row = rec.row; version = rec.version; outcomes = told; tagged = tagged_all (metadata (journal_before ++ journal_row config says rec ∷ [])) rec.batch told }
+-- A finished record, after a journal of the records before it: its outcomes, and its mutations with
+-- their tags in the metadata after the whole batch.
+unfoldable pub finished_after :
+    Config → VerdictSource → (journal_before : List JournalRow) (rec : Record) → Finished
+finished_after config verdict_by journal_before rec =
+    let results = outcomes_after config verdict_by journal_before rec in
+    let journal_now = journal_before ++ journal_row config verdict_by rec ∷ [] in
+    record {
+      row = rec.row;
+      version = rec.version;
+      outcomes = results;
+      tagged = tagged_all (metadata journal_now) rec.batch results;
+    }
 
 -- a finished record, after the records before it
-abbrev pub finished_batch : Config → Sayings → List Record → Record → Finished
-finished_batch config says before rec = finished_after config says (journal config says before) rec
+abbrev pub finished_batch :
+    Config → VerdictSource → (before : List Record) (rec : Record) → Finished
+finished_batch config verdict_by before rec =
+    finished_after config verdict_by (journal config verdict_by before) rec
 
--- of some resolvers, those that have not judged the row, whose replies the proxy cannot have (release 7.1)
-abbrev pub missing : World → ℕ → List ℕ → List ℕ
-missing w row rs = filter (λ (r : ℕ). nat_le (slice_index w.fronts r) row) rs
+-- of some resolvers, those that have not judged the row, so that the proxy lacks their replies
+abbrev pub missing_replies :
+    World → (row : RowNumber) (rs : List ResolverNumber) → List ResolverNumber
+missing_replies w row rs =
+    filter (λ (r : ResolverNumber). nat_le (slice_index w.judged_counts r) row) rs
 
--- the proxy finishes a record for which the replies of these resolvers are missing: refused with the first of them, else finished (this project's profile)
-abbrev pub finishing : Config → World → ℕ → Record → List ℕ → Happened
-finishing config w p rec (r ∷ rs) = refuse w (MissingReply r)
-finishing config w p rec [] =
-    record { world = record w { finished = slice_set w.finished p (suc (slice_index w.finished p)) }; answer = Completed (finished_batch config (verdict_in config w.history) (take rec.row w.history) rec) }
+-- A proxy finishes a record, unless the replies of these resolvers are missing.
+-- *Profile*: the refusal names the first of them.
+abbrev pub finish_record :
+    Config → World → ProxyNumber → Record → (missing : List ResolverNumber) → Handled
+finish_record config w p rec (r ∷ rs) = refuse w (MissingReply r)
+finish_record config w p rec [] =
+    let finished = slice_set w.finished p (suc (slice_index w.finished p)) in
+    let verdict_by = history_verdicts config w.history in
+    record {
+      world = record w { finished = finished };
+      answer = Completed (finished_batch config verdict_by (take rec.row w.history) rec);
+    }
 
--- the proxy's earliest record that is not finished, if there is one, is finished once every resolver has judged it (release 7.1); where there is none, it is nobody's turn (this project's profile)
-abbrev pub finished_next : Config → World → ℕ → Option Record → Happened
-finished_next config w p None = refuse w (OutOfTurn None)
-finished_next config w p (Some rec) = finishing config w p rec (missing w rec.row (each_below config.resolvers))
+-- A proxy finishes its earliest unfinished record, once every resolver has judged it. The last
+-- argument is that record. *Profile*: if it is None, the finish is out of turn.
+abbrev pub handle_finish : Config → World → ProxyNumber → Option Record → Handled
+handle_finish config w p None = refuse w (OutOfTurn None)
+handle_finish config w p (Some rec) =
+    finish_record config w p rec (missing_replies w rec.row (each_below config.resolvers))
 
 -- ---- all events
 
--- what an event does to the world, and its answer
-unfoldable pub happens : Config → World → Event → Happened
-happens config w (Sequence p batch) = sequenced config w p batch
-happens config w (MoveRange range destination) = moved config w range destination
-happens config w (Offer row r) = offered config w row r (slice_get w.history row)
-happens config w (Finish p) =
-    if nat_le config.proxies p then refuse w NoSuchProxy
-    else finished_next config w p (slice_get (of_proxy p w.history) (slice_index w.finished p))
+-- the world after an event, and the answer to the event
+unfoldable pub handle_event : Config → World → Event → Handled
+handle_event config w (Sequence p batch) = handle_sequence config w p batch
+handle_event config w (MoveRange range destination) = handle_move config w range destination
+handle_event config w (Offer row r) = handle_offer config w row r (slice_get w.history row)
+handle_event config w (Finish p) =
+    let next = slice_get (records_of_proxy p w.history) (slice_index w.finished p) in
+    if nat_le config.proxies p then refuse w NoSuchProxy else handle_finish config w p next
 
 -- the answers to a list of events, in order
 unfoldable pub answers : Config → World → List Event → List Answer
 answers config w [] = []
-answers config w (event ∷ events) = let h = happens config w event in h.answer ∷ answers config h.world events
+answers config w (event ∷ events) =
+    let handled = handle_event config w event in
+    handled.answer ∷ answers config handled.world events
 
 -- the world after a list of events
 unfoldable pub world_after : Config → World → List Event → World
 world_after config w [] = w
-world_after config w (event ∷ events) = world_after config (happens config w event).world events
+world_after config w (event ∷ events) =
+    world_after config (handle_event config w event).world events
 
--- ---- what can be seen of a world
+-- ---- what can be read from a world
 
 -- the records up to a version
-abbrev pub up_to_version : ℕ → List Record → List Record
+abbrev pub up_to_version : Version → List Record → List Record
 up_to_version version h = filter (λ (rec : Record). nat_le rec.version version) h
 
--- how many rows there are up to a version: the row of that version plus one, and 0 at version 0
-abbrev pub rows_up_to : ℕ → List Record → ℕ
+-- the number of rows up to a version: the row of that version plus one, and 0 at version 0
+abbrev pub rows_up_to : Version → List Record → ℕ
 rows_up_to version h = length (up_to_version version h)
 
--- the journal of a proxy: that of the records up to its version, the last that it finished (release 7.1)
-unfoldable pub proxy_journal : Config → World → ℕ → List JournalRow
-proxy_journal config w p = journal config (verdict_in config w.history) (up_to_version (finished_version w p) w.history)
+-- the journal of a proxy: that of the records up to its version, the last one that it finished
+unfoldable pub proxy_journal : Config → World → ProxyNumber → List JournalRow
+proxy_journal config w p =
+    journal config (history_verdicts config w.history)
+    (up_to_version (finished_version w p) w.history)
 
--- the metadata of a proxy: that of its journal (release 7.1)
-abbrev pub proxy_metadata : Config → World → ℕ → Rows
+-- the metadata of a proxy: that of its journal
+abbrev pub proxy_metadata : Config → World → ProxyNumber → Entries
 proxy_metadata config w p = metadata (proxy_journal config w p)
 
--- the routing that a proxy answers, at its version
-abbrev pub proxy_routing : Config → World → ℕ → Routing
+-- the routing of a proxy, at its version
+abbrev pub proxy_routing : Config → World → ProxyNumber → Routing
 proxy_routing config w p = routing (finished_version w p) (proxy_metadata config w p)
 
 -- the records whose rows resolver r remembers
-abbrev pub remembered_by : Config → World → ℕ → List Record
-remembered_by config w r = remembered config (take (slice_index w.fronts r) w.history)
+abbrev pub remembered_by : Config → World → ResolverNumber → List Record
+remembered_by config w r = remembered config (take (slice_index w.judged_counts r) w.history)
 
--- what every world keeps: what the sequencer keeps; a number received with each record, up to its previous version; a number of judged rows for each resolver, and of finished records for each proxy, no more than are there; and each finished record is judged by every resolver
+-- The invariant of every world. The sequencer's moves follow the history. Each record has a
+-- received version, which is at most its previous version. Each resolver has a number of judged
+-- rows, and each proxy a number of finished records; neither exceeds those of the history. Every
+-- resolver has judged each finished record.
 pub record IsSound (config : Config) (w : World) : Type 0 where
   pub sequencer : MovesFollow config w.history w.moves
   pub received : length w.received ≡ length w.history
-  pub fronts : length w.fronts ≡ config.resolvers
+  pub judged_counts : length w.judged_counts ≡ config.resolvers
   pub finished : length w.finished ≡ config.proxies
-  pub received_before : (i received : ℕ) (rec : Record) → slice_get w.history i ≡ Some rec → slice_get w.received i ≡ Some received → received ≤ rec.previous
-  pub judged_there : (r front : ℕ) → slice_get w.fronts r ≡ Some front → front ≤ length w.history
-  pub finished_there : (p done : ℕ) → slice_get w.finished p ≡ Some done → done ≤ length (of_proxy p w.history)
-  pub judged_first : (p done k r front : ℕ) (rec : Record) → slice_get w.finished p ≡ Some done → k < done → slice_get (of_proxy p w.history) k ≡ Some rec → slice_get w.fronts r ≡ Some front → rec.row < front
+  pub received_before :
+      (i : RowNumber) (received : Version) (rec : Record)
+      → slice_get w.history i ≡ Some rec → slice_get w.received i ≡ Some received
+      → received ≤ rec.previous
+  pub judged_there :
+      (r : ResolverNumber) (judged_count : ℕ)
+      → slice_get w.judged_counts r ≡ Some judged_count → judged_count ≤ length w.history
+  pub finished_there :
+      (p : ProxyNumber) (done : ℕ)
+      → slice_get w.finished p ≡ Some done → done ≤ length (records_of_proxy p w.history)
+  pub judged_first :
+      (p : ProxyNumber) (done k : ℕ) (r : ResolverNumber) (judged_count : ℕ) (rec : Record)
+      → slice_get w.finished p ≡ Some done → k < done
+      → slice_get (records_of_proxy p w.history) k ≡ Some rec
+      → slice_get w.judged_counts r ≡ Some judged_count → rec.row < judged_count

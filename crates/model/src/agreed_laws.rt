@@ -6,7 +6,7 @@ ghost use Rattle.model.specs.Configs.{Config};
 ghost use Rattle.model.specs.declared.verdict.Verdict.{Verdict};
 ghost use Rattle.model.specs.declared.journal.JournalRow.{JournalRow};
 ghost use Rattle.model.specs.Records.{Record};
-ghost use Rattle.model.specs.Journal.{verdict_in, list_at, journal};
+ghost use Rattle.model.specs.Journal.{history_verdicts, list_at, journal};
 ghost use Rattle.model.specs.Agreed.{Columns, IsAgreed, IsKnownJournal, AreVerdicts};
 ghost use Rattle.model.specs.Growing.{AgreedWithARecord, AgreedWithCells, VerdictsWithCells, HistoriesAreAgreed, AllColumnsAreVerdicts};
 
@@ -19,7 +19,7 @@ pub fn agreed_law()
     ensures record_there { (config : Config) (records : List Record) (columns : Columns) (n i : ℕ) → IsAgreed config records columns n → i < n → (rec : Record) × (slice_get records i ≡ Some rec) }
     ensures cell_there { (config : Config) (records : List Record) (columns : Columns) (n i r : ℕ) → IsAgreed config records columns n → i < n → r < config.resolvers → (cell : List Verdict) × (slice_get (list_at columns r) i ≡ Some cell) }
     ensures rows { (config : Config) (records : List Record) (columns : Columns) (n : ℕ) (rows : List JournalRow) → IsAgreed config records columns n → IsKnownJournal config records columns n rows → length rows ≡ n }
-    ensures journal { (config : Config) (records : List Record) (columns : Columns) (n : ℕ) (rows : List JournalRow) → IsAgreed config records columns n → IsKnownJournal config records columns n rows → AreVerdicts config (take n records) columns → rows ≡ journal config (verdict_in config (take n records)) (take n records) }
+    ensures journal { (config : Config) (records : List Record) (columns : Columns) (n : ℕ) (rows : List JournalRow) → IsAgreed config records columns n → IsKnownJournal config records columns n rows → AreVerdicts config (take n records) columns → rows ≡ journal config (history_verdicts config (take n records)) (take n records) }
 {}
 
 /// A holder goes on, from nothing, by the next record and by a cell of each resolver: it is then agreed up to one

@@ -4,7 +4,7 @@ ghost use Rattle.std.specs.Prelude.{◌≡◌, ◌≤◌, ◌<◌, ◌+◌, ◌*
 ghost use Rattle.model.specs.Configs.{Config, version_limit};
 ghost use Rattle.model.specs.declared.moves.Move.{Move};
 ghost use Rattle.model.specs.Transactions.{Transaction};
-ghost use Rattle.model.specs.Records.{Record, IsHistory, Follows, MovesFollow, last_version, of_proxy, oldest};
+ghost use Rattle.model.specs.Records.{Record, IsHistory, Follows, MovesFollow, last_version, records_of_proxy, oldest};
 ghost use Rattle.model.specs.World.{up_to_version, rows_up_to};
 
 /// In a history the version before row n is n times the step: so a record's version before is its row times the
@@ -22,7 +22,7 @@ pub fn chain_law()
 /// With all moves so far, a proxy that is there, and a version below the limit, the record with the next
 /// numbers follows those before it.
 pub fn next_law()
-    ensures { (config : Config) (h : List Record) (moves : List Move) (p : ℕ) (batch : List Transaction) → MovesFollow config h moves → p < config.proxies → last_version h + config.step < version_limit → Follows config h (record { row = length h; previous = last_version h; version = last_version h + config.step; own_previous = last_version (of_proxy p h); proxy = p; moves = moves; batch = batch }) }
+    ensures { (config : Config) (h : List Record) (moves : List Move) (p : ℕ) (batch : List Transaction) → MovesFollow config h moves → p < config.proxies → last_version h + config.step < version_limit → Follows config h (record { row = length h; previous = last_version h; version = last_version h + config.step; own_previous = last_version (records_of_proxy p h); proxy = p; moves = moves; batch = batch }) }
 {}
 
 /// Where versions lie at least one apart, a version names a row: the records up to the version before row n

@@ -1,4 +1,6 @@
-//! The numbers of a cluster.
+//! The numbers that configure a cluster.
+//!
+//! *Profile*: all of it. Release 7.1 sets these numbers by knobs and by its configuration.
 
 ghost use Rattle.std.specs.Prelude.{◌≡◌, MatchResult};
 ghost use Rattle.model.specs.Configs.{Config as Numbers, IsConfig, is_from_one};
@@ -8,20 +10,20 @@ use crate::refusal::Refusal;
 use std::marker::Model;
 use system_keys::OutOfMemory;
 
-/// The most proxies of a cluster (this project's profile).
+/// The most proxies of a cluster.
 const PROXIES_LIMIT: u64 = 64;
 
-/// The most resolvers of a cluster (this project's profile).
+/// The most resolvers of a cluster.
 pub const RESOLVERS_LIMIT: u64 = 64;
 
-/// The greatest window of a cluster (this project's profile).
+/// The greatest window of a cluster.
 const WINDOW_LIMIT: u64 = 1_000_000_000;
 
-/// The greatest version, and the greatest step from one to the next (this project's profile).
+/// The greatest version, and the greatest step from one version to the next.
 const STEP_LIMIT: u64 = 9_223_372_036_854_775_807;
 
-/// How many proxies and resolvers a cluster has, how far back a snapshot may lie, and how far apart
-/// versions lie (the step is this project's profile). Each number is within its limits.
+/// The numbers of a cluster, each within its limits: how many proxies and resolvers it has, how many
+/// versions back a snapshot may lie, and how many versions lie between batches.
 #[derive(Clone, Copy, Debug, PartialEq, Eq)]
 pub struct Config {
     proxies: usize,
@@ -44,10 +46,8 @@ impl Model for Config {
 }
 
 impl Config {
-    /// These numbers. Takes no memory.
-    ///
-    /// Answers `BadConfig` where there are not from 1 to 64 proxies and from 1 to 64 resolvers, the window is
-    /// not from 1 to 1,000,000,000, or the step is not from 1 to 9,223,372,036,854,775,807.
+    /// Takes 1 to 64 proxies, 1 to 64 resolvers, a window from 1 to 1,000,000,000, and a step from 1
+    /// to 9,223,372,036,854,775,807. Otherwise it returns `BadConfig`. It allocates no memory.
     pub fn new(proxies: usize, resolvers: usize, window: u64, step: u64) -> Result<Config, Refusal>
         ensures { let numbers : Numbers = record { proxies = proxies; resolvers = resolvers; window = window; step = step } in
             MatchResult result (λ config. IsConfig numbers × (config ≡ numbers)) (λ refusal. (IsConfig numbers → ⊥) × (refusal ≡ refusals.BadConfig)) }
@@ -84,7 +84,7 @@ impl Config {
         self.resolvers
     }
 
-    /// How many versions a snapshot may lie before the version of its batch, from 1 to 1,000,000,000.
+    /// How many versions a snapshot may lie before the version of its batch: 1 to 1,000,000,000.
     pub fn window(&self) -> u64
         ensures value { result ≡ self.now.window }
         ensures limits { IsConfig self.now }
@@ -92,7 +92,7 @@ impl Config {
         self.window
     }
 
-    /// How many versions lie from one batch to the next, from 1 to 9,223,372,036,854,775,807.
+    /// How many versions lie from one batch to the next: 1 to 9,223,372,036,854,775,807.
     pub fn step(&self) -> u64
         ensures value { result ≡ self.now.step }
         ensures limits { IsConfig self.now }
@@ -100,7 +100,7 @@ impl Config {
         self.step
     }
 
-    /// An equal value. Takes no memory, and does not fail.
+    /// Returns a copy. It allocates no memory and never fails.
     pub fn copy(&self) -> Result<Config, OutOfMemory>
         ensures { result ≡ Ok self.now }
     {
@@ -108,7 +108,7 @@ impl Config {
     }
 }
 
-/// Whether the number is from 1 up to the limit.
+/// Returns whether the number is from 1 up to the limit.
 pub fn is_from_one(limit: u64, number: u64) -> bool
     ensures { result ≡ is_from_one limit number }
 {

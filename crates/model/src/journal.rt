@@ -1,11 +1,13 @@
-//! The journal: what every proxy learns of the state transactions of each version.
+//! The journal: the state transactions of each version, which every proxy applies in order.
+//!
+//! Release 7.1, `Resolver.actor.cpp`, resolveBatch.
 
 ghost use Rattle.std.specs.Prelude.{◌≡◌, IfOk};
 
 use crate::verdict::Verdict;
 use system_keys::{Change, Items, OutOfMemory};
 
-/// A state transaction as it stands in a journal (release 7.1).
+/// A state transaction of a journal.
 #[derive(Clone, Debug, Drop)]
 pub struct StateTxn {
     /// Its state mutations, in order.
@@ -17,9 +19,7 @@ pub struct StateTxn {
 }
 
 impl StateTxn {
-    /// An equal state transaction of its own.
-    ///
-    /// Answers `OutOfMemory` where there is no memory for it.
+    /// Returns a deep copy. Fails only with `OutOfMemory`.
     pub fn copy(&self) -> Result<StateTxn, OutOfMemory>
         ensures { IfOk result (λ copy. copy ≡ self.now) }
     {
@@ -27,7 +27,7 @@ impl StateTxn {
     }
 }
 
-/// The state transactions of one version, in the order of their batch (release 7.1).
+/// The state transactions of one version, in the order of their batch.
 #[derive(Clone, Debug, Drop)]
 pub struct JournalRow {
     /// The version of the batch.
@@ -37,9 +37,7 @@ pub struct JournalRow {
 }
 
 impl JournalRow {
-    /// An equal row of its own.
-    ///
-    /// Answers `OutOfMemory` where there is no memory for it.
+    /// Returns a deep copy. Fails only with `OutOfMemory`.
     pub fn copy(&self) -> Result<JournalRow, OutOfMemory>
         ensures { IfOk result (λ copy. copy ≡ self.now) }
     {

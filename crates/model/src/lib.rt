@@ -1,4 +1,4 @@
-//! What the cluster must do: its data, its definitions, and the laws that make them trustworthy.
+//! The specification of the cluster: its data, its definitions, and laws that check the definitions.
 #![tactic(auto)]
 
 mod agreed_laws;

@@ -1,10 +1,12 @@
 //! Moves of ranges from one resolver to another.
+//!
+//! Release 7.1, `masterserver.actor.cpp`, getVersion.
 
 ghost use Rattle.std.specs.Prelude.{◌≡◌, IfOk};
 
 use system_keys::{KeyRange, OutOfMemory};
 
-/// From `date` on, the keys of `range` belong to resolver `dest` (release 7.1).
+/// From version `date` on, the keys of `range` belong to resolver `dest`.
 #[derive(Clone, Debug, Drop)]
 pub struct Move {
     /// The keys that move.
@@ -16,9 +18,7 @@ pub struct Move {
 }
 
 impl Move {
-    /// An equal move of its own.
-    ///
-    /// Answers `OutOfMemory` where there is no memory for it.
+    /// Returns a deep copy. Fails only with `OutOfMemory`.
     pub fn copy(&self) -> Result<Move, OutOfMemory>
         ensures { IfOk result (λ copy. copy ≡ self.now) }
     {

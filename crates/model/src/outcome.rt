@@ -1,30 +1,32 @@
-//! What a proxy tells its clients, and what it hands to the logs.
+//! The outcomes that a proxy returns to its clients, and the mutations that it sends to the logs.
+//!
+//! Release 7.1, `CommitProxyServer.actor.cpp`, determineCommittedTransactions and
+//! assignMutationsToStorageServers; what differs is marked *profile*.
 
 ghost use Rattle.std.specs.Prelude.{◌≡◌, IfOk};
 
 use system_keys::{Change, Items, OutOfMemory, Tag};
 
-/// What the client is told of its transaction (release 7.1; that Locked is an answer of its own is this
-/// project's profile).
+/// The outcome of a transaction, which its client gets. *Profile*: Locked is a separate outcome.
 #[derive(Clone, Copy, Debug, PartialEq, Eq)]
 pub enum Outcome {
-    /// It is committed.
+    /// The transaction is committed.
     Committed {
         /// The version of its batch.
         version: u64,
         /// Its number in the batch, from 0.
         number: usize,
     },
-    /// Some resolver said Conflict.
+    /// Some resolver's verdict is Conflict.
     Conflict,
-    /// No resolver said Conflict, and some said Too old.
+    /// No resolver's verdict is Conflict, and some verdict is Too old.
     TooOld,
-    /// The database is locked, and it is not lock aware.
+    /// The database is locked, and the transaction is not lock aware.
     Locked,
 }
 
 impl Outcome {
-    /// An equal outcome. Takes no memory, and does not fail.
+    /// Returns a copy. It allocates no memory and never fails.
     pub fn copy(&self) -> Result<Outcome, OutOfMemory>
         ensures { result ≡ Ok self.now }
     {
@@ -32,23 +34,21 @@ impl Outcome {
     }
 }
 
-/// A mutation of a committed transaction, with the tags that the logs keep it for (release 7.1).
+/// A mutation of a committed transaction, with the tags under which the logs store it.
 #[derive(Clone, Debug, Drop)]
 pub struct Tagged {
     /// The number of the transaction in its batch, from 0.
     pub number: usize,
     /// The place of the mutation in its transaction, from 0.
     pub place: usize,
-    /// The mutation, with its stamp in.
+    /// The mutation, with its versionstamp filled in.
     pub change: Change,
-    /// The tags, rising and without repeats.
+    /// The tags, strictly increasing.
     pub tags: Items<Tag>,
 }
 
 impl Tagged {
-    /// An equal value of its own.
-    ///
-    /// Answers `OutOfMemory` where there is no memory for it.
+    /// Returns a deep copy. Fails only with `OutOfMemory`.
     pub fn copy(&self) -> Result<Tagged, OutOfMemory>
         ensures { IfOk result (λ copy. copy ≡ self.now) }
     {
@@ -56,7 +56,7 @@ impl Tagged {
     }
 }
 
-/// A finished batch (release 7.1).
+/// A finished batch.
 #[derive(Clone, Debug, Drop)]
 pub struct Finished {
     /// The row of its record, from 0.
@@ -70,9 +70,7 @@ pub struct Finished {
 }
 
 impl Finished {
-    /// An equal value of its own.
-    ///
-    /// Answers `OutOfMemory` where there is no memory for it.
+    /// Returns a deep copy. Fails only with `OutOfMemory`.
     pub fn copy(&self) -> Result<Finished, OutOfMemory>
         ensures { IfOk result (λ copy. copy ≡ self.now) }
     {

@@ -5,7 +5,7 @@ ghost use Rattle.std.specs.Prelude.{◌≡◌, ◌↔◌, ◌<◌, ◌≤◌, �
 ghost use Rattle.system_keys.specs.Keys.{Key, Range, Overlap, overlaps};
 ghost use Rattle.model.specs.Configs.{Config, IsConfig};
 ghost use Rattle.model.specs.declared.moves.Move.{Move};
-ghost use Rattle.model.specs.Owners.{Owner, owners, is_last, is_met, AsksWrite, AsksRead, asks_write, asks_read, walk, without_front, NeverBack};
+ghost use Rattle.model.specs.Owners.{Owner, owners, is_last, walk_visits, AsksWrite, AsksRead, asks_write, asks_read, walk, trimmed, DatesNeverDecrease};
 ghost use Rattle.model.specs.Records.{Record, IsHistory, oldest};
 
 /// Two ranges have a key in common exactly where one of their begins is in both.
@@ -24,9 +24,9 @@ pub fn asked_law()
 /// its front is that of the greater of the bound and `oldest`, where dates never go back; and a front that was
 /// dropped earlier, before newer owners came, changes no later dropping.
 pub fn walk_law()
-    ensures met { (bound r : ℕ) (list : List Owner) → Contains (walk bound (reverse list)) r ↔ IsTrue (is_met bound r list) }
-    ensures front { (bound oldest r : ℕ) (list : List Owner) → NeverBack 0 list → is_met bound r (without_front oldest list) ≡ is_met (max bound oldest) r list }
-    ensures again { (earlier later : ℕ) (list newer : List Owner) → earlier ≤ later → without_front later (without_front earlier list ++ newer) ≡ without_front later (list ++ newer) }
+    ensures met { (bound r : ℕ) (list : List Owner) → Contains (walk bound (reverse list)) r ↔ IsTrue (walk_visits bound r list) }
+    ensures front { (bound oldest r : ℕ) (list : List Owner) → DatesNeverDecrease 0 list → walk_visits bound r (trimmed oldest list) ≡ walk_visits (max bound oldest) r list }
+    ensures again { (earlier later : ℕ) (list newer : List Owner) → earlier ≤ later → trimmed later (trimmed earlier list ++ newer) ≡ trimmed later (list ++ newer) }
 {}
 
 /// In a history each record has the moves of those before it, in front of newer ones that are dated after the
@@ -35,7 +35,7 @@ pub fn walk_law()
 /// key last.
 pub fn owner_law()
     ensures moves { (config : Config) (h : List Record) (i j : ℕ) (earlier later : Record) → IsHistory config h → i < j → slice_get h i ≡ Some earlier → slice_get h j ≡ Some later → (take (length earlier.moves) later.moves ≡ earlier.moves) × All (λ (m : Move). earlier.version < m.date) (drop (length earlier.moves) later.moves) }
-    ensures dates { (config : Config) (h : List Record) (i : ℕ) (rec : Record) (key : Key) → IsHistory config h → slice_get h i ≡ Some rec → NeverBack 0 (owners rec.moves key) }
-    ensures front { (config : Config) (h : List Record) (i : ℕ) (rec : Record) (key : Key) (snapshot r : ℕ) → IsHistory config h → slice_get h i ≡ Some rec → is_met snapshot r (without_front (oldest config rec) (owners rec.moves key)) ≡ is_met (max snapshot (oldest config rec)) r (owners rec.moves key) }
+    ensures dates { (config : Config) (h : List Record) (i : ℕ) (rec : Record) (key : Key) → IsHistory config h → slice_get h i ≡ Some rec → DatesNeverDecrease 0 (owners rec.moves key) }
+    ensures front { (config : Config) (h : List Record) (i : ℕ) (rec : Record) (key : Key) (snapshot r : ℕ) → IsHistory config h → slice_get h i ≡ Some rec → walk_visits snapshot r (trimmed (oldest config rec) (owners rec.moves key)) ≡ walk_visits (max snapshot (oldest config rec)) r (owners rec.moves key) }
     ensures last { (config : Config) (h : List Record) (i : ℕ) (rec : Record) (key : Key) → IsConfig config → IsHistory config h → slice_get h i ≡ Some rec → (r : ℕ) × (r < config.resolvers) × IsTrue (is_last r (owners rec.moves key)) }
 {}

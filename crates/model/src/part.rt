@@ -1,27 +1,27 @@
-//! What one resolver sees of a transaction.
+//! The part of a transaction that one resolver gets.
+//!
+//! Release 7.1, `CommitProxyServer.actor.cpp`, ResolutionRequestBuilder.
 
 ghost use Rattle.std.specs.Prelude.{◌≡◌, IfOk};
 
 use system_keys::{Items, KeyRange, OutOfMemory};
 
-/// One transaction of a share: its number in the batch, its snapshot, and the whole ranges that the
-/// resolver is asked about (release 7.1).
+/// One transaction of a resolver's share: its number in the batch, its snapshot, and those of its
+/// ranges that the resolver gets. A range is never cut.
 #[derive(Clone, Debug, Drop)]
 pub struct Part {
     /// The number of the transaction in its batch, from 0.
     pub number: usize,
-    /// The version that the transaction read at.
+    /// The version at which the transaction read.
     pub snapshot: u64,
-    /// The ranges read that the resolver is asked about.
+    /// The ranges read that the resolver gets.
     pub reads: Items<KeyRange>,
-    /// The ranges written that the resolver is asked about.
+    /// The ranges written that the resolver gets.
     pub writes: Items<KeyRange>,
 }
 
 impl Part {
-    /// An equal part of its own.
-    ///
-    /// Answers `OutOfMemory` where there is no memory for it.
+    /// Returns a deep copy. Fails only with `OutOfMemory`.
     pub fn copy(&self) -> Result<Part, OutOfMemory>
         ensures { IfOk result (λ copy. copy ≡ self.now) }
     {

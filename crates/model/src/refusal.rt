@@ -1,11 +1,10 @@
-//! Why the numbers of a cluster are refused.
+//! Why the numbers of a cluster are refused. *Profile*: all of it.
 
 ghost use Rattle.std.specs.Prelude.{◌≡◌, Some, codes};
 
 use thiserror::Error;
 
-/// Why the numbers of a cluster are refused (this project's profile). The number and the name stand in printed
-/// text.
+/// Why the numbers of a cluster are refused. Printed text contains the refusal's number and name.
 #[derive(Clone, Copy, Debug, PartialEq, Eq, Error)]
 pub enum Refusal {
     /// A number is outside its limits.
@@ -14,7 +13,7 @@ pub enum Refusal {
 }
 
 impl Refusal {
-    /// The number that is printed.
+    /// Returns the number that is printed.
     pub fn number(&self) -> Option<u32>
         ensures { result ≡ Some 17 }
     {
@@ -23,7 +22,7 @@ impl Refusal {
         }
     }
 
-    /// The name that is printed beside the number.
+    /// Returns the name that is printed with the number.
     pub fn name(&self) -> &'static str
         ensures { result.now ≡ codes "BadConfig" }
     {

@@ -1,4 +1,6 @@
-//! What a resolver answers to a request.
+//! The reply of a resolver to a request.
+//!
+//! Release 7.1, `Resolver.actor.cpp`, resolveBatch.
 
 ghost use Rattle.std.specs.Prelude.{◌≡◌, IfOk};
 
@@ -6,12 +8,12 @@ use crate::unseen::UnseenRow;
 use crate::verdict::Verdict;
 use system_keys::{Items, OutOfMemory};
 
-/// The reply of one resolver to the request for one record (release 7.1).
+/// The reply of one resolver to the request for one record.
 #[derive(Clone, Debug, Drop)]
 pub struct Reply {
     /// The resolver that replies.
     pub resolver: usize,
-    /// The proxy that asked.
+    /// The proxy that sent the request.
     pub proxy: usize,
     /// The row of the record.
     pub row: usize,
@@ -24,9 +26,7 @@ pub struct Reply {
 }
 
 impl Reply {
-    /// An equal reply of its own.
-    ///
-    /// Answers `OutOfMemory` where there is no memory for it.
+    /// Returns a deep copy. Fails only with `OutOfMemory`.
     pub fn copy(&self) -> Result<Reply, OutOfMemory>
         ensures { IfOk result (λ copy. copy ≡ self.now) }
     {

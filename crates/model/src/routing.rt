@@ -1,22 +1,23 @@
 //! The routing of a cluster at one version: which tags the keys have.
+//!
+//! Release 7.1, `ApplyMetadataMutation.cpp`, applyMetadataMutations; what differs is marked
+//! *profile*.
 
 ghost use Rattle.std.specs.Prelude.{◌≡◌, IfOk};
 
 use system_keys::{Bytes, Items, OutOfMemory, Tag};
 
-/// One keyServers row: the keys from `key` up to the next route's have these tags (release 7.1).
+/// One keyServers row: the keys from `key` up to the key of the next route have these tags.
 #[derive(Clone, Debug, Drop)]
 pub struct Route {
-    /// What follows the prefix in the key of the row.
+    /// The key of the row without its prefix.
     pub key: Bytes,
-    /// The tags, rising and without repeats.
+    /// The tags, strictly increasing.
     pub tags: Items<Tag>,
 }
 
 impl Route {
-    /// An equal route of its own.
-    ///
-    /// Answers `OutOfMemory` where there is no memory for it.
+    /// Returns a deep copy. Fails only with `OutOfMemory`.
     pub fn copy(&self) -> Result<Route, OutOfMemory>
         ensures { IfOk result (λ copy. copy ≡ self.now) }
     {
@@ -24,23 +25,21 @@ impl Route {
     }
 }
 
-/// What the metadata of one version says of the whole key space (this project's profile).
+/// The routing of the whole key space by the metadata of one version (*profile*).
 #[derive(Clone, Debug, Drop)]
 pub struct Routing {
     /// The version.
     pub version: u64,
     /// Whether the database is locked.
     pub locked: bool,
-    /// The value of the metadata version row, if it is there.
+    /// The value of the metadata version row, if there is one.
     pub metadata_version: Option<Bytes>,
     /// One route for each keyServers row, in the order of keys.
     pub routes: Items<Route>,
 }
 
 impl Routing {
-    /// An equal routing of its own.
-    ///
-    /// Answers `OutOfMemory` where there is no memory for it.
+    /// Returns a deep copy. Fails only with `OutOfMemory`.
     pub fn copy(&self) -> Result<Routing, OutOfMemory>
         ensures { IfOk result (λ copy. copy ≡ self.now) }
     {

@@ -1,4 +1,6 @@
-//! What a resolver tells a proxy of the state transactions of other proxies.
+//! The state transactions of other proxies, as a resolver replies them to a proxy.
+//!
+//! Release 7.1, `Resolver.actor.cpp`, resolveBatch; what differs is marked *profile*.
 
 ghost use Rattle.std.specs.Prelude.{◌≡◌, IfOk};
 
@@ -6,7 +8,7 @@ use crate::verdict::Verdict;
 use std::alloc::AllocError;
 use system_keys::{Change, Items, OutOfMemory};
 
-/// What resolver 0 alone is sent of a state transaction, and passes on (release 7.1).
+/// The content of a state transaction. Only resolver 0 gets it and replies it.
 #[derive(Clone, Debug, Drop)]
 pub struct Carried {
     /// Its state mutations, in order.
@@ -16,9 +18,7 @@ pub struct Carried {
 }
 
 impl Carried {
-    /// An equal value of its own.
-    ///
-    /// Answers `OutOfMemory` where there is no memory for it.
+    /// Returns a deep copy. Fails only with `OutOfMemory`.
     pub fn copy(&self) -> Result<Carried, OutOfMemory>
         ensures { IfOk result (λ copy. copy ≡ self.now) }
     {
@@ -26,19 +26,17 @@ impl Carried {
     }
 }
 
-/// That a transaction of a request is a state transaction (release 7.1).
+/// Marks a transaction of a request as a state transaction.
 #[derive(Clone, Debug, Drop)]
 pub struct StateMark {
     /// The number of the transaction in its batch, from 0.
     pub number: usize,
-    /// Its mutations and its lock-aware flag in the request to resolver 0, and nothing in the others.
+    /// Its content in the request to resolver 0, and None in the others.
     pub carried: Option<Carried>,
 }
 
 impl StateMark {
-    /// An equal mark of its own.
-    ///
-    /// Answers `OutOfMemory` where there is no memory for it.
+    /// Returns a deep copy. Fails only with `OutOfMemory`.
     pub fn copy(&self) -> Result<StateMark, OutOfMemory>
         ensures { IfOk result (λ copy. copy ≡ self.now) }
     {
@@ -46,19 +44,17 @@ impl StateMark {
     }
 }
 
-/// A state transaction as one resolver tells of it (release 7.1).
+/// A state transaction as one resolver replies it.
 #[derive(Clone, Debug, Drop)]
 pub struct UnseenState {
     /// The verdict of this resolver.
     pub verdict: Verdict,
-    /// Its mutations and its lock-aware flag from resolver 0, and nothing from the others.
+    /// Its content from resolver 0, and None from the others.
     pub carried: Option<Carried>,
 }
 
 impl UnseenState {
-    /// An equal value of its own.
-    ///
-    /// Answers `OutOfMemory` where there is no memory for it.
+    /// Returns a deep copy. Fails only with `OutOfMemory`.
     pub fn copy(&self) -> Result<UnseenState, OutOfMemory>
         ensures { IfOk result (λ copy. copy ≡ self.now) }
     {
@@ -66,8 +62,8 @@ impl UnseenState {
     }
 }
 
-/// The state transactions of one version, as one resolver tells of them (release 7.1; that a version
-/// without any is told too is this project's profile).
+/// The state transactions of one version, as one resolver replies them.
+/// *Profile*: a resolver replies a version without state transactions too.
 #[derive(Debug, Drop)]
 pub struct UnseenRow {
     /// The version of the batch.
@@ -77,9 +73,7 @@ pub struct UnseenRow {
 }
 
 impl UnseenRow {
-    /// An equal row of its own.
-    ///
-    /// Answers `OutOfMemory` where there is no memory for it.
+    /// Returns a deep copy. Fails only with `OutOfMemory`.
     pub fn copy(&self) -> Result<UnseenRow, OutOfMemory>
         ensures { IfOk result (λ copy. copy ≡ self.now) }
     {

@@ -1,13 +1,15 @@
-//! What a resolver says of a transaction.
+//! The verdict of a resolver on a transaction.
+//!
+//! Release 7.1, `Resolver.actor.cpp`, resolveBatch, and the ConflictSet of `SkipList.cpp`.
 
-/// The verdict of a resolver, in the order Conflict, Too old, Committed (release 7.1).
+/// The verdict of a resolver, in the order Conflict, Too old, Committed.
 #[derive(Clone, Copy, Debug, PartialEq, Eq, PartialOrd, Ord)]
 pub enum Verdict {
-    /// A range that it reads, in what this resolver sees of it, overlaps a write of a transaction that
-    /// this resolver committed, after its snapshot or earlier in its batch.
+    /// In the part that this resolver gets, a read overlaps a write of a transaction that this resolver
+    /// committed. That one is after the snapshot, or earlier in the same batch.
     Conflict,
-    /// What this resolver sees of it has reads, and its snapshot lies further back than the window.
+    /// The part that this resolver gets has reads, and its snapshot lies further back than the window.
     TooOld,
-    /// Neither.
+    /// Neither of these.
     Committed,
 }

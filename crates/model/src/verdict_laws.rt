@@ -10,8 +10,8 @@ ghost use Rattle.model.specs.Transactions.{Transaction};
 ghost use Rattle.model.specs.Records.{Record, IsHistory};
 ghost use Rattle.model.specs.Shares.{share, part_of, asks};
 ghost use Rattle.model.specs.Verdicts.{JudgedPart, joined, verdict, HasConflict, IsTooOld, share_verdicts, verdicts_of_askers};
-ghost use Rattle.model.specs.Metadata.{is_locked, metadata, after_row};
-ghost use Rattle.model.specs.Journal.{Sayings, verdict_in, list_at, known_in, SaysAlike, CellCommits, journal_row, journal};
+ghost use Rattle.model.specs.Metadata.{is_locked, metadata, after_journal_row};
+ghost use Rattle.model.specs.Journal.{VerdictSource, history_verdicts, list_at, cell_verdicts, AgreeOn, CellCommits, journal_row, journal};
 ghost use Rattle.model.specs.Outcomes.{outcome, outcomes_after, outcomes};
 ghost use Rattle.model.specs.World.{reply_of, finished_batch};
 ghost use Rattle.model.specs.Agreed.{Columns, AreVerdicts};
@@ -45,17 +45,17 @@ pub fn share_law()
 /// What a cell says is Committed is a transaction that asks its resolver, and the cell has that verdict at the
 /// place of its part; what a history says is Committed is a transaction that is there.
 pub fn saying_law()
-    ensures known { (config : Config) (h : List Record) (columns : Columns) (r i n : ℕ) (rec : Record) (t : Transaction) → slice_get h i ≡ Some rec → slice_get rec.batch n ≡ Some t → IsTrue (asks config rec r t) → list_at (list_at columns r) i ≡ share_verdicts config r (take i h) rec → known_in config h columns r i n ≡ verdict_in config h r i n }
-    ensures journal { (config : Config) (says other : Sayings) (rec : Record) → SaysAlike config says other rec → journal_row config says rec ≡ journal_row config other rec }
-    ensures said { (config : Config) (h : List Record) (columns : Columns) (r i n : ℕ) → known_in config h columns r i n ≡ Committed → (rec : Record) × (slice_get h i ≡ Some rec) × CellCommits config rec r n (list_at (list_at columns r) i) }
-    ensures there { (config : Config) (h : List Record) (r i n : ℕ) → verdict_in config h r i n ≡ Committed → (rec : Record) × (t : Transaction) × (slice_get h i ≡ Some rec) × (slice_get rec.batch n ≡ Some t) }
+    ensures known { (config : Config) (h : List Record) (columns : Columns) (r i n : ℕ) (rec : Record) (t : Transaction) → slice_get h i ≡ Some rec → slice_get rec.batch n ≡ Some t → IsTrue (asks config rec r t) → list_at (list_at columns r) i ≡ share_verdicts config r (take i h) rec → cell_verdicts config h columns r i n ≡ history_verdicts config h r i n }
+    ensures journal { (config : Config) (says other : VerdictSource) (rec : Record) → AgreeOn config says other rec → journal_row config says rec ≡ journal_row config other rec }
+    ensures said { (config : Config) (h : List Record) (columns : Columns) (r i n : ℕ) → cell_verdicts config h columns r i n ≡ Committed → (rec : Record) × (slice_get h i ≡ Some rec) × CellCommits config rec r n (list_at (list_at columns r) i) }
+    ensures there { (config : Config) (h : List Record) (r i n : ℕ) → history_verdicts config h r i n ≡ Committed → (rec : Record) × (t : Transaction) × (slice_get h i ≡ Some rec) × (slice_get rec.batch n ≡ Some t) }
 {}
 
 /// The outcomes of a batch are those of its transactions, each at its number: after the records before it,
 /// and after any journal of them.
 pub fn outcome_law()
-    ensures journal { (config : Config) (says : Sayings) (journal_before : List JournalRow) (rec : Record) (n : ℕ) (t : Transaction) → slice_get rec.batch n ≡ Some t → slice_get (outcomes_after config says journal_before rec) n ≡ Some (outcome config says (is_locked (metadata journal_before)) rec n t) }
-    ensures records { (config : Config) (says : Sayings) (before : List Record) (rec : Record) (n : ℕ) (t : Transaction) → slice_get rec.batch n ≡ Some t → slice_get (outcomes config says before rec) n ≡ Some (outcome config says (is_locked (metadata (journal config says before))) rec n t) }
+    ensures journal { (config : Config) (says : VerdictSource) (journal_before : List JournalRow) (rec : Record) (n : ℕ) (t : Transaction) → slice_get rec.batch n ≡ Some t → slice_get (outcomes_after config says journal_before rec) n ≡ Some (outcome config says (is_locked (metadata journal_before)) rec n t) }
+    ensures records { (config : Config) (says : VerdictSource) (before : List Record) (rec : Record) (n : ℕ) (t : Transaction) → slice_get rec.batch n ≡ Some t → slice_get (outcomes config says before rec) n ≡ Some (outcome config says (is_locked (metadata (journal config says before))) rec n t) }
 {}
 
 /// Where the cells of the first n rows of a history have the verdicts of their resolvers, the journal, the
@@ -63,21 +63,21 @@ pub fn outcome_law()
 /// same records and cells of the first m rows, the one with more rows has a journal that begins with the
 /// other's m rows.
 pub fn cells_law()
-    ensures journal { (config : Config) (h : List Record) (columns : Columns) (n : ℕ) → IsHistory config h → AreVerdicts config (take n h) columns → journal config (known_in config h columns) (take n h) ≡ journal config (verdict_in config (take n h)) (take n h) }
-    ensures outcomes { (config : Config) (h : List Record) (columns : Columns) (n i : ℕ) (rec : Record) → IsHistory config h → AreVerdicts config (take n h) columns → slice_get (take n h) i ≡ Some rec → outcomes config (known_in config h columns) (take i h) rec ≡ outcomes config (verdict_in config (take n h)) (take i h) rec }
-    ensures finished { (config : Config) (h : List Record) (columns : Columns) (n i : ℕ) (rec : Record) → IsHistory config h → AreVerdicts config (take n h) columns → slice_get (take n h) i ≡ Some rec → finished_batch config (known_in config h columns) (take i h) rec ≡ finished_batch config (verdict_in config (take n h)) (take i h) rec }
-    ensures meet { (config : Config) (h g : List Record) (mine theirs : Columns) (m n : ℕ) → IsHistory config h → m ≤ n → take m h ≡ take m g → ((r i : ℕ) → r < config.resolvers → i < m → list_at (list_at mine r) i ≡ list_at (list_at theirs r) i) → take m (journal config (known_in config h mine) (take n h)) ≡ journal config (known_in config g theirs) (take m g) }
+    ensures journal { (config : Config) (h : List Record) (columns : Columns) (n : ℕ) → IsHistory config h → AreVerdicts config (take n h) columns → journal config (cell_verdicts config h columns) (take n h) ≡ journal config (history_verdicts config (take n h)) (take n h) }
+    ensures outcomes { (config : Config) (h : List Record) (columns : Columns) (n i : ℕ) (rec : Record) → IsHistory config h → AreVerdicts config (take n h) columns → slice_get (take n h) i ≡ Some rec → outcomes config (cell_verdicts config h columns) (take i h) rec ≡ outcomes config (history_verdicts config (take n h)) (take i h) rec }
+    ensures finished { (config : Config) (h : List Record) (columns : Columns) (n i : ℕ) (rec : Record) → IsHistory config h → AreVerdicts config (take n h) columns → slice_get (take n h) i ≡ Some rec → finished_batch config (cell_verdicts config h columns) (take i h) rec ≡ finished_batch config (history_verdicts config (take n h)) (take i h) rec }
+    ensures meet { (config : Config) (h g : List Record) (mine theirs : Columns) (m n : ℕ) → IsHistory config h → m ≤ n → take m h ≡ take m g → ((r i : ℕ) → r < config.resolvers → i < m → list_at (list_at mine r) i ≡ list_at (list_at theirs r) i) → take m (journal config (cell_verdicts config h mine) (take n h)) ≡ journal config (cell_verdicts config g theirs) (take m g) }
 {}
 
 /// Later records change no earlier verdict, outcome, reply and finished batch; the journal of a longer history
 /// begins with that of the shorter, and its metadata goes on from there.
 pub fn prefix_law()
-    ensures verdicts { (config : Config) (h later : List Record) (r i n : ℕ) → i < length h → verdict_in config (h ++ later) r i n ≡ verdict_in config h r i n }
-    ensures journal { (config : Config) (h later : List Record) → IsHistory config h → journal config (verdict_in config (h ++ later)) (h ++ later) ≡ journal config (verdict_in config h) h ++ journal config (verdict_in config (h ++ later)) later }
-    ensures metadata { (config : Config) (h later : List Record) → IsHistory config h → metadata (journal config (verdict_in config (h ++ later)) (h ++ later)) ≡ fold after_row (metadata (journal config (verdict_in config h) h)) (journal config (verdict_in config (h ++ later)) later) }
-    ensures outcomes { (config : Config) (h later : List Record) (i : ℕ) (rec : Record) → IsHistory config h → slice_get h i ≡ Some rec → outcomes config (verdict_in config (h ++ later)) (take i h) rec ≡ outcomes config (verdict_in config h) (take i h) rec }
-    ensures finished { (config : Config) (h later : List Record) (i : ℕ) (rec : Record) → IsHistory config h → slice_get h i ≡ Some rec → finished_batch config (verdict_in config (h ++ later)) (take i (h ++ later)) rec ≡ finished_batch config (verdict_in config h) (take i h) rec }
-    ensures replies { (config : Config) (h later : List Record) (r i : ℕ) (rec : Record) → IsHistory config h → slice_get h i ≡ Some rec → reply_of config (verdict_in config (h ++ later)) r (take i (h ++ later)) rec ≡ reply_of config (verdict_in config h) r (take i h) rec }
+    ensures verdicts { (config : Config) (h later : List Record) (r i n : ℕ) → i < length h → history_verdicts config (h ++ later) r i n ≡ history_verdicts config h r i n }
+    ensures journal { (config : Config) (h later : List Record) → IsHistory config h → journal config (history_verdicts config (h ++ later)) (h ++ later) ≡ journal config (history_verdicts config h) h ++ journal config (history_verdicts config (h ++ later)) later }
+    ensures metadata { (config : Config) (h later : List Record) → IsHistory config h → metadata (journal config (history_verdicts config (h ++ later)) (h ++ later)) ≡ fold after_journal_row (metadata (journal config (history_verdicts config h) h)) (journal config (history_verdicts config (h ++ later)) later) }
+    ensures outcomes { (config : Config) (h later : List Record) (i : ℕ) (rec : Record) → IsHistory config h → slice_get h i ≡ Some rec → outcomes config (history_verdicts config (h ++ later)) (take i h) rec ≡ outcomes config (history_verdicts config h) (take i h) rec }
+    ensures finished { (config : Config) (h later : List Record) (i : ℕ) (rec : Record) → IsHistory config h → slice_get h i ≡ Some rec → finished_batch config (history_verdicts config (h ++ later)) (take i (h ++ later)) rec ≡ finished_batch config (history_verdicts config h) (take i h) rec }
+    ensures replies { (config : Config) (h later : List Record) (r i : ℕ) (rec : Record) → IsHistory config h → slice_get h i ≡ Some rec → reply_of config (history_verdicts config (h ++ later)) r (take i (h ++ later)) rec ≡ reply_of config (history_verdicts config h) r (take i h) rec }
 {}
 
 /// Every history obeys the rule of commit: no committed transaction read a range that another

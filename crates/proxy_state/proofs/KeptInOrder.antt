@@ -7,13 +7,13 @@ use Rattle.system_keys.specs.declared.change.Change.{Change}
 use Rattle.system_keys.specs.declared.change.Change.TheVariants.{Set}
 use Rattle.system_keys.specs.Keys.{Key}
 use Rattle.system_keys.specs.Families.{is_kept}
-use Rattle.model.specs.Metadata.{Rows, IsInOrder, AreKept, changed, metadata}
+use Rattle.model.specs.Metadata.{Entries, IsInOrder, AreKept, after_change, metadata}
 use Rattle.model.proofs.MetadataLaws.{metadata_in_order, changed_in_order}
 use Rattle.model.proofs.ChangeLaws.{metadata_kept, kept_after_change}
 use Rattle.proxy_state.specs.Kept.{rows_of}
 
 -- the rows are in order, and all of their keys are kept
-abbrev pub AreKeptInOrder : Rows → Type 0
+abbrev pub AreKeptInOrder : Entries → Type 0
 AreKeptInOrder rows = IsInOrder rows × AreKept rows
 
 no_rows : AreKeptInOrder []
@@ -23,9 +23,9 @@ no_rows = (metadata_in_order [], metadata_kept [])
 pub none_kept_in_order : (es : List (Vec ℕ × List ℕ)) → es ≡ [] → AreKeptInOrder (rows_of es)
 none_kept_in_order es none = subst AreKeptInOrder (sym (ap rows_of none)) no_rows
 
-pub changed_kept_in_order : (old new : Rows) (change : Change) → AreKeptInOrder old → new ≡ changed old change → AreKeptInOrder new
+pub changed_kept_in_order : (old new : Entries) (change : Change) → AreKeptInOrder old → new ≡ after_change old change → AreKeptInOrder new
 changed_kept_in_order old new change fine is = subst AreKeptInOrder (sym is) (changed_in_order old change fine.0, kept_after_change old change fine.1)
 
-pub put_kept_in_order : (old new : Rows) (key : Key) (value : List ℕ) → AreKeptInOrder old → is_kept key ≡ true → new ≡ insert_entry (slice_cmp nat_cmp) old key value → AreKeptInOrder new
+pub put_kept_in_order : (old new : Entries) (key : Key) (value : List ℕ) → AreKeptInOrder old → is_kept key ≡ true → new ≡ insert_entry (slice_cmp nat_cmp) old key value → AreKeptInOrder new
 put_kept_in_order old new key value fine kept is =
     changed_kept_in_order old new (Set key value) fine (is ∙ ap (λ (own : Bool). if own then insert_entry (slice_cmp nat_cmp) old key value else old) (sym kept))

@@ -8,13 +8,13 @@ use Rattle.std.specs.Map.{lookup}
 use Rattle.std.specs.BTreeMap.{insert_entry, is_at}
 use Rattle.std.specs.Cmp.Lexicographic.{slice_cmp}
 use Rattle.system_keys.specs.Keys.{Key}
-use Rattle.model.specs.Metadata.{Row, Rows, row_at}
+use Rattle.model.specs.Metadata.{Entry, Entries, entry_value}
 use Rattle.proxy_state.specs.Kept.{row_from, rows_of}
 
 abbrev pub vec_cmp : Vec ℕ → Vec ℕ → Ordering
 vec_cmp a b = slice_cmp nat_cmp a.items b.items
 
-pub looked_up : (key : Key) (es : List (Vec ℕ × List ℕ)) → lookup (is_at (λ (k : Vec ℕ). slice_cmp nat_cmp key k.items)) es ≡ row_at (rows_of es) key
+pub looked_up : (key : Key) (es : List (Vec ℕ × List ℕ)) → lookup (is_at (λ (k : Vec ℕ). slice_cmp nat_cmp key k.items)) es ≡ entry_value (rows_of es) key
 looked_up key [] = refl
 looked_up key (e ∷ es) = ap (λ (later : Option (List ℕ)). cond (is_at (slice_cmp nat_cmp key) e.0.items) (Some e.1) later) (looked_up key es)
 
@@ -27,15 +27,15 @@ inserted (e ∷ es) key value = by (vec_cmp key e.0) (inserted es key value)
         ≡ match_ordering r ((key.items, value) ∷ row_from e ∷ rows_of es) ((e.0.items, value) ∷ rows_of es) (row_from e ∷ insert_entry (slice_cmp nat_cmp) (rows_of es) key.items value)
     by Less rest = refl
     by Equal rest = refl
-    by Greater rest = ap (λ (rows : Rows). row_from e ∷ rows) rest
+    by Greater rest = ap (λ (rows : Entries). row_from e ∷ rows) rest
 
-pub filtered : (p : Row → Bool) (es : List (Vec ℕ × List ℕ)) → rows_of (filter (λ (e : Vec ℕ × List ℕ). p (row_from e)) es) ≡ filter p (rows_of es)
+pub filtered : (p : Entry → Bool) (es : List (Vec ℕ × List ℕ)) → rows_of (filter (λ (e : Vec ℕ × List ℕ). p (row_from e)) es) ≡ filter p (rows_of es)
 filtered p [] = refl
 filtered p (e ∷ es) = by (p (row_from e)) (filtered p es)
   where
     by : (t : Bool) → rows_of (filter (λ (e : Vec ℕ × List ℕ). p (row_from e)) es) ≡ filter p (rows_of es)
         → rows_of (cond t (e ∷ filter (λ (e : Vec ℕ × List ℕ). p (row_from e)) es) (filter (λ (e : Vec ℕ × List ℕ). p (row_from e)) es)) ≡ cond t (row_from e ∷ filter p (rows_of es)) (filter p (rows_of es))
-    by true rest = ap (λ (rows : Rows). row_from e ∷ rows) rest
+    by true rest = ap (λ (rows : Entries). row_from e ∷ rows) rest
     by false rest = rest
 
 -- a clone of an entry is the same row

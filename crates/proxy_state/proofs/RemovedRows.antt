@@ -15,7 +15,7 @@ use Rattle.std.proofs.lemmas.Map.Lookups.{exact_bytes}
 use Rattle.std.proofs.lemmas.Bool.{both_ways}
 use Rattle.system_keys.specs.Keys.{Key, Range, holds, is_key_up_to}
 use Rattle.system_keys.specs.Limits.{range_fault}
-use Rattle.model.specs.Metadata.{Row, Rows}
+use Rattle.model.specs.Metadata.{Entry, Entries}
 use Rattle.proxy_state.specs.Kept.{row_from, rows_of, texts_of}
 use Rattle.proxy_state.proofs.KeptRows.{vec_cmp, filtered}
 use Rattle.proxy_state.proofs.ServingRows.{not_up_to}
@@ -27,16 +27,16 @@ removed key (e ∷ es) = by (is_at (slice_cmp nat_cmp key) e.0.items) (removed k
     by : (t : Bool) → rows_of (remove_entry (is_at (λ (k : Vec ℕ). slice_cmp nat_cmp key k.items)) es) ≡ remove_entry (is_at (slice_cmp nat_cmp key)) (rows_of es)
         → rows_of (cond t es (e ∷ remove_entry (is_at (λ (k : Vec ℕ). slice_cmp nat_cmp key k.items)) es)) ≡ cond t (rows_of es) (row_from e ∷ remove_entry (is_at (slice_cmp nat_cmp key)) (rows_of es))
     by true rest = refl
-    by false rest = ap (λ (rows : Rows). row_from e ∷ rows) rest
+    by false rest = ap (λ (rows : Entries). row_from e ∷ rows) rest
 
 -- the rows that pass a test of their keys, and the others
-abbrev pub passing : (Key → Bool) → Rows → Rows
-passing p rows = filter (λ (row : Row). p row.0) rows
+abbrev pub passing : (Key → Bool) → Entries → Entries
+passing p rows = filter (λ (row : Entry). p row.0) rows
 
-abbrev pub others : (Key → Bool) → Rows → Rows
-others p rows = filter (λ (row : Row). not (p row.0)) rows
+abbrev pub others : (Key → Bool) → Entries → Entries
+others p rows = filter (λ (row : Entry). not (p row.0)) rows
 
-first_passes : (p : Key → Bool) (rows : Rows) (key : Key) (rest : List Key) → keys_of (passing p rows) ≡ key ∷ rest → p key ≡ true
+first_passes : (p : Key → Bool) (rows : Entries) (key : Key) (rest : List Key) → keys_of (passing p rows) ≡ key ∷ rest → p key ≡ true
 first_passes p [] key rest h = absurd (cc)
 first_passes p (row ∷ rows) key rest h = by (p row.0) refl (first_passes p rows key rest) h
   where
@@ -45,7 +45,7 @@ first_passes p (row ∷ rows) key rest h = by (p row.0) refl (first_passes p row
     by false e later k = later k
 
 -- the first row that passes is gone, and the others are as they were
-pub record IsStep (p : Key → Bool) (old new : Rows) (rest : List Key) : Type 0 where
+pub record IsStep (p : Key → Bool) (old new : Entries) (rest : List Key) : Type 0 where
   pub left : keys_of (passing p new) ≡ rest
   pub kept : others p new ≡ others p old
 
@@ -56,11 +56,11 @@ equal_order : (r : Ordering) → is_eq r ≡ true → r ≡ Equal
 equal_order Equal h = refl
 equal_order _ h = absurd (cc)
 
-pub first_removed : (p : Key → Bool) (rows : Rows) (key : Key) (rest : List Key) → keys_of (passing p rows) ≡ key ∷ rest → IsStep p rows (remove_entry (is_at (slice_cmp nat_cmp key)) rows) rest
+pub first_removed : (p : Key → Bool) (rows : Entries) (key : Key) (rest : List Key) → keys_of (passing p rows) ≡ key ∷ rest → IsStep p rows (remove_entry (is_at (slice_cmp nat_cmp key)) rows) rest
 first_removed p [] key rest h = absurd (cc)
 first_removed p (row ∷ rows) key rest h = by (p row.0) refl (is_at (slice_cmp nat_cmp key) row.0) refl (first_removed p rows key rest) (first_passes p rows key rest) h
   where
-    gone : Rows
+    gone : Entries
     gone = remove_entry (is_at (slice_cmp nat_cmp key)) rows
 
     by : (t : Bool) → p row.0 ≡ t → (s : Bool) → is_at (slice_cmp nat_cmp key) row.0 ≡ s → (keys_of (passing p rows) ≡ key ∷ rest → IsStep p rows gone rest) → (keys_of (passing p rows) ≡ key ∷ rest → p key ≡ true)
@@ -74,27 +74,27 @@ first_removed p (row ∷ rows) key rest h = by (p row.0) refl (is_at (slice_cmp 
         absurd (both_ways (p row.0) e (ap p (sym same) ∙ first k))
     by false e false f later first k =
         let step = later k in
-        record { left = rw e step.left; kept = rw e (ap (λ (later : Rows). row ∷ later) step.kept) }
+        record { left = rw e step.left; kept = rw e (ap (λ (later : Entries). row ∷ later) step.kept) }
 
 -- where no row passes, the others are all rows
-pub none_passes : (p : Key → Bool) (rows : Rows) → keys_of (passing p rows) ≡ [] → others p rows ≡ rows
+pub none_passes : (p : Key → Bool) (rows : Entries) → keys_of (passing p rows) ≡ [] → others p rows ≡ rows
 none_passes p [] h = refl
 none_passes p (row ∷ rows) h = by (p row.0) refl (none_passes p rows) h
   where
     by : (t : Bool) → p row.0 ≡ t → (keys_of (passing p rows) ≡ [] → others p rows ≡ rows) → keys_of (cond t (row ∷ passing p rows) (passing p rows)) ≡ [] → others p (row ∷ rows) ≡ row ∷ rows
     by true e later k = absurd (cc)
-    by false e later k = rw e (ap (λ (rest : Rows). row ∷ rest) (later k))
+    by false e later k = rw e (ap (λ (rest : Entries). row ∷ rest) (later k))
 
 -- a loop over keys, which removes the row at each
-pub next_removed : (p : Key → Bool) (old : Rows) (es left : List (Vec ℕ × List ℕ)) (keys : List (Vec ℕ)) (d : Vec ℕ) (i : ℕ) → i < length keys
+pub next_removed : (p : Key → Bool) (old : Entries) (es left : List (Vec ℕ × List ℕ)) (keys : List (Vec ℕ)) (d : Vec ℕ) (i : ℕ) → i < length keys
     → left ≡ remove_entry (is_at (λ (k : Vec ℕ). slice_cmp nat_cmp (get_or keys i d).items k.items)) es → IsStep p old (rows_of es) (texts_of (drop i keys)) → IsStep p old (rows_of left) (texts_of (drop (i + 1) keys))
 next_removed p old es left keys d i within is before =
     let split : drop i keys ≡ get_or keys i d ∷ drop (i + 1) keys = rw (add-one, drop-cons keys i d) in
     let step = first_removed p (rows_of es) (get_or keys i d).items (texts_of (drop (i + 1) keys)) (before.left ∙ ap texts_of split) in
     let rows : rows_of left ≡ remove_entry (is_at (slice_cmp nat_cmp (get_or keys i d).items)) (rows_of es) = ap rows_of is ∙ removed (get_or keys i d).items es in
-    record { left = ap (λ (r : Rows). keys_of (passing p r)) rows ∙ step.left; kept = ap (others p) rows ∙ step.kept ∙ before.kept }
+    record { left = ap (λ (r : Entries). keys_of (passing p r)) rows ∙ step.left; kept = ap (others p) rows ∙ step.kept ∙ before.kept }
 
-pub all_removed : (p : Key → Bool) (old : Rows) (es : List (Vec ℕ × List ℕ)) (keys : List (Vec ℕ)) (i : ℕ) → length keys ≤ i → IsStep p old (rows_of es) (texts_of (drop i keys)) → rows_of es ≡ others p old
+pub all_removed : (p : Key → Bool) (old : Entries) (es : List (Vec ℕ × List ℕ)) (keys : List (Vec ℕ)) (i : ℕ) → length keys ≤ i → IsStep p old (rows_of es) (texts_of (drop i keys)) → rows_of es ≡ others p old
 all_removed p old es keys i past step =
     sym (none_passes p (rows_of es) (step.left ∙ ap texts_of (drop_all i keys past))) ∙ step.kept
 
@@ -113,7 +113,7 @@ runs_forward begin end e = forward (slice_cmp nat_cmp begin end) (begins_below b
 pub keys_held : (es : List (Vec ℕ × List ℕ)) (begin end : Vec ℕ) (range : Range) → begin.items ≡ range.begin → end.items ≡ range.end
     → keys_of (rows_of (entries_between vec_cmp (Included begin) (Excluded end) es)) ≡ keys_of (passing (holds range) (rows_of es))
 keys_held es begin end range low high =
-    let same : (row : Row) → (is_key_up_to begin.items row.0 && not (is_key_up_to end.items row.0)) ≡ holds range row.0 =
+    let same : (row : Entry) → (is_key_up_to begin.items row.0 && not (is_key_up_to end.items row.0)) ≡ holds range row.0 =
     λ row. rw (low, high) (ap₂ (λ (s t : Bool). s && t) (up_to_is range.begin row.0) (not_up_to range.end row.0)) in
-    ap keys_of (filtered (λ (row : Row). is_key_up_to begin.items row.0 && not (is_key_up_to end.items row.0)) es)
-    ∙ ap (λ (p : Row → Bool). keys_of (filter p (rows_of es))) (λ i row. same row i)
+    ap keys_of (filtered (λ (row : Entry). is_key_up_to begin.items row.0 && not (is_key_up_to end.items row.0)) es)
+    ∙ ap (λ (p : Entry → Bool). keys_of (filter p (rows_of es))) (λ i row. same row i)

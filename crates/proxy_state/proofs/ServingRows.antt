@@ -13,7 +13,7 @@ use Rattle.std.proofs.lemmas.Map.Lookups.{exact_unsigned}
 use Rattle.system_keys.specs.Keys.{Key, Range, is_key_below, is_key_up_to}
 use Rattle.system_keys.specs.declared.tag.Tag.{Tag}
 use Rattle.system_keys.specs.Families.{key_servers_family, is_in}
-use Rattle.model.specs.Metadata.{Row, Rows, key_servers, is_key_servers, behind_prefix, is_row_up_to, is_row_inside, row_of, row_tags}
+use Rattle.model.specs.Metadata.{Entry, Entries, key_servers_entries, is_key_servers, behind_prefix, is_entry_up_to, is_entry_inside, serving_entry, entry_tags}
 use Rattle.system_keys.proofs.KeyOrder.{up_to_is}
 use Rattle.system_keys.proofs.KeyLaws.{begins_below}
 use Rattle.system_keys.specs.Limits.{range_fault}
@@ -82,68 +82,68 @@ inside_behind (x ∷ p) begin end (y ∷ k) =
 pub record PassesBehind (whole behind : Key → Bool) : Type 0 where
   pub same : (k : Key) → whole k ≡ (is_in key_servers_family k && behind (drop (length key_servers_family.prefix) k))
 
-pub filter_behind : (whole behind : Key → Bool) → PassesBehind whole behind → (rows : Rows) → map behind_prefix (filter (λ (row : Row). whole row.0) rows) ≡ filter (λ (row : Row). behind row.0) (key_servers rows)
+pub filter_behind : (whole behind : Key → Bool) → PassesBehind whole behind → (rows : Entries) → map behind_prefix (filter (λ (row : Entry). whole row.0) rows) ≡ filter (λ (row : Entry). behind row.0) (key_servers_entries rows)
 filter_behind whole behind passes [] = refl
 filter_behind whole behind passes (row ∷ rows) =
     by (whole row.0) (is_key_servers row) (behind (behind_prefix row).0) refl (passes.same row.0) (filter_behind whole behind passes rows)
   where
-    kept : Rows
-    kept = filter (λ (r : Row). whole r.0) rows
+    kept : Entries
+    kept = filter (λ (r : Entry). whole r.0) rows
 
-    by : (w s b : Bool) → behind (behind_prefix row).0 ≡ b → w ≡ (s && b) → map behind_prefix kept ≡ filter (λ (r : Row). behind r.0) (key_servers rows)
-        → map behind_prefix (cond w (row ∷ kept) kept) ≡ filter (λ (r : Row). behind r.0) (map behind_prefix (cond s (row ∷ filter is_key_servers rows) (filter is_key_servers rows)))
+    by : (w s b : Bool) → behind (behind_prefix row).0 ≡ b → w ≡ (s && b) → map behind_prefix kept ≡ filter (λ (r : Entry). behind r.0) (key_servers_entries rows)
+        → map behind_prefix (cond w (row ∷ kept) kept) ≡ filter (λ (r : Entry). behind r.0) (map behind_prefix (cond s (row ∷ filter is_key_servers rows) (filter is_key_servers rows)))
     by w false b e h rest = rw h rest
-    by w true true e h rest = rw (h, e) (ap (λ (later : Rows). behind_prefix row ∷ later) rest)
+    by w true true e h rest = rw (h, e) (ap (λ (later : Entries). behind_prefix row ∷ later) rest)
     by w true false e h rest = rw (h, e) rest
 
 -- the rows of the map from the prefix up to a key behind it
 pub between_up_to : (es : List (Vec ℕ × List ℕ)) (least greatest : Vec ℕ) (key : Key) → least.items ≡ key_servers_family.prefix ++ [] → greatest.items ≡ key_servers_family.prefix ++ key
-    → map behind_prefix (rows_of (entries_between vec_cmp (Included least) (Included greatest) es)) ≡ filter (is_row_up_to key) (key_servers (rows_of es))
+    → map behind_prefix (rows_of (entries_between vec_cmp (Included least) (Included greatest) es)) ≡ filter (is_entry_up_to key) (key_servers_entries (rows_of es))
 between_up_to es least greatest key low high =
-    ap (map behind_prefix) (filtered (λ (row : Row). is_key_up_to least.items row.0 && not (is_key_below greatest.items row.0)) es)
+    ap (map behind_prefix) (filtered (λ (row : Entry). is_key_up_to least.items row.0 && not (is_key_below greatest.items row.0)) es)
     ∙ filter_behind (λ (k : Key). is_key_up_to least.items k && not (is_key_below greatest.items k)) (λ (k : Key). is_key_up_to k key)
     (record { same = λ k. rw (low, high) (up_to_behind key_servers_family.prefix key k) }) (rows_of es)
 
 -- the rows of the map after a key behind the prefix, and before another
 pub between_inside : (es : List (Vec ℕ × List ℕ)) (begin end : Vec ℕ) (range : Range) → begin.items ≡ key_servers_family.prefix ++ range.begin → end.items ≡ key_servers_family.prefix ++ range.end
-    → map behind_prefix (rows_of (entries_between vec_cmp (Excluded begin) (Excluded end) es)) ≡ filter (is_row_inside range) (key_servers (rows_of es))
+    → map behind_prefix (rows_of (entries_between vec_cmp (Excluded begin) (Excluded end) es)) ≡ filter (is_entry_inside range) (key_servers_entries (rows_of es))
 between_inside es begin end range low high =
-    ap (map behind_prefix) (filtered (λ (row : Row). is_key_below begin.items row.0 && not (is_key_up_to end.items row.0)) es)
+    ap (map behind_prefix) (filtered (λ (row : Entry). is_key_below begin.items row.0 && not (is_key_up_to end.items row.0)) es)
     ∙ filter_behind (λ (k : Key). is_key_below begin.items k && not (is_key_up_to end.items k)) (λ (k : Key). is_key_below range.begin k && is_key_below k range.end)
     (record { same = λ k. rw (low, high) (inside_behind key_servers_family.prefix range.begin range.end k) }) (rows_of es)
 
 -- ---- the last row
 
-last_behind : (first : Option Row) (es : List (Vec ℕ × List ℕ)) (e : Vec ℕ × List ℕ) → last_or first (map behind_prefix (rows_of (es ++ e ∷ []))) ≡ Some (behind_prefix (row_from e))
+last_behind : (first : Option Entry) (es : List (Vec ℕ × List ℕ)) (e : Vec ℕ × List ℕ) → last_or first (map behind_prefix (rows_of (es ++ e ∷ []))) ≡ Some (behind_prefix (row_from e))
 last_behind first [] e = refl
 last_behind first (d ∷ es) e = last_behind (Some (behind_prefix (row_from d))) es e
 
 -- the last row of the map from the prefix up to a key behind it serves the key
 pub last_serves : (es : List (Vec ℕ × List ℕ)) (least greatest : Vec ℕ) (key : Key) (front : List (Vec ℕ × List ℕ)) (e : Vec ℕ × List ℕ) → least.items ≡ key_servers_family.prefix ++ [] → greatest.items ≡ key_servers_family.prefix ++ key
-    → entries_between vec_cmp (Included least) (Included greatest) es ≡ front ++ e ∷ [] → row_of (key_servers (rows_of es)) key ≡ Some (behind_prefix (row_from e))
+    → entries_between vec_cmp (Included least) (Included greatest) es ≡ front ++ e ∷ [] → serving_entry (key_servers_entries (rows_of es)) key ≡ Some (behind_prefix (row_from e))
 last_serves es least greatest key front e low high is =
     ap (last_or None) (sym (between_up_to es least greatest key low high))
     ∙ ap (λ (between : List (Vec ℕ × List ℕ)). last_or None (map behind_prefix (rows_of between))) is
     ∙ last_behind None front e
 
 pub none_there : (es : List (Vec ℕ × List ℕ)) (least greatest : Vec ℕ) (key : Key) → least.items ≡ key_servers_family.prefix ++ [] → greatest.items ≡ key_servers_family.prefix ++ key
-    → entries_between vec_cmp (Included least) (Included greatest) es ≡ [] → row_of (key_servers (rows_of es)) key ≡ None
+    → entries_between vec_cmp (Included least) (Included greatest) es ≡ [] → serving_entry (key_servers_entries (rows_of es)) key ≡ None
 none_there es least greatest key low high is =
     ap (last_or None) (sym (between_up_to es least greatest key low high))
     ∙ ap (λ (between : List (Vec ℕ × List ℕ)). last_or None (map behind_prefix (rows_of between))) is
 
 -- ---- the tags of the rows
 
-tags_behind : (all rows : Rows) → flat_map (row_tags all) (map behind_prefix rows) ≡ flat_map (row_tags all) rows
-unfolding row_tags
+tags_behind : (all rows : Entries) → flat_map (entry_tags all) (map behind_prefix rows) ≡ flat_map (entry_tags all) rows
+unfolding entry_tags
 tags_behind all [] = refl
-tags_behind all (row ∷ rows) = ap (λ (later : List Tag). row_tags all row ++ later) (tags_behind all rows)
+tags_behind all (row ∷ rows) = ap (λ (later : List Tag). entry_tags all row ++ later) (tags_behind all rows)
 
 -- the tags of the rows of the map after a key behind the prefix, and before another
 pub tags_inside : (es : List (Vec ℕ × List ℕ)) (begin end : Vec ℕ) (range : Range) → begin.items ≡ key_servers_family.prefix ++ range.begin → end.items ≡ key_servers_family.prefix ++ range.end
-    → flat_map (row_tags (rows_of es)) (rows_of (entries_between vec_cmp (Excluded begin) (Excluded end) es)) ≡ flat_map (row_tags (rows_of es)) (filter (is_row_inside range) (key_servers (rows_of es)))
+    → flat_map (entry_tags (rows_of es)) (rows_of (entries_between vec_cmp (Excluded begin) (Excluded end) es)) ≡ flat_map (entry_tags (rows_of es)) (filter (is_entry_inside range) (key_servers_entries (rows_of es)))
 tags_inside es begin end range low high =
-    sym (tags_behind (rows_of es) (rows_of (entries_between vec_cmp (Excluded begin) (Excluded end) es))) ∙ ap (flat_map (row_tags (rows_of es))) (between_inside es begin end range low high)
+    sym (tags_behind (rows_of es) (rows_of (entries_between vec_cmp (Excluded begin) (Excluded end) es))) ∙ ap (flat_map (entry_tags (rows_of es))) (between_inside es begin end range low high)
 
 -- the keys of the rows at the ends of a range without a fault are in order
 pub ends_forward : (begin end : Vec ℕ) (range : Range) → begin.items ≡ key_servers_family.prefix ++ range.begin → end.items ≡ key_servers_family.prefix ++ range.end → range_fault range.begin range.end ≡ None → vec_cmp begin end ≡ Less

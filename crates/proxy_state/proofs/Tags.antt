@@ -4,7 +4,7 @@ use Rattle.std.specs.BTreeSet.{insert_key}
 use Rattle.std.proofs.lemmas.List.Sums.{fold-append}
 use Rattle.std.proofs.Math.Seq.{drop-cons}
 use Rattle.system_keys.specs.declared.tag.Tag.{Tag}
-use Rattle.model.specs.Metadata.{tag_cmp, rising}
+use Rattle.model.specs.Metadata.{tag_cmp, sorted_tags}
 
 -- the tags after more of them
 abbrev pub added : List Tag → List Tag → List Tag
@@ -27,7 +27,7 @@ step_at {X = X} f xs d i before now all within is so_far =
     ∙ ap (λ (rest : List X). added before (flat_map f rest)) (sym split)
     ∙ so_far
 
-pub rising_from : (made now tags : List Tag) → made ≡ [] → now ≡ added made tags → now ≡ rising tags
+pub rising_from : (made now tags : List Tag) → made ≡ [] → now ≡ added made tags → now ≡ sorted_tags tags
 rising_from made now tags none is = is ∙ ap (λ (first : List Tag). added first tags) none
 
 both_lists : {X : Type 0} (f : X → List Tag) (first more : List X) → flat_map f first ++ flat_map f more ≡ flat_map f (first ++ more)
@@ -35,9 +35,9 @@ both_lists f [] more = refl
 both_lists f (x ∷ first) more = append_assoc (f x) (flat_map f first) (flat_map f more) ∙ ap (λ (rest : List Tag). f x ++ rest) (both_lists f first more)
 
 pub rising_both : {X : Type 0} (f : X → List Tag) (first more : List X) (made between now : List Tag) → made ≡ [] → between ≡ added made (flat_map f first) → now ≡ added between (flat_map f more)
-    → now ≡ rising (flat_map f (first ++ more))
+    → now ≡ sorted_tags (flat_map f (first ++ more))
 rising_both f first more made between now none then is =
     is
     ∙ ap (λ (tags : List Tag). added tags (flat_map f more)) (rising_from made between (flat_map f first) none then)
     ∙ added_both [] (flat_map f first) (flat_map f more)
-    ∙ ap rising (both_lists f first more)
+    ∙ ap sorted_tags (both_lists f first more)

@@ -6,7 +6,7 @@ ghost use Rattle.std.specs.BTreeMap.{insert_entry};
 ghost use Rattle.std.specs.Cmp.Lexicographic.{slice_cmp};
 ghost use Rattle.system_keys.specs.Keys.{holds};
 ghost use Rattle.system_keys.specs.Families.{is_kept};
-ghost use Rattle.model.specs.Metadata.{row_at};
+ghost use Rattle.model.specs.Metadata.{entry_value};
 ghost use Rattle.proxy_state.specs.Kept.{rows_of, texts_of};
 ghost use Rattle.std.specs.Map.{keys_of};
 
@@ -17,7 +17,7 @@ use system_keys::{Bytes, KeyRange, OutOfMemory, RowKind, classify};
 
 /// The value of the row at a key.
 pub(crate) fn value_at<'a>(rows: &'a BTreeMap<Vec<u8>, Bytes>, key: &[u8]) -> Option<&'a [u8]>
-    ensures { option_map (λ value. value.now) result ≡ row_at (rows_of rows.now.entries) key.now }
+    ensures { option_map (λ value. value.now) result ≡ entry_value (rows_of rows.now.entries) key.now }
 {
     let value = rows.get(key)?;
     Some(value.as_slice())

@@ -6,11 +6,11 @@ ghost use Rattle.std.specs.Option.{option_to_list};
 ghost use Rattle.std.specs.BTreeSet.{insert_key};
 ghost use Rattle.system_keys.specs.declared.change.Change.TheVariants.{Set, Clear};
 ghost use Rattle.system_keys.specs.Keys.{Key};
-ghost use Rattle.model.specs.Metadata.{IsInOrder, AreKept, row_at, is_locked, changed, after_changes, is_let_pass, after_state, after_row, tags, tags_of_key, tag_cmp, row_tags, row_of, key_servers, routing};
+ghost use Rattle.model.specs.Metadata.{IsInOrder, AreKept, entry_value, is_locked, after_change, after_changes, is_applied, after_state, after_journal_row, tags, tags_of_key, tag_cmp, entry_tags, serving_entry, key_servers_entries, routing};
 ghost use Rattle.system_keys.specs.Families.{is_kept, metadata_version_family};
 
 use crate::kept;
-use crate::passing::{is_let_pass, some_passes};
+use crate::passing::{is_applied, some_passes};
 use crate::routes::routes;
 use crate::serving::{add_inside, serving_value};
 use crate::tagging::{add_tags, listed};
@@ -31,10 +31,10 @@ pub struct Metadata {
 }
 
 impl Model for Metadata {
-    ghost use Rattle.model.specs.Metadata.{Rows, IsInOrder, AreKept};
+    ghost use Rattle.model.specs.Metadata.{Entries, IsInOrder, AreKept};
     ghost use Rattle.proxy_state.specs.Kept.{rows_of};
 
-    ghost Value = { Rows };
+    ghost Value = { Entries };
 
     ghost view = { λ m. rows_of m.rows.entries };
 
@@ -58,7 +58,7 @@ impl Metadata {
     /// A Set of a row that is not kept takes no memory. Answers `OutOfMemory` where there is no memory for the
     /// change; the metadata is then unchanged.
     pub fn apply(&mut self, change: &Change) -> Result<(), OutOfMemory>
-        ensures ok { OnOk result (self.new ≡ changed self.old change.now) }
+        ensures ok { OnOk result (self.new ≡ after_change self.old change.now) }
         ensures idle { (key value : Key) → change.now ≡ Set key value → is_kept key ≡ false → IsOk result }
         ensures err { OnErr result (self.new ≡ self.old) }
     {
@@ -81,8 +81,8 @@ impl Metadata {
     /// where there is no memory for it; the metadata is then unchanged.
     #[tactic(auto, using(crate::proofs::PassLaws::none_pass))]
     pub fn apply_row(&mut self, row: &JournalRow) -> Result<(), OutOfMemory>
-        ensures ok { OnOk result (self.new ≡ after_row self.old row.now) }
-        ensures idle { list_any (is_let_pass (is_locked self.old)) row.now.states ≡ false → IsOk result }
+        ensures ok { OnOk result (self.new ≡ after_journal_row self.old row.now) }
+        ensures idle { list_any (is_applied (is_locked self.old)) row.now.states ≡ false → IsOk result }
         ensures err { OnErr result (self.new ≡ self.old) }
     {
         let states = row.states.as_slice();
@@ -99,7 +99,7 @@ impl Metadata {
     ///
     /// Answers `OutOfMemory` where there is no memory for it; the metadata is then gone.
     pub fn fold_rows(mut self, rows: &[JournalRow]) -> Result<Metadata, OutOfMemory>
-        ensures { IfOk result (λ folded. folded ≡ fold after_row self rows.now) }
+        ensures { IfOk result (λ folded. folded ≡ fold after_journal_row self rows.now) }
     {
         for row in rows {
             self.apply_states(row.states.as_slice())?;
@@ -112,7 +112,7 @@ impl Metadata {
     {
         let locked = self.is_locked();
         for transaction in states {
-            if is_let_pass(locked, transaction) {
+            if is_applied(locked, transaction) {
                 self.apply_changes(transaction.mutations.as_slice())?;
             }
         }
@@ -131,7 +131,7 @@ impl Metadata {
     /// The value of the row at this key, if it is there. The rows stand in the strict order of their keys, and
     /// each of these is kept. Takes no memory.
     pub fn row(&self, key: &[u8]) -> Option<&[u8]>
-        ensures value { option_map (λ value. value.now) result ≡ row_at self.now key.now }
+        ensures value { option_map (λ value. value.now) result ≡ entry_value self.now key.now }
         ensures order { IsInOrder self.now }
         ensures kept { AreKept self.now }
     {
@@ -184,9 +184,9 @@ impl Metadata {
     }
 
     /// Adds the tags of the row that serves the key.
-    #[tactic(auto, unfolding(model::specs::Metadata::row_tags))]
+    #[tactic(auto, unfolding(model::specs::Metadata::entry_tags))]
     fn add_tags_of_key(&self, key: &[u8], tags: &mut BTreeSet<Tag>) -> Result<(), OutOfMemory>
-        ensures { OnOk result (tags.new.keys ≡ fold (insert_key tag_cmp) tags.old.keys (flat_map (row_tags self.now) (option_to_list (row_of (key_servers self.now) key.now)))) }
+        ensures { OnOk result (tags.new.keys ≡ fold (insert_key tag_cmp) tags.old.keys (flat_map (entry_tags self.now) (option_to_list (serving_entry (key_servers_entries self.now) key.now)))) }
     {
         match serving_value(self.alloc, &self.rows, key)? {
             Some(value) => add_tags(self.alloc, &self.rows, value, tags),
@@ -210,7 +210,7 @@ impl Metadata {
     }
 
     fn metadata_version(&self) -> Result<Option<Bytes>, OutOfMemory>
-        ensures { IfOk result (λ value. value ≡ row_at self.now metadata_version_family.prefix) }
+        ensures { IfOk result (λ value. value ≡ entry_value self.now metadata_version_family.prefix) }
     {
         match self.row(METADATA_VERSION_KEY) {
             Some(value) => Ok(Some(Bytes::from(Vec::from_slice(self.alloc, value)?))),

@@ -3,24 +3,24 @@
 ghost use Rattle.std.specs.Prelude.{◌≡◌};
 ghost use Rattle.std.specs.List.{list_all, list_any};
 ghost use Rattle.model.specs.Verdicts.{is_committed};
-ghost use Rattle.model.specs.Metadata.{is_let_pass};
+ghost use Rattle.model.specs.Metadata.{is_applied};
 
 use model::{StateTxn, Verdict};
 
 /// Whether every resolver committed the transaction, and it is lock aware or meets no lock (release 7.1).
-pub(crate) fn is_let_pass(locked: bool, transaction: &StateTxn) -> bool
-    ensures { result ≡ is_let_pass locked transaction.now }
+pub(crate) fn is_applied(locked: bool, transaction: &StateTxn) -> bool
+    ensures { result ≡ is_applied locked transaction.now }
 {
     are_committed(transaction.verdicts.as_slice()) && (transaction.lock_aware || !locked)
 }
 
 /// Whether some of the transactions is let pass.
 pub(crate) fn some_passes(locked: bool, transactions: &[StateTxn]) -> bool
-    ensures { result ≡ list_any (is_let_pass locked) transactions.now }
+    ensures { result ≡ list_any (is_applied locked) transactions.now }
 {
     transactions
         .iter()
-        .any(|transaction| is_let_pass(locked, transaction))
+        .any(|transaction| is_applied(locked, transaction))
 }
 
 fn are_committed(verdicts: &[Verdict]) -> bool

@@ -1,7 +1,7 @@
 //! The routes of the key space.
 
 ghost use Rattle.std.specs.Prelude.{◌≡◌, ◌++◌, [], ◌∷◌, IfOk, OnOk, map};
-ghost use Rattle.model.specs.Metadata.{Rows, route_of, key_servers};
+ghost use Rattle.model.specs.Metadata.{Entries, route_of, key_servers_entries};
 ghost use Rattle.proxy_state.specs.Kept.{rows_of};
 ghost use Rattle.proxy_state.specs.OwnRoutes.{own_route, own_routes};
 
@@ -18,8 +18,8 @@ pub(crate) fn routes(
     alloc: Global,
     rows: &BTreeMap<Vec<u8>, Bytes>,
 ) -> Result<Items<Route>, OutOfMemory>
-    ensures { let kept : Rows = rows_of rows.now.entries in
-        IfOk result (λ routes. routes ≡ map (route_of kept) (key_servers kept)) }
+    ensures { let kept : Entries = rows_of rows.now.entries in
+        IfOk result (λ routes. routes ≡ map (route_of kept) (key_servers_entries kept)) }
 {
     let mut routes = Vec::new(alloc);
     for (key, value) in rows {
@@ -45,7 +45,7 @@ fn add_route(
 }
 
 /// The route of a keyServers row by its own value; `key` is what follows the prefix.
-#[tactic(auto, unfolding(model::specs::Metadata::row_tags))]
+#[tactic(auto, unfolding(model::specs::Metadata::entry_tags))]
 fn own_route(
     alloc: Global,
     rows: &BTreeMap<Vec<u8>, Bytes>,

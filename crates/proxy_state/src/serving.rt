@@ -4,7 +4,7 @@ ghost use Rattle.std.specs.Prelude.{◌≡◌, ◌++◌, IfOk, OnOk, filter, fol
 ghost use Rattle.std.specs.List.{flat_map};
 ghost use Rattle.std.specs.BTreeSet.{insert_key};
 ghost use Rattle.system_keys.specs.Families.{key_servers_family};
-ghost use Rattle.model.specs.Metadata.{row_of, key_servers, is_row_inside, row_tags, tag_cmp};
+ghost use Rattle.model.specs.Metadata.{serving_entry, key_servers_entries, is_entry_inside, entry_tags, tag_cmp};
 ghost use Rattle.proxy_state.specs.Kept.{rows_of};
 
 use crate::tagging::add_tags;
@@ -21,7 +21,7 @@ pub(crate) fn serving_value<'a>(
     rows: &'a BTreeMap<Vec<u8>, Bytes>,
     key: &[u8],
 ) -> Result<Option<&'a [u8]>, OutOfMemory>
-    ensures { IfOk result (λ value. option_map (λ value. value.now) value ≡ option_map (λ row. row.1) (row_of (key_servers (rows_of rows.now.entries)) key.now)) }
+    ensures { IfOk result (λ value. option_map (λ value. value.now) value ≡ option_map (λ row. row.1) (serving_entry (key_servers_entries (rows_of rows.now.entries)) key.now)) }
 {
     let least = row_key(alloc, b"")?;
     let greatest = row_key(alloc, key)?;
@@ -35,14 +35,14 @@ pub(crate) fn serving_value<'a>(
 /// Adds the tags of each keyServers row after the begin of the range and before its end (release 7.1).
 ///
 /// Answers `OutOfMemory` where there is no memory for it.
-#[tactic(auto, unfolding(model::specs::Metadata::row_tags))]
+#[tactic(auto, unfolding(model::specs::Metadata::entry_tags))]
 pub(crate) fn add_inside(
     alloc: Global,
     rows: &BTreeMap<Vec<u8>, Bytes>,
     range: &KeyRange,
     tags: &mut BTreeSet<Tag>,
 ) -> Result<(), OutOfMemory>
-    ensures { OnOk result (tags.new.keys ≡ fold (insert_key tag_cmp) tags.old.keys (flat_map (row_tags (rows_of rows.now.entries)) (filter (is_row_inside range.now) (key_servers (rows_of rows.now.entries))))) }
+    ensures { OnOk result (tags.new.keys ≡ fold (insert_key tag_cmp) tags.old.keys (flat_map (entry_tags (rows_of rows.now.entries)) (filter (is_entry_inside range.now) (key_servers_entries (rows_of rows.now.entries))))) }
 {
     let begin = row_key(alloc, range.begin())?;
     let end = row_key(alloc, range.end())?;

@@ -6,7 +6,7 @@ use Rattle.system_keys.specs.Keys.{Key}
 use Rattle.system_keys.specs.Text.{text_of}
 use Rattle.model.specs.declared.routing.Route.{Route}
 use Rattle.model.specs.declared.routing.Routing.{Routing}
-use Rattle.model.specs.Metadata.{Rows, tags_of_key}
+use Rattle.model.specs.Metadata.{Entries, tags_of_key}
 
 -- every line ends with one line feed
 abbrev pub line : List ℕ → List ℕ
@@ -62,11 +62,11 @@ abbrev pub tags_line : Key → List Tag → List ℕ
 tags_line key tags = line (codes "tags " ++ quoted key ++ spaced (tags_text tags))
 
 -- an asked key with the tags that these rows give it
-abbrev pub asked_line : Rows → Key → List ℕ
+abbrev pub asked_line : Entries → Key → List ℕ
 asked_line rows key = tags_line key (tags_of_key rows key)
 
 -- the asked keys, in the order of the script
-abbrev pub asked_text : Rows → List Key → List ℕ
+abbrev pub asked_text : Entries → List Key → List ℕ
 asked_text rows keys = flat_map (asked_line rows) keys
 
 -- a refusal: its number and its name

@@ -1,4 +1,4 @@
-use Rattle.model.specs.World.{start, world_after}
+use Rattle.model.specs.World.{initial_world, world_after}
 use Rattle.model.proofs.SerialLaw.{history_is_serial}
 use Rattle.model.proofs.WorldLaws.{happens_sound, run_sound}
 use Rattle.model.proofs.world_laws.run_law.Goals as goal
@@ -8,5 +8,5 @@ returns c = record {
   step = happens_sound;
   sound = run_sound;
   history = λ config events. (run_sound config events).sequencer.history;
-  serial = λ config events limits. history_is_serial config (world_after config (start config) events).history limits (run_sound config events).sequencer.history;
+  serial = λ config events limits. history_is_serial config (world_after config (initial_world config) events).history limits (run_sound config events).sequencer.history;
 }

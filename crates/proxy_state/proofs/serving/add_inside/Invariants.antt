@@ -1,11 +1,11 @@
 -- The tags of the rows that are left, added to those so far, give what all rows of the range give.
 use Rattle.std.proofs.Common.{◌≡◌, fold, flat_map, filter}
 use Rattle.std.specs.BTreeSet.{insert_key}
-use Rattle.model.specs.Metadata.{tag_cmp, row_tags, key_servers, is_row_inside}
+use Rattle.model.specs.Metadata.{tag_cmp, entry_tags, key_servers_entries, is_entry_inside}
 use Rattle.proxy_state.specs.Kept.{rows_of}
 use Rattle.proxy_state.proofs.serving.add_inside.Given as goal
 
 abbrev pub invariant-loop-value : goal.invariant-loop-value
 invariant-loop-value l =
-    fold (insert_key tag_cmp) l.tags.keys (flat_map (row_tags (rows_of l.rows.entries)) (rows_of l.value-iterator))
-    ≡ fold (insert_key tag_cmp) l.fn.tags.keys (flat_map (row_tags (rows_of l.rows.entries)) (filter (is_row_inside l.range) (key_servers (rows_of l.rows.entries))))
+    fold (insert_key tag_cmp) l.tags.keys (flat_map (entry_tags (rows_of l.rows.entries)) (rows_of l.value-iterator))
+    ≡ fold (insert_key tag_cmp) l.fn.tags.keys (flat_map (entry_tags (rows_of l.rows.entries)) (filter (is_entry_inside l.range) (key_servers_entries (rows_of l.rows.entries))))
