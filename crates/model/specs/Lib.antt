@@ -4,6 +4,7 @@ pub mod Committed
 pub mod Configs
 pub mod Growing
 pub mod Journal
+pub mod Laws
 pub mod Metadata
 pub mod Missing
 pub mod Outcomes
