@@ -1,6 +1,11 @@
 //! Laws of the chain of versions. No code: each function's contract is a law of the definitions.
 
-ghost use Rattle.model.specs.Laws.Chain.{VersionsAreMultiplesOfTheStep, RowsGiveTheNumbers, VersionsIncrease, OldestVersionsNeverDecrease, OwnVersionsAreNoLater, NextNumbersFollow, FirstRowsByVersion, CountOfRowsByVersion, CountOfRowsByRecord, NoRowIsUpToZero, LowerVersionsAreInEarlierRows, VersionsAreUnique};
+ghost use Rattle.model.specs.Laws.Chain.{VersionsAreMultiplesOfTheStep, RowsGiveTheNumbers};
+ghost use Rattle.model.specs.Laws.Chain.{VersionsIncrease, OldestVersionsNeverDecrease};
+ghost use Rattle.model.specs.Laws.Chain.{OwnVersionsAreNoLater, NextNumbersFollow};
+ghost use Rattle.model.specs.Laws.Chain.{FirstRowsByVersion, CountOfRowsByVersion};
+ghost use Rattle.model.specs.Laws.Chain.{CountOfRowsByRecord, NoRowIsUpToZero};
+ghost use Rattle.model.specs.Laws.Chain.{LowerVersionsAreInEarlierRows, VersionsAreUnique};
 
 /// In a history the row of a record gives its numbers: its previous version is the row times the step, and its
 /// version is one step more, below 2^63. So versions increase, oldest versions never decrease, and the

@@ -1,9 +1,11 @@
 -- The chain of versions.
-use Rattle.std.specs.Prelude.{◌≡◌, ◌≤◌, ◌<◌, ◌+◌, ◌*◌, ◌^◌, ℕ, suc, List, length, take, slice_get, Some}
+use Rattle.std.specs.Prelude.{◌≡◌, ◌≤◌, ◌<◌, ◌+◌, ◌*◌, ◌^◌, ℕ, suc, List, length, take, slice_get}
+use Rattle.std.specs.Prelude.{Some}
 use Rattle.model.specs.Configs.{Config, version_limit}
 use Rattle.model.specs.declared.moves.Move.{Move}
 use Rattle.model.specs.Transactions.{Transaction}
-use Rattle.model.specs.Records.{Record, IsHistory, Follows, MovesFollow, last_version, records_of_proxy, oldest}
+use Rattle.model.specs.Records.{Record, IsHistory, Follows, MovesFollow, last_version}
+use Rattle.model.specs.Records.{records_of_proxy, oldest}
 use Rattle.model.specs.World.{up_to_version, rows_up_to}
 
 -- ---- in a history
