@@ -2,6 +2,8 @@ pub mod Acknowledged
 pub mod Agreed
 pub mod Committed
 pub mod Configs
+pub mod Edges
+pub mod Examples
 pub mod Growing
 pub mod Journal
 pub mod Laws
@@ -18,6 +20,4 @@ pub mod Shares
 pub mod Stamps
 pub mod Transactions
 pub mod Verdicts
-pub mod WorkedEdges
-pub mod WorkedRows
 pub mod World

@@ -10,6 +10,7 @@ ghost use Rattle.model.specs.Laws.Sources.{CommittedByCellsIsInTheCell, Committe
 ghost use Rattle.model.specs.Laws.Holders.{CellsGiveTheJournal, CellsGiveTheOutcomes};
 ghost use Rattle.model.specs.Laws.Holders.{CellsGiveTheFinishedBatch, JournalsOfTwoHoldersMeet};
 ghost use Rattle.model.specs.Laws.Finished.{OutcomesStandAtTheirNumbers, OutcomesAfterRecords};
+ghost use Rattle.model.specs.Laws.Finished.{TheLockRefusesThePlain};
 ghost use Rattle.model.specs.Laws.Finished.{LaterRecordsKeepVerdicts, LaterRecordsKeepTheJournal};
 ghost use Rattle.model.specs.Laws.Finished.{LaterRecordsContinueTheMetadata};
 ghost use Rattle.model.specs.Laws.Finished.{LaterRecordsKeepOutcomes};
@@ -52,10 +53,12 @@ pub fn saying_law()
 {}
 
 /// The outcomes of a batch are those of its transactions, each at its number, after the records before it and
-/// after any journal.
+/// after any journal. The lock refuses exactly the transactions that are not lock aware, while the database is
+/// locked.
 pub fn outcome_law()
     ensures journal { OutcomesStandAtTheirNumbers }
     ensures records { OutcomesAfterRecords }
+    ensures lock { TheLockRefusesThePlain }
 {}
 
 /// If the cells of the first rows of a history have the verdicts of their resolvers, the journal, the outcomes

@@ -1,4 +1,5 @@
 -- Outcomes and finished batches, and what later records leave unchanged.
+use Rattle.std.specs.Prelude.{◌↔◌, Bool, IsTrue, IsFalse}
 use Rattle.std.specs.Prelude.{◌≡◌, ◌<◌, ◌++◌, ℕ, List, [], ◌∷◌, fold, length, take, slice_get, Some}
 use Rattle.std.specs.Prelude.{Contains}
 use Rattle.model.specs.Configs.{Config, IsConfig}
@@ -8,7 +9,7 @@ use Rattle.model.specs.Transactions.{Transaction}
 use Rattle.model.specs.Records.{Record, IsHistory}
 use Rattle.model.specs.Metadata.{is_locked, metadata, after_journal_row, tags}
 use Rattle.model.specs.Journal.{VerdictSource, history_verdicts, journal_row, journal}
-use Rattle.model.specs.Outcomes.{outcome, outcomes_after, outcomes}
+use Rattle.model.specs.Outcomes.{is_refused, outcome, outcomes_after, outcomes}
 use Rattle.model.specs.World.{reply_of, finished_after, finished_batch}
 use Rattle.model.specs.Serial.{IsSerial}
 
@@ -32,6 +33,13 @@ OutcomesAfterRecords =
     → slice_get (outcomes config verdict_by before rec) number
     ≡ Some (outcome config verdict_by (is_locked (metadata (journal config verdict_by before))) rec
     number transaction)
+
+-- the lock refuses exactly the transactions that are not lock aware, while the database is locked
+abbrev pub TheLockRefusesThePlain : Type 0
+TheLockRefusesThePlain =
+    (locked : Bool) (transaction : Transaction)
+    → IsTrue (is_refused locked transaction)
+    ↔ (IsTrue locked × IsFalse transaction.lock_aware)
 
 -- the outcomes in a finished batch are those of its record
 abbrev pub FinishedOutcomesAreOfTheRecord : Type 0

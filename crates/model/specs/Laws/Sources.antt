@@ -1,4 +1,4 @@
--- Sources of verdicts: what two of them that agree have in common, and what cells and histories say.
+-- Sources of verdicts: what two that agree have in common, and what cells and histories say.
 use Rattle.std.specs.Prelude.{◌≡◌, ℕ, List, take, slice_get, Some, IsTrue}
 use Rattle.model.specs.Configs.{Config}
 use Rattle.model.specs.declared.journal.JournalRow.{JournalRow}

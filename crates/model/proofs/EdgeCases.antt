@@ -1,0 +1,95 @@
+-- Each edge case computes, or follows by comparing numbers.
+use Rattle.std.proofs.Common.{refl, arith}
+use Rattle.system_keys.specs.Families.{kind_of}
+use Rattle.system_keys.specs.Rows.{ids_at}
+use Rattle.model.specs.Shares.{share_back_to}
+use Rattle.model.specs.Verdicts.{judged_before, verdict_of, share_verdicts}
+use Rattle.model.specs.Metadata.{metadata, server_tags, entry_tags, tags, routing}
+use Rattle.model.specs.Journal.{history_verdicts, cell_verdicts, journal_row, journal, reply_row}
+use Rattle.model.specs.Journal.{unseen, remembered}
+use Rattle.model.specs.Requests.{request_back_to}
+use Rattle.model.specs.Outcomes.{joined_verdict, outcome, outcomes_after}
+use Rattle.model.specs.World.{finished_after, handle_event, answers, world_after, proxy_journal}
+use Rattle.model.specs.Configs.{IsConfig}
+use Rattle.model.specs.Edges.{AnEmptyValueIsNoLock, TagsRiseByLocalityFirst, TheEndsOfAClear}
+use Rattle.model.specs.Edges.{RowsThatDoNotDecode, TheBytesOfAStamp, AStampAmongText}
+use Rattle.model.specs.Edges.{EachStampHasItsNumber, TheSharesOfARecord, TheRequestsForARecord}
+use Rattle.model.specs.Edges.{TheJournalRowOfARecord, CellsWithoutVerdicts, AHistoryWithoutVerdicts}
+use Rattle.model.specs.Edges.{TooFewVerdicts, TheFirstMissingReply, TheLimitsOfACluster, of_numbers}
+
+-- everything that a case computes with: a lemma that unfolds this unfolds all of it
+the_definitions : Type 0
+unfolding kind_of ids_at share_back_to judged_before verdict_of share_verdicts metadata server_tags
+    entry_tags tags routing history_verdicts cell_verdicts journal_row journal reply_row unseen
+    remembered request_back_to joined_verdict outcome outcomes_after finished_after handle_event
+    answers world_after proxy_journal
+the_definitions = Unit {0}
+
+pub an_empty_value_is_no_lock : AnEmptyValueIsNoLock
+unfolding the_definitions
+an_empty_value_is_no_lock = (refl, refl)
+
+pub tags_rise_by_locality_first : TagsRiseByLocalityFirst
+unfolding the_definitions
+tags_rise_by_locality_first = refl
+
+pub the_ends_of_a_clear : TheEndsOfAClear
+unfolding the_definitions
+the_ends_of_a_clear = (refl, refl, refl, refl, refl, refl)
+
+pub rows_that_do_not_decode : RowsThatDoNotDecode
+unfolding the_definitions
+rows_that_do_not_decode = refl
+
+pub the_bytes_of_a_stamp : TheBytesOfAStamp
+unfolding the_definitions
+the_bytes_of_a_stamp = refl
+
+pub a_stamp_among_text : AStampAmongText
+unfolding the_definitions
+a_stamp_among_text = refl
+
+pub each_stamp_has_its_number : EachStampHasItsNumber
+unfolding the_definitions
+each_stamp_has_its_number = refl
+
+pub the_shares_of_a_record : TheSharesOfARecord
+unfolding the_definitions
+the_shares_of_a_record = (refl, refl)
+
+pub the_requests_for_a_record : TheRequestsForARecord
+unfolding the_definitions
+the_requests_for_a_record = (refl, refl)
+
+pub the_journal_row_of_a_record : TheJournalRowOfARecord
+unfolding the_definitions
+the_journal_row_of_a_record = (refl, refl, refl)
+
+pub cells_without_verdicts : CellsWithoutVerdicts
+unfolding the_definitions
+cells_without_verdicts = (refl, refl, refl, refl)
+
+pub a_history_without_verdicts : AHistoryWithoutVerdicts
+unfolding the_definitions
+a_history_without_verdicts = (refl, refl)
+
+pub too_few_verdicts : TooFewVerdicts
+too_few_verdicts = refl
+
+pub the_first_missing_reply : TheFirstMissingReply
+unfolding the_definitions
+the_first_missing_reply = refl
+
+pub the_limits_of_a_cluster : TheLimitsOfACluster
+the_limits_of_a_cluster = (
+  record { proxies = (omega arith, omega arith); resolvers = (omega arith, omega arith); window = (omega arith, omega arith); step = (omega arith, omega arith) },
+  record { proxies = (omega arith, omega arith); resolvers = (omega arith, omega arith); window = (omega arith, omega arith); step = (omega arith, omega arith) },
+  λ (c : IsConfig (of_numbers 0 1 1 1)). let past = c.proxies.0 in omega (arith, past),
+  λ (c : IsConfig (of_numbers 65 1 1 1)). let past = c.proxies.1 in omega (arith, past),
+  λ (c : IsConfig (of_numbers 1 0 1 1)). let past = c.resolvers.0 in omega (arith, past),
+  λ (c : IsConfig (of_numbers 1 65 1 1)). let past = c.resolvers.1 in omega (arith, past),
+  λ (c : IsConfig (of_numbers 1 1 0 1)). let past = c.window.0 in omega (arith, past),
+  λ (c : IsConfig (of_numbers 1 1 1000000001 1)). let past = c.window.1 in omega (arith, past),
+  λ (c : IsConfig (of_numbers 1 1 1 0)). let past = c.step.0 in omega (arith, past),
+  λ (c : IsConfig (of_numbers 1 1 1 9223372036854775808)). let past = c.step.1 in omega (arith, past),
+)
