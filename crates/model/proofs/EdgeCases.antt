@@ -1,29 +1,12 @@
 -- Each edge case computes, or follows by comparing numbers.
 use Rattle.std.proofs.Common.{refl, arith}
-use Rattle.system_keys.specs.Families.{kind_of}
-use Rattle.system_keys.specs.Rows.{ids_at}
-use Rattle.model.specs.Shares.{share_back_to}
-use Rattle.model.specs.Verdicts.{judged_before, verdict_of, share_verdicts}
-use Rattle.model.specs.Metadata.{metadata, server_tags, entry_tags, tags, routing}
-use Rattle.model.specs.Journal.{history_verdicts, cell_verdicts, journal_row, journal, reply_row}
-use Rattle.model.specs.Journal.{unseen, remembered}
-use Rattle.model.specs.Requests.{request_back_to}
-use Rattle.model.specs.Outcomes.{joined_verdict, outcome, outcomes_after}
-use Rattle.model.specs.World.{finished_after, handle_event, answers, world_after, proxy_journal}
 use Rattle.model.specs.Configs.{IsConfig}
 use Rattle.model.specs.Edges.{AnEmptyValueIsNoLock, TagsRiseByLocalityFirst, TheEndsOfAClear}
 use Rattle.model.specs.Edges.{RowsThatDoNotDecode, TheBytesOfAStamp, AStampAmongText}
 use Rattle.model.specs.Edges.{EachStampHasItsNumber, TheSharesOfARecord, TheRequestsForARecord}
 use Rattle.model.specs.Edges.{TheJournalRowOfARecord, CellsWithoutVerdicts, AHistoryWithoutVerdicts}
 use Rattle.model.specs.Edges.{TooFewVerdicts, TheFirstMissingReply, TheLimitsOfACluster, of_numbers}
-
--- everything that a case computes with: a lemma that unfolds this unfolds all of it
-the_definitions : Type 0
-unfolding kind_of ids_at share_back_to judged_before verdict_of share_verdicts metadata server_tags
-    entry_tags tags routing history_verdicts cell_verdicts journal_row journal reply_row unseen
-    remembered request_back_to joined_verdict outcome outcomes_after finished_after handle_event
-    answers world_after proxy_journal
-the_definitions = Unit {0}
+use Rattle.model.proofs.Definitions.{the_definitions}
 
 pub an_empty_value_is_no_lock : AnEmptyValueIsNoLock
 unfolding the_definitions

@@ -5,6 +5,7 @@ pub mod AskedLaws
 pub mod ChainLaws
 pub mod ChangeLaws
 pub mod CommittedLaws
+pub mod Definitions
 pub mod EdgeCases
 pub mod GrowingLaws
 pub mod HistoryLaws

@@ -1,15 +1,6 @@
 -- Each scenario computes.
 use Rattle.std.proofs.Common.{refl}
-use Rattle.system_keys.specs.Families.{kind_of}
-use Rattle.system_keys.specs.Rows.{ids_at}
-use Rattle.model.specs.Shares.{share_back_to}
-use Rattle.model.specs.Verdicts.{judged_before, verdict_of, share_verdicts}
-use Rattle.model.specs.Metadata.{metadata, server_tags, entry_tags, tags, routing}
-use Rattle.model.specs.Journal.{history_verdicts, cell_verdicts, journal_row, journal, reply_row}
-use Rattle.model.specs.Journal.{unseen, remembered}
-use Rattle.model.specs.Requests.{request_back_to}
-use Rattle.model.specs.Outcomes.{joined_verdict, outcome, outcomes_after}
-use Rattle.model.specs.World.{finished_after, handle_event, answers, world_after, proxy_journal}
+use Rattle.model.proofs.Definitions.{the_definitions}
 use Rattle.scenarios.specs.FoldScenarios.{AnEmptyJournal, TheBoundaryBelongsToTheRightRow}
 use Rattle.scenarios.specs.FoldScenarios.{OneResolverRefuses, TheLockIsReadOnceARow}
 use Rattle.scenarios.specs.FoldScenarios.{TagsComeAndGoWithTheirRows}
@@ -24,19 +15,11 @@ use Rattle.scenarios.specs.LockScenarios.{TheLockOverTwoProxies, AStateTransacti
 use Rattle.scenarios.specs.LockScenarios.{TheLockIsTakenOff, TooOldUnderTheLock}
 use Rattle.scenarios.specs.MemoryScenarios.{RowsAreRememberedForAProxyThatIsLate}
 use Rattle.scenarios.specs.MemoryScenarios.{RepeatsAndRepliesGivenUp, TwoRecordsBegunAtOnce}
-use Rattle.scenarios.specs.MemoryScenarios.{TwoProxiesMeet, WhatAProxyHasAcknowledged}
+use Rattle.scenarios.specs.MemoryScenarios.{TwoProxiesMeet}
 use Rattle.scenarios.specs.ClearScenarios.{TheTagsOfAClear, AClearOfEverything}
 use Rattle.scenarios.specs.ProxyScenarios.{AProxyThatIsBehind}
 use Rattle.scenarios.specs.RefusalScenarios.{RefusalsInOrder, WhatIsCheckedFirst, TheLastVersion}
-use Rattle.scenarios.specs.RefusalScenarios.{TheGreatestVersion}
-
--- everything that a case computes with: a lemma that unfolds this unfolds all of it
-the_definitions : Type 0
-unfolding kind_of ids_at share_back_to judged_before verdict_of share_verdicts metadata server_tags
-    entry_tags tags routing history_verdicts cell_verdicts journal_row journal reply_row unseen
-    remembered request_back_to joined_verdict outcome outcomes_after finished_after handle_event
-    answers world_after proxy_journal
-the_definitions = Unit {0}
+use Rattle.scenarios.specs.RefusalScenarios.{TheGreatestVersion, WhatAProxyHasAcknowledged}
 
 pub an_empty_journal : AnEmptyJournal
 unfolding the_definitions
@@ -134,10 +117,6 @@ pub two_proxies_meet : TwoProxiesMeet
 unfolding the_definitions
 two_proxies_meet = (refl, refl, refl)
 
-pub what_a_proxy_has_acknowledged : WhatAProxyHasAcknowledged
-unfolding the_definitions
-what_a_proxy_has_acknowledged = refl
-
 pub the_tags_of_a_clear : TheTagsOfAClear
 unfolding the_definitions
 the_tags_of_a_clear = refl
@@ -165,3 +144,7 @@ the_last_version = refl
 pub the_greatest_version : TheGreatestVersion
 unfolding the_definitions
 the_greatest_version = refl
+
+pub what_a_proxy_has_acknowledged : WhatAProxyHasAcknowledged
+unfolding the_definitions
+what_a_proxy_has_acknowledged = refl

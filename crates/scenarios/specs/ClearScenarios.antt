@@ -35,14 +35,14 @@ four_servers_set =
 abbrev pub alone : ℕ → Given → List Event
 alone row t = Sequence 0 (t ∷ []) ∷ to_both row ++ Finish 0 ∷ []
 
--- the mutations of transaction 0, from this place on, all with the same tags
+-- the mutations of transaction 0, from this place on, with the same tags
 abbrev pub all_tagged : ℕ → List Change → List Tag → List Tagged
 all_tagged place [] tags = []
 all_tagged place (change ∷ rest) tags =
     tagged 0 place change tags ∷ all_tagged (suc place) rest tags
 
--- what is told of it: its verdicts by both resolvers, none where it asks none, and its mutations
--- with their tags
+-- the answers: its verdicts by both resolvers, none if it asks none, and its mutations with their
+-- tags
 abbrev pub told_alone : (row version : ℕ) → List Verdict → List Tagged → List Answer
 told_alone row version verdicts mutations =
     Sequenced row version ∷ judged 0 row version 0 verdicts [] ∷ judged 0 row version 1 verdicts []
@@ -54,8 +54,8 @@ all_users = range a (255 ∷ [])
 abbrev pub all_routes : Range
 all_routes = range (servers_row []) (255 ∷ codes "/keyServers0")
 
--- a Clear has the tags of every keyServers row that it meets; tags come from the metadata after the
--- batch, so one that clears these rows leaves none
+-- a Clear has the tags of every keyServers row that it touches; tags come from the metadata after
+-- the batch, so a Clear of these rows has none
 abbrev pub TheTagsOfAClear : Type 0
 TheTagsOfAClear =
     told cluster (alone 0 (mutating four_servers) ++ alone 1 (mutating (Clear all_users ∷ []))
@@ -73,7 +73,7 @@ abbrev pub clear_of_everything : List Event
 clear_of_everything =
     alone 0 (mutating four_servers) ++ alone 1 (lock_aware (mutating (Clear everything ∷ [])))
 
--- a Clear of all keys leaves no row
+-- a Clear of all keys leaves no entry
 abbrev pub AClearOfEverything : Type 0
 AClearOfEverything =
     (told cluster clear_of_everything

@@ -46,7 +46,7 @@ refused_by_one =
       verdicts = Committed ∷ Conflict ∷ [];
     }) ∷ []) ∷ []
 
--- what one resolver refused is not applied
+-- a transaction that one resolver refused is not applied
 abbrev pub OneResolverRefuses : Type 0
 OneResolverRefuses =
     (routing 10 (metadata refused_by_one)
@@ -63,7 +63,8 @@ locked_once_a_row =
     ∷ journal_row_of 20 (committed_by 1 false (changes.Set version_row (codes "v") ∷ []) ∷ [])
     ∷ []
 
--- the lock stops what is not lock aware from the next row on, and not in its own row
+-- the lock refuses transactions that are not lock aware from the next row on, and not in its own
+-- row
 abbrev pub TheLockIsReadOnceARow : Type 0
 TheLockIsReadOnceARow =
     (routing 20 (metadata locked_once_a_row)

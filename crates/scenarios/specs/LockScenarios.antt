@@ -38,7 +38,7 @@ locking_row_by_0 =
       }) ∷ [];
     }
 
--- the lock lets its own batch pass, and refuses the other proxy's
+-- the lock does not refuse its own batch, and refuses the other proxy's
 abbrev pub TheLockOverTwoProxies : Type 0
 TheLockOverTwoProxies =
     told cluster lock_over_two_proxies

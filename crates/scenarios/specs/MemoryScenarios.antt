@@ -43,7 +43,8 @@ versions_of records = map (λ (rec : Record). rec.version) records
 abbrev pub versioning_row : ℕ → ℕ → UnseenRow
 versioning_row version i = set_row_by_0 version Committed (changes.Set version_row (i ∷ []))
 
--- what the other proxy has not seen is remembered until it comes, and told to it then
+-- rows that the other proxy has not seen are remembered until its first request, and sent with the
+-- reply
 abbrev pub RowsAreRememberedForAProxyThatIsLate : Type 0
 RowsAreRememberedForAProxyThatIsLate =
     (map (λ (r : ℕ). versions_of (remembered_by cluster (after cluster five_batches) r))
@@ -113,8 +114,8 @@ abbrev pub remembered_in : List Event → List (List ℕ)
 remembered_in events =
     map (λ (r : ℕ). versions_of (remembered_by cluster (after cluster events) r)) (0 ∷ 1 ∷ [])
 
--- a proxy that has two records begun is told of each row once; a repeat is not given up, since
--- nothing was received when it began
+-- a proxy with two unfinished records gets each row once; a repeat is not given up, since the proxy
+-- had received nothing when its records were made
 abbrev pub TwoRecordsBegunAtOnce : Type 0
 TwoRecordsBegunAtOnce =
     (told cluster and_finished
@@ -165,42 +166,3 @@ TwoProxiesMeet =
     ∷ [])
     × (map (proxy_metadata cluster (after cluster finished_out_of_order)) (0 ∷ 1 ∷ [])
     ≡ ((version_row, 0 ∷ []) ∷ []) ∷ ((version_row, 1 ∷ []) ∷ []) ∷ [])
-
-abbrev pub acknowledging : List Event
-acknowledging =
-    Sequence 0 [] ∷ Sequence 1 [] ∷ to_both 0 ++ to_both 1 ++ Finish 1 ∷ Sequence 1 [] ∷ Offer 2 0
-    ∷ Offer 0 0
-    ∷ Finish 0 ∷ Sequence 0 [] ∷ Offer 0 0 ∷ Offer 3 0 ∷ Offer 0 0
-    ∷ Offer 2 1 ∷ Offer 3 1 ∷ Finish 0 ∷ Sequence 0 [] ∷ Offer 0 0 ∷ Offer 4 0 ∷ Offer 0 0
-    ∷ Offer 3 0 ∷ Offer 0 1 ∷ []
-
--- a reply is given up by what its own proxy had received with the requests that this resolver
--- judged, and the refusal has the greatest of these versions
-abbrev pub WhatAProxyHasAcknowledged : Type 0
-WhatAProxyHasAcknowledged =
-    told cluster acknowledging
-    ≡ Sequenced 0 10
-    ∷ Sequenced 1 20
-    ∷ judged 0 0 10 0 [] []
-    ∷ judged 0 0 10 1 [] []
-    ∷ judged 1 1 20 0 [] (empty_row 10 ∷ [])
-    ∷ judged 1 1 20 1 [] (empty_row 10 ∷ [])
-    ∷ completed 1 20 [] []
-    ∷ Sequenced 2 30
-    ∷ judged 1 2 30 0 [] []
-    ∷ again 0 0 10 0 [] []
-    ∷ completed 0 10 [] []
-    ∷ Sequenced 3 40
-    ∷ again 0 0 10 0 [] []
-    ∷ judged 0 3 40 0 [] (empty_row 20 ∷ empty_row 30 ∷ [])
-    ∷ Refused (GivenUp 10)
-    ∷ judged 1 2 30 1 [] []
-    ∷ judged 0 3 40 1 [] (empty_row 20 ∷ empty_row 30 ∷ [])
-    ∷ completed 3 40 [] []
-    ∷ Sequenced 4 50
-    ∷ Refused (GivenUp 10)
-    ∷ judged 0 4 50 0 [] []
-    ∷ Refused (GivenUp 40)
-    ∷ Refused (GivenUp 40)
-    ∷ Refused (GivenUp 10)
-    ∷ []

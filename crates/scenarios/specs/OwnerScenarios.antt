@@ -87,20 +87,20 @@ readers bound ranges = filter (λ (r : ℕ). asks_read two_moves bound r ranges)
 abbrev pub writers : Range → List ℕ
 writers ranges = filter (λ (r : ℕ). asks_write two_moves r ranges) (each_below 3)
 
--- what remains of a list whose front was dropped by some oldest versions, one after another
+-- what remains of a list that was trimmed at some oldest versions, one after another
 abbrev pub remaining : List ℕ → List Owner → List Owner
 remaining [] list = list
 remaining (oldest ∷ rest) list = remaining rest (trimmed oldest list)
 
--- the same readers, where the fronts of all lists were dropped by these oldest versions
+-- the same readers, after all lists were trimmed at these oldest versions
 abbrev pub readers_after : List ℕ → ℕ → Range → List ℕ
 readers_after forgotten bound ranges =
     filter (λ (r : ℕ). some_key two_moves
     (λ (list : List Owner). walk_visits bound r (remaining forgotten list)) ranges) (each_below 3)
 
 -- three resolvers, and a move inside a move: reads back to 20 and to 30, and writes of all and of
--- the part that moved; once the fronts before 30 are dropped, a read back to 20 asks as one back to
--- 30, and a smaller oldest drops nothing more
+-- the part that moved; once the lists are trimmed at 30, a read back to 20 asks the same as one
+-- back to 30, and a smaller oldest version trims nothing more
 abbrev pub DatedOwnersOfThreeResolvers : Type 0
 DatedOwnersOfThreeResolvers =
     (readers 20 m_to_t ≡ 0 ∷ 1 ∷ 2 ∷ [])

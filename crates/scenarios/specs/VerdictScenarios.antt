@@ -34,7 +34,7 @@ two_orders =
     ∷ Sequence 0 (reading 10 b ∷ (record (writing b) { snapshot = 10 }) ∷ [])
     ∷ to_both 0 ++ to_both 1 ++ Finish 0 ∷ Finish 0 ∷ []
 
--- in one batch a write before a read is a conflict, and a write after it is none
+-- in one batch a write before a read is a conflict, and a write after a read is not
 abbrev pub TwoOrdersInABatch : Type 0
 TwoOrdersInABatch =
     told cluster two_orders
@@ -55,8 +55,8 @@ through_two_resolvers =
     ∷ Sequence 0 (reading 10 b ∷ [])
     ∷ to_both 0 ++ to_both 1 ++ to_both 2 ++ Finish 0 ∷ Finish 0 ∷ Finish 0 ∷ []
 
--- a transaction that one resolver refused and another committed is in the way of a later one at the
--- other: a false conflict
+-- a transaction that one resolver refused and another committed conflicts with a later one at the
+-- other resolver: a false conflict
 abbrev pub AFalseConflictThroughTwoResolvers : Type 0
 AFalseConflictThroughTwoResolvers =
     told cluster through_two_resolvers
@@ -93,7 +93,7 @@ second_share =
     ∷ [])
 
 -- two shares of one resolver: a snapshot at the version of a write sees it; the end of a range is
--- outside; a refused write is in nobody's way; a transaction is not in its own way
+-- outside; a refused write conflicts with nothing; a transaction does not conflict with itself
 abbrev pub SharesJudged : Type 0
 SharesJudged =
     (verdicts_after 100 [] first_share ≡ Committed ∷ [])

@@ -16,11 +16,12 @@ ghost use Rattle.scenarios.specs.LockScenarios.{AStateTransactionUnderTheLock, T
 ghost use Rattle.scenarios.specs.LockScenarios.{TooOldUnderTheLock};
 ghost use Rattle.scenarios.specs.MemoryScenarios.{RowsAreRememberedForAProxyThatIsLate};
 ghost use Rattle.scenarios.specs.MemoryScenarios.{RepeatsAndRepliesGivenUp, TwoRecordsBegunAtOnce};
-ghost use Rattle.scenarios.specs.MemoryScenarios.{TwoProxiesMeet, WhatAProxyHasAcknowledged};
+ghost use Rattle.scenarios.specs.MemoryScenarios.{TwoProxiesMeet};
 ghost use Rattle.scenarios.specs.ClearScenarios.{TheTagsOfAClear, AClearOfEverything};
 ghost use Rattle.scenarios.specs.ProxyScenarios.{AProxyThatIsBehind};
 ghost use Rattle.scenarios.specs.RefusalScenarios.{RefusalsInOrder, WhatIsCheckedFirst};
 ghost use Rattle.scenarios.specs.RefusalScenarios.{TheLastVersion, TheGreatestVersion};
+ghost use Rattle.scenarios.specs.RefusalScenarios.{WhatAProxyHasAcknowledged};
 
 /// The fold of a journal, the lock, and the tags of keys.
 pub fn fold_scenarios()
@@ -68,7 +69,6 @@ pub fn memory_scenarios()
     ensures repeats { RepeatsAndRepliesGivenUp }
     ensures at_once { TwoRecordsBegunAtOnce }
     ensures meet { TwoProxiesMeet }
-    ensures acknowledged { WhatAProxyHasAcknowledged }
 {}
 
 /// The tags of a Clear.
@@ -82,10 +82,11 @@ pub fn proxy_scenarios()
     ensures { AProxyThatIsBehind }
 {}
 
-/// Refused events change nothing; which check comes first; and the last versions.
+/// Refused events change nothing; which check comes first; the last versions; and which replies are given up.
 pub fn refusal_scenarios()
     ensures in_order { RefusalsInOrder }
     ensures checks { WhatIsCheckedFirst }
     ensures last_version { TheLastVersion }
     ensures greatest_version { TheGreatestVersion }
+    ensures acknowledged { WhatAProxyHasAcknowledged }
 {}

@@ -1,5 +1,5 @@
 use Rattle.scenarios.proofs.stories.memory_scenarios.Goals as goal
-use Rattle.scenarios.proofs.Scenarios.{rows_are_remembered_for_a_proxy_that_is_late, repeats_and_replies_given_up, two_records_begun_at_once, two_proxies_meet, what_a_proxy_has_acknowledged}
+use Rattle.scenarios.proofs.Scenarios.{rows_are_remembered_for_a_proxy_that_is_late, repeats_and_replies_given_up, two_records_begun_at_once, two_proxies_meet}
 
 pub returns : goal.returns
 returns c = record {
@@ -7,5 +7,4 @@ returns c = record {
   repeats = repeats_and_replies_given_up;
   at_once = two_records_begun_at_once;
   meet = two_proxies_meet;
-  acknowledged = what_a_proxy_has_acknowledged;
 }
