@@ -29,7 +29,7 @@ cluster = record { proxies = 2; resolvers = 2; window = 100; step = 10 }
 abbrev pub told : Config → List Event → List Answer
 told config events = answers config (initial_world config) events
 
--- some keys
+-- keys
 abbrev pub a : Key
 a = codes "a"
 
@@ -58,18 +58,19 @@ blank = record { snapshot = 0; reads = []; writes = []; mutations = []; lock_awa
 abbrev pub mutating : List Mutation → Given
 mutating mutations = record blank { mutations = mutations }
 
--- a row of proxy p at this version is judged by a resolver, or told again
-abbrev pub judged : (p row version r : ℕ) → List Verdict → List UnseenRow → Answer
-judged p row version r verdicts unseen =
+-- a resolver's first reply to the request for a row of a proxy, at this version
+abbrev pub judged : (proxy row version resolver : ℕ) → List Verdict → List UnseenRow → Answer
+judged proxy row version resolver verdicts unseen =
     world.Judged (record {
-      resolver = r;
-      proxy = p;
+      resolver = resolver;
+      proxy = proxy;
       row = row;
       version = version;
       verdicts = verdicts;
       unseen = unseen;
     })
 
+-- the answer to a finish
 abbrev pub completed : (row version : ℕ) → List Outcome → List Tagged → Answer
 completed row version outcomes tagged =
     Completed (record { row = row; version = version; outcomes = outcomes; tagged = tagged })
@@ -88,13 +89,14 @@ s2 = codes "server0000000002"
 abbrev pub s3 : Key
 s3 = codes "server0000000003"
 
--- the values that name one source, and one source with one destination
+-- the values of keyServers rows with one source, and with one source and one destination
 abbrev pub one_source : Key → List ℕ
 one_source s = 1 ∷ s ++ 0 ∷ []
 
 abbrev pub source_and_destination : Key → Key → List ℕ
 source_and_destination s d = 1 ∷ s ++ 1 ∷ d
 
+-- the keys of metadata rows: a server's tag, the servers from a key on, and the metadata version
 abbrev pub tag_row : Key → Key
 tag_row s = server_tag_family.prefix ++ s
 
@@ -104,6 +106,7 @@ servers_row key = key_servers_family.prefix ++ key
 abbrev pub version_row : Key
 version_row = metadata_version_family.prefix
 
+-- a part of a share
 abbrev pub part : ℕ → ℕ → List Range → List Range → Part
 part number snapshot reads writes =
     record { number = number; snapshot = snapshot; reads = reads; writes = writes }
@@ -117,5 +120,6 @@ committed_by resolvers lock_aware mutations =
       verdicts = replicate resolvers Committed;
     }
 
+-- a row of the journal
 abbrev pub journal_row_of : ℕ → List StateTxn → JournalRow
 journal_row_of version states = record { version = version; states = states }

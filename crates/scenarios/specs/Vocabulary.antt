@@ -17,6 +17,7 @@ use Rattle.model.specs.Examples.{cluster, blank}
 abbrev pub after : Config → List Event → World
 after config events = world_after config (initial_world config) events
 
+-- a cluster with one proxy
 abbrev pub one_proxy : Config
 one_proxy = record cluster { proxies = 1 }
 
@@ -35,15 +36,16 @@ putting key value = record blank { writes = only key ∷ []; mutations = Set key
 abbrev pub lock_aware : Given → Given
 lock_aware t = record t { lock_aware = true }
 
--- a row comes to both resolvers
+-- the requests for a row come to both resolvers
 abbrev pub to_both : ℕ → List Event
 to_both row = Offer row 0 ∷ Offer row 1 ∷ []
 
-abbrev pub again : (p row version r : ℕ) → List Verdict → List UnseenRow → Answer
-again p row version r verdicts unseen =
+-- the same reply of a resolver, given again
+abbrev pub again : (proxy row version resolver : ℕ) → List Verdict → List UnseenRow → Answer
+again proxy row version resolver verdicts unseen =
     Again (record {
-      resolver = r;
-      proxy = p;
+      resolver = resolver;
+      proxy = proxy;
       row = row;
       version = version;
       verdicts = verdicts;
