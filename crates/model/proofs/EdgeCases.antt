@@ -1,6 +1,9 @@
 -- Each edge case computes, or follows by comparing numbers.
 use Rattle.std.proofs.Common.{refl, arith}
 use Rattle.model.specs.Configs.{IsConfig}
+use Rattle.model.specs.Edges.{TheOutcomesUnderTheLock, TheOwnersAfterAMove}
+use Rattle.model.specs.Edges.{TheOldestVersionOfARecord, ARepeatGetsTheSameReply}
+use Rattle.model.specs.Edges.{AnUnknownRowIsRefusedFirst}
 use Rattle.model.specs.Edges.{AnEmptyValueIsNoLock, TagsRiseByLocalityFirst, TheEndsOfAClear}
 use Rattle.model.specs.Edges.{RowsThatDoNotDecode, TheBytesOfAStamp, AStampAmongText}
 use Rattle.model.specs.Edges.{EachStampHasItsNumber, TheSharesOfARecord, TheRequestsForARecord}
@@ -11,6 +14,23 @@ use Rattle.model.proofs.Definitions.{the_definitions}
 pub an_empty_value_is_no_lock : AnEmptyValueIsNoLock
 unfolding the_definitions
 an_empty_value_is_no_lock = (refl, refl)
+
+pub the_outcomes_under_the_lock : TheOutcomesUnderTheLock
+the_outcomes_under_the_lock = (refl, refl, refl)
+
+pub the_owners_after_a_move : TheOwnersAfterAMove
+the_owners_after_a_move = refl
+
+pub the_oldest_version_of_a_record : TheOldestVersionOfARecord
+the_oldest_version_of_a_record = refl
+
+pub a_repeat_gets_the_same_reply : ARepeatGetsTheSameReply
+unfolding the_definitions
+a_repeat_gets_the_same_reply = refl
+
+pub an_unknown_row_is_refused_first : AnUnknownRowIsRefusedFirst
+unfolding the_definitions
+an_unknown_row_is_refused_first = refl
 
 pub tags_rise_by_locality_first : TagsRiseByLocalityFirst
 unfolding the_definitions

@@ -12,9 +12,13 @@ use Rattle.model.specs.declared.verdict.Verdict.{Verdict}
 use Rattle.model.specs.declared.verdict.Verdict.TheVariants.{Conflict, TooOld, Committed}
 use Rattle.model.specs.declared.journal.StateTxn.{StateTxn}
 use Rattle.model.specs.declared.journal.JournalRow.{JournalRow}
+use Rattle.model.specs.declared.outcome.Outcome.TheVariants as outcomes
+use Rattle.model.specs.Outcomes.{outcome_by}
+use Rattle.model.specs.Owners.{owners}
+use Rattle.model.specs.World.{Again, NoSuchRow}
 use Rattle.model.specs.Stamps.{Set, SetStamped, Given, stamped_value, stamp, stamped_from}
 use Rattle.model.specs.Transactions.{locked_key, Transaction}
-use Rattle.model.specs.Records.{Record}
+use Rattle.model.specs.Records.{Record, oldest}
 use Rattle.model.specs.Shares.{asked, share}
 use Rattle.model.specs.Metadata.{metadata, tags_of_key, routing, tags}
 use Rattle.model.specs.World.{Sequence, Offer, Finish, MissingReply, Sequenced, Refused}
@@ -43,6 +47,13 @@ AnEmptyValueIsNoLock =
     (metadata emptied_lock ≡ (locked_key, []) ∷ (version_row, codes "v") ∷ [])
     × (routing 20 (metadata emptied_lock)
     ≡ record { version = 20; locked = false; metadata_version = Some (codes "v"); routes = [] })
+
+-- under the lock only a transaction that the resolvers committed is Locked
+abbrev pub TheOutcomesUnderTheLock : Type 0
+TheOutcomesUnderTheLock =
+    (outcome_by Conflict true 20 0 ≡ outcomes.Conflict)
+    × (outcome_by TooOld true 20 0 ≡ outcomes.TooOld)
+    × (outcome_by Committed true 20 0 ≡ outcomes.Locked)
 
 -- ---- tags
 
@@ -179,6 +190,16 @@ mixed_record =
           })
           ∷ [];
     }
+
+-- a move adds its destination to the owners of a key, from its own date on
+abbrev pub TheOwnersAfterAMove : Type 0
+TheOwnersAfterAMove =
+    owners mixed_record.moves n
+    ≡ (record { date = 0; resolver = 0 }) ∷ (record { date = 21; resolver = 1 }) ∷ []
+
+-- the oldest version of a record is the window before its previous version
+abbrev pub TheOldestVersionOfARecord : Type 0
+TheOldestVersionOfARecord = oldest narrow mixed_record ≡ 5
 
 abbrev pub share_of_0 : List Part
 share_of_0 =
@@ -335,7 +356,27 @@ TooFewVerdicts =
     ∷ told_state Conflict None
     ∷ []
 
--- ---- a missing reply, and the limits of numbers
+-- ---- repeats, refusals, and the limits of numbers
+
+-- a repeated request gets the same reply
+abbrev pub ARepeatGetsTheSameReply : Type 0
+ARepeatGetsTheSameReply =
+    told cluster (Sequence 0 [] ∷ Offer 0 0 ∷ Offer 0 0 ∷ [])
+    ≡ Sequenced 0 10
+    ∷ judged 0 0 10 0 [] []
+    ∷ Again (record {
+      resolver = 0;
+      proxy = 0;
+      row = 0;
+      version = 10;
+      verdicts = [];
+      unseen = [];
+    })
+    ∷ []
+
+-- an unknown row is refused before an unknown resolver
+abbrev pub AnUnknownRowIsRefusedFirst : Type 0
+AnUnknownRowIsRefusedFirst = told cluster (Offer 9 2 ∷ []) ≡ Refused NoSuchRow ∷ []
 
 -- of several missing replies the one with the least number is named
 abbrev pub TheFirstMissingReply : Type 0

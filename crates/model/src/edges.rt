@@ -1,6 +1,9 @@
 //! Edge cases: small values for which a definition has exactly this value. No code: each contract is a list of
 //! edge cases.
 
+ghost use Rattle.model.specs.Edges.{TheOutcomesUnderTheLock, TheOwnersAfterAMove};
+ghost use Rattle.model.specs.Edges.{TheOldestVersionOfARecord, ARepeatGetsTheSameReply};
+ghost use Rattle.model.specs.Edges.{AnUnknownRowIsRefusedFirst};
 ghost use Rattle.model.specs.Edges.{AnEmptyValueIsNoLock, TagsRiseByLocalityFirst, TheEndsOfAClear};
 ghost use Rattle.model.specs.Edges.{RowsThatDoNotDecode, TheBytesOfAStamp, AStampAmongText};
 ghost use Rattle.model.specs.Edges.{EachStampHasItsNumber, TheSharesOfARecord};
@@ -8,9 +11,10 @@ ghost use Rattle.model.specs.Edges.{TheRequestsForARecord, TheJournalRowOfARecor
 ghost use Rattle.model.specs.Edges.{CellsWithoutVerdicts, AHistoryWithoutVerdicts, TooFewVerdicts};
 ghost use Rattle.model.specs.Edges.{TheFirstMissingReply, TheLimitsOfACluster};
 
-/// A lock row with an empty value.
+/// A lock row with an empty value, and the outcomes under the lock.
 pub fn lock_edges()
-    ensures { AnEmptyValueIsNoLock }
+    ensures empty { AnEmptyValueIsNoLock }
+    ensures outcomes { TheOutcomesUnderTheLock }
 {}
 
 /// The order of tags, the ends of a Clear, and rows that do not decode.
@@ -27,8 +31,10 @@ pub fn stamp_edges()
     ensures numbers { EachStampHasItsNumber }
 {}
 
-/// The shares, the requests and the journal row of one record.
+/// The owners, the oldest version, the shares, the requests and the journal row of one record.
 pub fn record_edges()
+    ensures owners { TheOwnersAfterAMove }
+    ensures oldest { TheOldestVersionOfARecord }
     ensures shares { TheSharesOfARecord }
     ensures requests { TheRequestsForARecord }
     ensures journal_row { TheJournalRowOfARecord }
@@ -41,8 +47,10 @@ pub fn missing_edges()
     ensures told { TooFewVerdicts }
 {}
 
-/// Which missing reply is named, and the limits of numbers.
+/// A repeated request, which check comes first, which missing reply is named, and the limits of numbers.
 pub fn refusal_edges()
+    ensures repeat { ARepeatGetsTheSameReply }
+    ensures unknown_row { AnUnknownRowIsRefusedFirst }
     ensures missing { TheFirstMissingReply }
     ensures limits { TheLimitsOfACluster }
 {}

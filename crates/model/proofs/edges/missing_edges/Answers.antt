@@ -1,5 +1,6 @@
 use Rattle.model.proofs.edges.missing_edges.Goals as goal
-use Rattle.model.proofs.EdgeCases.{cells_without_verdicts, a_history_without_verdicts, too_few_verdicts}
+use Rattle.model.proofs.EdgeCases.{cells_without_verdicts, a_history_without_verdicts}
+use Rattle.model.proofs.EdgeCases.{too_few_verdicts}
 
 pub returns : goal.returns
 returns c = record {

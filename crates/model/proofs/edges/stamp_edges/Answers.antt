@@ -1,5 +1,6 @@
 use Rattle.model.proofs.edges.stamp_edges.Goals as goal
-use Rattle.model.proofs.EdgeCases.{the_bytes_of_a_stamp, a_stamp_among_text, each_stamp_has_its_number}
+use Rattle.model.proofs.EdgeCases.{the_bytes_of_a_stamp, a_stamp_among_text}
+use Rattle.model.proofs.EdgeCases.{each_stamp_has_its_number}
 
 pub returns : goal.returns
 returns c = record {
