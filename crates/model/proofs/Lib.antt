@@ -5,6 +5,8 @@ pub mod AskedLaws
 pub mod ChainLaws
 pub mod ChangeLaws
 pub mod CommittedLaws
+pub mod Definitions
+pub mod EdgeCases
 pub mod GrowingLaws
 pub mod HistoryLaws
 pub mod JoinLaws
@@ -32,6 +34,4 @@ pub mod TagLaws
 pub mod ToldLaws
 pub mod VerdictLaws
 pub mod WalkLaws
-pub mod WorkedEdges
-pub mod WorkedRows
 pub mod WorldLaws

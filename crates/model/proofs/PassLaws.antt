@@ -1,4 +1,5 @@
--- Which state transactions are let pass: by each resolver's verdict, and by the lock.
+-- Which state transactions are applied: by each resolver's verdict, and by the lock. Which
+-- transactions the lock refuses.
 use Rattle.std.proofs.Common.{◌≡◌, ◌<◌, ◌&&◌, ◌||◌, refl, ℕ, zero, suc, List, [], ◌∷◌, Bool, true, false, not, length, Some, inl, inr, arith}
 use Rattle.std.specs.Prelude.{◌⊎◌, ◌↔◌, IsTrue, IsFalse, slice_get}
 use Rattle.std.specs.List.{list_all}
@@ -7,6 +8,7 @@ use Rattle.model.specs.declared.verdict.Verdict.{Verdict}
 use Rattle.model.specs.declared.verdict.Verdict.TheVariants.{Conflict, TooOld, Committed}
 use Rattle.model.specs.Verdicts.{is_committed}
 use Rattle.model.specs.Metadata.{is_applied}
+use Rattle.model.specs.Laws.Finished.{TheLockRefusesThePlain}
 
 -- each verdict of the list is Committed
 abbrev AreCommitted : List Verdict → Type 0
@@ -55,4 +57,20 @@ let_pass_iff locked t = (
   λ passes. let both = both_true (list_all is_committed t.verdicts) (t.lock_aware || not locked) passes in
       (committed_each t.verdicts both.0, meets_no_lock t.lock_aware locked both.1),
   λ both. and_true (list_all is_committed t.verdicts) (t.lock_aware || not locked) (each_committed t.verdicts both.0) (no_lock_met t.lock_aware locked both.1),
+)
+
+locked_and_plain : (aware locked : Bool) → (not aware && locked) ≡ true
+    → IsTrue locked × IsFalse aware
+locked_and_plain true locked refused = cc
+locked_and_plain false locked refused = (refused, refl)
+
+refused_plain : (aware locked : Bool) → IsTrue locked × IsFalse aware
+    → (not aware && locked) ≡ true
+refused_plain true locked both = let aware = both.1 in cc
+refused_plain false locked both = both.0
+
+pub the_lock_refuses_the_plain : TheLockRefusesThePlain
+the_lock_refuses_the_plain locked transaction = (
+  locked_and_plain transaction.lock_aware locked,
+  refused_plain transaction.lock_aware locked,
 )

@@ -2,8 +2,11 @@ pub mod Acknowledged
 pub mod Agreed
 pub mod Committed
 pub mod Configs
+pub mod Edges
+pub mod Examples
 pub mod Growing
 pub mod Journal
+pub mod Laws
 pub mod Metadata
 pub mod Missing
 pub mod Numbers
@@ -18,6 +21,4 @@ pub mod Shares
 pub mod Stamps
 pub mod Transactions
 pub mod Verdicts
-pub mod WorkedEdges
-pub mod WorkedRows
 pub mod World

@@ -5,6 +5,7 @@ mod agreed_laws;
 mod alike_laws;
 mod chain_laws;
 mod config;
+mod edges;
 mod history_laws;
 mod journal;
 mod journal_laws;
@@ -27,14 +28,13 @@ mod tests;
 mod unseen;
 mod verdict;
 mod verdict_laws;
-mod worked_edges;
-mod worked_rows;
 mod world_laws;
 
 pub use agreed_laws::{agreed_law, growing_law};
 pub use alike_laws::alike_law;
 pub use chain_laws::{chain_law, next_law, rows_law};
 pub use config::{Config, RESOLVERS_LIMIT, is_from_one};
+pub use edges::{lock_edges, missing_edges, record_edges, refusal_edges, stamp_edges, tag_edges};
 pub use history_laws::history_law;
 pub use journal::{JournalRow, StateTxn};
 pub use journal_laws::{journal_law, request_law, told_law, unseen_law};
@@ -57,12 +57,5 @@ pub use verdict::Verdict;
 pub use verdict_laws::{
     cells_law, committed_law, joined_law, lock_row_law, outcome_law, prefix_law, saying_law,
     serial_law, share_law, verdict_law,
-};
-pub use worked_edges::{
-    lock_edges, missing_edges, proxy_edges, record_edges, refusal_edges, stamp_edges, tag_edges,
-};
-pub use worked_rows::{
-    clear_rows, fold_rows, lock_rows, memory_rows, owner_rows, refusal_rows, stamp_rows,
-    verdict_rows,
 };
 pub use world_laws::run_law;

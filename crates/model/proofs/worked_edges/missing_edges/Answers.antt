@@ -1,5 +1,0 @@
-use Rattle.model.proofs.worked_edges.missing_edges.Goals as goal
-use Rattle.model.proofs.WorkedEdges.{cells_without_verdicts, a_history_without_verdicts, too_few_verdicts}
-
-pub returns : goal.returns
-returns c = record { cells = cells_without_verdicts; history = a_history_without_verdicts; told = too_few_verdicts }

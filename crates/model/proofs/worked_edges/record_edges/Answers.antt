@@ -1,5 +1,0 @@
-use Rattle.model.proofs.worked_edges.record_edges.Goals as goal
-use Rattle.model.proofs.WorkedEdges.{how_far_back_owners_are_remembered, the_shares_of_a_record, the_requests_for_a_record, the_journal_row_of_a_record}
-
-pub returns : goal.returns
-returns c = record { remembered = how_far_back_owners_are_remembered; shares = the_shares_of_a_record; requests = the_requests_for_a_record; journal_row = the_journal_row_of_a_record }

@@ -1,5 +1,0 @@
-use Rattle.model.proofs.worked_edges.stamp_edges.Goals as goal
-use Rattle.model.proofs.WorkedEdges.{the_bytes_of_a_stamp, a_stamp_among_text, each_stamp_has_its_number}
-
-pub returns : goal.returns
-returns c = record { bytes = the_bytes_of_a_stamp; text = a_stamp_among_text; numbers = each_stamp_has_its_number }

@@ -1,0 +1,10 @@
+pub mod ClearScenarios
+pub mod FoldScenarios
+pub mod LockScenarios
+pub mod MemoryScenarios
+pub mod OwnerScenarios
+pub mod ProxyScenarios
+pub mod RefusalScenarios
+pub mod StampScenarios
+pub mod VerdictScenarios
+pub mod Vocabulary
