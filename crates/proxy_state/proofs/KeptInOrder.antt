@@ -1,6 +1,5 @@
--- The rows of the metadata stand in order, and all of their keys are kept, before and after each change.
+-- The entries of the metadata are in order, and all of their keys are kept, before and after each change.
 use Rattle.std.proofs.Common.{◌≡◌, sym, ap, ◌∙◌, subst, ℕ, List, [], Bool, true, if◌then◌else◌, nat_cmp}
-use Rattle.std.specs.Global.{Vec}
 use Rattle.std.specs.BTreeMap.{insert_entry}
 use Rattle.std.specs.Cmp.Lexicographic.{slice_cmp}
 use Rattle.system_keys.specs.declared.change.Change.{Change}
@@ -10,9 +9,8 @@ use Rattle.system_keys.specs.Families.{is_kept}
 use Rattle.model.specs.Metadata.{Entries, IsInOrder, AreKept, after_change, metadata}
 use Rattle.model.proofs.MetadataLaws.{metadata_in_order, changed_in_order}
 use Rattle.model.proofs.ChangeLaws.{metadata_kept, kept_after_change}
-use Rattle.proxy_state.specs.Kept.{rows_of}
 
--- the rows are in order, and all of their keys are kept
+-- the entries are in order, and all of their keys are kept
 abbrev pub AreKeptInOrder : Entries → Type 0
 AreKeptInOrder rows = IsInOrder rows × AreKept rows
 
@@ -20,8 +18,8 @@ no_rows : AreKeptInOrder []
 unfolding metadata
 no_rows = (metadata_in_order [], metadata_kept [])
 
-pub none_kept_in_order : (es : List (Vec ℕ × List ℕ)) → es ≡ [] → AreKeptInOrder (rows_of es)
-none_kept_in_order es none = subst AreKeptInOrder (sym (ap rows_of none)) no_rows
+pub none_kept_in_order : (rows : Entries) → rows ≡ [] → AreKeptInOrder rows
+none_kept_in_order rows none = subst AreKeptInOrder (sym none) no_rows
 
 pub changed_kept_in_order : (old new : Entries) (change : Change) → AreKeptInOrder old → new ≡ after_change old change → AreKeptInOrder new
 changed_kept_in_order old new change fine is = subst AreKeptInOrder (sym is) (changed_in_order old change fine.0, kept_after_change old change fine.1)

@@ -1,8 +1,8 @@
+pub mod AppliedLaws
 pub mod Joins
 pub mod KeptInOrder
-pub mod KeptRows
-pub mod PassLaws
-pub mod RemovedRows
-pub mod RouteRows
-pub mod ServingRows
+pub mod MapEntries
+pub mod RemovedEntries
+pub mod RouteEntries
+pub mod ServingEntries
 pub mod Tags

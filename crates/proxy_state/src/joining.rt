@@ -1,12 +1,12 @@
-//! What the resolvers say of a transaction together.
+//! The verdict on a transaction, joined from the verdicts of its resolvers.
 
 ghost use Rattle.std.specs.Prelude.{◌≡◌};
 ghost use Rattle.model.specs.Verdicts.{joined, least_of};
 
 use model::Verdict;
 
-/// The least of the verdicts, in the order Conflict, Too old, Committed (release 7.1), and Committed of none
-/// (this project's profile).
+/// The least of the verdicts, in the order Conflict, Too old, Committed (release 7.1); Committed if
+/// there is none (this project's profile).
 #[tactic(auto, using(crate::proofs::Joins::least_of_least))]
 pub fn join(verdicts: &[Verdict]) -> Verdict
     ensures { result ≡ joined verdicts.now }

@@ -1,16 +1,16 @@
-//! The metadata of a commit proxy: the rows that it keeps, what a journal's row changes in them, the lock,
-//! and the tags of the keys.
+//! The metadata of a commit proxy: the entries that it keeps, how a row of the journal changes
+//! them, the lock, and the tags of the keys.
 //!
-//! Sources: FoundationDB release 7.1 (how commit proxies apply the state transactions, and which tags a
-//! mutation gets) and this project's profile (the values of rows, a server without a tag row).
+//! Sources: FoundationDB release 7.1 (how commit proxies apply the state transactions, and which
+//! tags a mutation gets) and this project's profile (the values of entries, a server without a
+//! serverTag entry).
 #![tactic(auto)]
 
+mod applying;
+mod entry_map;
 mod joining;
-mod kept;
 mod metadata;
-mod passing;
 mod routes;
-mod serving;
 mod tagging;
 #[cfg(test)]
 mod tests;

@@ -6,87 +6,105 @@ ghost use Rattle.std.specs.Option.{option_to_list};
 ghost use Rattle.std.specs.BTreeSet.{insert_key};
 ghost use Rattle.system_keys.specs.declared.change.Change.TheVariants.{Set, Clear};
 ghost use Rattle.system_keys.specs.Keys.{Key};
-ghost use Rattle.model.specs.Metadata.{IsInOrder, AreKept, entry_value, is_locked, after_change, after_changes, is_applied, after_state, after_journal_row, tags, tags_of_key, tag_cmp, entry_tags, serving_entry, key_servers_entries, routing};
 ghost use Rattle.system_keys.specs.Families.{is_kept, metadata_version_family};
+ghost use Rattle.model.specs.Metadata.{IsInOrder, AreKept, entry_value, is_locked, after_change};
+ghost use Rattle.model.specs.Metadata.{after_changes, is_applied, after_state, after_journal_row};
+ghost use Rattle.model.specs.Metadata.{key_servers_entries, serving_entry, entry_tags, tag_cmp, tags, tags_of_key};
+ghost use Rattle.model.specs.Metadata.{routing};
 
-use crate::kept;
-use crate::passing::{is_applied, some_passes};
+use crate::applying::{any_applied, is_applied};
+use crate::entry_map::EntryMap;
 use crate::routes::routes;
-use crate::serving::{add_inside, serving_value};
-use crate::tagging::{add_tags, listed};
+use crate::tagging::{add_tags, add_tags_inside, listed};
 use model::{JournalRow, Routing, StateTxn};
 use std::alloc::Global;
-use std::collections::{BTreeMap, BTreeSet};
+use std::collections::BTreeSet;
 use std::marker::Model;
 use system_keys::{
-    Bytes, Change, Items, KeyRange, LOCKED_KEY, METADATA_VERSION_KEY, OutOfMemory, Tag,
+    Bytes, Change, Items, KeyRange, LOCKED_KEY, METADATA_VERSION_KEY, OutOfMemory, RowKind, Tag,
+    classify,
 };
 
-/// The kept rows in the order of their keys: which storage servers have which keys, their tags, the lock, and
-/// the version of the metadata (release 7.1).
+/// The kept entries in the order of their keys: which storage servers have which keys, their tags,
+/// the lock, and the version of the metadata (release 7.1).
 #[derive(Drop)]
 pub struct Metadata {
-    alloc: Global,
-    rows: BTreeMap<Vec<u8>, Bytes>,
+    entries: EntryMap,
 }
 
 impl Model for Metadata {
     ghost use Rattle.model.specs.Metadata.{Entries, IsInOrder, AreKept};
-    ghost use Rattle.proxy_state.specs.Kept.{rows_of};
 
     ghost Value = { Entries };
 
-    ghost view = { λ m. rows_of m.rows.entries };
+    ghost view = { λ m. m.entries };
 
-    ghost invariant = { λ m. IsInOrder (rows_of m.rows.entries) × AreKept (rows_of m.rows.entries) };
+    ghost invariant = { λ m. IsInOrder m.entries × AreKept m.entries };
 }
 
 impl Metadata {
-    /// The metadata without any row. Takes no memory.
+    /// The metadata without any entry. Does not allocate.
     pub fn new(alloc: Global) -> Metadata
         ensures { result ≡ [] }
     {
         Metadata {
-            alloc,
-            rows: BTreeMap::new(alloc),
+            entries: EntryMap::new(alloc),
         }
     }
 
-    /// Applies a change: a Set of a kept row puts it, a Clear removes the rows of its range, and nothing else
-    /// changes them (release 7.1).
+    /// Applies a change: a Set puts its entry if the key is kept, a Clear removes the entries of
+    /// its range, and nothing else changes the entries (release 7.1).
     ///
-    /// A Set of a row that is not kept takes no memory. Answers `OutOfMemory` where there is no memory for the
-    /// change; the metadata is then unchanged.
+    /// A Set of a key that is not kept does not allocate. Fails only with `OutOfMemory`; the
+    /// metadata is then unchanged.
     pub fn apply(&mut self, change: &Change) -> Result<(), OutOfMemory>
         ensures ok { OnOk result (self.new ≡ after_change self.old change.now) }
-        ensures idle { (key value : Key) → change.now ≡ Set key value → is_kept key ≡ false → IsOk result }
+        ensures no_allocation { (key value : Key)
+            → change.now ≡ Set key value → is_kept key ≡ false → IsOk result }
         ensures err { OnErr result (self.new ≡ self.old) }
     {
         match change {
-            Change::Set { key, value } => {
-                if kept::is_kept(key.as_slice()) {
-                    kept::put(self.alloc, &mut self.rows, key.as_slice(), value)?;
-                }
-            }
-            Change::Clear { range } => kept::remove(self.alloc, &mut self.rows, range)?,
+            Change::Set { key, value } => self.set(key.as_slice(), value),
+            Change::Clear { range } => self.clear(range),
+        }
+    }
+
+    /// Puts the value at the key, if the key is kept.
+    fn set(&mut self, key: &[u8], value: &Bytes) -> Result<(), OutOfMemory>
+        ensures ok { OnOk result (self.new ≡ after_change self.old (Set key.now value.now)) }
+        ensures no_allocation { is_kept key.now ≡ false → IsOk result }
+        ensures err { OnErr result (self.new ≡ self.old) }
+    {
+        if is_kept(key) {
+            self.entries.put(key, value)?;
         }
         Ok(())
     }
 
-    /// Applies a row of a journal: the changes of its transactions, in order, where every resolver committed
-    /// the transaction, and it is lock aware or the metadata was not locked before the row (release 7.1). A
-    /// transaction comes with one verdict for each resolver: what is not there is not asked for.
+    /// Removes the entries of the range.
+    fn clear(&mut self, range: &KeyRange) -> Result<(), OutOfMemory>
+        ensures ok { OnOk result (self.new ≡ after_change self.old (Clear range.now)) }
+        ensures err { OnErr result (self.new ≡ self.old) }
+    {
+        self.entries.remove(range)?;
+        Ok(())
+    }
+
+    /// Applies a row of the journal: in order, the changes of each transaction that every resolver
+    /// committed, if it is lock aware or the metadata was not locked before the row (release 7.1).
+    /// A transaction has one verdict for each resolver; one that is missing is not asked for.
     ///
-    /// Takes no memory where nothing is let pass, and otherwise a copy of the metadata. Answers `OutOfMemory`
-    /// where there is no memory for it; the metadata is then unchanged.
-    #[tactic(auto, using(crate::proofs::PassLaws::none_pass))]
+    /// Does not allocate if no transaction is applied, and otherwise copies the metadata. Fails
+    /// only with `OutOfMemory`; the metadata is then unchanged.
+    #[tactic(auto, using(crate::proofs::AppliedLaws::none_applied))]
     pub fn apply_row(&mut self, row: &JournalRow) -> Result<(), OutOfMemory>
         ensures ok { OnOk result (self.new ≡ after_journal_row self.old row.now) }
-        ensures idle { list_any (is_applied (is_locked self.old)) row.now.states ≡ false → IsOk result }
+        ensures no_allocation { list_any (is_applied (is_locked self.old)) row.now.states ≡ false
+            → IsOk result }
         ensures err { OnErr result (self.new ≡ self.old) }
     {
         let states = row.states.as_slice();
-        if !some_passes(self.is_locked(), states) {
+        if !any_applied(self.is_locked(), states) {
             return Ok(());
         }
         let mut next = self.copy()?;
@@ -95,9 +113,9 @@ impl Metadata {
         Ok(())
     }
 
-    /// The metadata after the rows of a journal, one after another, without a copy of it.
+    /// The metadata after the rows of the journal, applied in order without copying the metadata.
     ///
-    /// Answers `OutOfMemory` where there is no memory for it; the metadata is then gone.
+    /// Fails only with `OutOfMemory`; the metadata is then dropped.
     pub fn fold_rows(mut self, rows: &[JournalRow]) -> Result<Metadata, OutOfMemory>
         ensures { IfOk result (λ folded. folded ≡ fold after_journal_row self rows.now) }
     {
@@ -108,7 +126,8 @@ impl Metadata {
     }
 
     fn apply_states(&mut self, states: &[StateTxn]) -> Result<(), OutOfMemory>
-        ensures { OnOk result (self.new ≡ fold (after_state (is_locked self.old)) self.old states.now) }
+        ensures { OnOk result
+            (self.new ≡ fold (after_state (is_locked self.old)) self.old states.now) }
     {
         let locked = self.is_locked();
         for transaction in states {
@@ -128,18 +147,18 @@ impl Metadata {
         Ok(())
     }
 
-    /// The value of the row at this key, if it is there. The rows stand in the strict order of their keys, and
-    /// each of these is kept. Takes no memory.
+    /// The value of the entry at this key, if there is one. The entries are strictly increasing by
+    /// their keys, and each key is kept. Does not allocate.
     pub fn row(&self, key: &[u8]) -> Option<&[u8]>
         ensures value { option_map (λ value. value.now) result ≡ entry_value self.now key.now }
         ensures order { IsInOrder self.now }
         ensures kept { AreKept self.now }
     {
-        kept::value_at(&self.rows, key)
+        self.entries.get(key)
     }
 
-    /// Whether the database is locked: the row `\xff/dbLocked` is there and not empty (release 7.1). Takes no
-    /// memory.
+    /// Whether the database is locked: the entry `\xff/dbLocked` is there, and its value is not
+    /// empty (release 7.1). Does not allocate.
     pub fn is_locked(&self) -> bool
         ensures { result ≡ is_locked self.now }
     {
@@ -149,11 +168,12 @@ impl Metadata {
         }
     }
 
-    /// The tags of a change: those of the servers in the keyServers rows that it meets, rising by their
-    /// locality and then their id, without repeats. A Set meets the greatest row at or before its key; a Clear
-    /// that of its begin, and each row after its begin and before its end (release 7.1).
+    /// The tags of a change: those of the servers in the keyServers entries that it touches,
+    /// increasing by locality and then by id, without repeats. A Set touches the greatest entry at
+    /// or before its key; a Clear touches the greatest entry at or before its begin, and each entry
+    /// after its begin and before its end (release 7.1).
     ///
-    /// Answers `OutOfMemory` where there is no memory for them.
+    /// Fails only with `OutOfMemory`.
     pub fn tags_of(&self, change: &Change) -> Result<Items<Tag>, OutOfMemory>
         ensures { IfOk result (λ found. found ≡ tags self.now change.now) }
     {
@@ -165,39 +185,41 @@ impl Metadata {
 
     /// The tags of a key, which may be any bytes: those of a Set of it.
     ///
-    /// Answers `OutOfMemory` where there is no memory for them.
+    /// Fails only with `OutOfMemory`.
     pub fn tags_of_key(&self, key: &[u8]) -> Result<Items<Tag>, OutOfMemory>
         ensures { IfOk result (λ found. found ≡ tags_of_key self.now key.now) }
     {
-        let mut tags = BTreeSet::new(self.alloc);
+        let mut tags = BTreeSet::new(self.entries.alloc());
         self.add_tags_of_key(key, &mut tags)?;
-        listed(self.alloc, &tags)
+        listed(self.entries.alloc(), &tags)
     }
 
     fn tags_of_range(&self, range: &KeyRange) -> Result<Items<Tag>, OutOfMemory>
         ensures { IfOk result (λ found. found ≡ tags self.now (Clear range.now)) }
     {
-        let mut tags = BTreeSet::new(self.alloc);
+        let mut tags = BTreeSet::new(self.entries.alloc());
         self.add_tags_of_key(range.begin(), &mut tags)?;
-        add_inside(self.alloc, &self.rows, range, &mut tags)?;
-        listed(self.alloc, &tags)
+        add_tags_inside(&self.entries, range, &mut tags)?;
+        listed(self.entries.alloc(), &tags)
     }
 
-    /// Adds the tags of the row that serves the key.
+    /// Adds the tags of the entry that serves the key.
     #[tactic(auto, unfolding(model::specs::Metadata::entry_tags))]
     fn add_tags_of_key(&self, key: &[u8], tags: &mut BTreeSet<Tag>) -> Result<(), OutOfMemory>
-        ensures { OnOk result (tags.new.keys ≡ fold (insert_key tag_cmp) tags.old.keys (flat_map (entry_tags self.now) (option_to_list (serving_entry (key_servers_entries self.now) key.now)))) }
+        ensures { OnOk result (tags.new.keys ≡ fold (insert_key tag_cmp) tags.old.keys
+            (flat_map (entry_tags self.now)
+            (option_to_list (serving_entry (key_servers_entries self.now) key.now)))) }
     {
-        match serving_value(self.alloc, &self.rows, key)? {
-            Some(value) => add_tags(self.alloc, &self.rows, value, tags),
+        match self.entries.serving_value(key)? {
+            Some(value) => add_tags(&self.entries, value, tags),
             None => Ok(()),
         }
     }
 
-    /// What the rows say of the whole key space at this version: the lock, the version of the metadata, and a
-    /// route for each keyServers row, in the order of keys (this project's profile).
+    /// The routing of the whole key space at this version: the lock, the version of the metadata,
+    /// and a route for each keyServers entry, in the order of keys (this project's profile).
     ///
-    /// Answers `OutOfMemory` where there is no memory for it.
+    /// Fails only with `OutOfMemory`.
     pub fn routing(&self, version: u64) -> Result<Routing, OutOfMemory>
         ensures { IfOk result (λ found. found ≡ routing version self.now) }
     {
@@ -205,28 +227,42 @@ impl Metadata {
             version,
             locked: self.is_locked(),
             metadata_version: self.metadata_version()?,
-            routes: routes(self.alloc, &self.rows)?,
+            routes: routes(&self.entries)?,
         })
     }
 
     fn metadata_version(&self) -> Result<Option<Bytes>, OutOfMemory>
-        ensures { IfOk result (λ value. value ≡ entry_value self.now metadata_version_family.prefix) }
+        ensures { IfOk result (λ value. value
+            ≡ entry_value self.now metadata_version_family.prefix) }
     {
         match self.row(METADATA_VERSION_KEY) {
-            Some(value) => Ok(Some(Bytes::from(Vec::from_slice(self.alloc, value)?))),
+            Some(value) => {
+                let value = Vec::from_slice(self.entries.alloc(), value)?;
+                Ok(Some(Bytes::from(value)))
+            }
             None => Ok(None),
         }
     }
 
-    /// Equal metadata of its own.
-    ///
-    /// Answers `OutOfMemory` where there is no memory for it.
+    /// Returns a deep copy. Fails only with `OutOfMemory`.
     pub fn copy(&self) -> Result<Metadata, OutOfMemory>
         ensures { IfOk result (λ copy. copy ≡ self.now) }
     {
         Ok(Metadata {
-            alloc: self.alloc,
-            rows: kept::copy_of(&self.rows)?,
+            entries: self.entries.copy()?,
         })
+    }
+}
+
+/// Whether the metadata keeps an entry at this key (release 7.1).
+fn is_kept(key: &[u8]) -> bool
+    ensures { result ≡ is_kept key.now }
+{
+    match classify(key) {
+        RowKind::KeyServers
+        | RowKind::ServerTag
+        | RowKind::DatabaseLocked
+        | RowKind::MetadataVersion => true,
+        RowKind::OtherSystem | RowKind::NonMetadata | RowKind::Normal => false,
     }
 }

@@ -1,63 +1,54 @@
 //! The routes of the key space.
 
 ghost use Rattle.std.specs.Prelude.{◌≡◌, ◌++◌, [], ◌∷◌, IfOk, OnOk, map};
-ghost use Rattle.model.specs.Metadata.{Entries, route_of, key_servers_entries};
-ghost use Rattle.proxy_state.specs.Kept.{rows_of};
+ghost use Rattle.model.specs.Metadata.{route_of, key_servers_entries};
 ghost use Rattle.proxy_state.specs.OwnRoutes.{own_route, own_routes};
 
+use crate::entry_map::EntryMap;
 use crate::tagging::{add_tags, listed};
 use model::Route;
-use std::alloc::Global;
-use std::collections::{BTreeMap, BTreeSet};
+use std::collections::BTreeSet;
 use system_keys::{Bytes, Items, KEY_SERVERS_PREFIX, OutOfMemory};
 
-/// A route for each keyServers row, in the order of keys (this project's profile).
-///
-/// Answers `OutOfMemory` where there is no memory for them.
-pub(crate) fn routes(
-    alloc: Global,
-    rows: &BTreeMap<Vec<u8>, Bytes>,
-) -> Result<Items<Route>, OutOfMemory>
-    ensures { let kept : Entries = rows_of rows.now.entries in
-        IfOk result (λ routes. routes ≡ map (route_of kept) (key_servers_entries kept)) }
+/// A route for each keyServers entry, in the order of keys (this project's profile). Fails only
+/// with `OutOfMemory`.
+pub(crate) fn routes(entries: &EntryMap) -> Result<Items<Route>, OutOfMemory>
+    ensures { IfOk result (λ routes. routes
+        ≡ map (route_of entries.now) (key_servers_entries entries.now)) }
 {
-    let mut routes = Vec::new(alloc);
-    for (key, value) in rows {
-        add_route(alloc, rows, key.as_slice(), value.as_slice(), &mut routes)?;
+    let mut routes = Vec::new(entries.alloc());
+    for (key, value) in entries.iter() {
+        add_route(entries, key.as_slice(), value.as_slice(), &mut routes)?;
     }
     Ok(Items::from(routes))
 }
 
-/// Adds the route of a row, if it is a keyServers row.
+/// Adds the route of an entry, if it is a keyServers entry. Fails only with `OutOfMemory`.
 fn add_route(
-    alloc: Global,
-    rows: &BTreeMap<Vec<u8>, Bytes>,
+    entries: &EntryMap,
     key: &[u8],
     value: &[u8],
     routes: &mut Vec<Route>,
 ) -> Result<(), OutOfMemory>
-    ensures { OnOk result (routes.new.items ≡ routes.old.items ++ own_routes (rows_of rows.now.entries) ((key.now, value.now) ∷ [])) }
+    ensures { OnOk result (routes.new.items
+        ≡ routes.old.items ++ own_routes entries.now ((key.now, value.now) ∷ [])) }
 {
     if key.starts_with(KEY_SERVERS_PREFIX) {
-        routes.push(own_route(alloc, rows, &key[KEY_SERVERS_PREFIX.len()..], value)?)?;
+        routes.push(own_route(entries, &key[KEY_SERVERS_PREFIX.len()..], value)?)?;
     }
     Ok(())
 }
 
-/// The route of a keyServers row by its own value; `key` is what follows the prefix.
+/// The route of a keyServers entry by its own value; `key` is its key without the prefix. Fails
+/// only with `OutOfMemory`.
 #[tactic(auto, unfolding(model::specs::Metadata::entry_tags))]
-fn own_route(
-    alloc: Global,
-    rows: &BTreeMap<Vec<u8>, Bytes>,
-    key: &[u8],
-    value: &[u8],
-) -> Result<Route, OutOfMemory>
-    ensures { IfOk result (λ route. route ≡ own_route (rows_of rows.now.entries) (key.now, value.now)) }
+fn own_route(entries: &EntryMap, key: &[u8], value: &[u8]) -> Result<Route, OutOfMemory>
+    ensures { IfOk result (λ route. route ≡ own_route entries.now (key.now, value.now)) }
 {
-    let mut tags = BTreeSet::new(alloc);
-    add_tags(alloc, rows, value, &mut tags)?;
+    let mut tags = BTreeSet::new(entries.alloc());
+    add_tags(entries, value, &mut tags)?;
     Ok(Route {
-        key: Bytes::from(Vec::from_slice(alloc, key)?),
-        tags: listed(alloc, &tags)?,
+        key: Bytes::from(Vec::from_slice(entries.alloc(), key)?),
+        tags: listed(entries.alloc(), &tags)?,
     })
 }

@@ -1,12 +1,12 @@
-//! Tests against answers worked out by hand. Each call that takes memory is made again where it was refused
-//! memory, so that the tests also pass where any one allocation fails.
+//! Tests against answers worked out by hand. Each call that allocates is made a second time if it
+//! fails, so that the tests also pass if any one allocation fails.
 
 use crate::{JournalRow, Metadata, Route, Routing, StateTxn, Verdict, join};
 use std::alloc::{AllocError, Global};
 use std::test::Fail;
 use system_keys::{Bytes, Change, Items, KeyRange, OutOfMemory, Tag};
 
-/// The call, made once more where it was refused memory.
+/// The call, made a second time if it fails.
 macro_rules! twice {
     ($call:expr) => {
         match $call {
@@ -72,13 +72,13 @@ fn copy_of(metadata: &Metadata) -> Result<Metadata, OutOfMemory> {
     twice!(metadata.copy())
 }
 
-/// The keys of the rows of these tests.
+/// The keys of the entries of these tests.
 const KEYS: &[&[u8]] = &[
     TAG_ROW_1, TAG_ROW_2, TAG_ROW_3, TAG_ROW_4, ROW_OF_ALL, ROW_OF_B, ROW_OF_F, ROW_OF_Q, LOCK,
     VERSION,
 ];
 
-/// The same row at each key of these tests.
+/// Whether both have the same value, or none, at each key of these tests.
 fn are_same(metadata: &Metadata, other: &Metadata) -> bool {
     for key in KEYS {
         if !is_same(metadata.row(*key), other.row(*key)) {
@@ -106,7 +106,8 @@ fn has_rows(metadata: &Metadata, rows: &[(&[u8], Option<&[u8]>)]) -> bool {
     true
 }
 
-/// Applies the change; where it is refused memory the metadata must be as before, and it is tried again.
+/// Applies the change, a second time if it fails. Returns whether each failure left the metadata
+/// unchanged.
 fn apply(metadata: &mut Metadata, change: &Change) -> Result<bool, OutOfMemory> {
     let before = copy_of(metadata)?;
     match metadata.apply(change) {
@@ -130,7 +131,7 @@ fn apply_set(
     apply(metadata, &change)
 }
 
-/// Applies the Clear of the range as `apply` does; false where it is no range.
+/// Applies the Clear of the range as `apply` does; false if it is no range.
 fn apply_clear(
     alloc: Global,
     metadata: &mut Metadata,
@@ -143,7 +144,8 @@ fn apply_clear(
     }
 }
 
-/// Applies the row; where it is refused memory the metadata must be as before, and it is tried again.
+/// Applies the row, a second time if it fails. Returns whether each failure left the metadata
+/// unchanged.
 fn apply_row(metadata: &mut Metadata, row: &JournalRow) -> Result<bool, OutOfMemory> {
     let before = copy_of(metadata)?;
     match metadata.apply_row(row) {
@@ -171,7 +173,7 @@ fn put(
     applied(metadata, &change)
 }
 
-/// The metadata of these rows.
+/// The metadata of these entries.
 fn made(alloc: Global, rows: &[(&[u8], &[u8])]) -> Result<Metadata, OutOfMemory> {
     let mut metadata = Metadata::new(alloc);
     for (key, value) in rows {
@@ -180,7 +182,7 @@ fn made(alloc: Global, rows: &[(&[u8], &[u8])]) -> Result<Metadata, OutOfMemory>
     Ok(metadata)
 }
 
-/// The rows of four servers with the tags `0:1` to `0:4`, and of keys cut at `b`, `f` and `q`.
+/// The entries of four servers with the tags `0:1` to `0:4`, and of keys cut at `b`, `f` and `q`.
 const FOUR_SERVERS: &[(&[u8], &[u8])] = &[
     (TAG_ROW_1, b"\x00\x00\x01"),
     (TAG_ROW_2, b"\x00\x00\x02"),
@@ -238,7 +240,7 @@ fn has_tags(
     Ok(is_of_key(metadata, key, wanted)? && is_of_set(alloc, metadata, key, wanted)?)
 }
 
-/// Whether the Clear of the range has the wanted tags; false where it is no range.
+/// Whether the Clear of the range has the wanted tags; false if it is no range.
 fn clear_has_tags(
     alloc: Global,
     metadata: &Metadata,
@@ -276,8 +278,8 @@ fn room_for_states(alloc: Global, length: usize) -> Result<Vec<StateTxn>, AllocE
     twice!(Vec::with_capacity(alloc, length))
 }
 
-/// The row of a journal with these transactions: whether each is lock aware, its verdicts, and the key and the
-/// value that it sets.
+/// The row of the journal with these transactions: whether each is lock aware, its verdicts, and
+/// the key and the value that it sets.
 fn row_of(
     alloc: Global,
     version: u64,
@@ -309,7 +311,7 @@ fn the_least_verdict_is_the_answer(rt: HostRuntime) {
     }
 }
 
-/// Keys at and beside the cuts of four servers, with the tags of the row to the right.
+/// Keys at and beside the cuts of four servers, with the tags of the greatest entry at or before.
 const BOUNDARIES: &[(&[u8], &[Tag])] = &[
     (b"", &[TAG_1]),
     (b"a\xff", &[TAG_1]),
@@ -329,13 +331,13 @@ fn are_boundaries_right(alloc: Global, metadata: &Metadata) -> Result<bool, OutO
 }
 
 #[test]
-fn a_boundary_belongs_to_the_right_row(rt: HostRuntime) -> Result<(), Fail> {
+fn a_boundary_belongs_to_the_entry_at_it(rt: HostRuntime) -> Result<(), Fail> {
     let metadata = four_servers(rt.alloc())?;
     assert!(rt; are_boundaries_right(rt.alloc(), &metadata)?);
     Ok(())
 }
 
-/// Ranges of the keys of four servers, with the tags of each row that they meet.
+/// Ranges of the keys of four servers, with the tags of each entry that they touch.
 const CLEARS: &[(&[u8], &[u8], &[Tag])] = &[
     (b"a", b"\xff", &[TAG_1, TAG_2, TAG_3, TAG_4]),
     (b"a", b"b", &[TAG_1]),
@@ -355,14 +357,14 @@ fn are_clears_right(alloc: Global, metadata: &Metadata) -> Result<bool, OutOfMem
 }
 
 #[test]
-fn a_clear_has_the_tags_of_each_row_that_it_meets(rt: HostRuntime) -> Result<(), Fail> {
+fn a_clear_has_the_tags_of_each_entry_that_it_touches(rt: HostRuntime) -> Result<(), Fail> {
     let metadata = four_servers(rt.alloc())?;
     assert!(rt; are_clears_right(rt.alloc(), &metadata)?);
     Ok(())
 }
 
-/// The rows of servers with the tags `1:0` and `0:256`, together from `b` on, and of one without a tag row from
-/// `f` on.
+/// The entries of servers with the tags `1:0` and `0:256`, together from `b` on, and of one without
+/// a serverTag entry from `f` on.
 const TWO_LOCALITIES: &[(&[u8], &[u8])] = &[
     (TAG_ROW_1, b"\x01\x00\x00"),
     (TAG_ROW_3, b"\x00\x01\x00"),
@@ -371,7 +373,7 @@ const TWO_LOCALITIES: &[(&[u8], &[u8])] = &[
 ];
 
 /// The tags `0:256` and `1:0`.
-const RISING: &[Tag] = &[
+const SORTED: &[Tag] = &[
     Tag {
         locality: 0,
         id: 256,
@@ -379,30 +381,32 @@ const RISING: &[Tag] = &[
     Tag { locality: 1, id: 0 },
 ];
 
-/// Whether the tags of two localities rise, and there are none without a tag row and without a server.
+/// Whether the tags of two localities are sorted, and there are none without a serverTag entry or
+/// without a server.
 fn has_tags_of_two_localities(metadata: &Metadata) -> Result<bool, OutOfMemory> {
     Ok(
-        is_of_key(metadata, b"c", RISING)?
+        is_of_key(metadata, b"c", SORTED)?
             && is_of_key(metadata, b"g", &[])?
             && is_of_key(metadata, b"a", &[])?,
     )
 }
 
 #[test]
-fn tags_rise_by_locality_and_then_id(rt: HostRuntime) -> Result<(), Fail> {
+fn tags_are_sorted_by_locality_and_then_id(rt: HostRuntime) -> Result<(), Fail> {
     let metadata = made(rt.alloc(), TWO_LOCALITIES)?;
     assert!(rt; has_tags_of_two_localities(&metadata)?);
     Ok(())
 }
 
-/// The rows of one server, and at `b` of a value that does not decode.
+/// The entries of one server, and at `b` one whose value does not decode.
 const UNDECODED_AT_B: &[(&[u8], &[u8])] = &[
     (TAG_ROW_1, b"\x00\x00\x01"),
     (ROW_OF_ALL, SERVER_1),
     (ROW_OF_B, b"\x01server"),
 ];
 
-/// Whether `b` has no tags, and a Clear that meets it and the row before those of the row before alone.
+/// Whether `b` has no tags, and a Clear that touches it and the entry before it has the tags of the
+/// entry before it alone.
 fn has_no_tags_at_b(alloc: Global, metadata: &Metadata) -> Result<bool, OutOfMemory> {
     Ok(is_of_key(metadata, b"b", &[])? && clear_has_tags(alloc, metadata, b"a", b"c", &[TAG_1])?)
 }
@@ -414,7 +418,7 @@ fn a_value_that_does_not_decode_names_no_server(rt: HostRuntime) -> Result<(), F
     Ok(())
 }
 
-/// A key, a row of the configuration, and the version of the metadata.
+/// An entry of a user's key, one of the configuration, and the version of the metadata.
 const ONE_TO_KEEP: &[(&[u8], &[u8])] = &[(b"a", b"1"), (b"\xff/conf/x", b"2"), (VERSION, b"v")];
 
 const ONE_KEPT: &[(&[u8], Option<&[u8]>)] = &[
@@ -424,7 +428,7 @@ const ONE_KEPT: &[(&[u8], Option<&[u8]>)] = &[
 ];
 
 #[test]
-fn only_kept_rows_are_kept(rt: HostRuntime) -> Result<(), Fail> {
+fn only_kept_keys_have_entries(rt: HostRuntime) -> Result<(), Fail> {
     let alloc = rt.alloc();
     let mut metadata = made(alloc, ONE_TO_KEEP)?;
     assert!(rt; has_rows(&metadata, ONE_KEPT));
@@ -433,7 +437,7 @@ fn only_kept_rows_are_kept(rt: HostRuntime) -> Result<(), Fail> {
     Ok(())
 }
 
-/// Whether the routing at version 9 says that there is no lock, no version of the metadata and no route.
+/// Whether the routing at version 9 has no lock, no version of the metadata and no route.
 fn has_empty_routing(metadata: &Metadata) -> Result<bool, OutOfMemory> {
     let routing = routing_at(metadata, 9)?;
     Ok(is_empty_at(&routing, 9))
@@ -446,7 +450,7 @@ fn is_empty_at(routing: &Routing, version: u64) -> bool {
         && routing.routes.as_slice().is_empty()
 }
 
-/// Whether a Clear of everything leaves no row, and an empty routing.
+/// Whether a Clear of everything leaves no entry, and an empty routing.
 fn clears_everything(alloc: Global, metadata: &mut Metadata) -> Result<bool, OutOfMemory> {
     Ok(
         apply_clear(alloc, metadata, b"", b"\xff\xff")?
@@ -456,7 +460,7 @@ fn clears_everything(alloc: Global, metadata: &mut Metadata) -> Result<bool, Out
 }
 
 #[test]
-fn a_clear_of_everything_leaves_no_row(rt: HostRuntime) -> Result<(), Fail> {
+fn a_clear_of_everything_leaves_no_entry(rt: HostRuntime) -> Result<(), Fail> {
     let mut metadata = four_servers(rt.alloc())?;
     assert!(rt; clears_everything(rt.alloc(), &mut metadata)?);
     Ok(())
@@ -476,8 +480,8 @@ const OF_FOUR_SERVERS: &[(&[u8], Option<&[u8]>)] = &[
     (LOCK, None),
 ];
 
-/// Whether the rows of the metadata can be cleared and those of a copy from before stay.
-fn has_copy_of_its_own(alloc: Global, metadata: &mut Metadata) -> Result<bool, OutOfMemory> {
+/// Whether a Clear changes the metadata and leaves an earlier copy of it unchanged.
+fn has_independent_copy(alloc: Global, metadata: &mut Metadata) -> Result<bool, OutOfMemory> {
     let copy = copy_of(metadata)?;
     Ok(
         apply_clear(alloc, metadata, ROW_OF_ALL, ROW_OF_Q)?
@@ -487,10 +491,10 @@ fn has_copy_of_its_own(alloc: Global, metadata: &mut Metadata) -> Result<bool, O
 }
 
 #[test]
-fn a_copy_has_rows_of_its_own(rt: HostRuntime) -> Result<(), Fail> {
+fn a_copy_does_not_change_with_the_metadata(rt: HostRuntime) -> Result<(), Fail> {
     let alloc = rt.alloc();
     let mut metadata = four_servers(alloc)?;
-    assert!(rt; has_copy_of_its_own(alloc, &mut metadata)?);
+    assert!(rt; has_independent_copy(alloc, &mut metadata)?);
     Ok(())
 }
 
@@ -502,7 +506,7 @@ const NONE_FROM_B_TO_Q: &[(&[u8], Option<&[u8]>)] = &[
 ];
 
 #[test]
-fn a_clear_removes_the_rows_of_its_range(rt: HostRuntime) -> Result<(), Fail> {
+fn a_clear_removes_the_entries_of_its_range(rt: HostRuntime) -> Result<(), Fail> {
     let alloc = rt.alloc();
     let mut metadata = four_servers(alloc)?;
     assert!(rt; apply_clear(alloc, &mut metadata, ROW_OF_B, ROW_OF_Q)?);
@@ -510,13 +514,13 @@ fn a_clear_removes_the_rows_of_its_range(rt: HostRuntime) -> Result<(), Fail> {
     Ok(())
 }
 
-/// Two transactions, each of which one of its two resolvers refuses.
-const REFUSED: &[(bool, &[Verdict], &[u8], &[u8])] = &[
+/// Two transactions, each of which one of its two resolvers did not commit.
+const NOT_COMMITTED: &[(bool, &[Verdict], &[u8], &[u8])] = &[
     (true, &[Verdict::Committed, Verdict::Conflict], LOCK, b"L"),
     (true, &[Verdict::TooOld, Verdict::Committed], VERSION, b"v"),
 ];
 
-/// Whether the row, applied to four servers, leaves them as they are, without a lock.
+/// Whether the row, applied to four servers, leaves them unchanged, without a lock.
 fn leaves_four_servers(alloc: Global, row: &JournalRow) -> Result<bool, OutOfMemory> {
     let mut metadata = four_servers(alloc)?;
     Ok(
@@ -527,39 +531,39 @@ fn leaves_four_servers(alloc: Global, row: &JournalRow) -> Result<bool, OutOfMem
 }
 
 #[test]
-fn what_one_resolver_refuses_changes_nothing(rt: HostRuntime) -> Result<(), Fail> {
-    let row = row_of(rt.alloc(), 10, REFUSED)?;
+fn what_one_resolver_did_not_commit_changes_nothing(rt: HostRuntime) -> Result<(), Fail> {
+    let row = row_of(rt.alloc(), 10, NOT_COMMITTED)?;
     assert!(rt; leaves_four_servers(rt.alloc(), &row)?);
     Ok(())
 }
 
 const COMMITTED: &[Verdict] = &[Verdict::Committed, Verdict::Committed];
 
-/// A transaction that locks the database, and then one that sets a row without being lock aware.
+/// A transaction that locks the database, and then one that sets an entry and is not lock aware.
 const LOCKING: &[(bool, &[Verdict], &[u8], &[u8])] = &[
     (true, COMMITTED, LOCK, b"L"),
     (false, COMMITTED, ROW_OF_ALL, SERVER_1),
 ];
 
 /// A transaction that is not lock aware, and one that is.
-const MEETING_A_LOCK: &[(bool, &[Verdict], &[u8], &[u8])] = &[
+const UNDER_A_LOCK: &[(bool, &[Verdict], &[u8], &[u8])] = &[
     (false, COMMITTED, VERSION, b"v"),
     (true, COMMITTED, TAG_ROW_1, b"\x00\x00\x01"),
 ];
 
-/// Whether the metadata is locked and has the row behind the lock.
+/// Whether the metadata is locked and has the entry that was set after the lock.
 fn is_after_locking(metadata: &Metadata) -> bool {
     metadata.is_locked() && has_rows(metadata, &[(ROW_OF_ALL, Some(SERVER_1))])
 }
 
-/// Of the transactions that meet a lock only the lock aware one was applied.
-const AFTER_MEETING_A_LOCK: &[(&[u8], Option<&[u8]>)] = &[
+/// Of the transactions under a lock only the lock aware one was applied.
+const AFTER_UNDER_A_LOCK: &[(&[u8], Option<&[u8]>)] = &[
     (VERSION, None),
     (TAG_ROW_1, Some(b"\x00\x00\x01")),
 ];
 
-/// Whether the metadata is as it should be after each of the two rows.
-fn meets_lock(
+/// Whether the metadata is right after each of the two rows.
+fn respects_lock(
     metadata: &mut Metadata,
     first: &JournalRow,
     second: &JournalRow,
@@ -568,7 +572,7 @@ fn meets_lock(
         apply_row(metadata, first)?
             && is_after_locking(metadata)
             && apply_row(metadata, second)?
-            && has_rows(metadata, AFTER_MEETING_A_LOCK),
+            && has_rows(metadata, AFTER_UNDER_A_LOCK),
     )
 }
 
@@ -576,29 +580,29 @@ fn folded(alloc: Global, rows: &[JournalRow]) -> Result<Metadata, OutOfMemory> {
     twice!(Metadata::new(alloc).fold_rows(rows))
 }
 
-/// Whether the rows of a lock, folded, give this metadata.
+/// Whether the two rows, folded, give this metadata.
 fn folds_to(alloc: Global, rows: &[JournalRow], metadata: &Metadata) -> Result<bool, OutOfMemory> {
     let folded = folded(alloc, rows)?;
     Ok(
         is_after_locking(&folded)
-            && has_rows(&folded, AFTER_MEETING_A_LOCK)
+            && has_rows(&folded, AFTER_UNDER_A_LOCK)
             && are_same(&folded, metadata),
     )
 }
 
-/// Whether the second row meets the lock of the first, applied and folded.
+/// Whether the second row is applied under the lock of the first, one by one and folded.
 fn is_locked_by(alloc: Global, rows: &[JournalRow; 2]) -> Result<bool, OutOfMemory> {
     let mut metadata = Metadata::new(alloc);
     let [first, second] = rows;
-    Ok(meets_lock(&mut metadata, first, second)? && folds_to(alloc, rows, &metadata)?)
+    Ok(respects_lock(&mut metadata, first, second)? && folds_to(alloc, rows, &metadata)?)
 }
 
 #[test]
-fn a_lock_is_met_from_the_next_row_on(rt: HostRuntime) -> Result<(), Fail> {
+fn a_lock_counts_from_the_next_row_on(rt: HostRuntime) -> Result<(), Fail> {
     let alloc = rt.alloc();
     let rows = [
         row_of(alloc, 10, LOCKING)?,
-        row_of(alloc, 20, MEETING_A_LOCK)?,
+        row_of(alloc, 20, UNDER_A_LOCK)?,
     ];
     assert!(rt; is_locked_by(alloc, &rows)?);
     Ok(())
@@ -649,7 +653,8 @@ fn has_copy_of_four_servers(routing: &Routing) -> Result<bool, OutOfMemory> {
     Ok(is_of_four_servers(&copy))
 }
 
-/// Whether the routing of the metadata and its copy are that of four servers, with a lock and a version.
+/// Whether the routing of the metadata, and its copy, are those of four servers with a lock and a
+/// version.
 fn has_routing_of_four_servers(metadata: &Metadata) -> Result<bool, OutOfMemory> {
     let routing = routing_at(metadata, 7)?;
     Ok(
@@ -659,7 +664,7 @@ fn has_routing_of_four_servers(metadata: &Metadata) -> Result<bool, OutOfMemory>
     )
 }
 
-/// Whether four servers with a lock and a version of the metadata, each set as by `apply`, have their routing.
+/// Whether four servers have their routing after a lock and a version of the metadata were set.
 fn is_routed(alloc: Global, metadata: &mut Metadata) -> Result<bool, OutOfMemory> {
     Ok(
         apply_set(alloc, metadata, LOCK, b"L")?
@@ -669,7 +674,7 @@ fn is_routed(alloc: Global, metadata: &mut Metadata) -> Result<bool, OutOfMemory
 }
 
 #[test]
-fn a_routing_has_a_route_for_each_row(rt: HostRuntime) -> Result<(), Fail> {
+fn a_routing_has_a_route_for_each_key_servers_entry(rt: HostRuntime) -> Result<(), Fail> {
     let mut metadata = four_servers(rt.alloc())?;
     assert!(rt; is_routed(rt.alloc(), &mut metadata)?);
     Ok(())

@@ -1,8 +1,8 @@
--- The routes so far, and those of the rows that are left, are the own routes of all rows.
+-- The routes so far, and those of the entries that are left, are the own routes of all entries.
 use Rattle.std.proofs.Common.{◌≡◌, ◌++◌}
-use Rattle.proxy_state.specs.Kept.{rows_of}
+use Rattle.proxy_state.specs.MapEntries.{entries_of}
 use Rattle.proxy_state.specs.OwnRoutes.{own_routes}
 use Rattle.proxy_state.proofs.routes.routes.Given as goal
 
 abbrev pub invariant-loop-key : goal.invariant-loop-key
-invariant-loop-key l = l.routes.items ++ own_routes (rows_of l.rows.entries) (rows_of l.key-iterator) ≡ own_routes (rows_of l.rows.entries) (rows_of l.rows.entries)
+invariant-loop-key l = l.routes.items ++ own_routes l.entries (entries_of l.key-iterator) ≡ own_routes l.entries l.entries

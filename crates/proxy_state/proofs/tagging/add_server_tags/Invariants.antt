@@ -2,10 +2,9 @@
 use Rattle.std.proofs.Common.{◌≡◌, drop, fold, flat_map}
 use Rattle.std.specs.BTreeSet.{insert_key}
 use Rattle.model.specs.Metadata.{tag_cmp, server_tags}
-use Rattle.proxy_state.specs.Kept.{rows_of}
 use Rattle.proxy_state.proofs.tagging.add_server_tags.Given as goal
 
 abbrev pub invariant-loop-server : goal.invariant-loop-server
 invariant-loop-server l =
-    fold (insert_key tag_cmp) l.tags.keys (flat_map (server_tags (rows_of l.rows.entries)) (drop l.server-index l.servers))
-    ≡ fold (insert_key tag_cmp) l.fn.tags.keys (flat_map (server_tags (rows_of l.rows.entries)) l.servers)
+    fold (insert_key tag_cmp) l.tags.keys (flat_map (server_tags l.entries) (drop l.server-index l.servers))
+    ≡ fold (insert_key tag_cmp) l.fn.tags.keys (flat_map (server_tags l.entries) l.servers)

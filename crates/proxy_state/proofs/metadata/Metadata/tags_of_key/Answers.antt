@@ -1,4 +1,4 @@
--- The tags of the row that serves the key, added to none.
+-- The tags of the entry that serves the key, added to none.
 use Rattle.std.proofs.Common.{◌∙◌, flat_map, option_to_list}
 use Rattle.std.proofs.lemmas.Result.{IfOk-weaker}
 use Rattle.model.specs.Metadata.{tags, entry_tags, serving_entry, key_servers_entries}
