@@ -4,7 +4,7 @@ use Rattle.std.specs.Prelude.{Option, None, option_map, Result, Ok, Err, String}
 use Rattle.std.specs.declared.alloc.Global.{Global}
 use Rattle.serde_json.specs.View.{items_view, members_view}
 use Rattle.serde_json.specs.declared.value.Value.{Value}
-use Rattle.script_run.specs.Shapes.{count_members, pair_of, or_bad_shape}
+use Rattle.script_run.specs.Shapes.{count_members, pair_of}
 use Rattle.script_run.specs.declared.script_fault.ScriptFault.{ScriptFault}
 
 -- what was read, behind what was read before
