@@ -18,7 +18,6 @@ use Rattle.model.specs.Stamps.{Mutation, Set, Clear, SetStamped, Given, text_of,
 use Rattle.model.specs.Transactions.{Transaction}
 use Rattle.mutation.specs.declared.refusal.Refusal.{Refusal}
 use Rattle.mutation.specs.declared.refusal.Refusal.TheVariants as refusals
-use Rattle.mutation.specs.Refusals.{from_key}
 use Rattle.mutation.specs.Faults.{first_fault, fault_of_range, fault_of_set, fault_of_stamp, fault_of_mutation, transaction_fault, faults_of, fault_of_change, stamped_fault, has_place, is_formed}
 use Rattle.mutation.specs.Limits.{IsRange, IsRow, TakesStamp, IsMutation, EveryLimitHolds, IsChange, EveryLimitStillHolds}
 
@@ -45,13 +44,13 @@ faultless_all fault_of (x ∷ xs) h =
 
 -- ---- ranges
 
-range_tests : (long outside empty : Bool) → option_map from_key (if long then Some KeyTooLong else if outside then Some KeyOutside else if empty then Some EmptyRange else None) ≡ None → (long ≡ false) × (outside ≡ false) × (empty ≡ false)
+range_tests : (long outside empty : Bool) → option_map refusals.Key (if long then Some KeyTooLong else if outside then Some KeyOutside else if empty then Some EmptyRange else None) ≡ None → (long ≡ false) × (outside ≡ false) × (empty ≡ false)
 range_tests true b c h = (cc, cc, cc)
 range_tests false true c h = (refl, cc, cc)
 range_tests false false true h = (refl, refl, cc)
 range_tests false false false h = (refl, refl, refl)
 
-range_from_tests : (long outside empty : Bool) → long ≡ false → outside ≡ false → empty ≡ false → option_map from_key (if long then Some KeyTooLong else if outside then Some KeyOutside else if empty then Some EmptyRange else None) ≡ None
+range_from_tests : (long outside empty : Bool) → long ≡ false → outside ≡ false → empty ≡ false → option_map refusals.Key (if long then Some KeyTooLong else if outside then Some KeyOutside else if empty then Some EmptyRange else None) ≡ None
 range_from_tests true b c p q r = cc
 range_from_tests false true c p q r = cc
 range_from_tests false false true p q r = cc
@@ -79,14 +78,14 @@ within_range range h =
 
 -- ---- rows
 
-row_tests : (long wide outside bad : Bool) → option_map from_key (if long then Some KeyTooLong else if wide then Some ValueTooLong else if outside then Some KeyOutside else if bad then Some BadRow else None) ≡ None → (long ≡ false) × (wide ≡ false) × (outside ≡ false) × (bad ≡ false)
+row_tests : (long wide outside bad : Bool) → option_map refusals.Key (if long then Some KeyTooLong else if wide then Some ValueTooLong else if outside then Some KeyOutside else if bad then Some BadRow else None) ≡ None → (long ≡ false) × (wide ≡ false) × (outside ≡ false) × (bad ≡ false)
 row_tests true b c d h = (cc, cc, cc, cc)
 row_tests false true c d h = (refl, cc, cc, cc)
 row_tests false false true d h = (refl, refl, cc, cc)
 row_tests false false false true h = (refl, refl, refl, cc)
 row_tests false false false false h = (refl, refl, refl, refl)
 
-row_from_tests : (long wide outside bad : Bool) → long ≡ false → wide ≡ false → outside ≡ false → bad ≡ false → option_map from_key (if long then Some KeyTooLong else if wide then Some ValueTooLong else if outside then Some KeyOutside else if bad then Some BadRow else None) ≡ None
+row_from_tests : (long wide outside bad : Bool) → long ≡ false → wide ≡ false → outside ≡ false → bad ≡ false → option_map refusals.Key (if long then Some KeyTooLong else if wide then Some ValueTooLong else if outside then Some KeyOutside else if bad then Some BadRow else None) ≡ None
 row_from_tests true b c d p q r s = cc
 row_from_tests false true c d p q r s = cc
 row_from_tests false false true d p q r s = cc
@@ -113,12 +112,12 @@ within_row key value h =
 
 -- ---- stamps
 
-stamp_tests : (formed place : Bool) → (if formed then Some refusals.BadRow else if place then None else Some refusals.BadStamp) ≡ None → (formed ≡ false) × (place ≡ true)
+stamp_tests : (formed place : Bool) → (if formed then Some (refusals.Key BadRow) else if place then None else Some refusals.BadStamp) ≡ None → (formed ≡ false) × (place ≡ true)
 stamp_tests true p h = (cc, cc)
 stamp_tests false true h = (refl, refl)
 stamp_tests false false h = (refl, cc)
 
-stamp_from_tests : (formed place : Bool) → formed ≡ false → place ≡ true → (if formed then Some refusals.BadRow else if place then None else Some refusals.BadStamp) ≡ None
+stamp_from_tests : (formed place : Bool) → formed ≡ false → place ≡ true → (if formed then Some (refusals.Key BadRow) else if place then None else Some refusals.BadStamp) ≡ None
 stamp_from_tests true p e f = cc
 stamp_from_tests false true e f = refl
 stamp_from_tests false false e f = cc

@@ -5,7 +5,7 @@ use Rattle.mutation.specs.declared.admitted.AdmittedMutation.{AdmittedMutation}
 use Rattle.mutation.specs.declared.admitted.AdmittedMutation.TheVariants.{Set, Clear, SetStamped}
 
 -- an admitted mutation, as it was given
-abbrev pub mutation_of : AdmittedMutation → Mutation
-mutation_of (Set key value) = given.Set key value
-mutation_of (Clear range) = given.Clear range
-mutation_of (SetStamped key value) = given.SetStamped key value
+abbrev pub from_admitted : AdmittedMutation → Mutation
+from_admitted (Set key value) = given.Set key value
+from_admitted (Clear range) = given.Clear range
+from_admitted (SetStamped key value) = given.SetStamped key value

@@ -5,14 +5,14 @@ use Rattle.system_keys.specs.declared.change.Change.{Change}
 use Rattle.system_keys.specs.declared.change.Change.TheVariants as changes
 use Rattle.system_keys.specs.declared.kind.RowKind.{RowKind}
 use Rattle.system_keys.specs.declared.kind.RowKind.TheVariants as kinds
+use Rattle.system_keys.specs.declared.refusal.Refusal.TheVariants.{BadRow}
 use Rattle.system_keys.specs.Keys.{Key, Range}
 use Rattle.system_keys.specs.Families.{kind_of}
 use Rattle.system_keys.specs.Limits.{range_fault, set_fault}
 use Rattle.model.specs.Stamps.{Mutation, Set, Clear, SetStamped, Given, text_of, offset_of}
 use Rattle.model.specs.Transactions.{Transaction}
 use Rattle.mutation.specs.declared.refusal.Refusal.{Refusal}
-use Rattle.mutation.specs.declared.refusal.Refusal.TheVariants.{BadRow, BadStamp}
-use Rattle.mutation.specs.Refusals.{from_key}
+use Rattle.mutation.specs.declared.refusal.Refusal.TheVariants as refusals
 
 -- the first fault among some elements, in their order
 abbrev pub first_fault : {X : Type 0} → (X → Option Refusal) → List X → Option Refusal
@@ -21,11 +21,11 @@ first_fault fault_of (x ∷ xs) = option_or (fault_of x) (first_fault fault_of x
 
 -- the first fault of a range
 abbrev pub fault_of_range : Range → Option Refusal
-fault_of_range range = option_map from_key (range_fault range.begin range.end)
+fault_of_range range = option_map refusals.Key (range_fault range.begin range.end)
 
 -- the first fault of a Set
 abbrev pub fault_of_set : Key → List ℕ → Option Refusal
-fault_of_set key value = option_map from_key (set_fault key value)
+fault_of_set key value = option_map refusals.Key (set_fault key value)
 
 -- rows of this kind have values of a fixed form
 abbrev pub is_formed : RowKind → Bool
@@ -44,9 +44,9 @@ has_place value = nat_le 4 (length value) && nat_le (offset_of value + 10) (leng
 -- why no stamp can go into this row: its values have a fixed form, or the value has no place for one
 abbrev pub fault_of_stamp : Key → List ℕ → Option Refusal
 fault_of_stamp key value =
-    if is_formed (kind_of key) then Some BadRow
+    if is_formed (kind_of key) then Some (refusals.Key BadRow)
     else if has_place value then None
-    else Some BadStamp
+    else Some refusals.BadStamp
 
 -- the first fault of a mutation: the value of a SetStamped counts as it is given
 abbrev pub fault_of_mutation : Mutation → Option Refusal

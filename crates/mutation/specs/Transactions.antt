@@ -1,4 +1,4 @@
--- What a transaction of unchecked bytes says.
+-- A transaction of unchecked bytes, as the model's transaction as given.
 use Rattle.std.specs.Prelude.{map}
 use Rattle.system_keys.specs.Keys.{Range}
 use Rattle.model.specs.Stamps.{Mutation, Given}
@@ -9,16 +9,22 @@ use Rattle.mutation.specs.declared.transaction.Mutation.TheVariants.{Set, Clear,
 use Rattle.mutation.specs.declared.transaction.Transaction.{Transaction}
 
 -- the range from `begin` up to `end`
-abbrev pub range_of : GivenRange → Range
-range_of range = record { begin = range.begin; end = range.end }
+abbrev pub range_from : GivenRange → Range
+range_from range = record { begin = range.begin; end = range.end }
 
--- the mutation that the bytes say
-abbrev pub mutation_of : UncheckedMutation → Mutation
-mutation_of (Set key value) = given.Set key value
-mutation_of (Clear begin end) = given.Clear (record { begin = begin; end = end })
-mutation_of (SetStamped key value) = given.SetStamped key value
+-- the mutation of unchecked bytes, as given
+abbrev pub from_unchecked : UncheckedMutation → Mutation
+from_unchecked (Set key value) = given.Set key value
+from_unchecked (Clear begin end) = given.Clear (record { begin = begin; end = end })
+from_unchecked (SetStamped key value) = given.SetStamped key value
 
--- the transaction that the bytes say
-abbrev pub given_of : Transaction → Given
-given_of t =
-    record { snapshot = t.snapshot; reads = map range_of t.reads; writes = map range_of t.writes; mutations = map mutation_of t.mutations; lock_aware = t.lock_aware }
+-- the transaction of unchecked bytes, as given
+abbrev pub given_from : Transaction → Given
+given_from t =
+    record {
+      snapshot = t.snapshot;
+      reads = map range_from t.reads;
+      writes = map range_from t.writes;
+      mutations = map from_unchecked t.mutations;
+      lock_aware = t.lock_aware;
+    }

@@ -1,10 +1,12 @@
 //! Admission: from unchecked bytes to a transaction in which every limit holds.
 
-ghost use Rattle.std.specs.Prelude.{◌≡◌, None, map, IfOk, OnOk, IfErr};
-ghost use Rattle.mutation.specs.Faults.{first_fault, fault_of_range, fault_of_mutation, transaction_fault};
-ghost use Rattle.mutation.specs.Transactions.{range_of, mutation_of, given_of};
-ghost use Rattle.mutation.specs.Admitted.{mutation_of as admitted_mutation_of};
-ghost use Rattle.mutation.specs.Refusals.{Explains};
+ghost use Rattle.std.specs.Prelude.{◌≡◌, None, map, IfOk, OnOk};
+ghost use Rattle.system_keys.specs.AsSpecified.{IsAsSpecified, unless_fault};
+ghost use Rattle.mutation.specs.Faults.{first_fault, transaction_fault};
+ghost use Rattle.mutation.specs.Faults.{fault_of_range, fault_of_mutation};
+ghost use Rattle.mutation.specs.Transactions.{range_from, from_unchecked, given_from};
+ghost use Rattle.mutation.specs.Admitted.{from_admitted};
+ghost use Rattle.mutation.specs.Refusals.{refusal_fault};
 
 use crate::admitted::{Admitted, AdmittedMutation};
 use crate::limits::check_transaction;
@@ -13,65 +15,66 @@ use crate::transaction::{GivenRange, Mutation, Transaction};
 use std::alloc::Global;
 use system_keys::{Bytes, KeyRange, OutOfMemory};
 
-/// Admits a transaction in which every limit holds. Every field stays as it was given.
+/// Admits a transaction in which every limit holds. Every field is as given.
 ///
-/// Answers the first fault: of its reads, then of its writes, then of its mutations, each in order, and of
-/// each range or mutation in the order of the numbers. `OutOfMemory` only comes for a transaction without a
-/// fault.
+/// Otherwise returns the first fault: of its reads, then of its writes, then of its mutations, each in order,
+/// and of each range or mutation in the order of the numbers. Fails with `OutOfMemory` only for a transaction
+/// without a fault.
 pub fn admit(alloc: Global, transaction: &Transaction) -> Result<Admitted, Refusal>
-    ensures kept { IfOk result (λ admitted. admitted ≡ given_of transaction.now) }
-    ensures limits { OnOk result (transaction_fault (given_of transaction.now) ≡ None) }
-    ensures refused { IfErr result (λ refusal. Explains refusal (transaction_fault (given_of transaction.now))) }
+    ensures kept { IfOk result (λ admitted. admitted ≡ given_from transaction.now) }
+    ensures limits { OnOk result (transaction_fault (given_from transaction.now) ≡ None) }
+    ensures value { let given = given_from transaction.now in
+        IsAsSpecified refusal_fault (λ admitted. admitted) result
+        (unless_fault (transaction_fault given) given) }
 {
     check_transaction(transaction)?;
-    Ok(known_transaction(alloc, transaction)?)
+    Ok(to_transaction(alloc, transaction)?)
 }
 
-/// The admitted transaction of one without a fault.
-fn known_transaction(alloc: Global, transaction: &Transaction) -> Result<Admitted, OutOfMemory>
-    requires { transaction_fault (given_of transaction.now) ≡ None }
-    ensures { IfOk result (λ admitted. admitted ≡ given_of transaction.now) }
+/// Returns the admitted transaction of one without a fault.
+fn to_transaction(alloc: Global, transaction: &Transaction) -> Result<Admitted, OutOfMemory>
+    requires { transaction_fault (given_from transaction.now) ≡ None }
+    ensures { IfOk result (λ admitted. admitted ≡ given_from transaction.now) }
 {
     Ok(Admitted::of_parts(
         transaction.snapshot,
-        known_ranges(alloc, transaction.reads.as_slice())?,
-        known_ranges(alloc, transaction.writes.as_slice())?,
-        known_mutations(alloc, transaction.mutations.as_slice())?,
+        to_ranges(alloc, transaction.reads.as_slice())?,
+        to_ranges(alloc, transaction.writes.as_slice())?,
+        to_mutations(alloc, transaction.mutations.as_slice())?,
         transaction.lock_aware,
     ))
 }
 
-/// The ranges of bytes without a fault.
-fn known_ranges(alloc: Global, ranges: &[GivenRange]) -> Result<Vec<KeyRange>, OutOfMemory>
-    requires { first_fault fault_of_range (map range_of ranges.now) ≡ None }
-    ensures { IfOk result (λ known. known.items ≡ map range_of ranges.now) }
+/// Returns the ranges of bytes without a fault.
+fn to_ranges(alloc: Global, ranges: &[GivenRange]) -> Result<Vec<KeyRange>, OutOfMemory>
+    requires { first_fault fault_of_range (map range_from ranges.now) ≡ None }
+    ensures { IfOk result (λ checked. checked.items ≡ map range_from ranges.now) }
 {
-    let mut known = Vec::with_capacity(alloc, ranges.len())?;
+    let mut checked = Vec::with_capacity(alloc, ranges.len())?;
     for range in ranges {
-        known.push(known_range(&range.begin, &range.end)?)?;
+        checked.push(to_range(&range.begin, &range.end)?)?;
     }
-    Ok(known)
+    Ok(checked)
 }
 
-/// The mutations of bytes without a fault.
-fn known_mutations(
-    alloc: Global,
-    mutations: &[Mutation],
-) -> Result<Vec<AdmittedMutation>, OutOfMemory>
-    requires { first_fault fault_of_mutation (map mutation_of mutations.now) ≡ None }
-    ensures { IfOk result (λ known. map admitted_mutation_of known.items ≡ map mutation_of mutations.now) }
+/// Returns the mutations of bytes without a fault.
+fn to_mutations(alloc: Global, mutations: &[Mutation]) -> Result<Vec<AdmittedMutation>, OutOfMemory>
+    requires { first_fault fault_of_mutation (map from_unchecked mutations.now) ≡ None }
+    ensures { IfOk result (λ admitted.
+        map from_admitted admitted.items ≡ map from_unchecked mutations.now) }
 {
-    let mut known = Vec::with_capacity(alloc, mutations.len())?;
+    let mut admitted = Vec::with_capacity(alloc, mutations.len())?;
     for mutation in mutations {
-        known.push(known_mutation(mutation)?)?;
+        admitted.push(to_mutation(mutation)?)?;
     }
-    Ok(known)
+    Ok(admitted)
 }
 
-/// The mutation of bytes without a fault.
-fn known_mutation(mutation: &Mutation) -> Result<AdmittedMutation, OutOfMemory>
-    requires { fault_of_mutation (mutation_of mutation.now) ≡ None }
-    ensures { IfOk result (λ known. admitted_mutation_of known ≡ mutation_of mutation.now) }
+/// Returns the mutation of bytes without a fault.
+fn to_mutation(mutation: &Mutation) -> Result<AdmittedMutation, OutOfMemory>
+    requires { fault_of_mutation (from_unchecked mutation.now) ≡ None }
+    ensures { IfOk result (λ admitted.
+        from_admitted admitted ≡ from_unchecked mutation.now) }
 {
     Ok(match mutation {
         Mutation::Set { key, value } => AdmittedMutation::Set {
@@ -79,7 +82,7 @@ fn known_mutation(mutation: &Mutation) -> Result<AdmittedMutation, OutOfMemory>
             value: value.copy()?,
         },
         Mutation::Clear { begin, end } => AdmittedMutation::Clear {
-            range: known_range(begin, end)?,
+            range: to_range(begin, end)?,
         },
         Mutation::SetStamped { key, value } => AdmittedMutation::SetStamped {
             key: key.copy()?,
@@ -88,8 +91,8 @@ fn known_mutation(mutation: &Mutation) -> Result<AdmittedMutation, OutOfMemory>
     })
 }
 
-/// The range of bytes without a fault.
-fn known_range(begin: &Bytes, end: &Bytes) -> Result<KeyRange, OutOfMemory>
+/// Returns the range of bytes without a fault.
+fn to_range(begin: &Bytes, end: &Bytes) -> Result<KeyRange, OutOfMemory>
     requires { fault_of_range (record { begin = begin.now; end = end.now }) ≡ None }
     ensures { IfOk result (λ range. range ≡ record { begin = begin.now; end = end.now }) }
 {

@@ -7,7 +7,7 @@ use std::alloc::Global;
 use std::marker::Model;
 use system_keys::{Bytes, Items, KeyRange, OutOfMemory};
 
-/// A mutation of an admitted transaction (release 7.1). That its limits hold is kept by `Admitted`.
+/// A mutation of an admitted transaction (release 7.1). `Admitted` keeps its limits.
 #[derive(Clone, Debug, Drop)]
 pub enum AdmittedMutation {
     /// Puts the value at the key.
@@ -26,15 +26,13 @@ pub enum AdmittedMutation {
     SetStamped {
         /// The key of the row.
         key: Bytes,
-        /// Its new value, with the offset of the stamp behind it.
+        /// Its new value, and after it the offset of the stamp.
         value: Bytes,
     },
 }
 
 impl AdmittedMutation {
-    /// An equal mutation of its own.
-    ///
-    /// Answers `OutOfMemory` where there is no memory for it.
+    /// Returns a deep copy. Fails only with `OutOfMemory`.
     pub fn copy(&self) -> Result<AdmittedMutation, OutOfMemory>
         ensures { IfOk result (λ copy. copy ≡ self.now) }
     {
@@ -58,21 +56,33 @@ impl Model for Admitted {
 
     ghost Value = { Given };
 
-    ghost use Rattle.mutation.specs.Admitted.{mutation_of};
+    ghost use Rattle.mutation.specs.Admitted.{from_admitted};
     ghost use Rattle.mutation.specs.Faults.{transaction_fault};
 
-    ghost view = { λ t. record { snapshot = t.snapshot; reads = t.reads; writes = t.writes; mutations = map mutation_of t.mutations; lock_aware = t.lock_aware } };
+    ghost view = { λ t. record {
+      snapshot = t.snapshot;
+      reads = t.reads;
+      writes = t.writes;
+      mutations = map from_admitted t.mutations;
+      lock_aware = t.lock_aware;
+    } };
 
-    ghost invariant = { λ t. transaction_fault (record { snapshot = t.snapshot; reads = t.reads; writes = t.writes; mutations = map mutation_of t.mutations; lock_aware = t.lock_aware }) ≡ None };
+    ghost invariant = { λ t. transaction_fault (record {
+      snapshot = t.snapshot;
+      reads = t.reads;
+      writes = t.writes;
+      mutations = map from_admitted t.mutations;
+      lock_aware = t.lock_aware;
+    }) ≡ None };
 }
 
 impl Admitted {
     ghost use Rattle.std.specs.Prelude.{map};
     ghost use Rattle.model.specs.Stamps.{Given, stamped};
-    ghost use Rattle.mutation.specs.Admitted.{mutation_of};
+    ghost use Rattle.mutation.specs.Admitted.{from_admitted};
     ghost use Rattle.mutation.specs.Faults.{transaction_fault};
 
-    /// The transaction of these parts. Takes no memory.
+    /// Returns the transaction of these parts. Does not allocate.
     pub(crate) fn of_parts(
         snapshot: u64,
         reads: Vec<KeyRange>,
@@ -80,8 +90,20 @@ impl Admitted {
         mutations: Vec<AdmittedMutation>,
         lock_aware: bool,
     ) -> Admitted
-        requires { transaction_fault (record { snapshot = snapshot; reads = reads.items; writes = writes.items; mutations = map mutation_of mutations.items; lock_aware = lock_aware }) ≡ None }
-        ensures { result ≡ record { snapshot = snapshot; reads = reads.items; writes = writes.items; mutations = map mutation_of mutations.items; lock_aware = lock_aware } }
+        requires { transaction_fault (record {
+          snapshot = snapshot;
+          reads = reads.items;
+          writes = writes.items;
+          mutations = map from_admitted mutations.items;
+          lock_aware = lock_aware;
+        }) ≡ None }
+        ensures { result ≡ record {
+          snapshot = snapshot;
+          reads = reads.items;
+          writes = writes.items;
+          mutations = map from_admitted mutations.items;
+          lock_aware = lock_aware;
+        } }
     {
         Admitted {
             snapshot,
@@ -117,7 +139,7 @@ impl Admitted {
 
     /// What it wants to change, in order.
     pub fn mutations(&self) -> &[AdmittedMutation]
-        ensures value { map mutation_of result.now ≡ self.now.mutations }
+        ensures value { map from_admitted result.now ≡ self.now.mutations }
         ensures limits { transaction_fault self.now ≡ None }
     {
         self.mutations.as_slice()
@@ -130,11 +152,9 @@ impl Admitted {
         self.lock_aware
     }
 
-    /// The transaction with its stamps in, as transaction `number` of the batch of `version`: each
-    /// SetStamped becomes a Set (release 7.1). Of a number past 65,535, which no batch has, the lowest two
-    /// bytes go in.
-    ///
-    /// Answers `OutOfMemory` where there is no memory for it.
+    /// Returns the transaction with its stamps in, as transaction `number` of the batch of `version`: each
+    /// SetStamped becomes a Set (release 7.1). A stamp holds the low two bytes of a number above 65,535,
+    /// which no batch has. Fails only with `OutOfMemory`.
     pub fn stamped(
         &self,
         alloc: Global,
@@ -152,9 +172,7 @@ impl Admitted {
         ))
     }
 
-    /// An equal transaction of its own.
-    ///
-    /// Answers `OutOfMemory` where there is no memory for it.
+    /// Returns a deep copy. Fails only with `OutOfMemory`.
     pub fn copy(&self) -> Result<Admitted, OutOfMemory>
         ensures { IfOk result (λ copy. copy ≡ self.now) }
     {
@@ -162,7 +180,7 @@ impl Admitted {
     }
 }
 
-/// Equal ranges of their own.
+/// Returns a deep copy of the ranges.
 fn copied_ranges(ranges: &Items<KeyRange>) -> Result<Items<KeyRange>, OutOfMemory>
     ensures { IfOk result (λ copy. copy ≡ ranges.now) }
 {

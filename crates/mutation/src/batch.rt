@@ -31,11 +31,13 @@ impl Model for Batch {
 impl Batch {
     ghost use Rattle.mutation.specs.Limits.{batch_limit};
 
-    /// The batch of these transactions. Takes no memory.
-    ///
-    /// Answers `BatchTooLarge` for more than 1,024, and hands the transactions back with it.
+    /// Returns the batch of these transactions. For more than 1,024 returns `BatchTooLarge` and the
+    /// transactions, unchanged. Does not allocate.
     pub fn new(transactions: Vec<Admitted>) -> Result<Batch, (Refusal, Vec<Admitted>)>
-        ensures { MatchResult result (λ batch. (length transactions.items ≤ batch_limit) × (batch ≡ transactions.items)) (λ refused. (batch_limit < length transactions.items) × (refused.0 ≡ Refusal.BatchTooLarge) × (refused.1 ≡ transactions)) }
+        ensures { MatchResult result
+            (λ batch. (length transactions.items ≤ batch_limit) × (batch ≡ transactions.items))
+            (λ refused. (batch_limit < length transactions.items)
+            × (refused.0 ≡ Refusal.BatchTooLarge) × (refused.1 ≡ transactions)) }
     {
         if transactions.len() > BATCH_LIMIT {
             return Err((Refusal::BatchTooLarge, transactions));
@@ -53,9 +55,7 @@ impl Batch {
         self.transactions.as_slice()
     }
 
-    /// An equal batch of its own.
-    ///
-    /// Answers `OutOfMemory` where there is no memory for it.
+    /// Returns a deep copy. Fails only with `OutOfMemory`.
     pub fn copy(&self) -> Result<Batch, OutOfMemory>
         ensures { IfOk result (λ copy. copy ≡ self.now) }
     {

@@ -12,13 +12,14 @@ pub fn fault_law()
     ensures { (t : Given) → transaction_fault t ≡ slice_get (faults_of t) 0 }
 {}
 
-/// A transaction has no fault exactly where every limit holds in it, as it is given and with its stamps in.
+/// A transaction has no fault if and only if every limit holds in it, as given and with its stamps in.
 pub fn limits_law()
     ensures given { (t : Given) → (transaction_fault t ≡ None) ↔ EveryLimitHolds t }
     ensures stamped { (t : Transaction) → (stamped_fault t ≡ None) ↔ EveryLimitStillHolds t }
 {}
 
-/// Every limit also holds in the transaction that comes of such a one, whatever its stamps.
+/// If every limit holds in a transaction, every limit holds in it with its stamps in, whatever they are.
 pub fn stamped_law()
-    ensures { (version number : ℕ) (t : Given) → EveryLimitHolds t → EveryLimitStillHolds (stamped version number t) }
+    ensures { (version number : ℕ) (t : Given)
+        → EveryLimitHolds t → EveryLimitStillHolds (stamped version number t) }
 {}

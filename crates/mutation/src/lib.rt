@@ -1,6 +1,6 @@
 //! Transactions: as clients give them, admitted, in batches, and with their stamps in.
 //!
-//! What comes from outside is unchecked bytes; what goes on is admitted: every limit holds, by its type.
+//! Input is unchecked bytes. An admitted transaction is within every limit, by its type.
 //!
 //! Sources: FoundationDB release 7.1 (versionstamps) and this project's profile (limits, refusals).
 #![tactic(auto)]

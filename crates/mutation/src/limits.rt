@@ -1,18 +1,19 @@
-//! The limits of a transaction: its first fault, found without taking memory.
+//! The limits of a transaction: its first fault, found without allocating.
 
 ghost use Rattle.std.specs.Prelude.{◌≡◌, ◌≢◌, map, Err};
 ghost use Rattle.std.specs.Result.{result_err};
-ghost use Rattle.mutation.specs.Faults.{first_fault, fault_of_range, fault_of_set, fault_of_stamp, fault_of_mutation, transaction_fault, is_formed};
-ghost use Rattle.mutation.specs.Transactions.{range_of, mutation_of, given_of};
+ghost use Rattle.mutation.specs.Faults.{first_fault, transaction_fault, is_formed};
+ghost use Rattle.mutation.specs.Faults.{fault_of_range, fault_of_set, fault_of_stamp, fault_of_mutation};
+ghost use Rattle.mutation.specs.Transactions.{range_from, from_unchecked, given_from};
 
 use crate::refusal::Refusal;
 use crate::stamp::has_place;
 use crate::transaction::{GivenRange, Mutation, Transaction};
 use system_keys::{RowKind, classify};
 
-/// Finds the first fault of a transaction.
+/// Returns the first fault of a transaction.
 pub(crate) fn check_transaction(transaction: &Transaction) -> Result<(), Refusal>
-    ensures fault { result_err result ≡ transaction_fault (given_of transaction.now) }
+    ensures fault { result_err result ≡ transaction_fault (given_from transaction.now) }
     ensures content { result ≢ Err Refusal.OutOfMemory }
 {
     check_ranges(transaction.reads.as_slice())?;
@@ -20,9 +21,9 @@ pub(crate) fn check_transaction(transaction: &Transaction) -> Result<(), Refusal
     check_mutations(transaction.mutations.as_slice())
 }
 
-/// Finds the first fault of some ranges.
+/// Returns the first fault of some ranges.
 fn check_ranges(ranges: &[GivenRange]) -> Result<(), Refusal>
-    ensures fault { result_err result ≡ first_fault fault_of_range (map range_of ranges.now) }
+    ensures fault { result_err result ≡ first_fault fault_of_range (map range_from ranges.now) }
     ensures content { result ≢ Err Refusal.OutOfMemory }
 {
     for range in ranges {
@@ -31,9 +32,10 @@ fn check_ranges(ranges: &[GivenRange]) -> Result<(), Refusal>
     Ok(())
 }
 
-/// Finds the first fault of some mutations.
+/// Returns the first fault of some mutations.
 fn check_mutations(mutations: &[Mutation]) -> Result<(), Refusal>
-    ensures fault { result_err result ≡ first_fault fault_of_mutation (map mutation_of mutations.now) }
+    ensures fault { result_err result
+        ≡ first_fault fault_of_mutation (map from_unchecked mutations.now) }
     ensures content { result ≢ Err Refusal.OutOfMemory }
 {
     for mutation in mutations {
@@ -42,9 +44,9 @@ fn check_mutations(mutations: &[Mutation]) -> Result<(), Refusal>
     Ok(())
 }
 
-/// Finds the first fault of a mutation.
+/// Returns the first fault of a mutation.
 fn check_mutation(mutation: &Mutation) -> Result<(), Refusal>
-    ensures fault { result_err result ≡ fault_of_mutation (mutation_of mutation.now) }
+    ensures fault { result_err result ≡ fault_of_mutation (from_unchecked mutation.now) }
     ensures content { result ≢ Err Refusal.OutOfMemory }
 {
     match mutation {
@@ -57,15 +59,16 @@ fn check_mutation(mutation: &Mutation) -> Result<(), Refusal>
     }
 }
 
-/// Finds the first fault of a range.
+/// Returns the first fault of a range.
 fn check_range(begin: &[u8], end: &[u8]) -> Result<(), Refusal>
-    ensures fault { result_err result ≡ fault_of_range (record { begin = begin.now; end = end.now }) }
+    ensures fault { result_err result
+        ≡ fault_of_range (record { begin = begin.now; end = end.now }) }
     ensures content { result ≢ Err Refusal.OutOfMemory }
 {
     Ok(system_keys::check_range(begin, end)?)
 }
 
-/// Finds the first fault of a Set.
+/// Returns the first fault of a Set.
 fn check_set(key: &[u8], value: &[u8]) -> Result<(), Refusal>
     ensures fault { result_err result ≡ fault_of_set key.now value.now }
     ensures content { result ≢ Err Refusal.OutOfMemory }
@@ -73,13 +76,13 @@ fn check_set(key: &[u8], value: &[u8]) -> Result<(), Refusal>
     Ok(system_keys::check_set(key, value)?)
 }
 
-/// Finds why no stamp can go into the row.
+/// Returns why no stamp can go into the row.
 fn check_stamp(key: &[u8], value: &[u8]) -> Result<(), Refusal>
     ensures fault { result_err result ≡ fault_of_stamp key.now value.now }
     ensures content { result ≢ Err Refusal.OutOfMemory }
 {
     if is_formed(classify(key)) {
-        return Err(Refusal::BadRow);
+        return Err(Refusal::Key(system_keys::Refusal::BadRow));
     }
     if !has_place(value) {
         return Err(Refusal::BadStamp);

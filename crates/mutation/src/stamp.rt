@@ -1,8 +1,8 @@
 //! Stamps, and the values that wait for them.
 //!
-//! The last four bytes of such a value are an offset, the lowest byte first; what stands before them is the
-//! text. Ten bytes of the text at the offset become the stamp: the version of the batch in eight bytes and
-//! the number of the transaction in two, the highest byte first (release 7.1).
+//! The last four bytes of such a value are an offset, low byte first; the bytes before them are the text. Ten
+//! bytes of the text at the offset become the stamp: the version of the batch in eight bytes and the number
+//! of the transaction in two, high byte first (release 7.1).
 
 ghost use Rattle.std.specs.Prelude.{◌≡◌, ◌<◌, ◌^◌, length, IfOk, IsTrue};
 ghost use Rattle.model.specs.Stamps.{little_endian, stamp, stamped_value};
@@ -28,7 +28,7 @@ pub(crate) fn has_place(value: &[u8]) -> bool
     little_endian(offset) + STAMP_LENGTH <= text.len()
 }
 
-/// The value with its stamp in.
+/// Returns the value with its stamp in.
 pub(crate) fn stamped_value(
     alloc: Global,
     version: u64,
@@ -47,7 +47,7 @@ pub(crate) fn stamped_value(
     Ok(bytes)
 }
 
-/// The number of four bytes, the lowest first.
+/// The number of four bytes, low byte first.
 fn little_endian(bytes: &[u8]) -> usize
     requires { length bytes.now ≡ 4 }
     ensures value { result ≡ little_endian bytes.now }
@@ -59,8 +59,8 @@ fn little_endian(bytes: &[u8]) -> usize
     }
 }
 
-/// The stamp of transaction `number` in the batch of `version`. Of a number past 65,535 the lowest two
-/// bytes go in.
+/// The stamp of transaction `number` in the batch of `version`. It holds the low two bytes of a number above
+/// 65,535.
 fn stamp(version: u64, number: usize) -> [u8; 10]
     ensures { result ≡ stamp version number }
 {

@@ -2,7 +2,7 @@
 
 ghost use Rattle.std.specs.Prelude.{◌≡◌, None, map, IfOk};
 ghost use Rattle.model.specs.Stamps.{stamped_mutation};
-ghost use Rattle.mutation.specs.Admitted.{mutation_of};
+ghost use Rattle.mutation.specs.Admitted.{from_admitted};
 ghost use Rattle.mutation.specs.Faults.{first_fault, fault_of_mutation};
 
 use crate::admitted::AdmittedMutation;
@@ -11,8 +11,7 @@ use std::alloc::Global;
 use std::marker::Model;
 use system_keys::{Bytes, Change, Items, KeyRange, OutOfMemory};
 
-/// A transaction with its stamps in: changes alone (release 7.1). Every limit holds in it, as in the admitted
-/// one that it comes of.
+/// A transaction with its stamps in, and so with changes alone (release 7.1). It is within every limit.
 #[derive(Clone, Debug, Drop)]
 pub struct Stamped {
     snapshot: u64,
@@ -29,15 +28,27 @@ impl Model for Stamped {
 
     ghost Value = { Transaction };
 
-    ghost view = { λ t. record { snapshot = t.snapshot; reads = t.reads; writes = t.writes; changes = t.changes; lock_aware = t.lock_aware } };
+    ghost view = { λ t. record {
+      snapshot = t.snapshot;
+      reads = t.reads;
+      writes = t.writes;
+      changes = t.changes;
+      lock_aware = t.lock_aware;
+    } };
 
-    ghost invariant = { λ t. stamped_fault (record { snapshot = t.snapshot; reads = t.reads; writes = t.writes; changes = t.changes; lock_aware = t.lock_aware }) ≡ None };
+    ghost invariant = { λ t. stamped_fault (record {
+      snapshot = t.snapshot;
+      reads = t.reads;
+      writes = t.writes;
+      changes = t.changes;
+      lock_aware = t.lock_aware;
+    }) ≡ None };
 }
 
 impl Stamped {
     ghost use Rattle.mutation.specs.Faults.{stamped_fault};
 
-    /// The transaction of these parts. Takes no memory.
+    /// Returns the transaction of these parts. Does not allocate.
     pub(crate) fn of_parts(
         snapshot: u64,
         reads: Items<KeyRange>,
@@ -45,8 +56,20 @@ impl Stamped {
         changes: Vec<Change>,
         lock_aware: bool,
     ) -> Stamped
-        requires { stamped_fault (record { snapshot = snapshot; reads = reads; writes = writes; changes = changes.items; lock_aware = lock_aware }) ≡ None }
-        ensures { result ≡ record { snapshot = snapshot; reads = reads; writes = writes; changes = changes.items; lock_aware = lock_aware } }
+        requires { stamped_fault (record {
+          snapshot = snapshot;
+          reads = reads;
+          writes = writes;
+          changes = changes.items;
+          lock_aware = lock_aware;
+        }) ≡ None }
+        ensures { result ≡ record {
+          snapshot = snapshot;
+          reads = reads;
+          writes = writes;
+          changes = changes.items;
+          lock_aware = lock_aware;
+        } }
     {
         Stamped {
             snapshot,
@@ -95,9 +118,7 @@ impl Stamped {
         self.lock_aware
     }
 
-    /// An equal transaction of its own.
-    ///
-    /// Answers `OutOfMemory` where there is no memory for it.
+    /// Returns a deep copy. Fails only with `OutOfMemory`.
     pub fn copy(&self) -> Result<Stamped, OutOfMemory>
         ensures { IfOk result (λ copy. copy ≡ self.now) }
     {
@@ -112,8 +133,9 @@ pub(crate) fn stamped_changes(
     number: usize,
     mutations: &[AdmittedMutation],
 ) -> Result<Vec<Change>, OutOfMemory>
-    requires { first_fault fault_of_mutation (map mutation_of mutations.now) ≡ None }
-    ensures { IfOk result (λ changes. changes.items ≡ map (stamped_mutation version number) (map mutation_of mutations.now)) }
+    requires { first_fault fault_of_mutation (map from_admitted mutations.now) ≡ None }
+    ensures { IfOk result (λ changes. changes.items
+        ≡ map (stamped_mutation version number) (map from_admitted mutations.now)) }
 {
     let mut changes = Vec::with_capacity(alloc, mutations.len())?;
     for mutation in mutations {
@@ -129,8 +151,9 @@ fn stamped_change(
     number: usize,
     mutation: &AdmittedMutation,
 ) -> Result<Change, OutOfMemory>
-    requires { fault_of_mutation (mutation_of mutation.now) ≡ None }
-    ensures { IfOk result (λ change. change ≡ stamped_mutation version number (mutation_of mutation.now)) }
+    requires { fault_of_mutation (from_admitted mutation.now) ≡ None }
+    ensures { IfOk result (λ change.
+        change ≡ stamped_mutation version number (from_admitted mutation.now)) }
 {
     Ok(match mutation {
         AdmittedMutation::Set { key, value } => Change::Set {

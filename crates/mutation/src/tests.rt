@@ -239,7 +239,7 @@ fn a_stamp_without_room_is_refused(rt: HostRuntime) -> Result<(), Fail> {
 #[test]
 fn rows_of_a_fixed_form_take_no_stamp(rt: HostRuntime) -> Result<(), Fail> {
     let alloc = rt.alloc();
-    let refused = Some(Refusal::BadRow);
+    let refused = Some(Refusal::Key(system_keys::Refusal::BadRow));
     assert_eq!(rt;
         stamp_refusal(alloc, SERVER_TAG_KEY, b"\x00\x00\x01")?,
         refused
@@ -264,7 +264,7 @@ fn rows_of_a_fixed_form_take_values_that_decode(rt: HostRuntime) -> Result<(), F
         None
     );
     let cut_off = set_refusal(alloc, b"\xff/keyServers/", b"\x01server000000000")?;
-    assert_eq!(rt; cut_off, Some(Refusal::BadRow));
+    assert_eq!(rt; cut_off, Some(Refusal::Key(system_keys::Refusal::BadRow)));
     Ok(())
 }
 
@@ -291,7 +291,10 @@ fn of_two_faults(alloc: Global) -> Result<Transaction, AllocError> {
 #[test]
 fn reads_are_looked_at_first(rt: HostRuntime) -> Result<(), Fail> {
     let refusal = refusal_at_once(rt.alloc(), of_two_faults(rt.alloc())?);
-    assert_eq!(rt; refusal, Some(Refusal::EmptyRange));
+    assert_eq!(rt;
+        refusal,
+        Some(Refusal::Key(system_keys::Refusal::EmptyRange))
+    );
     Ok(())
 }
 
@@ -305,7 +308,10 @@ fn of_a_faulty_write(alloc: Global) -> Result<Transaction, AllocError> {
 #[test]
 fn writes_are_looked_at_before_mutations(rt: HostRuntime) -> Result<(), Fail> {
     let refusal = refusal_at_once(rt.alloc(), of_a_faulty_write(rt.alloc())?);
-    assert_eq!(rt; refusal, Some(Refusal::KeyOutside));
+    assert_eq!(rt;
+        refusal,
+        Some(Refusal::Key(system_keys::Refusal::KeyOutside))
+    );
     Ok(())
 }
 
@@ -325,7 +331,10 @@ fn end_refusal(alloc: Global, length: usize) -> Result<Option<Refusal>, AllocErr
 fn a_key_has_at_most_10_000_bytes(rt: HostRuntime) -> Result<(), Fail> {
     let alloc = rt.alloc();
     assert_eq!(rt; key_refusal(alloc, 10_000)?, None);
-    assert_eq!(rt; key_refusal(alloc, 10_001)?, Some(Refusal::KeyTooLong));
+    assert_eq!(rt;
+        key_refusal(alloc, 10_001)?,
+        Some(Refusal::Key(system_keys::Refusal::KeyTooLong))
+    );
     assert_eq!(rt; end_refusal(alloc, 10_001)?, None);
     Ok(())
 }
@@ -345,7 +354,7 @@ fn stamped_value_refusal(alloc: Global, length: usize) -> Result<Option<Refusal>
 #[test]
 fn a_value_has_at_most_100_000_bytes(rt: HostRuntime) -> Result<(), Fail> {
     let alloc = rt.alloc();
-    let refused = Some(Refusal::ValueTooLong);
+    let refused = Some(Refusal::Key(system_keys::Refusal::ValueTooLong));
     assert_eq!(rt; value_refusal(alloc, 100_000)?, None);
     assert_eq!(rt; value_refusal(alloc, 100_001)?, refused);
     assert_eq!(rt; stamped_value_refusal(alloc, 100_001)?, refused);
@@ -683,10 +692,16 @@ fn batches_are_copied(rt: HostRuntime) -> Result<(), Fail> {
 
 #[test]
 fn refusals_have_numbers_and_names(rt: HostRuntime) {
-    assert_eq!(rt; Refusal::EmptyRange.number(), Some(13));
+    assert_eq!(rt;
+        Refusal::Key(system_keys::Refusal::EmptyRange).number(),
+        Some(13)
+    );
     assert_eq!(rt; Refusal::BadStamp.number(), Some(15));
     assert_eq!(rt; Refusal::BatchTooLarge.number(), Some(16));
-    assert_eq!(rt; Refusal::EmptyRange.name(), "EmptyRange");
+    assert_eq!(rt;
+        Refusal::Key(system_keys::Refusal::EmptyRange).name(),
+        "EmptyRange"
+    );
     assert_eq!(rt; Refusal::BadStamp.name(), "BadStamp");
     assert_eq!(rt; Refusal::BatchTooLarge.name(), "BatchTooLarge");
 }
@@ -699,11 +714,26 @@ fn is_shown_as<T: Display + Drop>(alloc: Global, error: T, text: &str) -> Result
 #[test]
 fn refusals_are_shown_in_words(rt: HostRuntime) -> Result<(), Fail> {
     for (refusal, text) in [
-        (Refusal::KeyTooLong, "a key is too long"),
-        (Refusal::ValueTooLong, "a value is too long"),
-        (Refusal::KeyOutside, "a key lies outside the key space"),
-        (Refusal::EmptyRange, "a range is empty"),
-        (Refusal::BadRow, "the value of a system row does not decode"),
+        (
+            Refusal::Key(system_keys::Refusal::KeyTooLong),
+            "a key is too long",
+        ),
+        (
+            Refusal::Key(system_keys::Refusal::ValueTooLong),
+            "a value is too long",
+        ),
+        (
+            Refusal::Key(system_keys::Refusal::KeyOutside),
+            "a key lies outside the key space",
+        ),
+        (
+            Refusal::Key(system_keys::Refusal::EmptyRange),
+            "a range is empty",
+        ),
+        (
+            Refusal::Key(system_keys::Refusal::BadRow),
+            "the value of a system row does not decode",
+        ),
         (Refusal::BadStamp, "a value has no place for its stamp"),
         (Refusal::BatchTooLarge, "a batch is too large"),
         (Refusal::OutOfMemory, "out of memory"),

@@ -4,7 +4,7 @@ ghost use Rattle.std.specs.Prelude.{◌≡◌, IfOk};
 
 use system_keys::{Bytes, Items, OutOfMemory};
 
-/// A range of keys as it is given: from `begin` up to `end`, without `end`. Nothing is checked.
+/// A range of keys as given: from `begin` up to `end`, without `end`. Nothing is checked.
 #[derive(Clone, Debug, Drop)]
 pub struct GivenRange {
     /// Where the range begins.
@@ -14,9 +14,7 @@ pub struct GivenRange {
 }
 
 impl GivenRange {
-    /// An equal range of its own.
-    ///
-    /// Answers `OutOfMemory` where there is no memory for it.
+    /// Returns a deep copy. Fails only with `OutOfMemory`.
     pub fn copy(&self) -> Result<GivenRange, OutOfMemory>
         ensures { IfOk result (λ copy. copy ≡ self.now) }
     {
@@ -24,7 +22,7 @@ impl GivenRange {
     }
 }
 
-/// A mutation as it is given (release 7.1). Nothing is checked.
+/// A mutation as given (release 7.1). Nothing is checked.
 #[derive(Clone, Debug, Drop)]
 pub enum Mutation {
     /// Puts the value at the key.
@@ -41,20 +39,18 @@ pub enum Mutation {
         /// Where it ends.
         end: Bytes,
     },
-    /// Puts the value at the key, with a stamp in it: its last four bytes are an offset, the lowest byte
-    /// first, and are removed; ten bytes at the offset become the stamp.
+    /// Puts the value at the key, with a stamp in it: its last four bytes are an offset, low byte first, and
+    /// are removed; ten bytes at the offset become the stamp.
     SetStamped {
         /// The key of the row.
         key: Bytes,
-        /// Its new value, with the offset behind it.
+        /// Its new value, and after it the offset.
         value: Bytes,
     },
 }
 
 impl Mutation {
-    /// An equal mutation of its own.
-    ///
-    /// Answers `OutOfMemory` where there is no memory for it.
+    /// Returns a deep copy. Fails only with `OutOfMemory`.
     pub fn copy(&self) -> Result<Mutation, OutOfMemory>
         ensures { IfOk result (λ copy. copy ≡ self.now) }
     {
@@ -62,7 +58,7 @@ impl Mutation {
     }
 }
 
-/// A transaction as it is given (release 7.1). Nothing is checked.
+/// A transaction as given (release 7.1). Nothing is checked.
 #[derive(Clone, Debug, Drop)]
 pub struct Transaction {
     /// The version that it read at.
@@ -78,9 +74,7 @@ pub struct Transaction {
 }
 
 impl Transaction {
-    /// An equal transaction of its own.
-    ///
-    /// Answers `OutOfMemory` where there is no memory for it.
+    /// Returns a deep copy. Fails only with `OutOfMemory`.
     pub fn copy(&self) -> Result<Transaction, OutOfMemory>
         ensures { IfOk result (λ copy. copy ≡ self.now) }
     {

@@ -3,12 +3,13 @@ use Rattle.std.proofs.Common.{◌≡◌, ◌-◌, ◌∷◌, [], ℕ, List, leng
 use Rattle.std.specs.Prelude.{Some, None, Result, Ok, Err, IfOk, OnOk, IsSome, slice_get}
 use Rattle.std.specs.List.{last_or}
 use Rattle.system_keys.specs.declared.memory.OutOfMemory.{OutOfMemory}
+use Rattle.system_keys.specs.AsSpecified.{IsFaultIfAllocated}
 use Rattle.script_run.specs.declared.answer.Output.{Output}
 use Rattle.script_run.specs.declared.fold_script.FoldScript.{FoldScript}
 use Rattle.script_run.specs.declared.script_fault.ScriptFault.{ScriptFault}
 use Rattle.script_run.specs.declared.script_fault.ScriptFault.TheVariants as faults
-use Rattle.script_run.specs.ScriptFaults.{fault_number}
-use Rattle.script_run.specs.FoldScripts.{FailsScript, script_of}
+use Rattle.script_run.specs.ScriptFaults.{fault_number, script_fault}
+use Rattle.script_run.specs.FoldScripts.{script_of}
 use Rattle.script_run.specs.FoldText.{IsOutput, answer_of, fold_text}
 
 -- the last element, by its place
@@ -28,12 +29,11 @@ unfolding fold_text
 fold_text-script bytes said is = rw is refl
 
 -- a fault that has a number is the script's
-pub fold_text-fault : (bytes : List ℕ) (fault : ScriptFault) (result : Result Output OutOfMemory) → FailsScript fault (script_of bytes)
+pub fold_text-fault : (bytes : List ℕ) (fault : ScriptFault) (result : Result Output OutOfMemory) → IsFaultIfAllocated (script_fault fault) (script_of bytes)
     → OnOk result (IsSome (fault_number fault)) → IfOk result (IsOutput (answer_of (Err fault))) → IfOk result (IsOutput (fold_text bytes))
 fold_text-fault bytes faults.NotJson result fails numbered is = rw (fold_text-script bytes _ fails) is
 fold_text-fault bytes faults.BadShape result fails numbered is = rw (fold_text-script bytes _ fails) is
 fold_text-fault bytes (faults.Refused refusal) result fails numbered is = rw (fold_text-script bytes _ fails) is
-fold_text-fault bytes (faults.RefusedBatch refusal) result fails numbered is = rw (fold_text-script bytes _ fails) is
 fold_text-fault bytes faults.OutOfMemory (Ok output) fails numbered is =
     let none : IsSome {T = ℕ} None = numbered in cc
 fold_text-fault bytes faults.OutOfMemory (Err memory) fails numbered is = tt

@@ -4,17 +4,17 @@ use Rattle.std.specs.Prelude.{Option, None, option_map, Result, Ok, Err, String}
 use Rattle.std.specs.declared.alloc.Global.{Global}
 use Rattle.serde_json.specs.View.{items_view, members_view}
 use Rattle.serde_json.specs.declared.value.Value.{Value}
-use Rattle.system_keys.specs.declared.refusal.Refusal.{Refusal}
 use Rattle.script_run.specs.Shapes.{count_members, pair_of}
+use Rattle.script_run.specs.declared.script_fault.ScriptFault.{ScriptFault}
 
 -- what was read, behind what was read before
 abbrev pub read_behind : {X : Type 0} → List X → Option (List X) → Option (List X)
 read_behind front read = option_map (λ xs. front ++ xs) read
 
 -- what was checked, behind what was checked before
-abbrev pub checked_behind : {X : Type 0} → List X → Result (List X) Refusal → Result (List X) Refusal
+abbrev pub checked_behind : {X : Type 0} → List X → Result (List X) ScriptFault → Result (List X) ScriptFault
 checked_behind front (Ok xs) = Ok (front ++ xs)
-checked_behind front (Err refusal) = Err refusal
+checked_behind front (Err fault) = Err fault
 
 -- an object's fields are as many as its entries
 pub count_members-members_view : (ms : List (String Global × Value)) → count_members (members_view ms) ≡ length ms

@@ -1,6 +1,7 @@
 -- The refusals of a batch, in their order (this project's profile).
-use Rattle.std.specs.Prelude.{◌≡◌, List, length, nat_le, if◌then◌else◌, Option, Some, None, Result, Ok, Err}
+use Rattle.std.specs.Prelude.{List, length, nat_le, if◌then◌else◌, Option, Some, None, option_map, Result}
 use Rattle.std.specs.Option.{option_or}
+use Rattle.system_keys.specs.AsSpecified.{unless_fault}
 use Rattle.model.specs.Stamps.{Given}
 use Rattle.mutation.specs.declared.refusal.Refusal.{Refusal}
 use Rattle.mutation.specs.declared.refusal.Refusal.TheVariants as refusals
@@ -17,25 +18,16 @@ size_fault transactions = if nat_le (length transactions) batch_limit then None 
 abbrev pub batch_fault : List Given → Option Refusal
 batch_fault transactions = option_or (first_fault transaction_fault transactions) (size_fault transactions)
 
-abbrev pub unless_refused : Option Refusal → List Given → Result (List Given) ScriptFault
-unless_refused None transactions = Ok transactions
-unless_refused (Some refusal) transactions = Err (faults.RefusedBatch refusal)
-
 -- the batch of these transactions, as they were given, or its first fault
 abbrev pub checked_batch : List Given → Result (List Given) ScriptFault
-checked_batch transactions = unless_refused (batch_fault transactions) transactions
+checked_batch transactions = unless_fault (option_map faults.Refused (batch_fault transactions)) transactions
 
--- ---- what a checker answers
+-- the transactions, as they were given, or the first fault of one
+abbrev pub checked_each : List Given → Result (List Given) ScriptFault
+checked_each transactions =
+    unless_fault (option_map faults.Refused (first_fault transaction_fault transactions)) transactions
 
 -- a refusal, as a fault of the script
 abbrev pub fault_of_refusal : Refusal → ScriptFault
 fault_of_refusal refusals.OutOfMemory = faults.OutOfMemory
-fault_of_refusal refusal = faults.RefusedBatch refusal
-
--- a fault says what the first refusal is; want of memory says nothing
-abbrev pub IsOfRefusal : ScriptFault → Option Refusal → Type 0
-IsOfRefusal faults.NotJson said = ⊥
-IsOfRefusal faults.BadShape said = ⊥
-IsOfRefusal (faults.Refused refusal) said = ⊥
-IsOfRefusal (faults.RefusedBatch refusal) said = said ≡ Some refusal
-IsOfRefusal faults.OutOfMemory said = Unit {0}
+fault_of_refusal refusal = faults.Refused refusal

@@ -3,7 +3,7 @@ use Rattle.std.specs.Prelude.{ℕ, List, map, Option, Some, None, Result, Err}
 use Rattle.serde_json.specs.Data.{Data}
 use Rattle.model.specs.Stamps.{Given}
 use Rattle.mutation.specs.declared.transaction.Transaction.{Transaction}
-use Rattle.mutation.specs.Transactions.{given_of}
+use Rattle.mutation.specs.Transactions.{given_from}
 use Rattle.script_run.specs.declared.script_fault.ScriptFault.{ScriptFault}
 use Rattle.script_run.specs.declared.script_fault.ScriptFault.TheVariants.{NotJson, BadShape}
 use Rattle.script_run.specs.BatchChecks.{checked_batch}
@@ -13,7 +13,7 @@ use Rattle.script_run.specs.Values.{value_of}
 -- the whole shape is looked at before any transaction is checked
 abbrev pub batch_of_shape : Option (List Transaction) → Result (List Given) ScriptFault
 batch_of_shape None = Err BadShape
-batch_of_shape (Some transactions) = checked_batch (map given_of transactions)
+batch_of_shape (Some transactions) = checked_batch (map given_from transactions)
 
 abbrev pub batch_of_data : Option Data → Result (List Given) ScriptFault
 batch_of_data None = Err NotJson

@@ -18,9 +18,9 @@ range_shape d = do
   Some (record { begin = pair.0; end = pair.1 })
 
 -- a change, as a mutation of a transaction
-abbrev pub mutation_of : RawChange → Mutation
-mutation_of (Set key value) = mutations.Set key value
-mutation_of (Clear begin end) = mutations.Clear begin end
+abbrev pub from_raw : RawChange → Mutation
+from_raw (Set key value) = mutations.Set key value
+from_raw (Clear begin end) = mutations.Clear begin end
 
 abbrev pub stamped_shape : Data → Option Mutation
 stamped_shape value = do
@@ -30,7 +30,7 @@ stamped_shape value = do
 -- `{"set_stamped":[key,value]}`, and otherwise a change
 abbrev pub stamped_or_change : Option Data → Data → Option Mutation
 stamped_or_change (Some value) d = if has_fields 1 d then stamped_shape value else None
-stamped_or_change None d = option_map mutation_of (change_shape d)
+stamped_or_change None d = option_map from_raw (change_shape d)
 
 -- a change, or one field `set_stamped`
 abbrev pub mutation_shape : Data → Option Mutation

@@ -1,9 +1,11 @@
 -- The checks of the keys, values and ranges of a fold script: the first fault in the order of the script's lists (this project's profile).
-use Rattle.std.specs.Prelude.{◌≡◌, List, [], ◌∷◌, Option, Some, None, Result, Ok, Err}
+use Rattle.std.specs.Prelude.{List, [], ◌∷◌, option_map, Result, Ok, Err}
 use Rattle.system_keys.specs.declared.refusal.Refusal.{Refusal}
+use Rattle.system_keys.specs.AsSpecified.{unless_fault}
 use Rattle.system_keys.specs.declared.change.Change.{Change}
 use Rattle.system_keys.specs.declared.change.Change.TheVariants as changes
 use Rattle.system_keys.specs.Limits.{set_fault, range_fault}
+use Rattle.mutation.specs.declared.refusal.Refusal.TheVariants.{Key}
 use Rattle.model.specs.declared.journal.StateTxn.{StateTxn}
 use Rattle.model.specs.declared.journal.JournalRow.{JournalRow}
 use Rattle.script_run.specs.declared.fold_script.FoldScript.{FoldScript}
@@ -16,58 +18,44 @@ use Rattle.script_run.specs.declared.script_fault.ScriptFault.{ScriptFault}
 use Rattle.script_run.specs.declared.script_fault.ScriptFault.TheVariants as faults
 
 infixl 10 ◌>>=◌
-abbrev pub ◌>>=◌ : {A B : Type 0} → Result A Refusal → (A → Result B Refusal) → Result B Refusal
+abbrev pub ◌>>=◌ : {A B : Type 0} → Result A ScriptFault → (A → Result B ScriptFault) → Result B ScriptFault
 (Ok x) >>= f = f x
-(Err refusal) >>= f = Err refusal
+(Err fault) >>= f = Err fault
 
-abbrev pub unless_fault : {X : Type 0} → Option Refusal → X → Result X Refusal
-unless_fault None x = Ok x
-unless_fault (Some refusal) x = Err refusal
+-- the fault of a script that has this fault of a key, a value or a range
+abbrev pub of_key : Refusal → ScriptFault
+of_key refusal = faults.Refused (Key refusal)
 
 -- the change, or its fault
-abbrev pub checked_change : RawChange → Result Change Refusal
-checked_change (raw.Set key value) = unless_fault (set_fault key value) (changes.Set key value)
-checked_change (raw.Clear begin end) = unless_fault (range_fault begin end) (changes.Clear (record { begin = begin; end = end }))
+abbrev pub checked_change : RawChange → Result Change ScriptFault
+checked_change (raw.Set key value) = unless_fault (option_map of_key (set_fault key value)) (changes.Set key value)
+checked_change (raw.Clear begin end) = unless_fault (option_map of_key (range_fault begin end)) (changes.Clear (record { begin = begin; end = end }))
 
-abbrev pub with_first : {X : Type 0} → X → Result (List X) Refusal → Result (List X) Refusal
+abbrev pub with_first : {X : Type 0} → X → Result (List X) ScriptFault → Result (List X) ScriptFault
 with_first x (Ok xs) = Ok (x ∷ xs)
-with_first x (Err refusal) = Err refusal
+with_first x (Err fault) = Err fault
 
 -- all of a list, or the first fault
-abbrev pub each_checked : {X Y : Type 0} → (X → Result Y Refusal) → List X → Result (List Y) Refusal
+abbrev pub each_checked : {X Y : Type 0} → (X → Result Y ScriptFault) → List X → Result (List Y) ScriptFault
 each_checked check [] = Ok []
 each_checked check (x ∷ xs) = do
   y ← check x
   with_first y (each_checked check xs)
 
 -- the transaction, or the first fault of its changes
-abbrev pub checked_state : RawState → Result StateTxn Refusal
+abbrev pub checked_state : RawState → Result StateTxn ScriptFault
 checked_state state = do
   mutations ← each_checked checked_change state.mutations
   Ok (record { mutations = mutations; lock_aware = state.lock_aware; verdicts = state.verdicts })
 
 -- the row, or the first fault of its transactions
-abbrev pub checked_row : RawRow → Result JournalRow Refusal
+abbrev pub checked_row : RawRow → Result JournalRow ScriptFault
 checked_row row = do
   states ← each_checked checked_state row.states
   Ok (record { version = row.version; states = states })
 
 -- the script, or the first fault of its rows; asked keys are not checked
-abbrev pub checked_script : RawScript → Result FoldScript Refusal
+abbrev pub checked_script : RawScript → Result FoldScript ScriptFault
 checked_script script = do
   rows ← each_checked checked_row script.rows
   Ok (record { rows = rows; ask = script.ask })
-
--- ---- what a checker answers
-
-abbrev pub FailsCheck : {X : Type 0} → ScriptFault → Result X Refusal → Type 0
-FailsCheck faults.NotJson said = ⊥
-FailsCheck faults.BadShape said = ⊥
-FailsCheck (faults.Refused refusal) said = said ≡ Err refusal
-FailsCheck (faults.RefusedBatch refusal) said = ⊥
-FailsCheck faults.OutOfMemory said = Unit {0}
-
--- a checker answers what was checked, or its first fault, or want of memory
-abbrev pub GivesChecked : {X : Type 0} → Result X ScriptFault → Result X Refusal → Type 0
-GivesChecked (Ok x) said = said ≡ Ok x
-GivesChecked (Err fault) said = FailsCheck fault said

@@ -1,5 +1,5 @@
 -- The shapes of JSON values: what a value stands for, where it has the shape (this project's profile).
-use Rattle.std.specs.Prelude.{◌≡◌, ℕ, zero, suc, List, [], ◌∷◌, Bool, false, ◌==◌, nat_eq, nat_le, if◌then◌else◌, codes, Option, Some, None, option_map, Result, Ok, Err}
+use Rattle.std.specs.Prelude.{ℕ, zero, suc, List, [], ◌∷◌, Bool, false, ◌==◌, nat_eq, nat_le, if◌then◌else◌, codes, Option, Some, None, option_map, ok_or, Result}
 use Rattle.std.specs.Cmp.Lexicographic.{pointwise}
 use Rattle.serde_json.specs.Data.{Data, Items, no_items, item, Members, no_members, member}
 use Rattle.serde_json.specs.Find.{get, as_number, as_str, as_array, as_object, as_u64}
@@ -97,21 +97,8 @@ field_shape shape name d = do
   value ← get name d
   shape value
 
--- ---- what a reader of a shape answers
+-- ---- reading a shape
 
-abbrev pub Fails : {X : Type 0} → ScriptFault → Option X → Type 0
-Fails faults.NotJson said = ⊥
-Fails faults.BadShape said = said ≡ None
-Fails (faults.Refused refusal) said = ⊥
-Fails (faults.RefusedBatch refusal) said = ⊥
-Fails faults.OutOfMemory said = Unit {0}
-
--- a reader answers what the value stands for; BadShape only where it does not have the shape, and else want of memory
-abbrev pub Gives : {X : Type 0} → Result X ScriptFault → Option X → Type 0
-Gives (Ok x) said = said ≡ Some x
-Gives (Err fault) said = Fails fault said
-
--- the same of a reader that answers a list in a form of its own
-abbrev pub GivesBy : {X Y : Type 0} → (X → Y) → Result X ScriptFault → Option Y → Type 0
-GivesBy view (Ok x) said = said ≡ Some (view x)
-GivesBy view (Err fault) said = Fails fault said
+-- what a value stands for, or BadShape
+abbrev pub or_bad_shape : {X : Type 0} → Option X → Result X ScriptFault
+or_bad_shape said = ok_or said faults.BadShape

@@ -1,10 +1,10 @@
 //! The checks of a batch: of its transactions, and of their number.
 
-ghost use Rattle.std.specs.Prelude.{◌≡◌, None, map, IfOk, OnOk, IfErr};
+ghost use Rattle.std.specs.Prelude.{◌≡◌, None, map, IfOk, OnOk};
 ghost use Rattle.mutation.specs.Faults.{first_fault, transaction_fault};
-ghost use Rattle.mutation.specs.Transactions.{given_of};
-ghost use Rattle.script_run.specs.BatchChecks.{IsOfRefusal, checked_batch, fault_of_refusal};
-ghost use Rattle.script_run.specs.FoldScripts.{GivesScript};
+ghost use Rattle.mutation.specs.Transactions.{given_from};
+ghost use Rattle.script_run.specs.BatchChecks.{checked_batch, checked_each, fault_of_refusal};
+ghost use Rattle.script_run.specs.ScriptFaults.{IsReadAs};
 
 use crate::script_fault::ScriptFault;
 use mutation::{Admitted, Batch, Refusal, Transaction, admit};
@@ -16,15 +16,15 @@ impl From<Refusal> for ScriptFault {
     fn from(refusal: Refusal) -> ScriptFault {
         match refusal {
             Refusal::OutOfMemory => ScriptFault::OutOfMemory,
-            refused => ScriptFault::RefusedBatch(refused),
+            refused => ScriptFault::Refused(refused),
         }
     }
 }
 
-/// The batch of these transactions, or the first fault of one in their order, and then that they are too
-/// many (this project's profile).
+/// Returns the batch of these transactions, or the first fault of one in their order, or else that they are
+/// too many (this project's profile).
 pub(crate) fn admit_batch(alloc: Global, given: &[Transaction]) -> Result<Batch, ScriptFault>
-    ensures { GivesScript result (checked_batch (map given_of given.now)) }
+    ensures { IsReadAs (λ found. found) result (checked_batch (map given_from given.now)) }
 {
     match Batch::new(admit_each(alloc, given)?) {
         Ok(batch) => Ok(batch),
@@ -34,9 +34,10 @@ pub(crate) fn admit_batch(alloc: Global, given: &[Transaction]) -> Result<Batch,
 
 // All of the list, or the first fault.
 fn admit_each(alloc: Global, given: &[Transaction]) -> Result<Vec<Admitted>, ScriptFault>
-    ensures kept { IfOk result (λ admitted. admitted.items ≡ map given_of given.now) }
-    ensures limits { OnOk result (first_fault transaction_fault (map given_of given.now) ≡ None) }
-    ensures refused { IfErr result (λ fault. IsOfRefusal fault (first_fault transaction_fault (map given_of given.now))) }
+    ensures kept { IfOk result (λ admitted. admitted.items ≡ map given_from given.now) }
+    ensures limits { OnOk result (first_fault transaction_fault (map given_from given.now) ≡ None) }
+    ensures value { IsReadAs (λ admitted. admitted.items) result
+        (checked_each (map given_from given.now)) }
 {
     let mut admitted = Vec::with_capacity(alloc, given.len())?;
     for transaction in given {

@@ -3,7 +3,7 @@
 ghost use Rattle.serde_json.specs.View.{view};
 ghost use Rattle.script_run.specs.BatchScripts.{batch_of, batch_of_shape};
 ghost use Rattle.script_run.specs.BatchShapes.{batch_shape};
-ghost use Rattle.script_run.specs.FoldScripts.{GivesScript};
+ghost use Rattle.script_run.specs.ScriptFaults.{IsReadAs};
 
 use crate::batch_checks::admit_batch;
 use crate::script_fault::ScriptFault;
@@ -14,22 +14,22 @@ use serde_json::Value;
 use std::alloc::Global;
 use system_keys::Items;
 
-/// The batch that the bytes are (this project's profile): a list of transactions.
+/// Returns the batch that the bytes are (this project's profile): a list of transactions.
 ///
-/// Answers the first of: `NotJson` (`serde_json` reads no value), `BadShape` (the value does not have the form
-/// of a batch, a text of it spells no bytes, or a snapshot of it is past the greatest number), the first fault
-/// of a transaction, in the order of the list, and that there are more than 1,024. `OutOfMemory` may come at
-/// any point.
+/// Otherwise returns the first of: `NotJson` (`serde_json` reads no value), `BadShape` (the value does not have
+/// the form of a batch, a text of it is not the text of any bytes, or a snapshot of it is above the greatest
+/// number), the first fault of a transaction, in the order of the list, and that there are more than 1,024.
+/// May fail with `OutOfMemory` at any point.
 #[tactic(auto, unfolding(crate::specs::BatchScripts::batch_of))]
 pub fn read_batch(alloc: Global, bytes: &[u8]) -> Result<Batch, ScriptFault>
-    ensures { GivesScript result (batch_of bytes.now) }
+    ensures { IsReadAs (λ found. found) result (batch_of bytes.now) }
 {
     let value = read_value(alloc, bytes)?;
     batch_of_value(alloc, &value)
 }
 
 fn batch_of_value(alloc: Global, value: &Value) -> Result<Batch, ScriptFault>
-    ensures { GivesScript result (batch_of_shape (batch_shape (view value.now))) }
+    ensures { IsReadAs (λ found. found) result (batch_of_shape (batch_shape (view value.now))) }
 {
     let given: Items<Transaction> = Items::shaped(alloc, value)?;
     admit_batch(alloc, given.as_slice())

@@ -3,8 +3,9 @@
 ghost use Rattle.std.specs.Prelude.{◌≡◌, codes};
 ghost use Rattle.serde_json.specs.Find.{get};
 ghost use Rattle.serde_json.specs.View.{view};
-ghost use Rattle.script_run.specs.BatchShapes.{range_shape, mutation_of, mutation_shape, stamped_shape, transaction_shape};
-ghost use Rattle.script_run.specs.Shapes.{Gives};
+ghost use Rattle.script_run.specs.BatchShapes.{range_shape, from_raw, mutation_shape, stamped_shape, transaction_shape};
+ghost use Rattle.script_run.specs.ScriptFaults.{IsReadAs};
+ghost use Rattle.script_run.specs.Shapes.{or_bad_shape};
 
 use crate::fold_script::RawChange;
 use crate::script_fault::ScriptFault;
@@ -29,20 +30,20 @@ impl Shaped for Mutation {
         match value.get("set_stamped") {
             Some(stamped) if has_fields(value, 1) => set_stamped(alloc, stamped),
             Some(_) => Err(ScriptFault::BadShape),
-            None => Ok(mutation_of(RawChange::shaped(alloc, value)?)),
+            None => Ok(from_raw(RawChange::shaped(alloc, value)?)),
         }
     }
 }
 
 fn set_stamped(alloc: Global, value: &Value) -> Result<Mutation, ScriptFault>
-    ensures { Gives result (stamped_shape (view value.now)) }
+    ensures { IsReadAs (λ found. found) result (or_bad_shape (stamped_shape (view value.now))) }
 {
     let (key, value) = pair(alloc, value)?;
     Ok(Mutation::SetStamped { key, value })
 }
 
-fn mutation_of(change: RawChange) -> Mutation
-    ensures { result ≡ mutation_of change }
+fn from_raw(change: RawChange) -> Mutation
+    ensures { result ≡ from_raw change }
 {
     match change {
         RawChange::Set { key, value } => Mutation::Set { key, value },

@@ -326,12 +326,16 @@ fn ranges_and_mutations_have_their_form(rt: HostRuntime) -> Result<(), Fail> {
 #[test]
 fn refusals_of_batches_have_their_numbers_and_names(rt: HostRuntime) {
     for (refusal, number, name) in [
-        (Refusal::BadRow, Some(14), "BadRow"),
+        (
+            Refusal::Key(system_keys::Refusal::BadRow),
+            Some(14),
+            "BadRow",
+        ),
         (Refusal::BadStamp, Some(15), "BadStamp"),
         (Refusal::BatchTooLarge, Some(16), "BatchTooLarge"),
     ] {
         let fault = ScriptFault::from(refusal);
-        assert_eq!(rt; fault, ScriptFault::RefusedBatch(refusal));
+        assert_eq!(rt; fault, ScriptFault::Refused(refusal));
         assert_eq!(rt; fault.number(), number);
         assert_eq!(rt; fault.name(), name);
     }

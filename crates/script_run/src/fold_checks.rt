@@ -1,8 +1,9 @@
 //! The checks of the keys, values and ranges of a fold script.
 
 ghost use Rattle.std.specs.Prelude.{◌≡◌, Result};
-ghost use Rattle.system_keys.specs.declared.refusal.Refusal.{Refusal};
-ghost use Rattle.script_run.specs.FoldChecks.{GivesChecked, checked_change, checked_state, checked_row, checked_script, each_checked};
+ghost use Rattle.script_run.specs.ScriptFaults.{IsReadAs};
+ghost use Rattle.script_run.specs.declared.script_fault.ScriptFault.{ScriptFault as Fault};
+ghost use Rattle.script_run.specs.FoldChecks.{of_key, checked_change, checked_state, checked_row, checked_script, each_checked};
 
 use crate::fold_script::{FoldScript, RawChange, RawRow, RawScript, RawState};
 use crate::script_fault::ScriptFault;
@@ -12,11 +13,19 @@ use system_keys::{Change, Items, KeyRange};
 
 /// What is checked before it is used.
 pub(crate) trait Checked<R: Drop>: Drop {
-    ghost checked: { R → Result Self Refusal };
+    ghost checked: { R → Result Self Fault };
 
-    /// What was checked, or its first fault in the order of the script (this project's profile).
+    /// Returns what was checked, or its first fault in the order of the script (this project's profile).
     fn check(alloc: Global, raw: R) -> Result<Self, ScriptFault>
-        ensures { GivesChecked result (checked raw) };
+        ensures { IsReadAs (λ found. found) result (checked raw) };
+}
+
+impl From<system_keys::Refusal> for ScriptFault {
+    ghost from_gives = { λ refusal fault. fault ≡ of_key refusal };
+
+    fn from(refusal: system_keys::Refusal) -> ScriptFault {
+        ScriptFault::Refused(mutation::Refusal::Key(refusal))
+    }
 }
 
 impl Checked<RawChange> for Change {
@@ -24,14 +33,9 @@ impl Checked<RawChange> for Change {
 
     fn check(_alloc: Global, raw: RawChange) -> Result<Change, ScriptFault> {
         match raw {
-            RawChange::Set { key, value } => {
-                Change::set(Vec::from(key), Vec::from(value)).map_err(ScriptFault::Refused)
-            }
+            RawChange::Set { key, value } => { Ok(Change::set(Vec::from(key), Vec::from(value))?) }
             RawChange::Clear { begin, end } => {
-                let range = KeyRange::new(Vec::from(begin), Vec::from(end)).map_err(
-                    ScriptFault::Refused,
-                )?;
-                Ok(Change::clear(range))
+                Ok(Change::clear(KeyRange::new(Vec::from(begin), Vec::from(end))?))
             }
         }
     }
@@ -76,7 +80,7 @@ fn check_each<R: Drop, X: Checked<R>>(
     alloc: Global,
     list: Items<R>,
 ) -> Result<Items<X>, ScriptFault>
-    ensures { GivesChecked result (each_checked X.checked list) }
+    ensures { IsReadAs (λ found. found) result (each_checked X.checked list) }
 {
     let raws = Vec::from(list);
     let mut items = Vec::with_capacity(alloc, raws.len())?;

@@ -4,7 +4,8 @@ ghost use Rattle.std.specs.Prelude.{codes};
 ghost use Rattle.serde_json.specs.Find.{get};
 ghost use Rattle.serde_json.specs.View.{view};
 ghost use Rattle.script_run.specs.FoldShapes.{change_shape, state_shape, row_shape, fields_shape, set_or_clear};
-ghost use Rattle.script_run.specs.Shapes.{Gives};
+ghost use Rattle.script_run.specs.ScriptFaults.{IsReadAs};
+ghost use Rattle.script_run.specs.Shapes.{or_bad_shape};
 
 use crate::fold_script::{RawChange, RawRow, RawScript, RawState};
 use crate::script_fault::ScriptFault;
@@ -25,7 +26,8 @@ impl Shaped for RawChange {
 }
 
 fn set_or_clear(alloc: Global, value: &Value) -> Result<RawChange, ScriptFault>
-    ensures { Gives result (set_or_clear (get (codes "set") (view value.now)) (view value.now)) }
+    ensures { IsReadAs (λ found. found) result
+        (or_bad_shape (set_or_clear (get (codes "set") (view value.now)) (view value.now))) }
 {
     if let Some(set) = value.get("set") {
         let (key, value) = pair(alloc, set)?;

@@ -426,19 +426,19 @@ fn refusals_of_scripts_are_shown_in_words(rt: HostRuntime) -> Result<(), Fail> {
             "the value is not of a script's shape",
         ),
         (
-            ScriptFault::Refused(system_keys::Refusal::KeyTooLong),
+            ScriptFault::from(system_keys::Refusal::KeyTooLong),
             "a key is too long",
         ),
         (
-            ScriptFault::Refused(system_keys::Refusal::BadRow),
+            ScriptFault::from(system_keys::Refusal::BadRow),
             "the value of a system row does not decode",
         ),
         (
-            ScriptFault::RefusedBatch(mutation::Refusal::BadStamp),
+            ScriptFault::Refused(mutation::Refusal::BadStamp),
             "a value has no place for its stamp",
         ),
         (
-            ScriptFault::RefusedBatch(mutation::Refusal::BatchTooLarge),
+            ScriptFault::Refused(mutation::Refusal::BatchTooLarge),
             "a batch is too large",
         ),
         (ScriptFault::OutOfMemory, "out of memory"),
@@ -507,11 +507,6 @@ fn is_known_as(
 fn faults_have_their_numbers_and_names(rt: HostRuntime) {
     is_known_as(&rt, ScriptFault::NotJson, Some(70), "NotJson");
     is_known_as(&rt, ScriptFault::BadShape, Some(71), "BadShape");
-    is_known_as(
-        &rt,
-        ScriptFault::Refused(Refusal::BadRow),
-        Some(14),
-        "BadRow",
-    );
+    is_known_as(&rt, ScriptFault::from(Refusal::BadRow), Some(14), "BadRow");
     is_known_as(&rt, ScriptFault::OutOfMemory, None, "OutOfMemory");
 }

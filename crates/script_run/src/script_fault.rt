@@ -3,27 +3,25 @@
 ghost use Rattle.std.specs.Prelude.{◌≡◌};
 ghost use Rattle.script_run.specs.declared.script_fault.ScriptFault.TheVariants as faults;
 
+use mutation::Refusal;
 use std::alloc::{AllocError, AllocFailed};
-use system_keys::{OutOfMemory, Refusal};
+use system_keys::OutOfMemory;
 use thiserror::Error;
 
-/// Why a script is refused (this project's profile). The number and the name are printed; want of memory
-/// has no number and is never printed.
+/// Why a script is refused (this project's profile). The number and the name are printed; `OutOfMemory` has no
+/// number and is never printed.
 #[derive(Clone, Copy, Debug, PartialEq, Eq, Error)]
 pub enum ScriptFault {
-    /// The bytes are no JSON value.
+    /// The bytes are not a JSON value.
     #[error("the script is not JSON")]
     NotJson,
     /// The value does not have the form of a script, or a number of it is outside its limits.
     #[error("the value is not of a script's shape")]
     BadShape,
-    /// A key, a value or a range of the script is refused.
+    /// A key, a value, a range, a transaction or a batch of the script is refused.
     #[error("{0}")]
     Refused(Refusal),
-    /// A transaction of a batch is refused, or the batch is.
-    #[error("{0}")]
-    RefusedBatch(mutation::Refusal),
-    /// There was no memory for the answer.
+    /// An allocation failed.
     #[error("out of memory")]
     OutOfMemory,
 }
@@ -31,7 +29,7 @@ pub enum ScriptFault {
 impl ScriptFault {
     ghost use Rattle.script_run.specs.ScriptFaults.{fault_number, fault_name};
 
-    /// The number that is printed, or `None` for want of memory.
+    /// The number that is printed, or `None` for `OutOfMemory`.
     pub fn number(&self) -> Option<u32>
         ensures { result ≡ fault_number self.now }
     {
@@ -39,7 +37,6 @@ impl ScriptFault {
             ScriptFault::NotJson => Some(70),
             ScriptFault::BadShape => Some(71),
             ScriptFault::Refused(refusal) => refusal.number(),
-            ScriptFault::RefusedBatch(refusal) => refusal.number(),
             ScriptFault::OutOfMemory => None,
         }
     }
@@ -52,7 +49,6 @@ impl ScriptFault {
             ScriptFault::NotJson => "NotJson",
             ScriptFault::BadShape => "BadShape",
             ScriptFault::Refused(refusal) => refusal.name(),
-            ScriptFault::RefusedBatch(refusal) => refusal.name(),
             ScriptFault::OutOfMemory => "OutOfMemory",
         }
     }

@@ -4,7 +4,10 @@ ghost use Rattle.std.specs.Prelude.{◌≡◌, Option};
 ghost use Rattle.serde_json.specs.Data.{Data};
 ghost use Rattle.serde_json.specs.Find.{as_bool};
 ghost use Rattle.serde_json.specs.View.{view, items_view};
-ghost use Rattle.script_run.specs.Shapes.{Gives, GivesBy, number_shape, bytes_shape, verdict_shape, list_shape, each_shape, field_shape, has_fields, pair_of, pair_shape};
+ghost use Rattle.script_run.specs.ScriptFaults.{IsReadAs};
+ghost use Rattle.script_run.specs.Shapes.{or_bad_shape, number_shape, bytes_shape, verdict_shape};
+ghost use Rattle.script_run.specs.Shapes.{list_shape, each_shape, field_shape, has_fields};
+ghost use Rattle.script_run.specs.Shapes.{pair_of, pair_shape};
 
 use crate::script_fault::ScriptFault;
 use model::Verdict;
@@ -19,9 +22,9 @@ pub(crate) const NUMBER_LIMIT: u64 = 9_223_372_036_854_775_807;
 pub(crate) trait Shaped: Drop {
     ghost shape: { Data → Option Self };
 
-    /// What the value stands for. Answers `BadShape` where it does not have the shape.
+    /// Returns what the value stands for. Fails with `BadShape` if it does not have the shape.
     fn shaped(alloc: Global, value: &Value) -> Result<Self, ScriptFault>
-        ensures { Gives result (shape (view value.now)) };
+        ensures { IsReadAs (λ found. found) result (or_bad_shape (shape (view value.now))) };
 }
 
 impl Shaped for bool {
@@ -82,7 +85,8 @@ impl<X: Shaped> Shaped for Items<X> {
 
 // What each value stands for.
 fn each<X: Shaped>(alloc: Global, values: &[Value]) -> Result<Vec<X>, ScriptFault>
-    ensures { GivesBy (λ found. found.items) result (each_shape X.shape (items_view values.now)) }
+    ensures { IsReadAs (λ found. found.items) result
+        (or_bad_shape (each_shape X.shape (items_view values.now))) }
 {
     let mut items = Vec::with_capacity(alloc, values.len())?;
     for value in values {
@@ -93,7 +97,8 @@ fn each<X: Shaped>(alloc: Global, values: &[Value]) -> Result<Vec<X>, ScriptFaul
 
 /// What the field of this name stands for.
 pub(crate) fn field<X: Shaped>(alloc: Global, value: &Value, name: &str) -> Result<X, ScriptFault>
-    ensures { Gives result (field_shape X.shape name.now (view value.now)) }
+    ensures { IsReadAs (λ found. found) result
+        (or_bad_shape (field_shape X.shape name.now (view value.now))) }
 {
     X::shaped(alloc, value.get(name).ok_or(ScriptFault::BadShape)?)
 }
@@ -110,7 +115,7 @@ pub(crate) fn has_fields(value: &Value, count: usize) -> bool
 
 /// What a list of two texts stands for.
 pub(crate) fn pair(alloc: Global, value: &Value) -> Result<(Bytes, Bytes), ScriptFault>
-    ensures { Gives result (pair_shape (view value.now)) }
+    ensures { IsReadAs (λ found. found) result (or_bad_shape (pair_shape (view value.now))) }
 {
     let values = value.as_array().ok_or(ScriptFault::BadShape)?;
     pair_of(alloc, values.as_slice())
@@ -118,7 +123,7 @@ pub(crate) fn pair(alloc: Global, value: &Value) -> Result<(Bytes, Bytes), Scrip
 
 #[tactic(auto, using(crate::proofs::FoldLemmas::no_pair))]
 fn pair_of(alloc: Global, values: &[Value]) -> Result<(Bytes, Bytes), ScriptFault>
-    ensures { Gives result (pair_of (items_view values.now)) }
+    ensures { IsReadAs (λ found. found) result (or_bad_shape (pair_of (items_view values.now))) }
 {
     match values {
         [first, second] => Ok((Bytes::shaped(alloc, first)?, Bytes::shaped(alloc, second)?)),

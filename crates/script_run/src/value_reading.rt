@@ -1,16 +1,18 @@
 //! Reading of JSON values.
 
-ghost use Rattle.script_run.specs.Values.{GivesValue, value_of};
+ghost use Rattle.serde_json.specs.View.{view};
+ghost use Rattle.script_run.specs.ScriptFaults.{IsReadAs};
+ghost use Rattle.script_run.specs.Values.{value_read};
 
 use crate::script_fault::ScriptFault;
 use serde_json::Value;
 use std::alloc::Global;
 
-/// The JSON value that the bytes are (this project's profile). Answers `NotJson` where `serde_json` reads
-/// none, and `OutOfMemory` where there is no memory for it.
+/// Returns the JSON value that the bytes are (this project's profile). Fails with `NotJson` if `serde_json`
+/// reads none, and with `OutOfMemory`.
 #[tactic(auto, using(crate::proofs::ValueLemmas::value_of_text, crate::proofs::ValueLemmas::no_value_of))]
 pub(crate) fn read_value(alloc: Global, bytes: &[u8]) -> Result<Value, ScriptFault>
-    ensures { GivesValue result (value_of bytes.now) }
+    ensures { IsReadAs (λ value. view value) result (value_read bytes.now) }
 {
     match Value::from_slice(alloc, bytes) {
         Ok(value) => Ok(value),

@@ -1,6 +1,6 @@
 -- Reading ids from the front: each step, what was taken, and that what was written is read again.
 use Rattle.std.proofs.Common.{◌≡◌, ℕ, zero, suc, ◌+◌, ◌-◌, ◌*◌, ◌/◌, ◌%◌, ◌<◌, ◌≤◌, Bool, true, false, cond, ◌&&◌, List, [], ◌∷◌, ◌++◌, length, take, drop, Option, Some, None, Result, Ok, Err, refl, sym, ap, subst, ◌∙◌, append_assoc, arith, get_or}
-use Rattle.std.specs.Prelude.{nat_lt, IsOk}
+use Rattle.std.specs.Prelude.{nat_lt, IsOk, IsTrue}
 use Rattle.std.specs.List.{flat_map}
 use Rattle.std.specs.Option.{option_or}
 use Rattle.std.proofs.lemmas.Bool.{ltb-false, eqb-true}
@@ -11,7 +11,9 @@ use Rattle.system_keys.specs.declared.refusal.RowFault.TheVariants as faults
 use Rattle.system_keys.specs.declared.teams.TeamsFault.{TeamsFault}
 use Rattle.system_keys.specs.declared.teams.TeamsFault.TheVariants.{NotRising, TooManyServers}
 use Rattle.system_keys.specs.declared.tag.Tag.{Tag}
-use Rattle.system_keys.specs.Rows.{Id, Servers, HaveSpelling, tag_at, tag_value, ids_at, ids_in, counted_ids, counted_ids_at, team_fault, servers_fault, servers_at, at_end, Gives, key_servers_value, ◌>>=◌, with_first, is_above, are_rising, are_ids}
+use Rattle.system_keys.specs.AsSpecified.{IsFaultOf}
+use Rattle.system_keys.specs.Refusals.{row_fault}
+use Rattle.system_keys.specs.Rows.{Id, Servers, HaveSpelling, tag_at, tag_value, ids_at, ids_in, counted_ids, counted_ids_at, team_fault, servers_fault, servers_at, at_end, is_of_rows, key_servers_value, ◌>>=◌, with_first, is_above, are_rising, are_ids}
 
 -- what is behind the ids
 abbrev pub rest_of : Result (List Id × List ℕ) RowFault → Result (List ℕ) RowFault
@@ -302,17 +304,11 @@ servers_again servers team first second =
     let last : counted_ids_at (counted_ids servers.destinations) ≡ Ok (servers.destinations, []) = ap counted_ids_at (sym (append-nil (counted_ids servers.destinations))) ∙ counted_again servers.destinations [] parts.1 second in
     rw (counted_again servers.sources (counted_ids servers.destinations) parts.0 first, last) refl
 
--- ---- what a decoder answers
-
--- the fault is one of content, and no want of memory
-abbrev IsContent : RowFault → Type 0
-IsContent faults.OutOfMemory = ⊥
-IsContent faults.BadText = ⊥
-IsContent _ = Unit {0}
+-- ---- the faults of a row's value
 
 abbrev FaultsAreContent : {A : Type 0} → Result A RowFault → Type 0
 FaultsAreContent (Ok x) = Unit {0}
-FaultsAreContent (Err fault) = IsContent fault
+FaultsAreContent (Err fault) = IsTrue (is_of_rows fault)
 
 bind_content : {A B : Type 0} (r : Result A RowFault) (f : A → Result B RowFault) → FaultsAreContent r → ((x : A) → FaultsAreContent (f x)) → FaultsAreContent (r >>= f)
 bind_content (Ok x) f r h = h x
@@ -326,34 +322,38 @@ ids_content : (n : ℕ) (before : Option Id) (bytes : List ℕ) → FaultsAreCon
 unfolding ids_at
 ids_content zero before bytes = tt
 ids_content (suc n) before bytes =
-    cond_content (nat_lt (length bytes) 16) _ _ tt
+    cond_content (nat_lt (length bytes) 16) _ _ refl
     (cond_content (is_above before (take 16 bytes)) (next_ids n bytes) (Err faults.NotRising)
     (bind_content (ids_at n (Some (take 16 bytes)) (drop 16 bytes)) _ (ids_content n (Some (take 16 bytes)) (drop 16 bytes)) (λ read. tt))
-    tt)
+    refl)
 
 counted_content : (bytes : List ℕ) → FaultsAreContent (counted_ids_at bytes)
-counted_content [] = tt
+counted_content [] = refl
 counted_content (count ∷ bytes) = ids_content count None bytes
 
 end_content : (servers : Servers) (rest : List ℕ) → FaultsAreContent (at_end servers rest)
 end_content servers [] = tt
-end_content servers (byte ∷ bytes) = tt
+end_content servers (byte ∷ bytes) = refl
 
 servers_content : (bytes : List ℕ) → FaultsAreContent (servers_at bytes)
 servers_content bytes =
     bind_content (counted_ids_at bytes) _ (counted_content bytes) (λ sources.
     bind_content (counted_ids_at sources.1) _ (counted_content sources.1) (λ destinations. end_content _ destinations.1))
 
-gives_by : {X Y : Type 0} (view : X → Y) (read : Result Y RowFault) (fault : RowFault) → FaultsAreContent read → read ≡ Err fault → Gives view (Err fault) read
-gives_by view read faults.OutOfMemory content e = absurd (subst FaultsAreContent e content)
-gives_by view read faults.Truncated content e = e
-gives_by view read faults.NotRising content e = e
-gives_by view read faults.Trailing content e = e
-gives_by view read faults.BadText content e = absurd (subst FaultsAreContent e content)
+-- a fault that reading meets is one of rows
+pub servers_faults : (bytes : List ℕ) (fault : RowFault) → servers_at bytes ≡ Err fault → IsTrue (is_of_rows fault)
+servers_faults bytes fault e = subst FaultsAreContent e (servers_content bytes)
 
--- a fault that reading meets is answered as it is
-pub gives_fault : {X : Type 0} (view : X → Servers) (bytes : List ℕ) (fault : RowFault) → servers_at bytes ≡ Err fault → Gives view (Err fault) (servers_at bytes)
-gives_fault view bytes fault e = gives_by view (servers_at bytes) fault (servers_content bytes) e
+-- a decoder returns it as it is
+as_specified : (read : Result Servers RowFault) (fault : RowFault) → IsTrue (is_of_rows fault) → read ≡ Err fault → IsFaultOf (row_fault fault) read
+as_specified read faults.OutOfMemory content e = absurd cc
+as_specified read faults.Truncated content e = e
+as_specified read faults.NotRising content e = e
+as_specified read faults.Trailing content e = e
+as_specified read faults.BadText content e = e
+
+pub fault_is_as_specified : (bytes : List ℕ) (fault : RowFault) → servers_at bytes ≡ Err fault → IsFaultOf (row_fault fault) (servers_at bytes)
+fault_is_as_specified bytes fault e = as_specified (servers_at bytes) fault (servers_faults bytes fault e) e
 
 -- ---- what decodes is what encodes
 

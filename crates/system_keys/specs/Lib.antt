@@ -1,3 +1,4 @@
+pub mod AsSpecified
 pub mod Changes
 pub mod Families
 pub mod Keys

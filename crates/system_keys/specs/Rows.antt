@@ -1,5 +1,5 @@
 -- The values of the kept rows: one spelling of each, and reading it from the front with the first fault met (this project's profile).
-use Rattle.std.specs.Prelude.{◌≡◌, ℕ, ◌<◌, slice_index, zero, suc, ◌+◌, ◌*◌, ◌/◌, ◌%◌, List, [], ◌∷◌, ◌++◌, length, take, drop, Bool, true, ◌&&◌, nat_lt, nat_eq, if◌then◌else◌, Option, Some, None, Result, Ok, Err, is_ok, IsOk}
+use Rattle.std.specs.Prelude.{◌≡◌, ℕ, ◌<◌, slice_index, zero, suc, ◌+◌, ◌*◌, ◌/◌, ◌%◌, List, [], ◌∷◌, ◌++◌, length, take, drop, Bool, true, false, ◌&&◌, nat_lt, nat_eq, if◌then◌else◌, Option, Some, None, Result, Ok, Err, is_ok}
 use Rattle.std.specs.List.{flat_map, list_all}
 use Rattle.std.specs.Option.{option_or}
 use Rattle.system_keys.specs.declared.refusal.RowFault.{RowFault}
@@ -135,11 +135,9 @@ is_row_value kinds.KeyServers value = is_ok (servers_at value)
 is_row_value kinds.ServerTag value = is_ok (tag_at value)
 is_row_value _ value = true
 
--- what a decoder answered, seen by view, is what reading gives; memory is only wanted for a value without a fault
-abbrev pub Gives : {X Y : Type 0} → (X → Y) → Result X RowFault → Result Y RowFault → Type 0
-Gives view (Ok x) read = read ≡ Ok (view x)
-Gives view (Err faults.OutOfMemory) read = IsOk read
-Gives view (Err faults.Truncated) read = read ≡ Err faults.Truncated
-Gives view (Err faults.NotRising) read = read ≡ Err faults.NotRising
-Gives view (Err faults.Trailing) read = read ≡ Err faults.Trailing
-Gives view (Err faults.BadText) read = ⊥
+-- the faults that the value of a row can have
+abbrev pub is_of_rows : RowFault → Bool
+is_of_rows faults.Truncated = true
+is_of_rows faults.NotRising = true
+is_of_rows faults.Trailing = true
+is_of_rows _ = false

@@ -1,5 +1,5 @@
 -- Bytes as text: one text for each string of bytes (this project's profile).
-use Rattle.std.specs.Prelude.{◌≡◌, ℕ, ◌+◌, ◌-◌, ◌*◌, ◌/◌, ◌%◌, List, [], ◌∷◌, Bool, ◌==◌, ◌&&◌, ◌||◌, not, nat_le, nat_lt, if◌then◌else◌, Option, Some, None, option_map, Result, Ok, Err, IsSome}
+use Rattle.std.specs.Prelude.{◌≡◌, ℕ, ◌+◌, ◌-◌, ◌*◌, ◌/◌, ◌%◌, List, [], ◌∷◌, Bool, ◌==◌, ◌&&◌, ◌||◌, not, nat_le, nat_lt, if◌then◌else◌, Option, Some, None, option_map, ok_or, Result}
 use Rattle.std.specs.List.{flat_map}
 use Rattle.std.specs.Char.{digit_char}
 use Rattle.system_keys.specs.declared.refusal.RowFault.{RowFault}
@@ -48,6 +48,10 @@ bytes_of (a ∷ b ∷ c ∷ d ∷ rest) =
     else if is_escape a b c d then with_byte (byte_of c d) (bytes_of rest)
     else None
 
+-- the bytes of a text, or BadText
+abbrev pub bytes_read : List ℕ → Result (List ℕ) RowFault
+bytes_read text = ok_or (bytes_of text) faults.BadText
+
 -- the first byte that a text spells, and the text behind it
 abbrev pub first_of : List ℕ → Option (ℕ × List ℕ)
 first_of [] = None
@@ -58,12 +62,3 @@ first_of (a ∷ b ∷ c ∷ d ∷ rest) =
     if is_plain a then Some (a, b ∷ c ∷ d ∷ rest)
     else if is_escape a b c d then Some (byte_of c d, rest)
     else None
-
--- what a reader of text answered, seen by view, is what the text spells; memory is only wanted for a text that spells bytes
-abbrev pub Spells : {X : Type 0} → (X → List ℕ) → Result X RowFault → Option (List ℕ) → Type 0
-Spells view (Ok x) read = read ≡ Some (view x)
-Spells view (Err faults.BadText) read = read ≡ None
-Spells view (Err faults.OutOfMemory) read = IsSome read
-Spells view (Err faults.Truncated) read = ⊥
-Spells view (Err faults.NotRising) read = ⊥
-Spells view (Err faults.Trailing) read = ⊥

@@ -6,8 +6,7 @@ use crate::memory::OutOfMemory;
 use std::alloc::{AllocError, Global};
 use std::marker::Model;
 
-/// Owned bytes: a key, or the value of a row. Made from a `Vec<u8>`, and turned back into one, without
-/// taking memory.
+/// Owned bytes: a key, or the value of a row. Converts from and into a `Vec<u8>` without allocating.
 #[derive(Debug, Drop)]
 pub struct Bytes {
     bytes: Vec<u8>,
@@ -22,16 +21,14 @@ impl Model for Bytes {
 }
 
 impl Bytes {
-    /// The bytes, lent.
+    /// Borrows the bytes.
     pub fn as_slice(&self) -> &[u8]
         ensures { result.now ≡ self.now }
     {
         self.bytes.as_slice()
     }
 
-    /// Equal bytes of their own.
-    ///
-    /// Answers `OutOfMemory` where there is no memory for them.
+    /// Returns a deep copy. Fails only with `OutOfMemory`.
     pub fn copy(&self) -> Result<Bytes, OutOfMemory>
         ensures { IfOk result (λ copy. copy ≡ self.now) }
     {

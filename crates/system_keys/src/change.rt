@@ -29,11 +29,12 @@ pub enum Change {
 impl Change {
     ghost use Rattle.system_keys.specs.Limits.{set_fault};
 
-    /// The Set of a key to a value. Takes no memory.
-    ///
-    /// Answers the first fault, as `check_set` finds it.
+    /// Returns the Set of a key to a value, or the first fault that `check_set` finds. Does not allocate.
     pub fn set(key: Vec<u8>, value: Vec<u8>) -> Result<Change, Refusal>
-        ensures { MatchResult result (λ change. (set_fault key.items value.items ≡ None) × (change ≡ Set key.items value.items)) (λ refusal. set_fault key.items value.items ≡ Some refusal) }
+        ensures { MatchResult result
+            (λ change. (set_fault key.items value.items ≡ None)
+            × (change ≡ Set key.items value.items))
+            (λ refusal. set_fault key.items value.items ≡ Some refusal) }
     {
         check_set(&key, &value)?;
         Ok(Change::Set {
@@ -42,16 +43,14 @@ impl Change {
         })
     }
 
-    /// The Clear of a range. Takes no memory, and cannot fail.
+    /// Returns the Clear of a range. Never fails.
     pub fn clear(range: KeyRange) -> Change
         ensures { result ≡ Clear range }
     {
         Change::Clear { range }
     }
 
-    /// An equal change of its own.
-    ///
-    /// Answers `OutOfMemory` where there is no memory for it.
+    /// Returns a deep copy. Fails only with `OutOfMemory`.
     pub fn copy(&self) -> Result<Change, OutOfMemory>
         ensures { IfOk result (λ copy. copy ≡ self.now) }
     {

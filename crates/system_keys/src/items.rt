@@ -4,7 +4,7 @@ ghost use Rattle.std.specs.Prelude.{◌≡◌};
 
 use std::marker::Model;
 
-/// Owned elements in order. Made from a `Vec<T>`, and turned back into one, without taking memory.
+/// Owned elements in order. Converts from and into a `Vec<T>` without allocating.
 #[derive(Clone, Debug, Drop)]
 pub struct Items<T> {
     items: Vec<T>,
@@ -19,7 +19,7 @@ impl<T> Model for Items<T> {
 }
 
 impl<T> Items<T> {
-    /// The elements, lent.
+    /// Borrows the elements.
     pub fn as_slice(&self) -> &[T]
         ensures { result.now ≡ self.now }
     {

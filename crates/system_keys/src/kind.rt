@@ -11,7 +11,7 @@ pub enum RowKind {
     KeyServers,
     /// `\xff/serverTag/` and a server id of 16 bytes: the tag of that server.
     ServerTag,
-    /// `\xff/dbLocked`: the database is locked where the row is there and not empty.
+    /// `\xff/dbLocked`: the database is locked if the row exists and is not empty.
     DatabaseLocked,
     /// `\xff/metadataVersion`: a version of the metadata for clients.
     MetadataVersion,

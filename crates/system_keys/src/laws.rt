@@ -1,29 +1,39 @@
 //! Laws of the definitions of this crate, each the contract of a function with an empty body.
 
-ghost use Rattle.std.specs.Prelude.{◌≡◌, ◌↔◌, ◌<◌, ℕ, List, IsTrue, Some, None, Ok, slice_index};
+ghost use Rattle.std.specs.Prelude.{◌≡◌, ◌↔◌, ◌<◌, ℕ, List, IsTrue, Some, None, Ok, Err, slice_index};
+ghost use Rattle.system_keys.specs.declared.refusal.RowFault.{RowFault};
 ghost use Rattle.system_keys.specs.declared.kind.RowKind.{RowKind};
 ghost use Rattle.system_keys.specs.declared.tag.Tag.{Tag};
 ghost use Rattle.system_keys.specs.Keys.{Key};
 ghost use Rattle.system_keys.specs.Families.{kind_of, is_of_kind};
-ghost use Rattle.system_keys.specs.Rows.{Servers, HaveSpelling, key_servers_value, servers_at, tag_value, tag_at, AreBytes};
+ghost use Rattle.system_keys.specs.Rows.{Servers, HaveSpelling, is_of_rows, key_servers_value, servers_at, tag_value, tag_at, AreBytes};
 ghost use Rattle.system_keys.specs.Text.{text_of, bytes_of};
 
 /// Each key is of exactly one kind: the one whose own condition it meets.
 pub fn kind_law()
-    ensures { (key : Key) (kind : RowKind) → IsTrue (is_of_kind kind key) ↔ (kind_of key ≡ kind) }
+    ensures { (key : Key) (kind : RowKind)
+        → IsTrue (is_of_kind kind key) ↔ (kind_of key ≡ kind) }
 {}
 
-/// Each row value has one spelling: what decodes is what encodes to those very bytes, and what was encoded
-/// decodes to itself.
+/// Each row value has one encoding: a value decodes only from the bytes that it encodes to, and an encoded
+/// value decodes to itself. A keyServers value has only faults of rows.
 pub fn row_law()
-    ensures servers_spelled { (bytes : List ℕ) (servers : Servers) → AreBytes bytes → servers_at bytes ≡ Ok servers → (key_servers_value servers ≡ bytes) × HaveSpelling servers }
-    ensures servers_again { (servers : Servers) → HaveSpelling servers → servers_at (key_servers_value servers) ≡ Ok servers }
-    ensures tag_spelled { (bytes : List ℕ) (tag : Tag) → AreBytes bytes → tag_at bytes ≡ Ok tag → tag_value tag ≡ bytes }
-    ensures tag_again { (tag : Tag) → tag_at (tag_value tag) ≡ Ok tag }
+    ensures servers_spelled { (bytes : List ℕ) (servers : Servers)
+        → AreBytes bytes → servers_at bytes ≡ Ok servers
+        → (key_servers_value servers ≡ bytes) × HaveSpelling servers }
+    ensures servers_round_trip { (servers : Servers)
+        → HaveSpelling servers → servers_at (key_servers_value servers) ≡ Ok servers }
+    ensures servers_faults { (bytes : List ℕ) (fault : RowFault)
+        → servers_at bytes ≡ Err fault → IsTrue (is_of_rows fault) }
+    ensures tag_spelled { (bytes : List ℕ) (tag : Tag)
+        → AreBytes bytes → tag_at bytes ≡ Ok tag → tag_value tag ≡ bytes }
+    ensures tag_round_trip { (tag : Tag) → tag_at (tag_value tag) ≡ Ok tag }
 {}
 
 /// Each byte string has exactly one text.
 pub fn text_law()
-    ensures spelled { (text bytes : List ℕ) → bytes_of text ≡ Some bytes → text_of bytes ≡ text }
-    ensures again { (bytes : List ℕ) → AreBytes bytes → bytes_of (text_of bytes) ≡ Some bytes }
+    ensures spelled { (text bytes : List ℕ)
+        → bytes_of text ≡ Some bytes → text_of bytes ≡ text }
+    ensures round_trip { (bytes : List ℕ)
+        → AreBytes bytes → bytes_of (text_of bytes) ≡ Some bytes }
 {}

@@ -1,4 +1,4 @@
-//! The limits of keys, values and ranges, checked without taking memory.
+//! The limits of keys, values and ranges, checked without allocating.
 
 ghost use Rattle.std.specs.Prelude.{◌≡◌};
 ghost use Rattle.std.specs.Result.{result_err};
@@ -21,11 +21,10 @@ pub const VALUE_LIMIT: usize = 100_000;
 /// The end of the key space (release 7.1): every key is below it, and a range may end at it.
 pub const KEY_SPACE_END: &[u8] = b"\xff\xff";
 
-/// Finds the first fault of a range from `begin` up to `end`. Takes no memory.
+/// Returns the first fault of the range from `begin` up to `end`. Does not allocate.
 ///
-/// Answers the first of: `KeyTooLong` (a begin of more than 10,000 bytes, an end of more than 10,001),
-/// `KeyOutside` (the end is past `\xff\xff`, or the begin is at or past it), `EmptyRange` (the begin is
-/// not below the end).
+/// In this order: `KeyTooLong` (a begin of more than 10,000 bytes, an end of more than 10,001), `KeyOutside`
+/// (an end after `\xff\xff`, a begin at or after it), `EmptyRange` (a begin that is not before the end).
 pub fn check_range(begin: &[u8], end: &[u8]) -> Result<(), Refusal>
     ensures { result_err result ≡ range_fault begin.now end.now }
 {
@@ -41,10 +40,10 @@ pub fn check_range(begin: &[u8], end: &[u8]) -> Result<(), Refusal>
     Ok(())
 }
 
-/// Finds the first fault of a Set of a key to a value. Takes no memory.
+/// Returns the first fault of a Set of a key to a value. Does not allocate.
 ///
-/// Answers the first of: `KeyTooLong` (more than 10,000 bytes), `ValueTooLong` (more than 100,000),
-/// `KeyOutside` (at or past `\xff\xff`), `BadRow` (a keyServers or serverTag value that does not decode).
+/// In this order: `KeyTooLong` (more than 10,000 bytes), `ValueTooLong` (more than 100,000), `KeyOutside`
+/// (at or after `\xff\xff`), `BadRow` (a keyServers or serverTag value that does not decode).
 pub fn check_set(key: &[u8], value: &[u8]) -> Result<(), Refusal>
     ensures { result_err result ≡ set_fault key.now value.now }
 {

@@ -1,9 +1,9 @@
-//! Want of memory, as every crate of the project answers it.
+//! The error of a failed allocation, in every crate of the project.
 
 use std::alloc::{AllocError, AllocFailed};
 use thiserror::Error;
 
-/// A growth was refused: there was no memory for it.
+/// An allocation failed.
 #[derive(Clone, Copy, Debug, PartialEq, Eq, Error)]
 #[error("out of memory")]
 pub struct OutOfMemory;

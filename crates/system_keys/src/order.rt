@@ -26,7 +26,7 @@ pub(crate) fn both_precede(a: &[u8], b: &[u8], c: &[u8], d: &[u8]) -> bool
     precedes(a, b) && precedes(c, d)
 }
 
-/// Whether the server id is above the one before it, if there is one.
+/// Whether the server id is above the previous one, if there is one.
 pub(crate) fn is_above(before: Option<&[u8]>, id: &[u8]) -> bool
     ensures { result ≡ is_above (option_copied before.entry) id.now }
 {

@@ -33,11 +33,13 @@ impl KeyRange {
     ghost use Rattle.system_keys.specs.Keys.{holds, overlaps, Overlap};
     ghost use Rattle.system_keys.specs.Limits.{range_fault};
 
-    /// The range from `begin` up to `end`. Takes no memory.
-    ///
-    /// Answers the first fault, as `check_range` finds it.
+    /// Returns the range from `begin` up to `end`, or the first fault that `check_range` finds. Does not
+    /// allocate.
     pub fn new(begin: Vec<u8>, end: Vec<u8>) -> Result<KeyRange, Refusal>
-        ensures { MatchResult result (λ range. (range_fault begin.items end.items ≡ None) × (range ≡ record { begin = begin.items; end = end.items })) (λ refusal. range_fault begin.items end.items ≡ Some refusal) }
+        ensures { MatchResult result
+            (λ range. (range_fault begin.items end.items ≡ None)
+            × (range ≡ record { begin = begin.items; end = end.items }))
+            (λ refusal. range_fault begin.items end.items ≡ Some refusal) }
     {
         check_range(&begin, &end)?;
         Ok(KeyRange {
@@ -77,9 +79,7 @@ impl KeyRange {
         both_precede(self.begin(), other.end(), other.begin(), self.end())
     }
 
-    /// An equal range of its own.
-    ///
-    /// Answers `OutOfMemory` where there is no memory for it.
+    /// Returns a deep copy. Fails only with `OutOfMemory`.
     pub fn copy(&self) -> Result<KeyRange, OutOfMemory>
         ensures { IfOk result (λ copy. copy ≡ self.now) }
     {

@@ -6,8 +6,7 @@ ghost use Rattle.system_keys.specs.declared.refusal.RowFault.TheVariants as faul
 use crate::memory::OutOfMemory;
 use thiserror::Error;
 
-/// Why a key, a range or a change is refused (this project's profile). The number and the name stand in
-/// printed text; want of memory has no number and is never printed.
+/// Why a key, a range or a change is refused (this project's profile). The number and the name are printed.
 #[derive(Clone, Copy, Debug, PartialEq, Eq, Error)]
 pub enum Refusal {
     /// A key has more than 10,000 bytes, or the end of a range more than 10,001.
@@ -16,34 +15,30 @@ pub enum Refusal {
     /// A value has more than 100,000 bytes.
     #[error("a value is too long")]
     ValueTooLong,
-    /// A key or the begin of a range is at or past `\xff\xff`, or the end of a range is past it.
+    /// A key or the begin of a range is at or after `\xff\xff`, or the end of a range is after it.
     #[error("a key lies outside the key space")]
     KeyOutside,
-    /// The begin of a range is not below its end.
+    /// The begin of a range is not before its end.
     #[error("a range is empty")]
     EmptyRange,
     /// The value of a keyServers or serverTag row does not decode.
     #[error("the value of a system row does not decode")]
     BadRow,
-    /// There was no memory for the answer.
-    #[error("out of memory")]
-    OutOfMemory,
 }
 
 impl Refusal {
     ghost use Rattle.system_keys.specs.Refusals.{refusal_number, refusal_name};
 
-    /// The number that is printed, or `None` for want of memory.
-    pub fn number(&self) -> Option<u32>
+    /// The number that is printed.
+    pub fn number(&self) -> u32
         ensures { result ≡ refusal_number self.now }
     {
         match self {
-            Refusal::KeyTooLong => Some(10),
-            Refusal::ValueTooLong => Some(11),
-            Refusal::KeyOutside => Some(12),
-            Refusal::EmptyRange => Some(13),
-            Refusal::BadRow => Some(14),
-            Refusal::OutOfMemory => None,
+            Refusal::KeyTooLong => 10,
+            Refusal::ValueTooLong => 11,
+            Refusal::KeyOutside => 12,
+            Refusal::EmptyRange => 13,
+            Refusal::BadRow => 14,
         }
     }
 
@@ -57,7 +52,6 @@ impl Refusal {
             Refusal::KeyOutside => "KeyOutside",
             Refusal::EmptyRange => "EmptyRange",
             Refusal::BadRow => "BadRow",
-            Refusal::OutOfMemory => "OutOfMemory",
         }
     }
 }
@@ -68,16 +62,16 @@ pub enum RowFault {
     /// Bytes are missing.
     #[error("bytes are missing")]
     Truncated,
-    /// A server id is not above the one before it in its list.
+    /// The server ids of a list are not strictly increasing.
     #[error("server ids do not rise")]
     NotRising,
-    /// Bytes stand after the end.
+    /// Bytes follow the end of the value.
     #[error("bytes stand after the end")]
     Trailing,
-    /// The text is no spelling of bytes.
+    /// The text is not the text of any bytes.
     #[error("the text is no spelling of bytes")]
     BadText,
-    /// There was no memory for the answer.
+    /// An allocation failed.
     #[error("out of memory")]
     OutOfMemory,
 }
@@ -85,7 +79,7 @@ pub enum RowFault {
 impl RowFault {
     ghost use Rattle.system_keys.specs.Refusals.{row_fault_number, row_fault_name};
 
-    /// The number that is printed, or `None` for want of memory.
+    /// The number that is printed, or `None` for `OutOfMemory`.
     pub fn number(&self) -> Option<u32>
         ensures { result ≡ row_fault_number self.now }
     {

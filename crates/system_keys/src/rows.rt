@@ -2,11 +2,16 @@
 //!
 //! A keyServers value is a count byte, that many source ids of 16 bytes, a count byte, that many
 //! destination ids, and nothing after. A serverTag value is a locality byte and two bytes of the id, the
-//! high one first (this project's profile). Each value has one spelling.
+//! high one first (this project's profile). Each value has one encoding.
 
-ghost use Rattle.std.specs.Prelude.{◌≡◌, ◌≤◌, ◌*◌, ◌++◌, IfOk, OnOk, MatchResult, IsOk, Ok, Err, None, true, length};
+ghost use Rattle.std.specs.Prelude.{◌≡◌, ◌≤◌, ◌*◌, ◌++◌, length};
+ghost use Rattle.std.specs.Prelude.{IfOk, OnOk, MatchResult, IsOk, Ok, Err, None, true};
+ghost use Rattle.system_keys.specs.AsSpecified.{IsAsSpecified};
 ghost use Rattle.system_keys.specs.Families.{server_id_length};
-ghost use Rattle.system_keys.specs.Rows.{key_servers_value, tag_value, servers_at, tag_at, counted_ids, counted_ids_at, ids_at, ids_in, ids_listed, are_ids, servers_limit, is_row_value, Gives};
+ghost use Rattle.system_keys.specs.Refusals.{row_fault};
+ghost use Rattle.system_keys.specs.Rows.{key_servers_value, tag_value, servers_at, tag_at};
+ghost use Rattle.system_keys.specs.Rows.{counted_ids, counted_ids_at, ids_at, ids_in, ids_listed};
+ghost use Rattle.system_keys.specs.Rows.{are_ids, servers_limit, is_row_value};
 
 use crate::kind::{RowKind, SERVER_ID_LENGTH};
 use crate::memory::OutOfMemory;
@@ -17,12 +22,10 @@ use crate::tag::Tag;
 use crate::teams::Teams;
 use std::alloc::Global;
 
-/// The value of the keyServers row of these teams.
-///
-/// Answers `OutOfMemory` where there is no memory for it.
+/// Encodes the teams as the value of a keyServers row. Fails only with `OutOfMemory`.
 pub fn encode_key_servers(alloc: Global, teams: &Teams) -> Result<Vec<u8>, OutOfMemory>
     ensures value { IfOk result (λ bytes. bytes.items ≡ key_servers_value teams.now) }
-    ensures again { IfOk result (λ bytes. servers_at bytes.items ≡ Ok teams.now) }
+    ensures round_trip { IfOk result (λ bytes. servers_at bytes.items ≡ Ok teams.now) }
 {
     let ids = teams.sources().len() + teams.destinations().len();
     let mut bytes = Vec::with_capacity(alloc, 2 + SERVER_ID_LENGTH * ids)?;
@@ -31,33 +34,31 @@ pub fn encode_key_servers(alloc: Global, teams: &Teams) -> Result<Vec<u8>, OutOf
     Ok(bytes)
 }
 
-/// The teams that a keyServers value names.
+/// Decodes a keyServers value.
 ///
-/// Answers the first fault met from the front: `Truncated` (bytes are missing), `NotRising` (an id is not
-/// above the one before it), `Trailing` (bytes after the end). `OutOfMemory` only comes for a value without
-/// a fault.
+/// Returns the first error from the front: `Truncated` (bytes are missing), `NotRising` (ids that are not
+/// strictly increasing), `Trailing` (bytes after the end). Fails with `OutOfMemory` only for a value without
+/// such an error.
 pub fn decode_key_servers(alloc: Global, bytes: &[u8]) -> Result<Teams, RowFault>
-    ensures value { Gives (λ teams. teams) result (servers_at bytes.now) }
+    ensures value { IsAsSpecified row_fault (λ teams. teams) result (servers_at bytes.now) }
     ensures spelled { IfOk result (λ teams. key_servers_value teams ≡ bytes.now) }
 {
     check_key_servers(bytes)?;
-    Ok(known_teams(alloc, bytes)?)
+    Ok(to_teams(alloc, bytes)?)
 }
 
-/// The value of the serverTag row of this tag.
-///
-/// Answers `OutOfMemory` where there is no memory for it.
+/// Encodes the tag as the value of a serverTag row. Fails only with `OutOfMemory`.
 pub fn encode_tag(alloc: Global, tag: &Tag) -> Result<Vec<u8>, OutOfMemory>
     ensures value { IfOk result (λ bytes. bytes.items ≡ tag_value tag.now) }
-    ensures again { IfOk result (λ bytes. tag_at bytes.items ≡ Ok tag.now) }
+    ensures round_trip { IfOk result (λ bytes. tag_at bytes.items ≡ Ok tag.now) }
 {
     let [high, low] = tag.id.to_be_bytes();
     Ok(Vec::from_slice(alloc, &[tag.locality, high, low])?)
 }
 
-/// The tag that a serverTag value names. Takes no memory.
+/// Decodes a serverTag value. Does not allocate.
 ///
-/// Answers the first fault: `Truncated` (fewer than three bytes) or `Trailing` (more).
+/// Fails with `Truncated` for fewer than three bytes, and with `Trailing` for more.
 pub fn decode_tag(bytes: &[u8]) -> Result<Tag, RowFault>
     ensures value { result ≡ tag_at bytes.now }
     ensures spelled { IfOk result (λ tag. tag_value tag ≡ bytes.now) }
@@ -72,7 +73,7 @@ pub fn decode_tag(bytes: &[u8]) -> Result<Tag, RowFault>
     }
 }
 
-/// Whether the value decodes, where rows of this kind have a form. Takes no memory.
+/// Whether the value decodes, if rows of this kind have a fixed form. Does not allocate.
 pub(crate) fn is_row_value(kind: RowKind, value: &[u8]) -> bool
     ensures { result ≡ is_row_value kind value.now }
 {
@@ -83,9 +84,10 @@ pub(crate) fn is_row_value(kind: RowKind, value: &[u8]) -> bool
     }
 }
 
-/// Finds the first fault of a keyServers value. Takes no memory.
+/// Returns the first fault of a keyServers value. Does not allocate.
 pub(crate) fn check_key_servers(bytes: &[u8]) -> Result<(), RowFault>
-    ensures { MatchResult result (λ _. IsOk (servers_at bytes.now)) (λ fault. servers_at bytes.now ≡ Err fault) }
+    ensures { MatchResult result (λ _. IsOk (servers_at bytes.now))
+        (λ fault. servers_at bytes.now ≡ Err fault) }
 {
     let rest = behind_counted_ids(bytes)?;
     let rest = behind_counted_ids(rest)?;
@@ -96,9 +98,11 @@ pub(crate) fn check_key_servers(bytes: &[u8]) -> Result<(), RowFault>
     }
 }
 
-/// The bytes behind a count byte and its ids.
+/// The bytes after a count byte and its ids.
 fn behind_counted_ids(bytes: &[u8]) -> Result<&[u8], RowFault>
-    ensures { MatchResult result (λ rest. counted_ids_at bytes.now ≡ Ok (ids_listed bytes.now, rest.now)) (λ fault. counted_ids_at bytes.now ≡ Err fault) }
+    ensures { MatchResult result
+        (λ rest. counted_ids_at bytes.now ≡ Ok (ids_listed bytes.now, rest.now))
+        (λ fault. counted_ids_at bytes.now ≡ Err fault) }
 {
     match bytes {
         [count, rest @ ..] => behind_ids(*count, rest),
@@ -106,9 +110,11 @@ fn behind_counted_ids(bytes: &[u8]) -> Result<&[u8], RowFault>
     }
 }
 
-/// The bytes behind `count` ids that rise.
+/// The bytes after `count` strictly increasing ids.
 fn behind_ids(count: u8, bytes: &[u8]) -> Result<&[u8], RowFault>
-    ensures { MatchResult result (λ rest. ids_at count None bytes.now ≡ Ok (ids_in count bytes.now, rest.now)) (λ fault. ids_at count None bytes.now ≡ Err fault) }
+    ensures { MatchResult result
+        (λ rest. ids_at count None bytes.now ≡ Ok (ids_in count bytes.now, rest.now))
+        (λ fault. ids_at count None bytes.now ≡ Err fault) }
 {
     let mut before: Option<&[u8]> = None;
     let mut rest = bytes;
@@ -126,18 +132,18 @@ fn behind_ids(count: u8, bytes: &[u8]) -> Result<&[u8], RowFault>
     Ok(rest)
 }
 
-/// The teams that a value without a fault names.
-fn known_teams(alloc: Global, bytes: &[u8]) -> Result<Teams, OutOfMemory>
+/// The teams of a value without a fault.
+fn to_teams(alloc: Global, bytes: &[u8]) -> Result<Teams, OutOfMemory>
     requires { IsOk (servers_at bytes.now) }
     ensures value { IfOk result (λ teams. servers_at bytes.now ≡ Ok teams) }
     ensures spelled { IfOk result (λ teams. key_servers_value teams ≡ bytes.now) }
 {
     let (sources, rest) = counted_server_ids(alloc, bytes)?;
     let (destinations, _end) = counted_server_ids(alloc, rest)?;
-    Ok(Teams::known(sources, destinations))
+    Ok(Teams::from_valid(sources, destinations))
 }
 
-/// The ids behind a count byte, and the bytes behind them.
+/// The ids after a count byte, and the bytes after them.
 fn counted_server_ids(alloc: Global, bytes: &[u8]) -> Result<(Vec<ServerId>, &[u8]), OutOfMemory>
     requires { IsOk (counted_ids_at bytes.now) }
     ensures { IfOk result (λ read. counted_ids_at bytes.now ≡ Ok (read.0.items, read.1.now)) }

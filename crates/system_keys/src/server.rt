@@ -22,7 +22,7 @@ impl Model for ServerId {
 }
 
 impl ServerId {
-    /// The bytes of the id, lent.
+    /// Borrows the bytes of the id.
     pub fn as_slice(&self) -> &[u8]
         ensures value { result.now ≡ self.now }
         ensures length { length self.now ≡ 16 }
@@ -30,7 +30,7 @@ impl ServerId {
         &self.0
     }
 
-    /// An equal id. Takes no memory, and does not fail.
+    /// Returns a copy. Never fails.
     pub fn copy(&self) -> Result<ServerId, OutOfMemory>
         ensures { result ≡ Ok self.now }
     {

@@ -11,7 +11,7 @@ use crate::range::KeyRange;
 
 /// Whether the change goes to every commit proxy (release 7.1).
 ///
-/// A Set does where its key starts with `\xff` and not with `\xff\x02`; a Clear where its end has more than
+/// A Set does if its key starts with `\xff` and not with `\xff\x02`; a Clear does if its end has more than
 /// one byte and starts with `\xff`, and its range does not lie inside `[\xff\x02, \xff\x03)`.
 pub fn is_state(change: &Change) -> bool
     ensures { result ≡ is_state change.now }
@@ -25,7 +25,8 @@ pub fn is_state(change: &Change) -> bool
 }
 
 fn is_metadata_key(key: &[u8]) -> bool
-    ensures { result ≡ (starts_with nat_eq key.now system_prefix && not (starts_with nat_eq key.now non_metadata_prefix)) }
+    ensures { result ≡ (starts_with nat_eq key.now system_prefix
+        && not (starts_with nat_eq key.now non_metadata_prefix)) }
 {
     key.starts_with(b"\xff") && !key.starts_with(b"\xff\x02")
 }

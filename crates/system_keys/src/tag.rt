@@ -14,7 +14,7 @@ pub struct Tag {
 }
 
 impl Tag {
-    /// An equal tag. Takes no memory, and does not fail.
+    /// Returns a copy. Never fails.
     pub fn copy(&self) -> Result<Tag, OutOfMemory>
         ensures { result ≡ Ok self.now }
     {

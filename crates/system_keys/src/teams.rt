@@ -13,19 +13,19 @@ use thiserror::Error;
 /// The greatest number of servers in one list of a team (this project's profile).
 pub const SERVERS_LIMIT: usize = 255;
 
-/// Why two lists of servers are no teams (this project's profile).
+/// Why two lists of servers are not teams (this project's profile).
 #[derive(Clone, Copy, Debug, PartialEq, Eq, Error)]
 pub enum TeamsFault {
     /// A list has more than 255 servers.
     #[error("a list has more than 255 servers")]
     TooManyServers,
-    /// A server id is not above the one before it in its list.
+    /// The ids of a list are not strictly increasing.
     #[error("server ids do not rise")]
     NotRising,
 }
 
 /// The storage servers of a range of keys: the sources, which have it, and the destinations, which it moves
-/// to (release 7.1). Both lists rise strictly and have at most 255 servers.
+/// to (release 7.1). Both lists are strictly increasing and have at most 255 servers.
 #[derive(Clone, Debug, Drop)]
 pub struct Teams {
     sources: Items<ServerId>,
@@ -40,21 +40,24 @@ impl Model for Teams {
 
     ghost view = { λ t. record { sources = t.sources; destinations = t.destinations } };
 
-    ghost invariant = { λ t. servers_fault (record { sources = t.sources; destinations = t.destinations }) ≡ None };
+    ghost invariant = { λ t.
+        servers_fault (record { sources = t.sources; destinations = t.destinations }) ≡ None };
 }
 
 impl Teams {
     ghost use Rattle.system_keys.specs.Rows.{Servers, servers_fault};
 
-    /// The teams of these servers. Takes no memory.
-    ///
-    /// Answers the first fault, the sources being looked at first, and hands the lists back with it.
+    /// Returns the teams of these servers, or the first fault, of the sources before the destinations, and both
+    /// lists, unchanged. Does not allocate.
     pub fn new(
         sources: Vec<ServerId>,
         destinations: Vec<ServerId>,
     ) -> Result<Teams, (TeamsFault, Vec<ServerId>, Vec<ServerId>)>
-        ensures { let servers : Servers = record { sources = sources.items; destinations = destinations.items } in
-            MatchResult result (λ teams. (servers_fault servers ≡ None) × (teams ≡ servers)) (λ refused. (servers_fault servers ≡ Some refused.0) × (refused.1 ≡ sources) × (refused.2 ≡ destinations)) }
+        ensures { let servers : Servers =
+            record { sources = sources.items; destinations = destinations.items } in
+            MatchResult result (λ teams. (servers_fault servers ≡ None) × (teams ≡ servers))
+            (λ refused. (servers_fault servers ≡ Some refused.0)
+            × (refused.1 ≡ sources) × (refused.2 ≡ destinations)) }
     {
         let fault = team_fault(&sources).or(team_fault(&destinations));
         match fault {
@@ -66,9 +69,11 @@ impl Teams {
         }
     }
 
-    /// The teams of servers that are known to have a spelling. Takes no memory.
-    pub(crate) fn known(sources: Vec<ServerId>, destinations: Vec<ServerId>) -> Teams
-        requires { servers_fault (record { sources = sources.items; destinations = destinations.items }) ≡ None }
+    /// Returns the teams of lists without a fault. Does not allocate.
+    pub(crate) fn from_valid(sources: Vec<ServerId>, destinations: Vec<ServerId>) -> Teams
+        requires { let servers : Servers =
+            record { sources = sources.items; destinations = destinations.items } in
+            servers_fault servers ≡ None }
         ensures { result ≡ record { sources = sources.items; destinations = destinations.items } }
     {
         Teams {
@@ -77,7 +82,7 @@ impl Teams {
         }
     }
 
-    /// The servers that have the range, rising.
+    /// The servers that have the range, in increasing order.
     pub fn sources(&self) -> &[ServerId]
         ensures value { result.now ≡ self.now.sources }
         ensures kept { servers_fault self.now ≡ None }
@@ -85,7 +90,7 @@ impl Teams {
         self.sources.as_slice()
     }
 
-    /// The servers that the range moves to, rising.
+    /// The servers that the range moves to, in increasing order.
     pub fn destinations(&self) -> &[ServerId]
         ensures value { result.now ≡ self.now.destinations }
         ensures kept { servers_fault self.now ≡ None }
@@ -93,9 +98,7 @@ impl Teams {
         self.destinations.as_slice()
     }
 
-    /// Equal teams of their own.
-    ///
-    /// Answers `OutOfMemory` where there is no memory for them.
+    /// Returns a deep copy. Fails only with `OutOfMemory`.
     pub fn copy(&self) -> Result<Teams, OutOfMemory>
         ensures { IfOk result (λ copy. copy ≡ self.now) }
     {

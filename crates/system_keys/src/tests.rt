@@ -644,7 +644,7 @@ fn bytes_have_one_text(rt: HostRuntime) -> Result<(), Fail> {
     Ok(())
 }
 
-fn is_refusal(refusal: Refusal, number: Option<u32>, name: &str) -> bool {
+fn is_refusal(refusal: Refusal, number: u32, name: &str) -> bool {
     refusal.number() == number && refusal.name() == name
 }
 
@@ -655,12 +655,11 @@ fn is_row_fault(fault: RowFault, number: Option<u32>, name: &str) -> bool {
 #[test]
 fn refusals_have_their_numbers_and_names(rt: HostRuntime) {
     for (refusal, number, name) in [
-        (Refusal::KeyTooLong, Some(10), "KeyTooLong"),
-        (Refusal::ValueTooLong, Some(11), "ValueTooLong"),
-        (Refusal::KeyOutside, Some(12), "KeyOutside"),
-        (Refusal::EmptyRange, Some(13), "EmptyRange"),
-        (Refusal::BadRow, Some(14), "BadRow"),
-        (Refusal::OutOfMemory, None, "OutOfMemory"),
+        (Refusal::KeyTooLong, 10, "KeyTooLong"),
+        (Refusal::ValueTooLong, 11, "ValueTooLong"),
+        (Refusal::KeyOutside, 12, "KeyOutside"),
+        (Refusal::EmptyRange, 13, "EmptyRange"),
+        (Refusal::BadRow, 14, "BadRow"),
     ] {
         assert!(rt; is_refusal(refusal, number, name));
     }
@@ -688,7 +687,6 @@ fn refusals_are_shown_in_words(rt: HostRuntime) -> Result<(), Fail> {
         (Refusal::KeyOutside, "a key lies outside the key space"),
         (Refusal::EmptyRange, "a range is empty"),
         (Refusal::BadRow, "the value of a system row does not decode"),
-        (Refusal::OutOfMemory, "out of memory"),
     ] {
         assert!(rt; is_shown_as(rt.alloc(), refusal, text)?);
     }

@@ -1,20 +1,22 @@
 //! Bytes as text: a byte from 0x21 to 0x7e, other than the double quote and the backslash, is its ASCII
 //! character, and every other byte is `\x` and two lower-case hexadecimal digits (this project's profile).
 
-ghost use Rattle.std.specs.Prelude.{◌≡◌, ◌+◌, ◌-◌, ◌^◌, ◌<◌, ◌≤◌, IfOk, IfSome, OnOk, IsSome, IsTrue, Some, ◌++◌, string_bytes, option_map, length, min};
+ghost use Rattle.std.specs.Prelude.{◌≡◌, ◌+◌, ◌-◌, ◌^◌, ◌<◌, ◌≤◌, ◌++◌, length, min, string_bytes};
+ghost use Rattle.std.specs.Prelude.{IfOk, IfSome, OnOk, IsSome, IsTrue, Some, option_map};
 ghost use Rattle.std.specs.Char.{digit_char};
-ghost use Rattle.system_keys.specs.Text.{text_of, byte_text, bytes_of, first_of, is_plain, is_escape, is_digit, digit_of, byte_of, Spells};
+ghost use Rattle.system_keys.specs.AsSpecified.{IsAsSpecified};
+ghost use Rattle.system_keys.specs.Refusals.{row_fault};
+ghost use Rattle.system_keys.specs.Text.{text_of, byte_text, bytes_of, bytes_read, first_of};
+ghost use Rattle.system_keys.specs.Text.{is_plain, is_escape, is_digit, digit_of, byte_of};
 
 use crate::memory::OutOfMemory;
 use crate::refusal::RowFault;
 use std::alloc::Global;
 
-/// The text of the bytes.
-///
-/// Answers `OutOfMemory` where there is no memory for it.
+/// Returns the text of the bytes. Fails only with `OutOfMemory`.
 pub fn print_bytes(alloc: Global, bytes: &[u8]) -> Result<String, OutOfMemory>
     ensures value { IfOk result (λ text. string_bytes text ≡ text_of bytes.now) }
-    ensures again { IfOk result (λ text. bytes_of (string_bytes text) ≡ Some bytes.now) }
+    ensures round_trip { IfOk result (λ text. bytes_of (string_bytes text) ≡ Some bytes.now) }
 {
     let mut text = String::with_capacity(alloc, text_length(bytes))?;
     for byte in bytes {
@@ -23,7 +25,7 @@ pub fn print_bytes(alloc: Global, bytes: &[u8]) -> Result<String, OutOfMemory>
     Ok(text)
 }
 
-/// How many characters the text of the bytes has, or the greatest number where they are more.
+/// How many characters the text of the bytes has, or `usize::MAX` if there are more.
 fn text_length(bytes: &[u8]) -> usize
     ensures { result ≡ min (length (text_of bytes.now)) (2 ^ 64 - 1) }
 {
@@ -44,7 +46,7 @@ fn byte_length(byte: u8) -> usize
 fn is_plain(byte: u8) -> bool
     ensures { result ≡ is_plain byte }
 {
-    33 <= byte && byte <= 126 && byte != b'"' && byte != b'\\'
+    byte.is_ascii_graphic() && byte != b'"' && byte != b'\\'
 }
 
 fn push_byte(text: &mut String, byte: u8) -> Result<(), OutOfMemory>
@@ -66,20 +68,18 @@ fn hex_digit(value: u8) -> char
     ensures value { result ≡ digit_char value }
     ensures ascii { result < 128 }
 {
-    char::from(if value < 10 {
-        b'0' + value
-    } else {
-        b'a' + (value - 10)
-    })
+    match char::from_digit(u32::from(value), 16) {
+        Some(digit) => digit,
+        None => unreachable!(),
+    }
 }
 
-/// The bytes that the text spells.
+/// Returns the bytes of the text.
 ///
-/// Answers `BadText` where it spells none: another character, an escape with another letter, a missing or
-/// upper-case digit, or an escape of a byte that has its own character. `OutOfMemory` only comes for a text
-/// that spells bytes.
+/// Fails with `BadText` for another character, an escape with another letter, a missing or upper-case digit,
+/// or an escape of a byte that has its own character. Fails with `OutOfMemory` only for a text of bytes.
 pub fn read_bytes(alloc: Global, text: &str) -> Result<Vec<u8>, RowFault>
-    ensures value { Spells (λ bytes. bytes.items) result (bytes_of text.now) }
+    ensures value { IsAsSpecified row_fault (λ bytes. bytes.items) result (bytes_read text.now) }
     ensures spelled { IfOk result (λ bytes. text_of bytes.items ≡ text.now) }
 {
     match spelled_length(text.as_bytes()) {
@@ -88,7 +88,7 @@ pub fn read_bytes(alloc: Global, text: &str) -> Result<Vec<u8>, RowFault>
     }
 }
 
-/// How many bytes the text spells.
+/// How many bytes the text stands for.
 fn spelled_length(text: &[u8]) -> Option<usize>
     ensures { result ≡ option_map length (bytes_of text.now) }
 {
@@ -102,7 +102,7 @@ fn spelled_length(text: &[u8]) -> Option<usize>
     Some(length)
 }
 
-/// The bytes of a text that spells this many.
+/// The bytes of a text that stands for this many.
 fn spelled(alloc: Global, text: &[u8], length: usize) -> Result<Vec<u8>, OutOfMemory>
     requires { IsSome (bytes_of text.now) }
     ensures value { IfOk result (λ bytes. bytes_of text.now ≡ Some bytes.items) }
@@ -117,7 +117,7 @@ fn spelled(alloc: Global, text: &[u8], length: usize) -> Result<Vec<u8>, OutOfMe
     Ok(bytes)
 }
 
-/// The first byte that the text spells, and the text behind it.
+/// The first byte that the text stands for, and the rest of the text.
 fn next_byte(text: &[u8]) -> Option<(u8, &[u8])>
     ensures value { option_map (λ next. (next.0, next.1.now)) result ≡ first_of text.now }
     ensures shorter { IfSome result (λ next. length next.1.now + 1 ≤ length text.now) }
@@ -140,7 +140,7 @@ fn is_escape(slash: u8, x: u8, high: u8, low: u8) -> bool
 fn is_digit(character: u8) -> bool
     ensures { result ≡ is_digit character }
 {
-    (48 <= character && character <= 57) || (97 <= character && character <= 102)
+    matches!(character, b'0'..=b'9' | b'a'..=b'f')
 }
 
 fn byte_of(high: u8, low: u8) -> u8
@@ -156,9 +156,8 @@ fn digit_of(character: u8) -> u8
     ensures value { result ≡ digit_of character }
     ensures digit { result < 16 }
 {
-    if character < 97 {
-        character - 48
-    } else {
-        character - 87
+    match character {
+        b'0'..=b'9' => character - b'0',
+        _ => character - b'a' + 10,
     }
 }

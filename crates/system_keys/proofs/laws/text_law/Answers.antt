@@ -5,5 +5,5 @@ use Rattle.system_keys.proofs.laws.text_law.Goals as goal
 pub returns-clause-spelled : goal.returns-clause-spelled
 returns-clause-spelled c = λ text bytes e. sym (text_spelled text bytes e)
 
-pub returns-clause-again : goal.returns-clause-again
-returns-clause-again c = bytes_again
+pub returns-clause-round_trip : goal.returns-clause-round_trip
+returns-clause-round_trip c = bytes_again
