@@ -1,7 +1,8 @@
 //! What no clause says: that runs succeed with ample memory, and `clap`'s texts. A run that was refused memory
 //! is made again, so that the tests also pass where any one allocation fails.
 use crate::run::run_words;
-use script_run::{Reader, Status, Writer};
+use crate::status::Status;
+use script_run::{Reader, RunStatus, Writer};
 use std::process::Abort;
 
 const FOLD: &[&str] = &["fold"];
@@ -44,7 +45,7 @@ fn run(rt: &impl AllocGlobal, words: &[&str], given: &[u8]) -> (Status, usize, [
     let mut script = given;
     let mut room = ROOM;
     let mut status = run_once(rt, words, &mut script, &mut room);
-    if matches!(status, Status::OutOfMemory) {
+    if matches!(status, Status::Ran(RunStatus::OutOfMemory)) {
         script = given;
         status = run_once(rt, words, &mut script, &mut room);
     }
@@ -261,7 +262,7 @@ fn a_full_writer_ends_the_run(rt: HostRuntime) {
     let mut script = SCRIPT;
     let mut room = [0u8; 3];
     let mut status = run_once(&rt, FOLD, &mut script, &mut room);
-    if matches!(status, Status::OutOfMemory) {
+    if matches!(status, Status::Ran(RunStatus::OutOfMemory)) {
         script = SCRIPT;
         status = run_once(&rt, FOLD, &mut script, &mut room);
     }

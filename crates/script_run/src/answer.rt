@@ -11,7 +11,7 @@ use crate::fold_lines::{print_asked, print_refusal, print_routing};
 use crate::fold_reading::read_script;
 use crate::fold_script::FoldScript;
 use crate::script_fault::ScriptFault;
-use crate::status::Status;
+use crate::status::RunStatus;
 use model::JournalRow;
 use proxy_state::Metadata;
 use std::alloc::Global;
@@ -23,7 +23,7 @@ pub struct Output {
     /// The lines.
     pub text: String,
     /// How the run ends once the text is written.
-    pub status: Status,
+    pub status: RunStatus,
 }
 
 /// What the bytes of a fold script come to: the routing of its folded rows and the tags of its asked keys, or
@@ -48,7 +48,7 @@ fn folded(alloc: Global, script: FoldScript) -> Result<Output, OutOfMemory>
     print_folded(alloc, &mut text, &script)?;
     Ok(Output {
         text,
-        status: Status::Done,
+        status: RunStatus::Done,
     })
 }
 
@@ -62,7 +62,7 @@ fn refused(alloc: Global, fault: ScriptFault) -> Result<Output, OutOfMemory>
     print_refusal(&mut text, number, fault.name())?;
     Ok(Output {
         text,
-        status: Status::ScriptRefused,
+        status: RunStatus::ScriptRefused,
     })
 }
 

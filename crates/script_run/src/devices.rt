@@ -3,7 +3,7 @@ ghost use Rattle.std.specs.Prelude.{◌≡◌, ◌⊎◌, ◌+◌, ◌-◌, ◌^
 ghost use Rattle.std.specs.Prelude.{IsErrOf, OnErr, OnOk};
 ghost use Rattle.std.specs.Io.{ReadsAtMost, WritesAtMost};
 ghost use Rattle.std.specs.Io.KnownBytes.{Appends, IsAtEnd, ReadConsumes, WriteAppends};
-ghost use Rattle.script_run.specs.Devices.{AppendsBeginning, IsOneMore, input_limit, raised, read_limit};
+ghost use Rattle.script_run.specs.Devices.{AppendsBeginning, IsIncremented, input_limit, saturating_add, read_limit};
 ghost use Rattle.script_run.specs.declared.devices.ReadFault.TheVariants as faults;
 
 use std::alloc::{AllocError, Global};
@@ -26,9 +26,9 @@ pub trait Source {
     fn read(&mut self, buffer: &mut [u8]) -> Result<usize, Failed>
         ensures bound { ReadsAtMost result buffer.new }
         ensures taken { ReadConsumes (remaining self.old) (remaining self.new) result buffer.new }
-        ensures fine { OnOk result (failed self.new ≡ failed self.old) }
-        ensures counted { OnErr result (IsOneMore (failed self.old) (failed self.new)) }
-        ensures called { IsOneMore (reads self.old) (reads self.new) };
+        ensures no_failure { OnOk result (failed self.new ≡ failed self.old) }
+        ensures counted { OnErr result (IsIncremented (failed self.old) (failed self.new)) }
+        ensures called { IsIncremented (reads self.old) (reads self.new) };
 
     /// How many calls have failed.
     fn failures(&self) -> u64
@@ -47,10 +47,12 @@ pub trait Sink {
     fn write(&mut self, bytes: &[u8]) -> Result<usize, Failed>
         ensures bound { WritesAtMost result bytes.now }
         ensures put { WriteAppends (written self.old) (written self.new) result bytes.now }
-        ensures fine { IfOk result (λ n. (0 < n) ⊎ (bytes.now ≡ []) → failed self.new ≡ failed self.old) }
-        ensures none { IfOk result (λ n. n ≡ 0 → 0 < length bytes.now → IsOneMore (failed self.old) (failed self.new)) }
-        ensures counted { OnErr result (IsOneMore (failed self.old) (failed self.new)) }
-        ensures called { IsOneMore (writes self.old) (writes self.new) };
+        ensures no_failure { IfOk result (λ n.
+            (0 < n) ⊎ (bytes.now ≡ []) → failed self.new ≡ failed self.old) }
+        ensures none { IfOk result (λ n. n ≡ 0 → 0 < length bytes.now
+            → IsIncremented (failed self.old) (failed self.new)) }
+        ensures counted { OnErr result (IsIncremented (failed self.old) (failed self.new)) }
+        ensures called { IsIncremented (writes self.old) (writes self.new) };
 
     /// How many calls have failed.
     fn failures(&self) -> u64
@@ -181,12 +183,12 @@ impl From<Failed> for ReadFault {
     }
 }
 
-/// How many read calls a whole input may take (this project's profile). The call that meets the end
-/// is one of them.
-pub const READ_LIMIT: u64 = 1_048_576;
+// How many read calls a whole input may take (this project's profile). The call that meets the end is one of
+// them.
+const READ_LIMIT: u64 = 1_048_576;
 
-/// How many bytes one read call asks for (this project's profile). An input without an end is refused
-/// after `READ_LIMIT` calls, so this says how much memory it can take before that.
+// How many bytes one read call asks for (this project's profile). An input without an end is refused after
+// `READ_LIMIT` calls, so the two bound the memory that it takes.
 const READ_SIZE: usize = 4_096;
 
 /// All bytes that the source has.
@@ -199,18 +201,18 @@ pub fn read_all<S: Source>(alloc: Global, source: &mut S) -> Result<Vec<u8>, Rea
         IfSome (S.remaining source.old) (λ input. bytes.items ≡ input)) }
     ensures device { IsErrOf result ReadFault.Device
         → S.failed source.new ≡ S.failed source.old + 1 }
-    ensures fine { OnOk result (S.failed source.new ≡ S.failed source.old) }
+    ensures no_failure { OnOk result (S.failed source.new ≡ S.failed source.old) }
     ensures memory { IsErrOf result ReadFault.OutOfMemory
         → S.failed source.new ≡ S.failed source.old }
     ensures ended { OnOk result (IsAtEnd (S.remaining source.new)) }
-    ensures within { S.reads source.new ≤ raised read_limit (S.reads source.old) }
+    ensures within { S.reads source.new ≤ saturating_add read_limit (S.reads source.old) }
     ensures calls { IfSome (S.remaining source.old) (λ input.
-        S.reads source.new ≤ raised (length input + 1) (S.reads source.old)) }
+        S.reads source.new ≤ saturating_add (length input + 1) (S.reads source.old)) }
     ensures once { IfOk result (λ bytes.
-        S.reads source.new ≤ raised (length bytes.items + 1) (S.reads source.old)) }
+        S.reads source.new ≤ saturating_add (length bytes.items + 1) (S.reads source.old)) }
     ensures short { IfOk result (λ bytes. length bytes.items ≤ input_limit) }
     ensures limit { IsErrOf result ReadFault.Limit → (S.failed source.new ≡ S.failed source.old)
-        × (S.reads source.new ≡ raised read_limit (S.reads source.old)) }
+        × (S.reads source.new ≡ saturating_add read_limit (S.reads source.old)) }
     ensures long { IsErrOf result ReadFault.Limit
         → IfSome (S.remaining source.old) (λ input. read_limit ≤ length input) }
 {
@@ -234,8 +236,8 @@ pub fn write_all<T: Sink>(sink: &mut T, bytes: &[u8]) -> Result<(), Failed>
     ensures err { OnErr result
         (AppendsBeginning (T.written sink.old) (T.written sink.new) bytes.now) }
     ensures counted { OnErr result (T.failed sink.new ≡ T.failed sink.old + 1) }
-    ensures fine { OnOk result (T.failed sink.new ≡ T.failed sink.old) }
-    ensures calls { T.writes sink.new ≤ raised (length bytes.now) (T.writes sink.old) }
+    ensures no_failure { OnOk result (T.failed sink.new ≡ T.failed sink.old) }
+    ensures calls { T.writes sink.new ≤ saturating_add (length bytes.now) (T.writes sink.old) }
 {
     let mut rest = bytes;
     while !rest.is_empty() {

@@ -28,7 +28,7 @@ macro_rules! written {
 macro_rules! run_twice {
     ($run:expr) => {
         match $run {
-            (Status::OutOfMemory, ..) => $run,
+            (RunStatus::OutOfMemory, ..) => $run,
             ended => ended,
         }
     };
