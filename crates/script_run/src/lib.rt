@@ -10,6 +10,7 @@ mod batch_reading;
 mod batch_shapes;
 #[cfg(test)]
 mod batch_tests;
+mod change_shapes;
 mod devices;
 mod fold_checks;
 mod fold_limits;
