@@ -15,7 +15,7 @@ abbrev pub RunsMode : Option Mode → Type 0 → Type 0
 RunsMode (Some Fold) folds = folds
 RunsMode None folds = ⊥
 
--- the status says what became of the devices: what a run with this status leaves, or nothing changed
+-- what is left of the devices: what a run with this status leaves, or all unchanged
 abbrev pub LeavesByStatus : Status → Type 0 → (RunStatus → Type 0) → Type 0
 LeavesByStatus (Ran status) unchanged leaves = leaves status
 LeavesByStatus (CommandLineRefused text) unchanged leaves = unchanged
@@ -24,8 +24,8 @@ LeavesByStatus (CommandLineRefused text) unchanged leaves = unchanged
 abbrev pub FoldsOrRunsOut : Status → Type 0 → Type 0 → Type 0
 FoldsOrRunsOut status unchanged folds = ((status ≡ Ran OutOfMemory) × unchanged) ⊎ folds
 
--- what `clap` reads of the words decides the run: if it refuses them, the devices are unchanged; if it
--- takes them, their mode runs, unless an allocation fails before
+-- what `clap` reads of the words decides the run: if it refuses them, the devices are unchanged;
+-- if it takes them, their mode runs, unless an allocation fails before
 pub record RunsWords (words : List Text) (status : Status) (unchanged folds : Type 0) : Type 0 where
   pub names : ModeNames
   pub refused : fault_of (command_line names) words ≢ [] → IsRejected status × unchanged

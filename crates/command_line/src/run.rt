@@ -5,7 +5,8 @@ ghost use Rattle.clap.specs.declared.error.kind.ErrorKind.TheVariants as kinds;
 ghost use Rattle.script_run.specs.FoldText.{fold_text};
 ghost use Rattle.script_run.specs.Runs.{Folds, LeavesDevices};
 ghost use Rattle.command_line.specs.Statuses.{IfRan, IsRejected};
-ghost use Rattle.command_line.specs.WordRuns.{FoldsOrRunsOut, IsFoldLine, IsRejectedLine, LeavesByStatus, RunsWords};
+ghost use Rattle.command_line.specs.WordRuns.{FoldsOrRunsOut, IsFoldLine, IsRejectedLine};
+ghost use Rattle.command_line.specs.WordRuns.{LeavesByStatus, RunsWords};
 
 use crate::mode::Mode;
 use crate::mode_reading::read_mode;
@@ -53,7 +54,8 @@ const HINT: &str = "hint: the script is read on standard input: proxy_run < scri
 // The status of a refused command line.
 fn refusal(alloc: Global, error: &Error) -> Status
     ensures rejected { IsRejected result }
-    ensures memory { kind_of error.now ≡ kinds.OutOfMemory → result ≡ Status.Ran RunStatus.OutOfMemory }
+    ensures memory { kind_of error.now ≡ kinds.OutOfMemory
+        → result ≡ Status.Ran RunStatus.OutOfMemory }
 {
     let hint = match error.kind() {
         ErrorKind::OutOfMemory => return Status::Ran(RunStatus::OutOfMemory),

@@ -1,5 +1,6 @@
 -- The refusals of a batch, in their order (this project's profile).
-use Rattle.std.specs.Prelude.{◌≡◌, List, length, nat_le, if◌then◌else◌, Option, Some, None, Result, Ok, Err}
+use Rattle.std.specs.Prelude.{◌≡◌, List, length, nat_le, if◌then◌else◌}
+use Rattle.std.specs.Prelude.{Option, Some, None, Result, Ok, Err}
 use Rattle.std.specs.Option.{option_or}
 use Rattle.model.specs.Stamps.{Given}
 use Rattle.mutation.specs.declared.refusal.Refusal.{Refusal}
@@ -9,13 +10,15 @@ use Rattle.mutation.specs.Limits.{batch_limit}
 use Rattle.script_run.specs.declared.script_fault.ScriptFault.{ScriptFault}
 use Rattle.script_run.specs.declared.script_fault.ScriptFault.TheVariants as faults
 
--- more transactions than a batch has
+-- more transactions than a batch may have
 abbrev pub size_fault : List Given → Option Refusal
-size_fault transactions = if nat_le (length transactions) batch_limit then None else Some refusals.BatchTooLarge
+size_fault transactions =
+    if nat_le (length transactions) batch_limit then None else Some refusals.BatchTooLarge
 
--- the first fault of the transactions, in their order; and then that they are too many
+-- the first fault of the transactions, in their order, and then that there are too many
 abbrev pub batch_fault : List Given → Option Refusal
-batch_fault transactions = option_or (first_fault transaction_fault transactions) (size_fault transactions)
+batch_fault transactions =
+    option_or (first_fault transaction_fault transactions) (size_fault transactions)
 
 abbrev pub unless_refused : Option Refusal → List Given → Result (List Given) ScriptFault
 unless_refused None transactions = Ok transactions

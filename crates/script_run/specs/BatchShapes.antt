@@ -24,7 +24,11 @@ transaction_fields d = do
   mutations ← field_shape (list_shape mutation_shape) (codes "mutations") d
   lock_aware ← field_shape as_bool (codes "lock_aware") d
   Some (record {
-    snapshot = snapshot; reads = reads; writes = writes; mutations = mutations; lock_aware = lock_aware
+    snapshot = snapshot;
+    reads = reads;
+    writes = writes;
+    mutations = mutations;
+    lock_aware = lock_aware;
   })
 
 abbrev pub transaction_shape : Data → Option Transaction

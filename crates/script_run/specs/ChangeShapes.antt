@@ -1,5 +1,5 @@
--- The form of a change, in fold scripts and in batches: an object of one field, whose name says what
--- the list of two texts in it stands for (this project's profile).
+-- The form of a change, in fold scripts and in batches: an object of one field, whose name says
+-- what the list of two texts in it stands for (this project's profile).
 use Rattle.std.specs.Prelude.{ℕ, List, codes, if◌then◌else◌, Option, Some, None, option_map}
 use Rattle.serde_json.specs.Data.{Data}
 use Rattle.serde_json.specs.Find.{get}

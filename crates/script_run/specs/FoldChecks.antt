@@ -1,4 +1,5 @@
--- The checks of the keys, values and ranges of a fold script: the first fault in the order of the script's lists (this project's profile).
+-- The checks of the keys, values and ranges of a fold script: the first fault in the order of the
+-- script's lists (this project's profile).
 use Rattle.std.specs.Prelude.{◌≡◌, List, [], ◌∷◌, Option, Some, None, Result, Ok, Err}
 use Rattle.system_keys.specs.declared.refusal.Refusal.{Refusal}
 use Rattle.system_keys.specs.declared.change.Change.{Change}
@@ -16,7 +17,8 @@ use Rattle.script_run.specs.declared.script_fault.ScriptFault.{ScriptFault}
 use Rattle.script_run.specs.declared.script_fault.ScriptFault.TheVariants as faults
 
 infixl 10 ◌>>=◌
-abbrev pub ◌>>=◌ : {A B : Type 0} → Result A Refusal → (A → Result B Refusal) → Result B Refusal
+abbrev pub ◌>>=◌ : {A B : Type 0} → Result A Refusal → (A → Result B Refusal)
+    → Result B Refusal
 (Ok x) >>= f = f x
 (Err refusal) >>= f = Err refusal
 
@@ -27,14 +29,16 @@ unless_fault (Some refusal) x = Err refusal
 -- the change, or its fault
 abbrev pub checked_change : RawChange → Result Change Refusal
 checked_change (raw.Set key value) = unless_fault (set_fault key value) (changes.Set key value)
-checked_change (raw.Clear begin end) = unless_fault (range_fault begin end) (changes.Clear (record { begin = begin; end = end }))
+checked_change (raw.Clear begin end) =
+    unless_fault (range_fault begin end) (changes.Clear (record { begin = begin; end = end }))
 
 abbrev pub with_first : {X : Type 0} → X → Result (List X) Refusal → Result (List X) Refusal
 with_first x (Ok xs) = Ok (x ∷ xs)
 with_first x (Err refusal) = Err refusal
 
 -- all of a list, or the first fault
-abbrev pub each_checked : {X Y : Type 0} → (X → Result Y Refusal) → List X → Result (List Y) Refusal
+abbrev pub each_checked : {X Y : Type 0} → (X → Result Y Refusal) → List X
+    → Result (List Y) Refusal
 each_checked check [] = Ok []
 each_checked check (x ∷ xs) = do
   y ← check x

@@ -1,5 +1,5 @@
--- The form of a fold script: an object has all its fields and no other, in any order (this project's
--- profile).
+-- The form of a fold script: an object has all its fields and no other, in any order (this
+-- project's profile).
 use Rattle.std.specs.Prelude.{codes, if◌then◌else◌, Option, Some, None}
 use Rattle.serde_json.specs.Data.{Data}
 use Rattle.serde_json.specs.Find.{as_bool}

@@ -10,7 +10,7 @@ use Rattle.script_run.specs.declared.status.RunStatus.{RunStatus}
 use Rattle.script_run.specs.declared.status.RunStatus.TheVariants.{Done, ScriptRefused}
 use Rattle.script_run.specs.declared.status.RunStatus.TheVariants.{DeviceFailed, OutOfMemory}
 
--- ---- what a run writes, by the answer that its bytes are due
+-- ---- what a run writes, by the answer to its input
 
 -- these bytes are the whole input, if the source exposes it
 abbrev pub IsInput : Option (List ℕ) → List ℕ → Type 0
@@ -32,7 +32,8 @@ BeginsAnswer answer_to input old new = (bytes : List ℕ) × IsInput input bytes
 abbrev pub WritesTextOf : (List ℕ → Answer) → Option (List ℕ) → Option (List ℕ) → Option (List ℕ)
     → RunStatus → Type 0
 WritesTextOf answer_to input old new Done = WritesAnswer answer_to input old new Done
-WritesTextOf answer_to input old new ScriptRefused = WritesAnswer answer_to input old new ScriptRefused
+WritesTextOf answer_to input old new ScriptRefused =
+    WritesAnswer answer_to input old new ScriptRefused
 WritesTextOf answer_to input old new DeviceFailed = BeginsAnswer answer_to input old new
 WritesTextOf answer_to input old new OutOfMemory = BeginsAnswer answer_to input old new
 
@@ -58,11 +59,12 @@ pub record WriteFails {S T : Type 0} (source : SourceView S) (source_old source_
 pub record ReadingFails {S T : Type 0} (source : SourceView S) (source_old source_new : S)
     (sink_old sink_new : T) : Type 0 where
   pub cause : (source.failed source_new ≡ source.failed source_old + 1)
-      ⊎ PassesLimit (source.remaining source_old) (source.reads source_old) (source.reads source_new)
+      ⊎ PassesLimit (source.remaining source_old) (source.reads source_old)
+      (source.reads source_new)
   pub unwritten : sink_new ≡ sink_old
 
--- what every run leaves of its source and its sink, whatever script it carries out: `answer_to`
--- says what the bytes of a script come to
+-- what every run leaves of its source and its sink; `answer_to` gives the answer to the bytes of a
+-- script, of whatever kind
 pub record LeavesDevices {S T : Type 0} (answer_to : List ℕ → Answer)
     (source : SourceView S) (source_old source_new : S)
     (sink : SinkView T) (sink_old sink_new : T) (status : RunStatus) : Type 0 where
@@ -77,7 +79,8 @@ pub record LeavesDevices {S T : Type 0} (answer_to : List ℕ → Answer)
   pub input_length : IsAnswered status
       → IfSome (source.remaining source_old) (λ input. length input ≤ input_limit)
   -- how many calls were made
-  pub reads_within_limit : source.reads source_new ≤ saturating_add read_limit (source.reads source_old)
+  pub reads_within_limit :
+      source.reads source_new ≤ saturating_add read_limit (source.reads source_old)
   pub reads : IfSome (source.remaining source_old) (λ input.
       source.reads source_new ≤ saturating_add (length input + 1) (source.reads source_old))
   pub writes : IfSome (source.remaining source_old) (λ input.

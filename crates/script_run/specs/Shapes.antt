@@ -1,4 +1,4 @@
--- The shapes of JSON values: what a value stands for, where it has the shape (this project's profile).
+-- The shapes of JSON values: what a value stands for, if it has the shape (this project's profile).
 use Rattle.std.specs.Prelude.{◌≡◌, ℕ, zero, suc, List, [], ◌∷◌, Bool, false, ◌==◌, nat_eq, nat_le, if◌then◌else◌, codes, Option, Some, None, option_map, Result, Ok, Err}
 use Rattle.std.specs.Cmp.Lexicographic.{pointwise}
 use Rattle.serde_json.specs.Data.{Data, Items, no_items, item, Members, no_members, member}

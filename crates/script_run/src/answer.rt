@@ -1,4 +1,4 @@
-//! What a fold script comes to.
+//! The output of a fold script.
 
 ghost use Rattle.std.specs.Prelude.{◌≡◌, ◌++◌, IfOk, IsSome, OnOk, Ok, Err, string_bytes};
 ghost use Rattle.model.specs.Metadata.{metadata};
@@ -26,10 +26,8 @@ pub struct Output {
     pub status: RunStatus,
 }
 
-/// What the bytes of a fold script come to: the routing of its folded rows and the tags of its asked keys, or
-/// its first fault (this project's profile).
-///
-/// Answers `OutOfMemory` where there is no memory for it.
+/// The output of a fold script: the routing of its folded rows and the tags of its asked keys, or its first
+/// fault (this project's profile). Fails only with `OutOfMemory`.
 pub fn answer(alloc: Global, bytes: &[u8]) -> Result<Output, OutOfMemory>
     ensures output { IfOk result (IsOutput (fold_text bytes.now)) }
     ensures answered { IfOk result (λ output. IsAnswered output.status) }

@@ -21,8 +21,8 @@ impl From<Refusal> for ScriptFault {
     }
 }
 
-/// The batch of these transactions, or the first fault of one in their order, and then that they are too
-/// many (this project's profile).
+/// The batch of these transactions; otherwise the first fault of a transaction, in their order, and then that
+/// there are too many (this project's profile).
 pub(crate) fn admit_batch(alloc: Global, given: &[Transaction]) -> Result<Batch, ScriptFault>
     ensures { GivesScript result (checked_batch (map given_of given.now)) }
 {
@@ -36,7 +36,8 @@ pub(crate) fn admit_batch(alloc: Global, given: &[Transaction]) -> Result<Batch,
 fn admit_each(alloc: Global, given: &[Transaction]) -> Result<Vec<Admitted>, ScriptFault>
     ensures kept { IfOk result (λ admitted. admitted.items ≡ map given_of given.now) }
     ensures limits { OnOk result (first_fault transaction_fault (map given_of given.now) ≡ None) }
-    ensures refused { IfErr result (λ fault. IsOfRefusal fault (first_fault transaction_fault (map given_of given.now))) }
+    ensures refused { IfErr result (λ fault.
+        IsOfRefusal fault (first_fault transaction_fault (map given_of given.now))) }
 {
     let mut admitted = Vec::with_capacity(alloc, given.len())?;
     for transaction in given {

@@ -14,12 +14,12 @@ use serde_json::Value;
 use std::alloc::Global;
 use system_keys::Items;
 
-/// The batch that the bytes are (this project's profile): a list of transactions.
+/// Reads a batch from its bytes: a list of transactions (this project's profile).
 ///
-/// Answers the first of: `NotJson` (`serde_json` reads no value), `BadShape` (the value does not have the form
-/// of a batch, a text of it spells no bytes, or a snapshot of it is past the greatest number), the first fault
-/// of a transaction, in the order of the list, and that there are more than 1,024. `OutOfMemory` may come at
-/// any point.
+/// Otherwise returns the first of: `NotJson` (`serde_json` reads no value), `BadShape` (the value does not have
+/// the form of a batch, a text in it is not the text of bytes, or a snapshot is above the greatest number), the
+/// first fault of a transaction, in the order of the list, and that there are more than 1,024. Fails with
+/// `OutOfMemory` if an allocation fails, at any point.
 #[tactic(auto, unfolding(crate::specs::BatchScripts::batch_of))]
 pub fn read_batch(alloc: Global, bytes: &[u8]) -> Result<Batch, ScriptFault>
     ensures { GivesScript result (batch_of bytes.now) }

@@ -1,4 +1,4 @@
-//! What the program reads from and writes to: one read call, one write call, and a count of failures.
+//! The devices of a run: a source with one read call, a sink with one write call, and counts of failed calls.
 ghost use Rattle.std.specs.Prelude.{◌≡◌, ◌⊎◌, ◌+◌, ◌-◌, ◌^◌, ◌<◌, ◌≤◌, length, ℕ, List, [], Option, IfOk, IfSome};
 ghost use Rattle.std.specs.Prelude.{IsErrOf, OnErr, OnOk};
 ghost use Rattle.std.specs.Io.{ReadsAtMost, WritesAtMost};
@@ -9,11 +9,11 @@ ghost use Rattle.script_run.specs.declared.devices.ReadFault.TheVariants as faul
 use std::alloc::{AllocError, Global};
 use std::io::{Read, Write};
 
-/// A device refused a call, for whatever reason.
+/// A call of a device failed, for any reason.
 #[derive(Clone, Copy, Debug, PartialEq, Eq)]
 pub struct Failed;
 
-/// What gives bytes, where they are known.
+/// A source of bytes. Contracts see the bytes that are left, if the source exposes them.
 pub trait Source {
     ghost remaining: { Self → Option (List ℕ) };
 
@@ -21,8 +21,8 @@ pub trait Source {
 
     ghost reads: { Self → ℕ };
 
-    /// Fills the front of the buffer, and says how many bytes it gave: none only at the end, or where
-    /// the buffer has no room.
+    /// Fills the front of the buffer and returns the number of bytes: 0 only at the end of the input, or if the
+    /// buffer is empty.
     fn read(&mut self, buffer: &mut [u8]) -> Result<usize, Failed>
         ensures bound { ReadsAtMost result buffer.new }
         ensures taken { ReadConsumes (remaining self.old) (remaining self.new) result buffer.new }
@@ -35,7 +35,7 @@ pub trait Source {
         ensures { result ≡ failed self.now };
 }
 
-/// What takes bytes, where they are known.
+/// A sink for bytes. Contracts see the bytes that were written, if the sink exposes them.
 pub trait Sink {
     ghost written: { Self → Option (List ℕ) };
 
@@ -43,7 +43,8 @@ pub trait Sink {
 
     ghost writes: { Self → ℕ };
 
-    /// Takes bytes from the front, and says how many. A call that is given some and takes none has failed.
+    /// Writes a front of the bytes and returns its length. A call that takes none of at least one byte counts
+    /// as failed.
     fn write(&mut self, bytes: &[u8]) -> Result<usize, Failed>
         ensures bound { WritesAtMost result bytes.now }
         ensures put { WriteAppends (written self.old) (written self.new) result bytes.now }
@@ -159,7 +160,7 @@ impl<W: Write> Sink for Writer<W> {
 /// Why a source could not be read to its end.
 #[derive(Clone, Copy, Debug, PartialEq, Eq)]
 pub enum ReadFault {
-    /// There was no memory for the bytes.
+    /// An allocation failed.
     OutOfMemory,
     /// A read failed.
     Device,
@@ -191,10 +192,10 @@ const READ_LIMIT: u64 = 1_048_576;
 // `READ_LIMIT` calls, so the two bound the memory that it takes.
 const READ_SIZE: usize = 4_096;
 
-/// All bytes that the source has.
+/// Reads all bytes of the source, up to its end, and does not call it after that.
 ///
-/// The source is then at its end, and is not called again. Returns `Device` if a read failed, `Limit` if the
-/// last call allowed did not meet the end, and `OutOfMemory` if there is no memory for the bytes.
+/// Fails with `Device` if a read failed, with `Limit` if the last call allowed did not meet the end, and with
+/// `OutOfMemory` if an allocation fails.
 pub fn read_all<S: Source>(alloc: Global, source: &mut S) -> Result<Vec<u8>, ReadFault>
     requires { S.failed source.old < 2 ^ 64 - 1 }
     ensures whole { IfOk result (λ bytes.
@@ -228,8 +229,8 @@ pub fn read_all<S: Source>(alloc: Global, source: &mut S) -> Result<Vec<u8>, Rea
     Err(ReadFault::Limit)
 }
 
-/// Writes all bytes, in as many calls as it takes: each takes a byte or fails, and none follows one that
-/// failed.
+/// Writes all bytes, in as many calls as it takes. Each call takes at least one byte or fails, and no call
+/// follows one that failed.
 pub fn write_all<T: Sink>(sink: &mut T, bytes: &[u8]) -> Result<(), Failed>
     requires { T.failed sink.old < 2 ^ 64 - 1 }
     ensures ok { OnOk result (Appends (T.written sink.old) (T.written sink.new) bytes.now) }

@@ -10,11 +10,12 @@ use model::{JournalRow, StateTxn};
 use std::alloc::Global;
 use system_keys::{Change, Items, KeyRange};
 
-/// What is checked before it is used.
+/// A value that is made only from checked parts.
 pub(crate) trait Checked<R: Drop>: Drop {
     ghost checked: { R → Result Self Refusal };
 
-    /// What was checked, or its first fault in the order of the script (this project's profile).
+    /// The checked value, or the first fault in the order of the script (this project's profile). Fails with
+    /// `OutOfMemory` if an allocation fails.
     fn check(alloc: Global, raw: R) -> Result<Self, ScriptFault>
         ensures { GivesChecked result (checked raw) };
 }

@@ -14,12 +14,12 @@ use crate::value_reading::read_value;
 use serde_json::Value;
 use std::alloc::Global;
 
-/// The fold script that the bytes are (this project's profile).
+/// Reads a fold script from its bytes (this project's profile).
 ///
-/// Answers the first of: `NotJson` (`serde_json` reads no value), `BadShape` (the value does not have the form
-/// of a fold script, a text of it spells no bytes, or a number of it is outside its limits), and the refusal of
-/// the first key, value or range at fault, in the order of the script's lists. `OutOfMemory` may come at any
-/// point.
+/// Otherwise returns the first of: `NotJson` (`serde_json` reads no value), `BadShape` (the value does not have
+/// the form of a fold script, a text in it is not the text of bytes, or a number is outside its limits), and the
+/// refusal of the first key, value or range at fault, in the order of the script's lists. Fails with
+/// `OutOfMemory` if an allocation fails, at any point.
 #[tactic(auto, unfolding(crate::specs::FoldScripts::script_of))]
 pub fn read_script(alloc: Global, bytes: &[u8]) -> Result<FoldScript, ScriptFault>
     ensures { GivesScript result (script_of bytes.now) }

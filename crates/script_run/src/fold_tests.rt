@@ -1,5 +1,5 @@
-//! Tests of whole fold scripts against worked texts. Each call that takes memory is made again where it was
-//! refused memory, so that the tests also pass where any one allocation fails.
+//! Tests of whole fold scripts against worked texts. Each call that allocates is made once more after
+//! `OutOfMemory`, so that the tests also pass if any one allocation fails.
 
 use crate::fold_lines::{print_asked, print_routing};
 use crate::fold_reading::read_script;

@@ -14,7 +14,7 @@ use std::alloc::Global;
 pub fn run_fold<S: Source, T: Sink>(alloc: Global, source: &mut S, sink: &mut T) -> RunStatus
     requires read_count { S.failed source.old < 2 ^ 64 - 1 }
     requires write_count { T.failed sink.old < 2 ^ 64 - 1 }
-    ensures folds { Folds (S.remaining source.old) (T.written sink.old) (T.written sink.new) result }
+    ensures fold { Folds (S.remaining source.old) (T.written sink.old) (T.written sink.new) result }
     ensures devices { LeavesDevices fold_text S.Source source.old source.new
         T.Sink sink.old sink.new result }
 {

@@ -19,7 +19,8 @@ pub(crate) const NUMBER_LIMIT: u64 = 9_223_372_036_854_775_807;
 pub(crate) trait Shaped: Drop {
     ghost shape: { Data → Option Self };
 
-    /// What the value stands for. Answers `BadShape` where it does not have the shape.
+    /// What the value stands for. Fails with `BadShape` if it does not have the shape, and with `OutOfMemory`
+    /// if an allocation fails.
     fn shaped(alloc: Global, value: &Value) -> Result<Self, ScriptFault>
         ensures { Gives result (shape (view value.now)) };
 }

@@ -1,5 +1,5 @@
-//! What no clause says: that runs succeed with ample memory. A run that was refused memory is made again, so
-//! that the tests also pass where any one allocation fails.
+//! What no clause says: that runs succeed if no allocation fails. A run that failed with `OutOfMemory` is made
+//! once more, so that the tests also pass if any one allocation fails.
 pub(crate) mod again;
 pub(crate) mod fakes;
 mod std_devices;
@@ -27,7 +27,7 @@ struct Devices {
 }
 
 // Devices that never fail.
-const FINE: Devices = Devices {
+const RELIABLE: Devices = Devices {
     read_at_most: 64,
     failing_read: 0,
     written_at_most: 64,
@@ -50,7 +50,7 @@ fn run_once(
     (status, source, sink)
 }
 
-// Folds this script, and once more where that wanted memory.
+// Folds this script, and once more after `OutOfMemory`.
 fn run(
     rt: &impl AllocGlobal,
     script: &'static [u8],
@@ -61,7 +61,7 @@ fn run(
 
 #[test]
 fn a_script_is_folded(rt: HostRuntime) {
-    let (status, source, sink) = run(&rt, SCRIPT, FINE);
+    let (status, source, sink) = run(&rt, SCRIPT, RELIABLE);
     assert!(rt; matches!(status, RunStatus::Done));
     assert_eq!(rt; sink.bytes(), TEXT);
     // The script and the text fit in one call; the other read meets the end.
@@ -79,7 +79,7 @@ fn numbers_of_statuses(rt: HostRuntime) {
 
 #[test]
 fn a_refused_script_is_answered_with_its_line(rt: HostRuntime) {
-    let (status, _source, sink) = run(&rt, b"\xff", FINE);
+    let (status, _source, sink) = run(&rt, b"\xff", RELIABLE);
     assert!(rt; matches!(status, RunStatus::ScriptRefused));
     assert_eq!(rt; sink.bytes(), b"refused 70 NotJson\n".as_slice());
 }
@@ -105,7 +105,7 @@ fn read_fails(rt: &(impl Abort + AllocGlobal), script: &'static [u8], most: usiz
     let devices = Devices {
         read_at_most: most,
         failing_read: call,
-        ..FINE
+        ..RELIABLE
     };
     let (status, source, sink) = run(rt, script, devices);
     assert!(rt;
@@ -141,13 +141,13 @@ fn write_fails(rt: &(impl Abort + AllocGlobal), most: usize, call: u64, taken: &
     let failing = Devices {
         written_at_most: most,
         failing_write: call,
-        ..FINE
+        ..RELIABLE
     };
     ends_at(rt, SCRIPT, failing, call, taken);
     let full = Devices {
         written_at_most: most,
         full_write: call,
-        ..FINE
+        ..RELIABLE
     };
     ends_at(rt, SCRIPT, full, call, taken);
 }
@@ -172,7 +172,7 @@ fn the_line_of_a_refusal_may_fail(rt: HostRuntime) {
     let devices = Devices {
         written_at_most: 8,
         failing_write: 2,
-        ..FINE
+        ..RELIABLE
     };
     ends_at(&rt, b"\xff", devices, 2, b"refused ");
 }
@@ -181,7 +181,7 @@ fn the_line_of_a_refusal_may_fail(rt: HostRuntime) {
 fn a_byte_at_a_time_is_the_same_script(rt: HostRuntime) {
     let devices = Devices {
         read_at_most: 1,
-        ..FINE
+        ..RELIABLE
     };
     let (status, source, sink) = run(&rt, SCRIPT, devices);
     assert!(rt; matches!(status, RunStatus::Done));
@@ -195,7 +195,7 @@ fn a_short_write_is_no_failure(rt: HostRuntime) {
     for (most, calls) in [(1, 56), (2, 28), (55, 2)] {
         let devices = Devices {
             written_at_most: most,
-            ..FINE
+            ..RELIABLE
         };
         let (status, _source, sink) = run(&rt, SCRIPT, devices);
         assert!(rt; matches!(status, RunStatus::Done));
@@ -212,7 +212,7 @@ fn run_over_spaces_once(rt: &impl AllocGlobal, count: u64) -> (RunStatus, Spaces
     (status, source, sink)
 }
 
-// Reads so many spaces, one a call, and once more where that wanted memory.
+// Reads so many spaces, one a call, and once more after `OutOfMemory`.
 fn run_over_spaces(rt: &impl AllocGlobal, count: u64) -> (RunStatus, Spaces, MemorySink) {
     run_twice!(run_over_spaces_once(rt, count))
 }

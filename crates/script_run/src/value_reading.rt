@@ -6,8 +6,8 @@ use crate::script_fault::ScriptFault;
 use serde_json::Value;
 use std::alloc::Global;
 
-/// The JSON value that the bytes are (this project's profile). Answers `NotJson` where `serde_json` reads
-/// none, and `OutOfMemory` where there is no memory for it.
+/// The JSON value that the bytes are (this project's profile). Fails with `NotJson` if `serde_json` reads no
+/// value, and with `OutOfMemory` if an allocation fails.
 #[tactic(auto, using(crate::proofs::ValueLemmas::value_of_text, crate::proofs::ValueLemmas::no_value_of))]
 pub(crate) fn read_value(alloc: Global, bytes: &[u8]) -> Result<Value, ScriptFault>
     ensures { GivesValue result (value_of bytes.now) }

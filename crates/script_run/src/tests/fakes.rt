@@ -159,7 +159,7 @@ impl MemorySink {
         self
     }
 
-    // Keeps the bytes, at the second try where the first one was refused memory.
+    // Keeps the bytes, at the second try if an allocation failed at the first.
     fn keep(&mut self, bytes: &[u8]) -> bool
         ensures kept { IsTrue result → self.new.bytes.items ≡ self.old.bytes.items ++ bytes.now }
         ensures lost { IsFalse result → self.new.bytes.items ≡ self.old.bytes.items }
@@ -234,7 +234,7 @@ impl Read for Faltering<'_> {
 }
 
 /// A writer of the standard library that takes at most `most` bytes a call and forgets them, and whose call of
-/// the number `fails_at` fails, or takes no byte where there is no error. It would go on after that.
+/// the number `fails_at` fails, or takes no byte if `error` is `None`. It would go on after that.
 #[derive(Drop)]
 pub struct Halting {
     pub taken: usize,

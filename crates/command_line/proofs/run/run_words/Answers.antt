@@ -24,7 +24,7 @@ returns-in-Ok-Some-Fold-clause-mode g c =
     record {
       names = read.0;
       refused = λ some. absurd (some read.1.0);
-      taken = λ _. inr (runs_fold _ _ (sym read.1.1 ∙ c.in-Ok-Some-Fold.ensures.offered) c.run_fold.ensures.folds);
+      taken = λ _. inr (runs_fold _ _ (sym read.1.1 ∙ c.in-Ok-Some-Fold.ensures.offered) c.run_fold.ensures.fold);
     }
 
 pub returns-in-Err-clause-mode : goal.returns-in-Err-clause-mode
