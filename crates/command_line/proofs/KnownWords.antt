@@ -1,5 +1,5 @@
 -- What clap makes of words that are written out.
-use Rattle.std.proofs.Common.{◌≡◌, ◌⊎◌, ◌≢◌, ℕ, List, [], ◌∷◌, Option, Some, None, codes, map, refl, subst, ap, ◌∙◌, inl, inr}
+use Rattle.std.proofs.Common.{◌≡◌, ◌≢◌, ℕ, List, [], ◌∷◌, Option, Some, None, codes, map, refl, subst, ap, ◌∙◌, inl, inr}
 use Rattle.std.specs.Borrow.{Bor}
 use Rattle.clap.specs.Kinds.{Kinds}
 use Rattle.clap.specs.Words.{App, Text, fault_of, new_rule, with_rule}
@@ -8,11 +8,11 @@ use Rattle.clap.specs.declared.error.kind.ErrorKind.{ErrorKind}
 use Rattle.clap.specs.declared.error.kind.ErrorKind.TheVariants as kind
 use Rattle.clap.proofs.OnLiterals.{clap_on_literals}
 use Rattle.command_line.specs.CommandLine.{ModeNames, bare_shape, command_line}
-use Rattle.command_line.specs.WordRuns.{IsFoldLine, IsHelpLine, IsOtherModeLine, IsTurnedAway, RunsMode, RunsWords}
+use Rattle.command_line.specs.Statuses.{IsRejected}
+use Rattle.command_line.specs.WordRuns.{FoldsOrRunsOut, IsFoldLine, IsRejectedLine, RunsMode, RunsWords}
 use Rattle.command_line.specs.declared.mode.Mode.{Mode}
 use Rattle.command_line.specs.declared.mode.Mode.TheVariants.{Fold}
-use Rattle.script_run.specs.declared.status.Status.{Status}
-use Rattle.script_run.specs.declared.status.Status.TheVariants.{OutOfMemory}
+use Rattle.command_line.specs.declared.status.Status.{Status}
 
 -- a list of names, and the command line that takes them
 abbrev NameList : Type 0
@@ -69,39 +69,34 @@ fold_line_taken names words (inr fold) =
 some_fault : (kinds : Kinds) (k : ErrorKind) → kinds ≡ k ∷ [] → kinds ≢ []
 some_fault kinds k is none = cc
 
--- clap refuses the other modes
-other_mode_refused : (names : ModeNames) (words : List Text) → IsOtherModeLine words → fault_of (command_line names) words ≢ []
-other_mode_refused names words (inl turns) = some_fault _ kind.InvalidValue (ap (fault_of (command_line names)) turns
-    ∙ of_names (λ (list : NameList). fault_of (line list) (codes "turns" ∷ []) ≡ kind.InvalidValue ∷ []) turns_at_refused names)
-other_mode_refused names words (inr threads) = some_fault _ kind.InvalidValue (ap (fault_of (command_line names)) threads
-    ∙ of_names (λ (list : NameList). fault_of (line list) (codes "threads" ∷ []) ≡ kind.InvalidValue ∷ []) threads_at_refused names)
+-- the first fault of a command line of one word, wherever the names lie
+first_fault_is : (names : ModeNames) (words : List Text) (word : Text) (k : ErrorKind) → words ≡ word ∷ []
+    → ((list_at text_at : ℕ × ℕ) → fault_of (line (fold_at list_at text_at)) (word ∷ []) ≡ k ∷ [])
+    → fault_of (command_line names) words ≢ []
+first_fault_is names words word k is refused = some_fault _ k (ap (fault_of (command_line names)) is
+    ∙ of_names (λ (list : NameList). fault_of (line list) (word ∷ []) ≡ k ∷ []) refused names)
 
--- clap refuses a call for help
-help_refused : (names : ModeNames) (words : List Text) → IsHelpLine words → fault_of (command_line names) words ≢ []
-help_refused names words (inl long) = some_fault _ kind.DisplayHelp (ap (fault_of (command_line names)) long
-    ∙ of_names (λ (list : NameList). fault_of (line list) (codes "--help" ∷ []) ≡ kind.DisplayHelp ∷ []) help_at_refused names)
-help_refused names words (inr short) = some_fault _ kind.DisplayHelp (ap (fault_of (command_line names)) short
-    ∙ of_names (λ (list : NameList). fault_of (line list) (codes "-h" ∷ []) ≡ kind.DisplayHelp ∷ []) short_help_at_refused names)
+-- clap refuses the modes that do not exist yet, and a call for help
+rejected_line_refused : (names : ModeNames) (words : List Text) → IsRejectedLine words → fault_of (command_line names) words ≢ []
+rejected_line_refused names words (inl turns) = first_fault_is names words _ kind.InvalidValue turns turns_at_refused
+rejected_line_refused names words (inr (inl threads)) = first_fault_is names words _ kind.InvalidValue threads threads_at_refused
+rejected_line_refused names words (inr (inr (inl help))) = first_fault_is names words _ kind.DisplayHelp help help_at_refused
+rejected_line_refused names words (inr (inr (inr help))) = first_fault_is names words _ kind.DisplayHelp help short_help_at_refused
 
 -- a mode that ran is `fold`
 ran : (given : Option Mode) (folds : Type 0) → RunsMode given folds → folds
 ran (Some Fold) folds h = h
 ran None folds h = absurd h
 
--- where clap takes the words of a command line that folds, it folds
-pub fold_line_folds : (words : List Text) (status : Status) (idle folds : Type 0) → RunsWords words status idle folds → IsFoldLine words
-    → ((status ≡ OutOfMemory) × idle) ⊎ folds
-fold_line_folds words status idle folds run line = elim (run.taken (fold_line_taken run.names words line)) [
-  | inl wanting ↦ inl wanting
+-- if clap takes the words of a command line that folds, it folds
+pub fold_line_folds : (words : List Text) (status : Status) (unchanged folds : Type 0) → RunsWords words status unchanged folds
+    → IsFoldLine words → FoldsOrRunsOut status unchanged folds
+fold_line_folds words status unchanged folds run line = elim (run.taken (fold_line_taken run.names words line)) [
+  | inl memory ↦ inl memory
   | inr mode ↦ inr (ran _ folds mode)
 ]
 
--- and turns away who asks for another mode
-pub other_mode_turned_away : (words : List Text) (status : Status) (idle folds : Type 0) → RunsWords words status idle folds → IsOtherModeLine words
-    → IsTurnedAway status × idle
-other_mode_turned_away words status idle folds run line = run.refused (other_mode_refused run.names words line)
-
--- and who asks for help
-pub help_turned_away : (words : List Text) (status : Status) (idle folds : Type 0) → RunsWords words status idle folds → IsHelpLine words
-    → IsTurnedAway status × idle
-help_turned_away words status idle folds run line = run.refused (help_refused run.names words line)
+-- a command line of another mode, or a call for help, is rejected
+pub rejected_line_rejected : (words : List Text) (status : Status) (unchanged folds : Type 0) → RunsWords words status unchanged folds
+    → IsRejectedLine words → IsRejected status × unchanged
+rejected_line_rejected words status unchanged folds run line = run.refused (rejected_line_refused run.names words line)

@@ -34,7 +34,7 @@ bare_shape = record (new_shape (codes "proxy_run")) { no_binary_name = true }
 abbrev pub command_line : ModeNames → App
 command_line names = with_rule (record { top = bare_shape; subs = [] }) (mode_rule names)
 
--- the mode of the word that was given, `fold` where none was
+-- the mode of the word that was given; `fold` without one
 abbrev pub mode_given : Option Text → Option Mode
 mode_given None = Some Fold
 mode_given (Some name) = mode_named name
@@ -50,8 +50,8 @@ pub record IsCommandLine (names : ModeNames) (command : Command) : Type 0 where
       → first_value (found_of matches) (codes "mode") ≡ Some word
       → Accepts false (Names names.list) word
 
--- what clap reads of the words: the mode where it takes them, and else one of its faults or want of
--- memory
+-- what `clap` reads of the words: the mode if it takes them, and otherwise one of its faults or
+-- OutOfMemory
 abbrev pub ReadsMode : List Text → Result (Option Mode) Error → Type 0
 ReadsMode words read = (names : ModeNames) × MatchResult read
     (λ mode. (fault_of (command_line names) words ≡ [])

@@ -1,3 +1,4 @@
 pub mod CommandLine
 pub mod Modes
+pub mod Statuses
 pub mod WordRuns

@@ -1,46 +1,42 @@
 -- What a run by words leaves.
-use Rattle.std.specs.Prelude.{◌≡◌, ◌≢◌, ◌⊎◌, ◌∷◌, ℕ, List, [], Option, Some, None, codes, string_bytes}
+use Rattle.std.specs.Prelude.{◌≡◌, ◌≢◌, ◌⊎◌, ◌∷◌, List, [], Option, Some, None, codes}
 use Rattle.clap.specs.Words.{Text, fault_of, matches_of}
 use Rattle.command_line.specs.CommandLine.{ModeNames, command_line, mode_of}
+use Rattle.command_line.specs.Statuses.{IsRejected}
 use Rattle.command_line.specs.declared.mode.Mode.{Mode}
 use Rattle.command_line.specs.declared.mode.Mode.TheVariants.{Fold}
-use Rattle.script_run.specs.declared.status.Status.{Status}
-use Rattle.script_run.specs.declared.status.Status.TheVariants.{CommandLineRefused, OutOfMemory}
+use Rattle.command_line.specs.declared.status.Status.{Status}
+use Rattle.command_line.specs.declared.status.Status.TheVariants.{CommandLineRefused, Ran}
+use Rattle.script_run.specs.declared.status.RunStatus.{RunStatus}
+use Rattle.script_run.specs.declared.status.RunStatus.TheVariants.{OutOfMemory}
 
--- the command line was refused, or memory was wanting for it
-abbrev pub IsTurnedAway : Status → Type 0
-IsTurnedAway (CommandLineRefused text) = Unit {0}
-IsTurnedAway OutOfMemory = Unit {0}
-IsTurnedAway _ = ⊥
-
--- the same, where the text of a refused command line is this one
-abbrev pub IsTurnedAwayWith : List ℕ → Status → Type 0
-IsTurnedAwayWith said (CommandLineRefused text) = string_bytes text ≡ said
-IsTurnedAwayWith said OutOfMemory = Unit {0}
-IsTurnedAwayWith said _ = ⊥
-
--- what a run in a mode leaves; words that are taken give a mode
+-- what a run in a mode leaves; every command line that `clap` takes gives a mode
 abbrev pub RunsMode : Option Mode → Type 0 → Type 0
 RunsMode (Some Fold) folds = folds
 RunsMode None folds = ⊥
 
--- what a run leaves by what clap reads of the words: where it refuses them nothing is read or written
--- (`idle`), and else their mode runs, unless memory was wanting before that
-pub record RunsWords (words : List Text) (status : Status) (idle folds : Type 0) : Type 0 where
+-- what is left of the devices: what a run with this status leaves, or all unchanged
+abbrev pub LeavesByStatus : Status → Type 0 → (RunStatus → Type 0) → Type 0
+LeavesByStatus (Ran status) unchanged leaves = leaves status
+LeavesByStatus (CommandLineRefused text) unchanged leaves = unchanged
+
+-- an allocation failed before the run began, and the devices are unchanged; or the run folded
+abbrev pub FoldsOrRunsOut : Status → Type 0 → Type 0 → Type 0
+FoldsOrRunsOut status unchanged folds = ((status ≡ Ran OutOfMemory) × unchanged) ⊎ folds
+
+-- what `clap` reads of the words decides the run: if it refuses them, the devices are unchanged;
+-- if it takes them, their mode runs, unless an allocation fails before
+pub record RunsWords (words : List Text) (status : Status) (unchanged folds : Type 0) : Type 0 where
   pub names : ModeNames
-  pub refused : fault_of (command_line names) words ≢ [] → IsTurnedAway status × idle
-  pub taken : fault_of (command_line names) words ≡ []
-      → ((status ≡ OutOfMemory) × idle)
-      ⊎ RunsMode (mode_of (matches_of (command_line names) words)) folds
+  pub refused : fault_of (command_line names) words ≢ [] → IsRejected status × unchanged
+  pub taken : fault_of (command_line names) words ≡ [] → FoldsOrRunsOut status unchanged
+      (RunsMode (mode_of (matches_of (command_line names) words)) folds)
 
 -- the words of a command line that folds: none, or `fold` alone
 abbrev pub IsFoldLine : List Text → Type 0
 IsFoldLine words = (words ≡ []) ⊎ (words ≡ codes "fold" ∷ [])
 
--- the words of a command line that asks for a mode that is not there yet
-abbrev pub IsOtherModeLine : List Text → Type 0
-IsOtherModeLine words = (words ≡ codes "turns" ∷ []) ⊎ (words ≡ codes "threads" ∷ [])
-
--- the words of a command line that asks for help
-abbrev pub IsHelpLine : List Text → Type 0
-IsHelpLine words = (words ≡ codes "--help" ∷ []) ⊎ (words ≡ codes "-h" ∷ [])
+-- the words of a command line that is rejected: a mode that does not exist yet, or a call for help
+abbrev pub IsRejectedLine : List Text → Type 0
+IsRejectedLine words = (words ≡ codes "turns" ∷ []) ⊎ (words ≡ codes "threads" ∷ [])
+    ⊎ (words ≡ codes "--help" ∷ []) ⊎ (words ≡ codes "-h" ∷ [])

@@ -1,7 +1,8 @@
-//! What no clause says: that runs succeed with ample memory, and `clap`'s texts. A run that was refused memory
-//! is made again, so that the tests also pass where any one allocation fails.
+//! What no clause says: that runs succeed if no allocation fails, and `clap`'s texts. A run that failed with
+//! `OutOfMemory` is made once more, so that the tests also pass if any one allocation fails.
 use crate::run::run_words;
-use script_run::{Reader, Status, Writer};
+use crate::status::Status;
+use script_run::{Reader, RunStatus, Writer};
 use std::process::Abort;
 
 const FOLD: &[&str] = &["fold"];
@@ -38,13 +39,13 @@ fn run_once(rt: &impl AllocGlobal, words: &[&str], script: &mut &[u8], room: &mu
     run_words(rt, words, &mut reader, &mut writer)
 }
 
-// Runs these words over the script, and once more, from its beginning, where that wanted memory: how it ended,
-// how many bytes of the script were left, and what was written.
+// Runs these words over the script, and once more, from its beginning, after `OutOfMemory`: how it ended, how
+// many bytes of the script were left, and what was written.
 fn run(rt: &impl AllocGlobal, words: &[&str], given: &[u8]) -> (Status, usize, [u8; 128]) {
     let mut script = given;
     let mut room = ROOM;
     let mut status = run_once(rt, words, &mut script, &mut room);
-    if matches!(status, Status::OutOfMemory) {
+    if matches!(status, Status::Ran(RunStatus::OutOfMemory)) {
         script = given;
         status = run_once(rt, words, &mut script, &mut room);
     }
@@ -261,7 +262,7 @@ fn a_full_writer_ends_the_run(rt: HostRuntime) {
     let mut script = SCRIPT;
     let mut room = [0u8; 3];
     let mut status = run_once(&rt, FOLD, &mut script, &mut room);
-    if matches!(status, Status::OutOfMemory) {
+    if matches!(status, Status::Ran(RunStatus::OutOfMemory)) {
         script = SCRIPT;
         status = run_once(&rt, FOLD, &mut script, &mut room);
     }

@@ -1,13 +1,13 @@
-//! The program: its words say what to do with the script on standard input, and what comes of it goes to
-//! standard output.
+//! The program: its words say what to do with the script on standard input, and the result goes to standard
+//! output.
 #![tactic(auto)]
 
 ghost use Rattle.std.specs.Prelude.{codes};
 ghost use Rattle.script_run.specs.FoldLines.{line};
-ghost use Rattle.command_line.specs.WordRuns.{IsTurnedAwayWith};
+ghost use Rattle.command_line.specs.Statuses.{IsRejectedWith};
 
-use command_line::run_words;
-use script_run::{Reader, Status, Writer};
+use command_line::{Status, run_words};
+use script_run::{Reader, RunStatus, Writer};
 use std::alloc::Global;
 use std::env;
 use std::io::ErrorKind;
@@ -26,23 +26,26 @@ fn run_process(rt: &HostRuntime) -> Status {
     let alloc = rt.alloc();
     let args = match env::args(rt) {
         Ok(args) => args,
-        Err(error) if error.kind() == ErrorKind::OutOfMemory => return Status::OutOfMemory,
+        Err(error) if error.kind() == ErrorKind::OutOfMemory => return Status::Ran(
+            RunStatus::OutOfMemory,
+        ),
         Err(_) => return words_are_no_text(alloc),
     };
     let Ok(words) = args.skip(1).collect::<Vec<String>>(alloc) else {
-        return Status::OutOfMemory;
+        return Status::Ran(RunStatus::OutOfMemory);
     };
     let mut reader = Reader::new(rt.stdin());
     let mut writer = Writer::new(rt.stdout());
     run_words(rt, words.as_slice(), &mut reader, &mut writer)
 }
 
-// A command line that `clap` cannot be given, since a word of it is not UTF-8.
+// Refuses a command line with a word that is not UTF-8: `clap` takes text alone.
 fn words_are_no_text(alloc: Global) -> Status
-    ensures { IsTurnedAwayWith (line (codes "error: a word of the command line is not UTF-8")) result }
+    ensures { let text = line (codes "error: a word of the command line is not UTF-8") in
+        IsRejectedWith text result }
 {
     match String::from_str(alloc, "error: a word of the command line is not UTF-8\n") {
         Ok(text) => Status::CommandLineRefused(text),
-        Err(_) => Status::OutOfMemory,
+        Err(_) => Status::Ran(RunStatus::OutOfMemory),
     }
 }

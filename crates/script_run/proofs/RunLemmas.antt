@@ -3,32 +3,35 @@ use Rattle.std.proofs.Common.{◌≡◌, ℕ, List, [], Option, Some, None, refl
 use Rattle.std.specs.Io.KnownBytes.{Appends}
 use Rattle.std.proofs.KnownBytes.{Appends-nil}
 use Rattle.script_run.specs.Devices.{AppendsBeginning}
-use Rattle.script_run.specs.FoldText.{fold_text}
-use Rattle.script_run.specs.Runs.{BeginsAnswer, Folds, Gives, WritesAnswer}
+use Rattle.script_run.specs.FoldText.{Answer}
+use Rattle.script_run.specs.Runs.{BeginsAnswer, IsInput, WritesAnswer, WritesTextOf}
 use Rattle.script_run.specs.Statuses.{IsAnswered}
-use Rattle.script_run.specs.declared.status.Status.{Status}
-use Rattle.script_run.specs.declared.status.Status.TheVariants.{Done, ScriptRefused, CommandLineRefused}
-use Rattle.script_run.specs.declared.status.Status.TheVariants.{DeviceFailed, OutOfMemory}
+use Rattle.script_run.specs.declared.status.RunStatus.{RunStatus}
+use Rattle.script_run.specs.declared.status.RunStatus.TheVariants.{Done, ScriptRefused}
+use Rattle.script_run.specs.declared.status.RunStatus.TheVariants.{DeviceFailed, OutOfMemory}
 
 -- nothing was written
-pub begins_nothing : (input old : Option (List ℕ)) → BeginsAnswer input old old
-begins_nothing None old = ([], tt, ((fold_text []).text, ([], refl, Appends-nil old)))
-begins_nothing (Some bytes) old = (bytes, refl, ((fold_text bytes).text, ([], refl, Appends-nil old)))
+pub begins_nothing : (answer_to : List ℕ → Answer) (input old : Option (List ℕ))
+    → BeginsAnswer answer_to input old old
+begins_nothing answer_to None old = ([], tt, ((answer_to []).text, ([], refl, Appends-nil old)))
+begins_nothing answer_to (Some bytes) old = (bytes, refl, ((answer_to bytes).text, ([], refl, Appends-nil old)))
 
 -- a beginning of the text of the bytes that were read was written
-pub begins_text : (input old new : Option (List ℕ)) (bytes text : List ℕ) → Gives input bytes
-    → text ≡ (fold_text bytes).text → AppendsBeginning old new text → BeginsAnswer input old new
-begins_text input old new bytes text read is begun = (bytes, read, subst (AppendsBeginning old new) is begun)
+pub begins_text : (answer_to : List ℕ → Answer) (input old new : Option (List ℕ)) (bytes text : List ℕ)
+    → IsInput input bytes → text ≡ (answer_to bytes).text → AppendsBeginning old new text
+    → BeginsAnswer answer_to input old new
+begins_text answer_to input old new bytes text read is begun = (bytes, read, subst (AppendsBeginning old new) is begun)
 
 -- the whole text of the bytes that were read was written
-writes_text : (input old new : Option (List ℕ)) (bytes text : List ℕ) (status : Status) → Gives input bytes
-    → text ≡ (fold_text bytes).text → status ≡ (fold_text bytes).status → Appends old new text → WritesAnswer input old new status
-writes_text input old new bytes text status read is ends put = (bytes, read, subst (Appends old new) is put, ends)
+whole_text : (answer_to : List ℕ → Answer) (input old new : Option (List ℕ)) (bytes text : List ℕ) (status : RunStatus)
+    → IsInput input bytes → text ≡ (answer_to bytes).text → status ≡ (answer_to bytes).status → Appends old new text
+    → WritesAnswer answer_to input old new status
+whole_text answer_to input old new bytes text status read is ends put = (bytes, read, subst (Appends old new) is put, ends)
 
-pub folds_text : (input old new : Option (List ℕ)) (bytes text : List ℕ) (status : Status) → IsAnswered status → Gives input bytes
-    → text ≡ (fold_text bytes).text → status ≡ (fold_text bytes).status → Appends old new text → Folds input old new status
-folds_text input old new bytes text Done ok read is ends put = writes_text input old new bytes text Done read is ends put
-folds_text input old new bytes text ScriptRefused ok read is ends put = writes_text input old new bytes text ScriptRefused read is ends put
-folds_text input old new bytes text (CommandLineRefused said) ok read is ends put = absurd ok
-folds_text input old new bytes text DeviceFailed ok read is ends put = absurd ok
-folds_text input old new bytes text OutOfMemory ok read is ends put = absurd ok
+pub writes_text : (answer_to : List ℕ → Answer) (input old new : Option (List ℕ)) (bytes text : List ℕ) (status : RunStatus)
+    → IsAnswered status → IsInput input bytes → text ≡ (answer_to bytes).text → status ≡ (answer_to bytes).status
+    → Appends old new text → WritesTextOf answer_to input old new status
+writes_text answer_to input old new bytes text Done ok read is ends put = whole_text answer_to input old new bytes text Done read is ends put
+writes_text answer_to input old new bytes text ScriptRefused ok read is ends put = whole_text answer_to input old new bytes text ScriptRefused read is ends put
+writes_text answer_to input old new bytes text DeviceFailed ok read is ends put = absurd ok
+writes_text answer_to input old new bytes text OutOfMemory ok read is ends put = absurd ok

@@ -10,13 +10,15 @@ use Rattle.mutation.specs.Limits.{batch_limit}
 use Rattle.script_run.specs.declared.script_fault.ScriptFault.{ScriptFault}
 use Rattle.script_run.specs.declared.script_fault.ScriptFault.TheVariants as faults
 
--- more transactions than a batch has
+-- more transactions than a batch may have
 abbrev pub size_fault : List Given → Option Refusal
-size_fault transactions = if nat_le (length transactions) batch_limit then None else Some refusals.BatchTooLarge
+size_fault transactions =
+    if nat_le (length transactions) batch_limit then None else Some refusals.BatchTooLarge
 
--- the first fault of the transactions, in their order; and then that they are too many
+-- the first fault of the transactions, in their order, and then that there are too many
 abbrev pub batch_fault : List Given → Option Refusal
-batch_fault transactions = option_or (first_fault transaction_fault transactions) (size_fault transactions)
+batch_fault transactions =
+    option_or (first_fault transaction_fault transactions) (size_fault transactions)
 
 -- the batch of these transactions, as they were given, or its first fault
 abbrev pub checked_batch : List Given → Result (List Given) ScriptFault

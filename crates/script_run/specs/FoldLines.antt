@@ -1,5 +1,6 @@
--- The lines that are printed of a folded journal (this project's profile).
-use Rattle.std.specs.Prelude.{ℕ, List, [], ◌∷◌, ◌++◌, map, flat_map, codes, Bool, true, false, Option, Some, None}
+-- The lines that are printed for a folded journal (this project's profile).
+use Rattle.std.specs.Prelude.{ℕ, List, [], ◌∷◌, ◌++◌, map, flat_map, codes}
+use Rattle.std.specs.Prelude.{Bool, true, false, Option, Some, None}
 use Rattle.std.specs.Fmt.{decimal}
 use Rattle.system_keys.specs.declared.tag.Tag.{Tag}
 use Rattle.system_keys.specs.Keys.{Key}
@@ -20,11 +21,11 @@ quoted bytes = 34 ∷ text_of bytes ++ 34 ∷ []
 abbrev pub tag_text : Tag → List ℕ
 tag_text tag = decimal tag.locality ++ 58 ∷ decimal tag.id
 
--- a word behind another, after one space
+-- a word after one space
 abbrev pub spaced : List ℕ → List ℕ
 spaced word = 32 ∷ word
 
--- words joined by one space, or `none` where there are no words
+-- words joined by one space, or `none` without words
 abbrev pub list_text : List (List ℕ) → List ℕ
 list_text [] = codes "none"
 list_text (word ∷ words) = word ++ flat_map spaced words
@@ -55,7 +56,8 @@ route_line route = line (codes "route " ++ quoted route.key ++ spaced (tags_text
 -- the routing: its version, its lock, its metadata version, and a line for each of its routes
 abbrev pub routing_text : Routing → List ℕ
 routing_text routing =
-    version_line routing.version ++ locked_line routing.locked ++ metadata_version_line routing.metadata_version ++ flat_map route_line routing.routes
+    version_line routing.version ++ locked_line routing.locked
+    ++ metadata_version_line routing.metadata_version ++ flat_map route_line routing.routes
 
 -- a key that is asked, and its tags
 abbrev pub tags_line : Key → List Tag → List ℕ

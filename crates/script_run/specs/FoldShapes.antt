@@ -1,26 +1,14 @@
--- The form of a fold script: all its fields are there, and none other is; their order is free (this project's profile).
+-- The form of a fold script: an object has all its fields and no other, in any order (this
+-- project's profile).
 use Rattle.std.specs.Prelude.{codes, if◌then◌else◌, Option, Some, None}
 use Rattle.serde_json.specs.Data.{Data}
-use Rattle.serde_json.specs.Find.{get, as_bool}
+use Rattle.serde_json.specs.Find.{as_bool}
 use Rattle.script_run.specs.declared.fold_script.RawScript.{RawScript}
 use Rattle.script_run.specs.declared.fold_script.RawRow.{RawRow}
 use Rattle.script_run.specs.declared.fold_script.RawState.{RawState}
-use Rattle.script_run.specs.declared.fold_script.RawChange.{RawChange}
-use Rattle.script_run.specs.declared.fold_script.RawChange.TheVariants.{Set, Clear}
-use Rattle.script_run.specs.Shapes.{◌>>=◌, number_shape, bytes_shape, verdict_shape, list_shape, pair_shape, has_fields, field_shape}
-
--- `{"set":[key,value]}`, and otherwise `{"clear":[begin,end]}`
-abbrev pub set_or_clear : Option Data → Data → Option RawChange
-set_or_clear (Some value) d = do
-  pair ← pair_shape value
-  Some (Set pair.0 pair.1)
-set_or_clear None d = do
-  pair ← field_shape pair_shape (codes "clear") d
-  Some (Clear pair.0 pair.1)
-
--- one field, `set` or `clear`
-abbrev pub change_shape : Data → Option RawChange
-change_shape d = if has_fields 1 d then set_or_clear (get (codes "set") d) d else None
+use Rattle.script_run.specs.ChangeShapes.{change_shape}
+use Rattle.script_run.specs.Shapes.{◌>>=◌, number_shape, bytes_shape, verdict_shape, list_shape}
+use Rattle.script_run.specs.Shapes.{has_fields, field_shape}
 
 -- `{"mutations":[..],"lock_aware":..,"verdicts":[..]}`
 abbrev pub state_fields : Data → Option RawState

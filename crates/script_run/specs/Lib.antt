@@ -1,6 +1,7 @@
 pub mod BatchChecks
 pub mod BatchScripts
 pub mod BatchShapes
+pub mod ChangeShapes
 pub mod Devices
 pub mod FoldChecks
 pub mod FoldLimits

@@ -1,4 +1,4 @@
-//! What a fold script comes to.
+//! The output of a fold script.
 
 ghost use Rattle.std.specs.Prelude.{◌≡◌, ◌++◌, IfOk, IsSome, OnOk, Ok, Err, string_bytes};
 ghost use Rattle.model.specs.Metadata.{metadata};
@@ -11,7 +11,7 @@ use crate::fold_lines::{print_asked, print_refusal, print_routing};
 use crate::fold_reading::read_script;
 use crate::fold_script::FoldScript;
 use crate::script_fault::ScriptFault;
-use crate::status::Status;
+use crate::status::RunStatus;
 use model::JournalRow;
 use proxy_state::Metadata;
 use std::alloc::Global;
@@ -23,13 +23,11 @@ pub struct Output {
     /// The lines.
     pub text: String,
     /// How the run ends once the text is written.
-    pub status: Status,
+    pub status: RunStatus,
 }
 
-/// What the bytes of a fold script come to: the routing of its folded rows and the tags of its asked keys, or
-/// its first fault (this project's profile).
-///
-/// Answers `OutOfMemory` where there is no memory for it.
+/// The output of a fold script: the routing of its folded rows and the tags of its asked keys, or its first
+/// fault (this project's profile). Fails only with `OutOfMemory`.
 pub fn answer(alloc: Global, bytes: &[u8]) -> Result<Output, OutOfMemory>
     ensures output { IfOk result (IsOutput (fold_text bytes.now)) }
     ensures answered { IfOk result (λ output. IsAnswered output.status) }
@@ -48,7 +46,7 @@ fn folded(alloc: Global, script: FoldScript) -> Result<Output, OutOfMemory>
     print_folded(alloc, &mut text, &script)?;
     Ok(Output {
         text,
-        status: Status::Done,
+        status: RunStatus::Done,
     })
 }
 
@@ -62,7 +60,7 @@ fn refused(alloc: Global, fault: ScriptFault) -> Result<Output, OutOfMemory>
     print_refusal(&mut text, number, fault.name())?;
     Ok(Output {
         text,
-        status: Status::ScriptRefused,
+        status: RunStatus::ScriptRefused,
     })
 }
 

@@ -1,5 +1,5 @@
-//! Tests of whole batches against worked texts. Each call that takes memory is made again where it was
-//! refused memory, so that the tests also pass where any one allocation fails.
+//! Tests of whole batches against worked texts. Each call that allocates is made once more after
+//! `OutOfMemory`, so that the tests also pass if any one allocation fails.
 
 use crate::batch_reading::read_batch;
 use crate::script_fault::ScriptFault;

@@ -1,19 +1,19 @@
-//! What the program reads from and writes to: one read call, one write call, and a count of failures.
+//! The devices of a run: a source with one read call, a sink with one write call, and counts of failed calls.
 ghost use Rattle.std.specs.Prelude.{◌≡◌, ◌⊎◌, ◌+◌, ◌-◌, ◌^◌, ◌<◌, ◌≤◌, length, ℕ, List, [], Option, IfOk, IfSome};
 ghost use Rattle.std.specs.Prelude.{IsErrOf, OnErr, OnOk};
 ghost use Rattle.std.specs.Io.{ReadsAtMost, WritesAtMost};
 ghost use Rattle.std.specs.Io.KnownBytes.{Appends, IsAtEnd, ReadConsumes, WriteAppends};
-ghost use Rattle.script_run.specs.Devices.{AppendsBeginning, IsOneMore, input_limit, raised, read_limit};
+ghost use Rattle.script_run.specs.Devices.{AppendsBeginning, IsIncremented, input_limit, saturating_add, read_limit};
 ghost use Rattle.script_run.specs.declared.devices.ReadFault.TheVariants as faults;
 
 use std::alloc::{AllocError, Global};
 use std::io::{Read, Write};
 
-/// A device refused a call, for whatever reason.
+/// A call of a device failed, for any reason.
 #[derive(Clone, Copy, Debug, PartialEq, Eq)]
 pub struct Failed;
 
-/// What gives bytes, where they are known.
+/// A source of bytes. Contracts see the bytes that are left, if the source exposes them.
 pub trait Source {
     ghost remaining: { Self → Option (List ℕ) };
 
@@ -21,21 +21,21 @@ pub trait Source {
 
     ghost reads: { Self → ℕ };
 
-    /// Fills the front of the buffer, and says how many bytes it gave: none only at the end, or where
-    /// the buffer has no room.
+    /// Fills the front of the buffer and returns the number of bytes: 0 only at the end of the input, or if the
+    /// buffer is empty.
     fn read(&mut self, buffer: &mut [u8]) -> Result<usize, Failed>
         ensures bound { ReadsAtMost result buffer.new }
         ensures taken { ReadConsumes (remaining self.old) (remaining self.new) result buffer.new }
-        ensures fine { OnOk result (failed self.new ≡ failed self.old) }
-        ensures counted { OnErr result (IsOneMore (failed self.old) (failed self.new)) }
-        ensures called { IsOneMore (reads self.old) (reads self.new) };
+        ensures no_failure { OnOk result (failed self.new ≡ failed self.old) }
+        ensures counted { OnErr result (IsIncremented (failed self.old) (failed self.new)) }
+        ensures called { IsIncremented (reads self.old) (reads self.new) };
 
     /// How many calls have failed.
     fn failures(&self) -> u64
         ensures { result ≡ failed self.now };
 }
 
-/// What takes bytes, where they are known.
+/// A sink for bytes. Contracts see the bytes that were written, if the sink exposes them.
 pub trait Sink {
     ghost written: { Self → Option (List ℕ) };
 
@@ -43,14 +43,17 @@ pub trait Sink {
 
     ghost writes: { Self → ℕ };
 
-    /// Takes bytes from the front, and says how many. A call that is given some and takes none has failed.
+    /// Writes a front of the bytes and returns its length. A call that takes none of at least one byte counts
+    /// as failed.
     fn write(&mut self, bytes: &[u8]) -> Result<usize, Failed>
         ensures bound { WritesAtMost result bytes.now }
         ensures put { WriteAppends (written self.old) (written self.new) result bytes.now }
-        ensures fine { IfOk result (λ n. (0 < n) ⊎ (bytes.now ≡ []) → failed self.new ≡ failed self.old) }
-        ensures none { IfOk result (λ n. n ≡ 0 → 0 < length bytes.now → IsOneMore (failed self.old) (failed self.new)) }
-        ensures counted { OnErr result (IsOneMore (failed self.old) (failed self.new)) }
-        ensures called { IsOneMore (writes self.old) (writes self.new) };
+        ensures no_failure { IfOk result (λ n.
+            (0 < n) ⊎ (bytes.now ≡ []) → failed self.new ≡ failed self.old) }
+        ensures none { IfOk result (λ n. n ≡ 0 → 0 < length bytes.now
+            → IsIncremented (failed self.old) (failed self.new)) }
+        ensures counted { OnErr result (IsIncremented (failed self.old) (failed self.new)) }
+        ensures called { IsIncremented (writes self.old) (writes self.new) };
 
     /// How many calls have failed.
     fn failures(&self) -> u64
@@ -157,7 +160,7 @@ impl<W: Write> Sink for Writer<W> {
 /// Why a source could not be read to its end.
 #[derive(Clone, Copy, Debug, PartialEq, Eq)]
 pub enum ReadFault {
-    /// There was no memory for the bytes.
+    /// An allocation failed.
     OutOfMemory,
     /// A read failed.
     Device,
@@ -181,36 +184,36 @@ impl From<Failed> for ReadFault {
     }
 }
 
-/// How many read calls a whole input may take (this project's profile). The call that meets the end
-/// is one of them.
-pub const READ_LIMIT: u64 = 1_048_576;
+// How many read calls a whole input may take (this project's profile). The call that meets the end is one of
+// them.
+const READ_LIMIT: u64 = 1_048_576;
 
-/// How many bytes one read call asks for (this project's profile). An input without an end is refused
-/// after `READ_LIMIT` calls, so this says how much memory it can take before that.
+// How many bytes one read call asks for (this project's profile). An input without an end is refused after
+// `READ_LIMIT` calls, so the two bound the memory that it takes.
 const READ_SIZE: usize = 4_096;
 
-/// All bytes that the source has.
+/// Reads all bytes of the source, up to its end, and does not call it after that.
 ///
-/// The source is then at its end, and is not called again. Returns `Device` if a read failed, `Limit` if the
-/// last call allowed did not meet the end, and `OutOfMemory` if there is no memory for the bytes.
+/// Fails with `Device` if a read failed, with `Limit` if the last call allowed did not meet the end, and with
+/// `OutOfMemory` if an allocation fails.
 pub fn read_all<S: Source>(alloc: Global, source: &mut S) -> Result<Vec<u8>, ReadFault>
     requires { S.failed source.old < 2 ^ 64 - 1 }
     ensures whole { IfOk result (λ bytes.
         IfSome (S.remaining source.old) (λ input. bytes.items ≡ input)) }
     ensures device { IsErrOf result ReadFault.Device
         → S.failed source.new ≡ S.failed source.old + 1 }
-    ensures fine { OnOk result (S.failed source.new ≡ S.failed source.old) }
+    ensures no_failure { OnOk result (S.failed source.new ≡ S.failed source.old) }
     ensures memory { IsErrOf result ReadFault.OutOfMemory
         → S.failed source.new ≡ S.failed source.old }
     ensures ended { OnOk result (IsAtEnd (S.remaining source.new)) }
-    ensures within { S.reads source.new ≤ raised read_limit (S.reads source.old) }
+    ensures within { S.reads source.new ≤ saturating_add read_limit (S.reads source.old) }
     ensures calls { IfSome (S.remaining source.old) (λ input.
-        S.reads source.new ≤ raised (length input + 1) (S.reads source.old)) }
+        S.reads source.new ≤ saturating_add (length input + 1) (S.reads source.old)) }
     ensures once { IfOk result (λ bytes.
-        S.reads source.new ≤ raised (length bytes.items + 1) (S.reads source.old)) }
+        S.reads source.new ≤ saturating_add (length bytes.items + 1) (S.reads source.old)) }
     ensures short { IfOk result (λ bytes. length bytes.items ≤ input_limit) }
     ensures limit { IsErrOf result ReadFault.Limit → (S.failed source.new ≡ S.failed source.old)
-        × (S.reads source.new ≡ raised read_limit (S.reads source.old)) }
+        × (S.reads source.new ≡ saturating_add read_limit (S.reads source.old)) }
     ensures long { IsErrOf result ReadFault.Limit
         → IfSome (S.remaining source.old) (λ input. read_limit ≤ length input) }
 {
@@ -226,16 +229,16 @@ pub fn read_all<S: Source>(alloc: Global, source: &mut S) -> Result<Vec<u8>, Rea
     Err(ReadFault::Limit)
 }
 
-/// Writes all bytes, in as many calls as it takes: each takes a byte or fails, and none follows one that
-/// failed.
+/// Writes all bytes, in as many calls as it takes. Each call takes at least one byte or fails, and no call
+/// follows one that failed.
 pub fn write_all<T: Sink>(sink: &mut T, bytes: &[u8]) -> Result<(), Failed>
     requires { T.failed sink.old < 2 ^ 64 - 1 }
     ensures ok { OnOk result (Appends (T.written sink.old) (T.written sink.new) bytes.now) }
     ensures err { OnErr result
         (AppendsBeginning (T.written sink.old) (T.written sink.new) bytes.now) }
     ensures counted { OnErr result (T.failed sink.new ≡ T.failed sink.old + 1) }
-    ensures fine { OnOk result (T.failed sink.new ≡ T.failed sink.old) }
-    ensures calls { T.writes sink.new ≤ raised (length bytes.now) (T.writes sink.old) }
+    ensures no_failure { OnOk result (T.failed sink.new ≡ T.failed sink.old) }
+    ensures calls { T.writes sink.new ≤ saturating_add (length bytes.now) (T.writes sink.old) }
 {
     let mut rest = bytes;
     while !rest.is_empty() {

@@ -11,7 +11,7 @@ use model::{JournalRow, StateTxn};
 use std::alloc::Global;
 use system_keys::{Change, Items, KeyRange};
 
-/// What is checked before it is used.
+/// A value that is made only from checked parts.
 pub(crate) trait Checked<R: Drop>: Drop {
     ghost checked: { R → Result Self Fault };
 

@@ -11,8 +11,7 @@ use system_keys::{Bytes, OutOfMemory, Tag, print_bytes};
 
 /// Prints a routing: its version, whether it is locked, its metadata version, and a line for each of its
 /// routes.
-///
-/// Answers `OutOfMemory` where there is no memory for the text.
+/// Fails only with `OutOfMemory`.
 pub fn print_routing(alloc: Global, text: &mut String, routing: &Routing) -> Result<(), OutOfMemory>
     ensures { OnOk result (string_bytes text.new
         ≡ string_bytes text.old ++ routing_text routing.now) }
@@ -24,8 +23,7 @@ pub fn print_routing(alloc: Global, text: &mut String, routing: &Routing) -> Res
 }
 
 /// Prints an asked key and its tags.
-///
-/// Answers `OutOfMemory` where there is no memory for the text.
+/// Fails only with `OutOfMemory`.
 pub fn print_asked(
     alloc: Global,
     text: &mut String,
@@ -44,8 +42,7 @@ pub fn print_asked(
 }
 
 /// Prints a refusal: its number and its name.
-///
-/// Answers `OutOfMemory` where there is no memory for the text.
+/// Fails only with `OutOfMemory`.
 pub fn print_refusal(text: &mut String, number: u32, name: &str) -> Result<(), OutOfMemory>
     ensures { OnOk result (string_bytes text.new
         ≡ string_bytes text.old ++ refused_line number name.now) }

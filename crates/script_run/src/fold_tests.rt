@@ -1,13 +1,13 @@
-//! Tests of whole fold scripts against worked texts. Each call that takes memory is made again where it was
-//! refused memory, so that the tests also pass where any one allocation fails.
+//! Tests of whole fold scripts against worked texts. Each call that allocates is made once more after
+//! `OutOfMemory`, so that the tests also pass if any one allocation fails.
 
 use crate::fold_lines::{print_asked, print_routing};
 use crate::fold_reading::read_script;
 use crate::run::run_fold;
 use crate::script_fault::ScriptFault;
-use crate::status::Status;
+use crate::status::RunStatus;
 use crate::tests::again::{letters, run_twice, twice, written};
-use crate::tests::fakes::{Fed, Kept};
+use crate::tests::fakes::{MemorySink, MemorySource};
 use model::Routing;
 use std::alloc::Global;
 use std::process::Abort;
@@ -28,9 +28,9 @@ const NOT_JSON: &str = "refused 70 NotJson\n";
 const BAD_SHAPE: &str = "refused 71 BadShape\n";
 
 /// How `proxy_run fold` ends for the script, and what it writes.
-fn fold_once(rt: &impl AllocGlobal, script: &[u8]) -> (Status, Kept) {
-    let mut source = Fed::new(script, 4_096);
-    let mut sink = Kept::new(rt.alloc(), 4_096);
+fn fold_once(rt: &impl AllocGlobal, script: &[u8]) -> (RunStatus, MemorySink) {
+    let mut source = MemorySource::new(script, 4_096);
+    let mut sink = MemorySink::new(rt.alloc(), 4_096);
     let status = run_fold(rt.alloc(), &mut source, &mut sink);
     (status, sink)
 }
@@ -211,9 +211,9 @@ fn what_is_no_json_is_refused(rt: HostRuntime) {
 }
 
 /// How a run over this text ends, the reads that it made, and what it wrote. Each read gets all that it asks for.
-fn read_in_full_chunks(rt: &impl AllocGlobal, text: &[u8]) -> (Status, u64, Kept) {
-    let mut source = Fed::new(text, text.len());
-    let mut sink = Kept::new(rt.alloc(), 4_096);
+fn read_in_full_chunks(rt: &impl AllocGlobal, text: &[u8]) -> (RunStatus, u64, MemorySink) {
+    let mut source = MemorySource::new(text, text.len());
+    let mut sink = MemorySink::new(rt.alloc(), 4_096);
     let status = run_fold(rt.alloc(), &mut source, &mut sink);
     (status, source.reads(), sink)
 }
@@ -222,7 +222,7 @@ fn read_in_full_chunks(rt: &impl AllocGlobal, text: &[u8]) -> (Status, u64, Kept
 fn is_read_in(rt: &(impl Abort + AllocGlobal), count: usize, calls: u64) -> Result<(), Fail> {
     let text = letters(rt.alloc(), count)?;
     let (status, reads, sink) = run_twice!(read_in_full_chunks(rt, text.as_bytes()));
-    assert!(rt; matches!(status, Status::ScriptRefused));
+    assert!(rt; matches!(status, RunStatus::ScriptRefused));
     assert_eq!(rt; reads, calls, "for {count} bytes");
     assert_eq!(rt; sink.writes(), 1);
     assert_eq!(rt; sink.bytes(), NOT_JSON.as_bytes());

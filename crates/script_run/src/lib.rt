@@ -1,5 +1,5 @@
 //! Runs of scripts: a script of journal rows is read, checked and folded, and the lines of its routing are
-//! written; a batch is read and admitted. Nothing here knows the process: bytes come and go by a source and a sink.
+//! written; a batch is read and admitted. Bytes are read from a source and written to a sink of the caller.
 //!
 //! Source: this project's profile (scripts, lines and statuses).
 #![tactic(auto)]
@@ -10,6 +10,7 @@ mod batch_reading;
 mod batch_shapes;
 #[cfg(test)]
 mod batch_tests;
+mod change_shapes;
 mod devices;
 mod fold_checks;
 mod fold_limits;
@@ -28,9 +29,9 @@ mod tests;
 mod value_reading;
 
 pub use batch_reading::read_batch;
-pub use devices::{Failed, READ_LIMIT, Reader, Sink, Source, Writer};
+pub use devices::{Failed, Reader, Sink, Source, Writer};
 pub use fold_reading::read_script;
 pub use fold_script::FoldScript;
 pub use run::run_fold;
 pub use script_fault::ScriptFault;
-pub use status::Status;
+pub use status::RunStatus;

@@ -1,33 +1,30 @@
-//! How a run of the program ends.
+//! How a run of a script ends.
 ghost use Rattle.std.specs.Prelude.{◌≡◌};
-ghost use Rattle.script_run.specs.Statuses.{status_number};
+ghost use Rattle.script_run.specs.Statuses.{run_status_number};
 
-/// How a run of the program ended (this project's profile).
-#[derive(Debug, Drop)]
-pub enum Status {
-    /// The script was carried out, and what came of it was written.
+/// How a run of a script ended (this project's profile).
+#[derive(Clone, Copy, Debug, PartialEq, Eq)]
+pub enum RunStatus {
+    /// The script was carried out, and its result was written.
     Done,
     /// The script was refused, and the refusal was written.
     ScriptRefused,
-    /// The command line was refused, or asked for help: the text for standard error.
-    CommandLineRefused(String),
-    /// Reading or writing failed, or the limit on read calls was passed.
+    /// A read or a write failed, or the limit on read calls was passed.
     DeviceFailed,
-    /// Memory ran out.
+    /// An allocation failed.
     OutOfMemory,
 }
 
-impl Status {
+impl RunStatus {
     /// The number that the process ends with.
-    pub fn number(&self) -> u8
-        ensures { result ≡ status_number self.now }
+    pub fn number(self) -> u8
+        ensures { result ≡ run_status_number self }
     {
         match self {
-            Status::Done => 0,
-            Status::ScriptRefused => 1,
-            Status::CommandLineRefused(_) => 2,
-            Status::DeviceFailed => 3,
-            Status::OutOfMemory => 4,
+            RunStatus::Done => 0,
+            RunStatus::ScriptRefused => 1,
+            RunStatus::DeviceFailed => 3,
+            RunStatus::OutOfMemory => 4,
         }
     }
 }

@@ -1,14 +1,14 @@
-//! What no clause says: that runs succeed with ample memory. A run that was refused memory is made again, so
-//! that the tests also pass where any one allocation fails.
+//! What no clause says: that runs succeed if no allocation fails. A run that failed with `OutOfMemory` is made
+//! once more, so that the tests also pass if any one allocation fails.
 pub(crate) mod again;
 pub(crate) mod fakes;
 mod std_devices;
 
 use crate::devices::{Reader, Sink, Source, Writer};
 use crate::run::run_fold;
-use crate::status::Status;
+use crate::status::RunStatus;
 use again::run_twice;
-use fakes::{Fed, Kept, Spaces};
+use fakes::{MemorySink, MemorySource, Spaces};
 use std::process::Abort;
 
 const SCRIPT: &[u8] = br#"{"resolvers":1,"rows":[],"ask":["a"]}"#;
@@ -27,7 +27,7 @@ struct Devices {
 }
 
 // Devices that never fail.
-const FINE: Devices = Devices {
+const RELIABLE: Devices = Devices {
     read_at_most: 64,
     failing_read: 0,
     written_at_most: 64,
@@ -39,28 +39,30 @@ fn run_once(
     rt: &impl AllocGlobal,
     script: &'static [u8],
     devices: Devices,
-) -> (Status, Fed<'static>, Kept) {
-    let mut source = Fed::new(script, devices.read_at_most).failing_at(devices.failing_read);
-    let mut sink = Kept::new(rt.alloc(), devices.written_at_most)
+) -> (RunStatus, MemorySource<'static>, MemorySink) {
+    let mut source = MemorySource::new(script, devices.read_at_most).failing_at(
+        devices.failing_read,
+    );
+    let mut sink = MemorySink::new(rt.alloc(), devices.written_at_most)
         .failing_at(devices.failing_write)
         .full_at(devices.full_write);
     let status = run_fold(rt.alloc(), &mut source, &mut sink);
     (status, source, sink)
 }
 
-// Folds this script, and once more where that wanted memory.
+// Folds this script, and once more after `OutOfMemory`.
 fn run(
     rt: &impl AllocGlobal,
     script: &'static [u8],
     devices: Devices,
-) -> (Status, Fed<'static>, Kept) {
+) -> (RunStatus, MemorySource<'static>, MemorySink) {
     run_twice!(run_once(rt, script, devices))
 }
 
 #[test]
 fn a_script_is_folded(rt: HostRuntime) {
-    let (status, source, sink) = run(&rt, SCRIPT, FINE);
-    assert!(rt; matches!(status, Status::Done));
+    let (status, source, sink) = run(&rt, SCRIPT, RELIABLE);
+    assert!(rt; matches!(status, RunStatus::Done));
     assert_eq!(rt; sink.bytes(), TEXT);
     // The script and the text fit in one call; the other read meets the end.
     assert_eq!(rt; source.reads(), 2);
@@ -69,20 +71,16 @@ fn a_script_is_folded(rt: HostRuntime) {
 
 #[test]
 fn numbers_of_statuses(rt: HostRuntime) {
-    assert_eq!(rt; Status::Done.number(), 0);
-    assert_eq!(rt; Status::ScriptRefused.number(), 1);
-    assert_eq!(rt;
-        Status::CommandLineRefused(String::new(rt.alloc())).number(),
-        2
-    );
-    assert_eq!(rt; Status::DeviceFailed.number(), 3);
-    assert_eq!(rt; Status::OutOfMemory.number(), 4);
+    assert_eq!(rt; RunStatus::Done.number(), 0);
+    assert_eq!(rt; RunStatus::ScriptRefused.number(), 1);
+    assert_eq!(rt; RunStatus::DeviceFailed.number(), 3);
+    assert_eq!(rt; RunStatus::OutOfMemory.number(), 4);
 }
 
 #[test]
 fn a_refused_script_is_answered_with_its_line(rt: HostRuntime) {
-    let (status, _source, sink) = run(&rt, b"\xff", FINE);
-    assert!(rt; matches!(status, Status::ScriptRefused));
+    let (status, _source, sink) = run(&rt, b"\xff", RELIABLE);
+    assert!(rt; matches!(status, RunStatus::ScriptRefused));
     assert_eq!(rt; sink.bytes(), b"refused 70 NotJson\n".as_slice());
 }
 
@@ -95,7 +93,7 @@ fn ends_at(
     taken: &[u8],
 ) {
     let (status, source, sink) = run(&rt, script, devices);
-    assert!(rt; matches!(status, Status::DeviceFailed));
+    assert!(rt; matches!(status, RunStatus::DeviceFailed));
     assert_eq!(rt; source.failures(), 0);
     assert_eq!(rt; sink.failures(), 1);
     assert_eq!(rt; sink.writes(), call);
@@ -107,11 +105,11 @@ fn read_fails(rt: &(impl Abort + AllocGlobal), script: &'static [u8], most: usiz
     let devices = Devices {
         read_at_most: most,
         failing_read: call,
-        ..FINE
+        ..RELIABLE
     };
     let (status, source, sink) = run(rt, script, devices);
     assert!(rt;
-        matches!(status, Status::DeviceFailed),
+        matches!(status, RunStatus::DeviceFailed),
         "at read {call} of {most} bytes"
     );
     assert_eq!(rt; source.reads(), call);
@@ -143,13 +141,13 @@ fn write_fails(rt: &(impl Abort + AllocGlobal), most: usize, call: u64, taken: &
     let failing = Devices {
         written_at_most: most,
         failing_write: call,
-        ..FINE
+        ..RELIABLE
     };
     ends_at(rt, SCRIPT, failing, call, taken);
     let full = Devices {
         written_at_most: most,
         full_write: call,
-        ..FINE
+        ..RELIABLE
     };
     ends_at(rt, SCRIPT, full, call, taken);
 }
@@ -174,7 +172,7 @@ fn the_line_of_a_refusal_may_fail(rt: HostRuntime) {
     let devices = Devices {
         written_at_most: 8,
         failing_write: 2,
-        ..FINE
+        ..RELIABLE
     };
     ends_at(&rt, b"\xff", devices, 2, b"refused ");
 }
@@ -183,10 +181,10 @@ fn the_line_of_a_refusal_may_fail(rt: HostRuntime) {
 fn a_byte_at_a_time_is_the_same_script(rt: HostRuntime) {
     let devices = Devices {
         read_at_most: 1,
-        ..FINE
+        ..RELIABLE
     };
     let (status, source, sink) = run(&rt, SCRIPT, devices);
-    assert!(rt; matches!(status, Status::Done));
+    assert!(rt; matches!(status, RunStatus::Done));
     assert_eq!(rt; source.reads(), SCRIPT.len() as u64 + 1);
     assert_eq!(rt; sink.bytes(), TEXT);
 }
@@ -197,32 +195,32 @@ fn a_short_write_is_no_failure(rt: HostRuntime) {
     for (most, calls) in [(1, 56), (2, 28), (55, 2)] {
         let devices = Devices {
             written_at_most: most,
-            ..FINE
+            ..RELIABLE
         };
         let (status, _source, sink) = run(&rt, SCRIPT, devices);
-        assert!(rt; matches!(status, Status::Done));
+        assert!(rt; matches!(status, RunStatus::Done));
         assert_eq!(rt; sink.failures(), 0);
         assert_eq!(rt; sink.writes(), calls);
         assert_eq!(rt; sink.bytes(), TEXT);
     }
 }
 
-fn run_over_spaces_once(rt: &impl AllocGlobal, count: u64) -> (Status, Spaces, Kept) {
+fn run_over_spaces_once(rt: &impl AllocGlobal, count: u64) -> (RunStatus, Spaces, MemorySink) {
     let mut source = Spaces::new(count);
-    let mut sink = Kept::new(rt.alloc(), 64);
+    let mut sink = MemorySink::new(rt.alloc(), 64);
     let status = run_fold(rt.alloc(), &mut source, &mut sink);
     (status, source, sink)
 }
 
-// Reads so many spaces, one a call, and once more where that wanted memory.
-fn run_over_spaces(rt: &impl AllocGlobal, count: u64) -> (Status, Spaces, Kept) {
+// Reads so many spaces, one a call, and once more after `OutOfMemory`.
+fn run_over_spaces(rt: &impl AllocGlobal, count: u64) -> (RunStatus, Spaces, MemorySink) {
     run_twice!(run_over_spaces_once(rt, count))
 }
 
 #[test]
 fn the_end_may_come_with_the_last_read(rt: HostRuntime) {
     let (status, source, sink) = run_over_spaces(&rt, 1_048_575);
-    assert!(rt; matches!(status, Status::ScriptRefused));
+    assert!(rt; matches!(status, RunStatus::ScriptRefused));
     assert_eq!(rt; source.reads(), 1_048_576);
     assert_eq!(rt; sink.bytes(), b"refused 70 NotJson\n".as_slice());
 }
@@ -231,7 +229,7 @@ fn the_end_may_come_with_the_last_read(rt: HostRuntime) {
 fn more_reads_than_the_limit_are_a_failure(rt: HostRuntime) {
     for count in [1_048_576, u64::MAX] {
         let (status, source, sink) = run_over_spaces(&rt, count);
-        assert!(rt; matches!(status, Status::DeviceFailed), "{count} spaces");
+        assert!(rt; matches!(status, RunStatus::DeviceFailed), "{count} spaces");
         assert_eq!(rt; source.reads(), 1_048_576);
         assert_eq!(rt; source.failures(), 0);
         assert_eq!(rt; sink.writes(), 0);
@@ -240,7 +238,7 @@ fn more_reads_than_the_limit_are_a_failure(rt: HostRuntime) {
 }
 
 // A run over a reader and a writer of the standard library: the status, and the failures of both.
-fn run_over_slices(rt: &impl AllocGlobal, room: &mut [u8]) -> (Status, u64, u64) {
+fn run_over_slices(rt: &impl AllocGlobal, room: &mut [u8]) -> (RunStatus, u64, u64) {
     let mut writer = Writer::new(room);
     let mut reader = Reader::new(SCRIPT);
     let status = run_fold(rt.alloc(), &mut reader, &mut writer);
@@ -251,7 +249,7 @@ fn run_over_slices(rt: &impl AllocGlobal, room: &mut [u8]) -> (Status, u64, u64)
 fn std_readers_and_writers_are_devices(rt: HostRuntime) {
     let mut room = [0u8; 64];
     let (status, reads_failed, writes_failed) = run_twice!(run_over_slices(&rt, &mut room));
-    assert!(rt; matches!(status, Status::Done));
+    assert!(rt; matches!(status, RunStatus::Done));
     assert_eq!(rt; reads_failed, 0);
     assert_eq!(rt; writes_failed, 0);
     assert!(rt; room.starts_with(TEXT));
@@ -261,7 +259,7 @@ fn std_readers_and_writers_are_devices(rt: HostRuntime) {
 fn a_full_writer_has_failed(rt: HostRuntime) {
     let mut room = [0u8; 3];
     let (status, reads_failed, writes_failed) = run_twice!(run_over_slices(&rt, &mut room));
-    assert!(rt; matches!(status, Status::DeviceFailed));
+    assert!(rt; matches!(status, RunStatus::DeviceFailed));
     assert_eq!(rt; reads_failed, 0);
     assert_eq!(rt; writes_failed, 1);
 }

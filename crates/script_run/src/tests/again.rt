@@ -1,10 +1,9 @@
-//! Calls that are made once more where they were refused memory, so that the tests also pass where any one
-//! allocation fails.
+//! Calls that are made once more after `OutOfMemory`, so that the tests also pass if any one allocation fails.
 
 use std::alloc::Global;
 use std::test::Fail;
 
-/// The call, made once more where it was refused memory.
+/// The call, made once more after `OutOfMemory`.
 macro_rules! twice {
     ($call:expr, $memory:pat) => {
         match $call {
@@ -14,7 +13,7 @@ macro_rules! twice {
     };
 }
 
-/// The text, made once more where it was refused memory.
+/// The text, made once more if an allocation failed.
 macro_rules! written {
     ($alloc:expr; $($words:tt)*) => {
         match format!(in $alloc; $($words)*) {
@@ -24,11 +23,11 @@ macro_rules! written {
     };
 }
 
-/// The run, a tuple that begins with its status, made once more where it wanted memory.
+/// The run, a tuple that begins with its status, made once more after `OutOfMemory`.
 macro_rules! run_twice {
     ($run:expr) => {
         match $run {
-            (Status::OutOfMemory, ..) => $run,
+            (RunStatus::OutOfMemory, ..) => $run,
             ended => ended,
         }
     };

@@ -8,7 +8,7 @@ use std::io::{self, ErrorKind, Read, Write};
 
 /// A source over memory.
 #[derive(Drop)]
-pub struct Fed<'a> {
+pub struct MemorySource<'a> {
     rest: &'a [u8],
     most: usize,
     fails_at: Option<u64>,
@@ -16,12 +16,12 @@ pub struct Fed<'a> {
     failures: u64,
 }
 
-impl<'a> Fed<'a> {
+impl<'a> MemorySource<'a> {
     /// A source that gives these bytes, at most `most` a call and at least one.
-    pub fn new(bytes: &'a [u8], most: usize) -> Fed<'a>
+    pub fn new(bytes: &'a [u8], most: usize) -> MemorySource<'a>
         ensures { result.failures ≡ 0 }
     {
-        Fed {
+        MemorySource {
             rest: bytes,
             most,
             fails_at: None,
@@ -31,7 +31,7 @@ impl<'a> Fed<'a> {
     }
 
     /// The same, whose call of this number fails.
-    pub fn failing_at(mut self, call: u64) -> Fed<'a>
+    pub fn failing_at(mut self, call: u64) -> MemorySource<'a>
         ensures { result.failures ≡ self.entry.failures }
     {
         self.fails_at = Some(call);
@@ -44,7 +44,7 @@ impl<'a> Fed<'a> {
     }
 }
 
-impl Source for Fed<'_> {
+impl Source for MemorySource<'_> {
     ghost remaining = { λ s. Some s.rest.now };
 
     ghost failed = { λ s. s.failures };
@@ -119,7 +119,7 @@ impl Source for Spaces {
 
 /// A sink over memory.
 #[derive(Drop)]
-pub struct Kept {
+pub struct MemorySink {
     bytes: Vec<u8>,
     most: usize,
     fails_at: Option<u64>,
@@ -128,12 +128,12 @@ pub struct Kept {
     failures: u64,
 }
 
-impl Kept {
+impl MemorySink {
     /// A sink that takes at most `most` bytes a call.
-    pub fn new(alloc: Global, most: usize) -> Kept
+    pub fn new(alloc: Global, most: usize) -> MemorySink
         ensures { result.failures ≡ 0 }
     {
-        Kept {
+        MemorySink {
             bytes: Vec::new(alloc),
             most,
             fails_at: None,
@@ -144,7 +144,7 @@ impl Kept {
     }
 
     /// The same, whose call of this number fails.
-    pub fn failing_at(mut self, call: u64) -> Kept
+    pub fn failing_at(mut self, call: u64) -> MemorySink
         ensures { result.failures ≡ self.failures }
     {
         self.fails_at = Some(call);
@@ -152,14 +152,14 @@ impl Kept {
     }
 
     /// The same, whose call of this number takes no byte.
-    pub fn full_at(mut self, call: u64) -> Kept
+    pub fn full_at(mut self, call: u64) -> MemorySink
         ensures { result.failures ≡ self.failures }
     {
         self.full_at = Some(call);
         self
     }
 
-    // Keeps the bytes, at the second try where the first one was refused memory.
+    // Keeps the bytes, at the second try if an allocation failed at the first.
     fn keep(&mut self, bytes: &[u8]) -> bool
         ensures kept { IsTrue result → self.new.bytes.items ≡ self.old.bytes.items ++ bytes.now }
         ensures lost { IsFalse result → self.new.bytes.items ≡ self.old.bytes.items }
@@ -180,7 +180,7 @@ impl Kept {
     }
 }
 
-impl Sink for Kept {
+impl Sink for MemorySink {
     ghost written = { λ s. Some s.bytes.items };
 
     ghost failed = { λ s. s.failures };
@@ -234,7 +234,7 @@ impl Read for Faltering<'_> {
 }
 
 /// A writer of the standard library that takes at most `most` bytes a call and forgets them, and whose call of
-/// the number `fails_at` fails, or takes no byte where there is no error. It would go on after that.
+/// the number `fails_at` fails, or takes no byte if `error` is `None`. It would go on after that.
 #[derive(Drop)]
 pub struct Halting {
     pub taken: usize,

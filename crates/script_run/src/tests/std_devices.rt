@@ -5,7 +5,7 @@ use super::fakes::{Faltering, Halting};
 use super::{SCRIPT, TEXT};
 use crate::devices::{Reader, Sink, Source, Writer};
 use crate::run::run_fold;
-use crate::status::Status;
+use crate::status::RunStatus;
 use std::io::ErrorKind;
 use std::process::Abort;
 
@@ -104,7 +104,7 @@ fn run_once(
     rt: &impl AllocGlobal,
     reader: &mut Faltering<'static>,
     writer: &mut Halting,
-) -> (Status, u64, u64) {
+) -> (RunStatus, u64, u64) {
     let mut source = Reader::new(reader);
     let mut sink = Writer::new(writer);
     let status = run_fold(rt.alloc(), &mut source, &mut sink);
@@ -120,7 +120,7 @@ fn run_fails(rt: &(impl Abort + AllocGlobal), read: u64, write: u64, error: Erro
         inner_writer = writer(write, Some(error));
         run_once(rt, &mut inner_reader, &mut inner_writer)
     });
-    assert!(rt; matches!(status, Status::DeviceFailed));
+    assert!(rt; matches!(status, RunStatus::DeviceFailed));
     assert_eq!(rt; reads_failed, u64::from(read != 0));
     assert_eq!(rt; writes_failed, u64::from(write != 0));
     // The script has 37 bytes: four calls, and the one that meets the end.

@@ -6,10 +6,10 @@ use Rattle.clap.specs.declared.error.kind.ErrorKind.TheVariants as kinds
 use Rattle.command_line.specs.WordRuns.{RunsMode}
 use Rattle.command_line.specs.declared.mode.Mode.{Mode}
 use Rattle.command_line.specs.declared.mode.Mode.TheVariants.{Fold}
-use Rattle.command_line.proofs.KnownWords.{fold_line_folds, help_turned_away, other_mode_turned_away}
+use Rattle.command_line.proofs.KnownWords.{fold_line_folds, rejected_line_rejected}
 use Rattle.command_line.proofs.run.run_words.Goals as goal
 
--- an error where no kind comes is want of memory
+-- an error that has none of the possible kinds is OutOfMemory
 only_memory : (possible : Kinds) (error : Error) → possible ≡ [] → HasKind possible error → kind_of error ≡ kinds.OutOfMemory
 only_memory possible error none (inl memory) = memory
 only_memory possible error none (inr among) = absurd (subst (IsAmong (kind_of error)) none among)
@@ -24,7 +24,7 @@ returns-in-Ok-Some-Fold-clause-mode g c =
     record {
       names = read.0;
       refused = λ some. absurd (some read.1.0);
-      taken = λ _. inr (runs_fold _ _ (sym read.1.1 ∙ c.in-Ok-Some-Fold.ensures.offered) c.run_fold.ensures.folds);
+      taken = λ _. inr (runs_fold _ _ (sym read.1.1 ∙ c.in-Ok-Some-Fold.ensures.offered) c.run_fold.ensures.fold);
     }
 
 pub returns-in-Err-clause-mode : goal.returns-in-Err-clause-mode
@@ -32,15 +32,12 @@ returns-in-Err-clause-mode g c =
     let read = c.in-Err.ensures.read in
     record {
       names = read.0;
-      refused = λ _. (c.refusal.ensures.turned, (refl, refl));
+      refused = λ _. (c.refusal.ensures.rejected, (refl, refl));
       taken = λ none. inl (c.refusal.ensures.memory (only_memory _ c.in-Err.error none read.1), (refl, refl));
     }
 
-pub returns-in-Ok-Some-Fold-clause-other : goal.returns-in-Ok-Some-Fold-clause-other
-returns-in-Ok-Some-Fold-clause-other g c = other_mode_turned_away _ _ _ _ (returns-in-Ok-Some-Fold-clause-mode g c)
-
-pub returns-in-Ok-Some-Fold-clause-help : goal.returns-in-Ok-Some-Fold-clause-help
-returns-in-Ok-Some-Fold-clause-help g c = help_turned_away _ _ _ _ (returns-in-Ok-Some-Fold-clause-mode g c)
+pub returns-in-Ok-Some-Fold-clause-rejected : goal.returns-in-Ok-Some-Fold-clause-rejected
+returns-in-Ok-Some-Fold-clause-rejected g c = rejected_line_rejected _ _ _ _ (returns-in-Ok-Some-Fold-clause-mode g c)
 
 pub returns-in-Err-clause-fold : goal.returns-in-Err-clause-fold
 returns-in-Err-clause-fold g c = fold_line_folds _ _ _ _ (returns-in-Err-clause-mode g c)

@@ -1,6 +1,6 @@
 use Rattle.std.proofs.Common.{◌≡◌, ◌≤◌, ◌*◌, length}
 use Rattle.std.specs.Io.KnownBytes.{Consumes}
-use Rattle.script_run.specs.Devices.{raised, read_size}
+use Rattle.script_run.specs.Devices.{saturating_add, read_size}
 use Rattle.script_run.proofs.devices.read_all.Given as goal
 
 abbrev pub invariant-loop-call : goal.invariant-loop-call
@@ -10,8 +10,8 @@ invariant-loop-call g l =
     let reads = g.S.Source.reads in
     record {
       split : Consumes (remaining l.fn.source) (remaining l.source) l.bytes.items;
-      fine : failed l.source ≡ failed l.fn.source;
+      no_failure : failed l.source ≡ failed l.fn.source;
       many : l._call ≤ length l.bytes.items;
       few : length l.bytes.items ≤ l._call * read_size;
-      called : reads l.source ≡ raised l._call (reads l.fn.source);
+      called : reads l.source ≡ saturating_add l._call (reads l.fn.source);
     }

@@ -15,7 +15,7 @@ loop-rest-preserved g c =
     let some : 0 < n = omega (arith, c.if-count-eq0.false) in
     record {
       split = (front ++ take n c.loop-rest.rest.now, moves_front _ front c.loop-rest.rest.now n whole, Appends-trans _ _ _ _ _ appended c.in_ok-count.ensures.put);
-      fine = c.in_ok-count.ensures.fine (inl some) ∙ c.loop-rest.invariant.fine;
+      no_failure = c.in_ok-count.ensures.no_failure (inl some) ∙ c.loop-rest.invariant.no_failure;
       front = omega (arith, length-drop {A = ℕ}, c.loop-rest.invariant.front);
       called = omega (arith, length-drop {A = ℕ}, some, c.in_ok-count.ensures.bound, c.in_ok-count.ensures.called, c.loop-rest.invariant.called);
     }

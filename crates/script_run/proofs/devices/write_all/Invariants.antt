@@ -1,5 +1,5 @@
 use Rattle.std.proofs.Common.{◌≡◌, ◌≤◌, ◌-◌, length}
-use Rattle.script_run.specs.Devices.{AppendsBefore, raised}
+use Rattle.script_run.specs.Devices.{AppendsBefore, saturating_add}
 use Rattle.script_run.proofs.devices.write_all.Given as goal
 
 abbrev pub invariant-loop-rest : goal.invariant-loop-rest
@@ -9,9 +9,9 @@ invariant-loop-rest g l =
     let writes = g.T.Sink.writes in
     record {
       split : AppendsBefore (written l.fn.sink) (written l.sink) l.bytes l.rest;
-      fine : failed l.sink ≡ failed l.fn.sink;
+      no_failure : failed l.sink ≡ failed l.fn.sink;
       front : length l.rest ≤ length l.bytes;
-      called : writes l.sink ≤ raised (length l.bytes - length l.rest) (writes l.fn.sink);
+      called : writes l.sink ≤ saturating_add (length l.bytes - length l.rest) (writes l.fn.sink);
     }
 
 abbrev pub decreases-loop-rest : goal.decreases-loop-rest

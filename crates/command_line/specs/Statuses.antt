@@ -1,0 +1,27 @@
+-- How the program ends.
+use Rattle.std.specs.Prelude.{◌≡◌, ℕ, List, string_bytes}
+use Rattle.command_line.specs.declared.status.Status.{Status}
+use Rattle.command_line.specs.declared.status.Status.TheVariants.{CommandLineRefused, Ran}
+use Rattle.script_run.specs.Statuses.{run_status_number}
+use Rattle.script_run.specs.declared.status.RunStatus.{RunStatus}
+use Rattle.script_run.specs.declared.status.RunStatus.TheVariants.{OutOfMemory}
+
+-- the number that the process ends with
+abbrev pub status_number : Status → ℕ
+status_number (Ran status) = run_status_number status
+status_number (CommandLineRefused text) = 2
+
+-- a run ended with a status that has this property
+abbrev pub IfRan : Status → (RunStatus → Type 0) → Type 0
+IfRan (Ran status) property = property status
+IfRan (CommandLineRefused text) property = ⊥
+
+-- the command line was refused, or an allocation failed
+abbrev pub IsRejected : Status → Type 0
+IsRejected (Ran status) = status ≡ OutOfMemory
+IsRejected (CommandLineRefused text) = Unit {0}
+
+-- the same; the text of a refused command line is this one
+abbrev pub IsRejectedWith : List ℕ → Status → Type 0
+IsRejectedWith expected (Ran status) = status ≡ OutOfMemory
+IsRejectedWith expected (CommandLineRefused text) = string_bytes text ≡ expected
