@@ -8,6 +8,7 @@ pub mod Metadata
 pub mod Missing
 pub mod Outcomes
 pub mod OwnRouting
+pub mod OwnerMaps
 pub mod Owners
 pub mod Records
 pub mod Requests
