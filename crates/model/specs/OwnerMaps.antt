@@ -121,7 +121,7 @@ pub record AnswerAlike (map other : Owned) : Type 0 where
   pub writes : (range : Range)
       → writers map.resolvers map.moves range ≡ writers other.resolvers other.moves range
 
--- so two maps that stand for the same moves, with as many resolvers and the same bound, answer alike
+-- so two maps that stand for the same moves, with as many resolvers and one bound, answer alike
 abbrev pub SameMovesAnswerAlike : Type 0
 SameMovesAnswerAlike =
     (map other : Owned) (moves : List Move)
