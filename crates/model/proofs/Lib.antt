@@ -20,6 +20,7 @@ pub mod MetadataLaws
 pub mod MissingLaws
 pub mod MoveLaws
 pub mod OwnerLaws
+pub mod OwnerMapLaws
 pub mod PassLaws
 pub mod PlaceLaws
 pub mod Places

@@ -12,6 +12,7 @@ pub mod Missing
 pub mod Numbers
 pub mod Outcomes
 pub mod OwnRouting
+pub mod OwnerMaps
 pub mod Owners
 pub mod Records
 pub mod Requests

@@ -1,0 +1,4 @@
+pub mod Askers
+pub mod MadeMaps
+pub mod MarkLaws
+pub mod WalkedMoves

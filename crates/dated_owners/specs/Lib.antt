@@ -1,0 +1,4 @@
+pub mod Answers
+pub mod Asking
+pub mod Marks
+pub mod Refusals
