@@ -87,7 +87,7 @@ impl OwnerMap {
         Ok(())
     }
 
-    /// Adds the move behind the others.
+    /// Adds the move after the others.
     fn add_move(&mut self, range: &KeyRange, date: u64, dest: usize) -> Result<(), OutOfMemory>
         ensures ok { let m : Move = record { range = range.now; date = date; dest = dest } in
             OnOk result (self.new.moves ≡ self.old.moves ++ m ∷ []) }
@@ -133,7 +133,8 @@ impl OwnerMap {
 
     /// Makes `oldest` the oldest version remembered, unless a greater one is. Allocates nothing.
     ///
-    /// Each key then forgets its first owner while the second one is dated below the oldest version.
+    /// Answers then no longer reach the first owner of a key while the second one is dated below the
+    /// oldest version.
     pub fn forget(&mut self, oldest: u64)
         ensures resolvers { self.new.resolvers ≡ self.old.resolvers }
         ensures oldest { self.new.oldest ≡ max self.old.oldest oldest }

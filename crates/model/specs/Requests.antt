@@ -35,7 +35,7 @@ marks_from r n (t ∷ ts) =
 
 -- A request: the numbers of the record, the resolver's share, and the marks of the state
 -- transactions. `last_received` is the version of the last record that the proxy had finished when
--- it sent the request.
+-- its batch got this record.
 pub record Request : Type 0 where
   pub resolver : ResolverNumber
   pub proxy : ProxyNumber

@@ -49,7 +49,9 @@ pub data Event : Type 0 where
   Finish : (proxy : ProxyNumber) → Event
 
 -- Why an event is refused. An early request comes back with the version of the last row judged, 0
--- if there is none. A finish out of turn comes back with the row expected, if any.
+-- if there is none. A request is given up if its proxy has already acknowledged the reply. This
+-- world returns `OutOfTurn None` if the proxy has no unfinished record; the row is for callers that
+-- name the row that they finish.
 pub data Refusal : Type 0 where
   NoSuchResolver : Refusal
   Early : (version : Version) → Refusal

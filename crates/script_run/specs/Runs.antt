@@ -28,7 +28,8 @@ abbrev pub BeginsAnswer : (List ℕ → Answer) → Option (List ℕ) → Option
 BeginsAnswer answer_to input old new = (bytes : List ℕ) × IsInput input bytes
     × AppendsBeginning old new (answer_to bytes).text
 
--- the whole text was written, or a beginning of it if a device or an allocation failed
+-- the whole text was written; or a beginning of it, perhaps nothing, if a device or an allocation
+-- failed
 abbrev pub WritesTextOf : (List ℕ → Answer) → Option (List ℕ) → Option (List ℕ) → Option (List ℕ)
     → RunStatus → Type 0
 WritesTextOf answer_to input old new Done = WritesAnswer answer_to input old new Done
@@ -37,7 +38,7 @@ WritesTextOf answer_to input old new ScriptRefused =
 WritesTextOf answer_to input old new DeviceFailed = BeginsAnswer answer_to input old new
 WritesTextOf answer_to input old new OutOfMemory = BeginsAnswer answer_to input old new
 
--- the input is a fold script, and this is what folding it writes
+-- the run writes the text that `fold_text` gives the input, or a beginning of it
 abbrev pub Folds : Option (List ℕ) → Option (List ℕ) → Option (List ℕ) → RunStatus → Type 0
 Folds = WritesTextOf fold_text
 
