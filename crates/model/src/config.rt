@@ -38,19 +38,41 @@ impl Model for Config {
 
     ghost Value = { Numbers };
 
-    ghost view = { λ c. record { proxies = c.proxies; resolvers = c.resolvers; window = c.window; step = c.step } };
+    ghost view = { λ c. record {
+      proxies = c.proxies;
+      resolvers = c.resolvers;
+      window = c.window;
+      step = c.step;
+    } };
 
-    ghost invariant = { λ c. is_config (record { proxies = c.proxies; resolvers = c.resolvers; window = c.window; step = c.step }) ≡ true };
+    ghost invariant = { λ c. is_config (record {
+      proxies = c.proxies;
+      resolvers = c.resolvers;
+      window = c.window;
+      step = c.step;
+    }) ≡ true };
 
-    ghost inverse = { λ numbers. record { proxies = numbers.proxies; resolvers = numbers.resolvers; window = numbers.window; step = numbers.step } };
+    ghost inverse = { λ numbers. record {
+      proxies = numbers.proxies;
+      resolvers = numbers.resolvers;
+      window = numbers.window;
+      step = numbers.step;
+    } };
 }
 
 impl Config {
     /// Takes 1 to 64 proxies, 1 to 64 resolvers, a window from 1 to 1,000,000,000, and a step from 1
     /// to 9,223,372,036,854,775,807. Otherwise it returns `BadConfig`. It allocates no memory.
     pub fn new(proxies: usize, resolvers: usize, window: u64, step: u64) -> Result<Config, Refusal>
-        ensures { let numbers : Numbers = record { proxies = proxies; resolvers = resolvers; window = window; step = step } in
-            MatchResult result (λ config. IsConfig numbers × (config ≡ numbers)) (λ refusal. (IsConfig numbers → ⊥) × (refusal ≡ refusals.BadConfig)) }
+        ensures { let numbers : Numbers = record {
+          proxies = proxies;
+          resolvers = resolvers;
+          window = window;
+          step = step;
+        } in
+            MatchResult result
+            (λ config. IsConfig numbers × (config ≡ numbers))
+            (λ refusal. (IsConfig numbers → ⊥) × (refusal ≡ refusals.BadConfig)) }
     {
         if is_from_one(PROXIES_LIMIT, proxies as u64)
             && is_from_one(RESOLVERS_LIMIT, resolvers as u64)

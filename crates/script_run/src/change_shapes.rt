@@ -60,7 +60,8 @@ fn pair_named(
     value: &Value,
     name: &str,
 ) -> Result<Option<(Bytes, Bytes)>, ScriptFault>
-    ensures { IsReadAs (λ found. found) result (or_bad_shape (pair_named name.now (view value.now))) }
+    ensures { IsReadAs (λ found. found) result
+        (or_bad_shape (pair_named name.now (view value.now))) }
 {
     match value.get(name) {
         Some(field) if has_fields(value, 1) => Ok(Some(pair(alloc, field)?)),
