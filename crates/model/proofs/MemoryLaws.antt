@@ -66,7 +66,7 @@ least_of_one f n some = by (map f (each_below n)) refl
         (found.0, below_from_has n found.0 found.1, ap least is ∙ sym found.2)
 
 -- where each rises, so does the least
-least_rises : (f g : ℕ → ℕ) (n : ℕ) → ((p : ℕ) → f p ≤ g p) → least (map f (each_below n)) ≤ least (map g (each_below n))
+pub least_rises : (f g : ℕ → ℕ) (n : ℕ) → ((p : ℕ) → f p ≤ g p) → least (map f (each_below n)) ≤ least (map g (each_below n))
 least_rises f g zero rises = omega arith
 least_rises f g (suc n) rises =
     let one = least_of_one g (suc n) (omega arith) in
@@ -78,7 +78,7 @@ least_rises f g (suc n) rises =
 -- ---- filters
 
 -- what passes the second test passes the first
-filter_twice : {X : Type 0} (p q : X → Bool) (xs : List X) → ((x : X) → p x ≡ true → q x ≡ true) → filter p (filter q xs) ≡ filter p xs
+pub filter_twice : {X : Type 0} (p q : X → Bool) (xs : List X) → ((x : X) → p x ≡ true → q x ≡ true) → filter p (filter q xs) ≡ filter p xs
 filter_twice p q [] passes = refl
 filter_twice {X} p q (x ∷ xs) passes = by (q x) refl (p x) refl (filter_twice p q xs passes)
   where
@@ -89,7 +89,7 @@ filter_twice {X} p q (x ∷ xs) passes = by (q x) refl (p x) refl (filter_twice 
     by false not_q false not_p rest = rest
 
 -- a list that is kept by a lesser bound goes on by a greater one
-filter_on : {X : Type 0} (version : X → ℕ) (low high : ℕ) (xs : List X) (x : X) → low ≤ high → filter (λ (y : X). nat_lt high (version y)) (xs ++ x ∷ []) ≡ filter (λ (y : X). nat_lt high (version y)) (filter (λ (y : X). nat_lt low (version y)) xs ++ x ∷ [])
+pub filter_on : {X : Type 0} (version : X → ℕ) (low high : ℕ) (xs : List X) (x : X) → low ≤ high → filter (λ (y : X). nat_lt high (version y)) (xs ++ x ∷ []) ≡ filter (λ (y : X). nat_lt high (version y)) (filter (λ (y : X). nat_lt low (version y)) xs ++ x ∷ [])
 filter_on {X} version low high xs x up =
     filter-append above xs (x ∷ []) ∙ ap (λ ys. ys ++ filter above (x ∷ [])) (sym (filter_twice above from_low xs (λ y is. lt-ltb low (version y) (let past : high < version y = ltb-true high (version y) is in omega (arith, past, up)))))
     ∙ sym (filter-append above (filter from_low xs) (x ∷ []))
@@ -179,12 +179,12 @@ requests_remembered_enough proxies before q there =
     filter_twice (λ (s : Request). nat_lt (last_request_version (requests_of_proxy q.proxy before)) s.version) (λ (s : Request). nat_lt (request_oldest_proxy_version proxies before) s.version) before
     (λ s after. lt-ltb (request_oldest_proxy_version proxies before) s.version (let past : last_request_version (requests_of_proxy q.proxy before) < s.version = ltb-true (last_request_version (requests_of_proxy q.proxy before)) s.version after in let up_to = requests_reached_up_to proxies before q.proxy there in omega (arith, past, up_to)))
 
-last_request-push : (judged : List Request) (q : Request) → last_request_version (judged ++ q ∷ []) ≡ q.version
+pub last_request-push : (judged : List Request) (q : Request) → last_request_version (judged ++ q ∷ []) ≡ q.version
 last_request-push [] q = refl
 last_request-push (s ∷ []) q = refl
 last_request-push (s ∷ t ∷ judged) q = last_request-push (t ∷ judged) q
 
-last_request_rises : (judged : List Request) (q : Request) → last_request_version (requests_of_proxy q.proxy judged) ≤ q.version → (p : ℕ) → last_request_version (requests_of_proxy p judged) ≤ last_request_version (requests_of_proxy p (judged ++ q ∷ []))
+pub last_request_rises : (judged : List Request) (q : Request) → last_request_version (requests_of_proxy q.proxy judged) ≤ q.version → (p : ℕ) → last_request_version (requests_of_proxy p judged) ≤ last_request_version (requests_of_proxy p (judged ++ q ∷ []))
 last_request_rises judged q up p = by (nat_eq q.proxy p) refl
   where
     whole : requests_of_proxy p (judged ++ q ∷ []) ≡ requests_of_proxy p judged ++ requests_of_proxy p (q ∷ [])

@@ -107,7 +107,7 @@ unfolding metadata
 metadata_append j k = fold-append after_journal_row [] j k
 
 -- what a row does: it makes the changes that are let pass, by the lock before it
-states_let_pass : (states : List StateTxn) (locked : Bool) (rows : Entries) → fold (after_state locked) rows states ≡ after_changes rows (flat_map (λ (t : StateTxn). t.mutations) (filter (is_applied locked) states))
+pub states_let_pass : (states : List StateTxn) (locked : Bool) (rows : Entries) → fold (after_state locked) rows states ≡ after_changes rows (flat_map (λ (t : StateTxn). t.mutations) (filter (is_applied locked) states))
 states_let_pass [] locked rows = refl
 states_let_pass (t ∷ states) locked rows = by (is_applied locked t) (states_let_pass states locked (after_changes rows t.mutations)) (states_let_pass states locked rows)
   where

@@ -63,7 +63,7 @@ left_with_move map moves m key same = by (holds range key) (one_move_more moves 
 -- ---- what a map stands for
 
 pub new_stands : NewStandsForNoMoves
-new_stands map none date = record { in_order = tt; last = date; same = λ key. ap (λ moves. trimmed map.oldest (owners moves key)) none }
+new_stands map none date = record { in_order = tt; last = date; same = λ key. ap (λ owned. trimmed map.oldest owned) (none key) }
 
 pub move_adds_one : MoveAddsOneMove
 move_adds_one map next moves m stands later oldest last left =

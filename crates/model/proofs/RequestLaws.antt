@@ -17,7 +17,7 @@ use Rattle.model.proofs.Places.{slice_get-take}
 use Rattle.model.proofs.ShareLaws.{share_verdicts_are, verdict_at_asker, map-each_below}
 
 -- the requests for some records to resolver r
-abbrev requests_for : Config → (Record → ℕ) → ℕ → List Record → List Request
+abbrev pub requests_for : Config → (Record → ℕ) → ℕ → List Record → List Request
 requests_for config received r records = map (λ (rec : Record). request config rec (received rec) r) records
 
 judged_of_requests : (config : Config) (received : Record → ℕ) (r : ℕ) (before : List Record) → judged_of (requests_for config received r before) ≡ flat_map (λ (s : Record). judged_at s.version (share config s r)) before
@@ -76,7 +76,7 @@ request_row_is config h r i received rec chain at =
 
 -- ---- replies
 
-take_suc : {X : Type 0} (xs : List X) (k : ℕ) (x : X) → slice_get xs k ≡ Some x → take k xs ++ x ∷ [] ≡ take (suc k) xs
+pub take_suc : {X : Type 0} (xs : List X) (k : ℕ) (x : X) → slice_get xs k ≡ Some x → take k xs ++ x ∷ [] ≡ take (suc k) xs
 take_suc [] k x at = absurd (cc)
 take_suc (y ∷ ys) zero x at = let same : y ≡ x = cc in ap (λ z. z ∷ []) (sym same)
 take_suc (y ∷ ys) (suc k) x at = ap (λ zs. y ∷ zs) (take_suc ys k x at)
@@ -105,7 +105,7 @@ told_after verdict_by r version (s ∷ h) = by (nat_lt version s.version) (told_
     by true rest = ap (λ (rows : List UnseenRow). reply_row verdict_by r s ∷ rows) rest
     by false rest = rest
 
-requests_of : (config : Config) (received : Record → ℕ) (r p : ℕ) (h : List Record) → requests_of_proxy p (requests_for config received r h) ≡ requests_for config received r (records_of_proxy p h)
+pub requests_of : (config : Config) (received : Record → ℕ) (r p : ℕ) (h : List Record) → requests_of_proxy p (requests_for config received r h) ≡ requests_for config received r (records_of_proxy p h)
 unfolding request_back_to
 requests_of config received r p [] = refl
 requests_of config received r p (s ∷ h) = by (nat_eq s.proxy p) (requests_of config received r p h)
@@ -115,13 +115,13 @@ requests_of config received r p (s ∷ h) = by (nat_eq s.proxy p) (requests_of c
     by true rest = ap (λ (qs : List Request). request config s (received s) r ∷ qs) rest
     by false rest = rest
 
-last_of_requests : (config : Config) (received : Record → ℕ) (r : ℕ) (h : List Record) → last_request_version (requests_for config received r h) ≡ last_version h
+pub last_of_requests : (config : Config) (received : Record → ℕ) (r : ℕ) (h : List Record) → last_request_version (requests_for config received r h) ≡ last_version h
 unfolding request_back_to
 last_of_requests config received r [] = refl
 last_of_requests config received r (s ∷ []) = refl
 last_of_requests config received r (s ∷ t ∷ h) = last_of_requests config received r (t ∷ h)
 
-last_of_proxy : (config : Config) (received : Record → ℕ) (r p : ℕ) (h : List Record) → last_request_version (requests_of_proxy p (requests_for config received r h)) ≡ last_version (records_of_proxy p h)
+pub last_of_proxy : (config : Config) (received : Record → ℕ) (r p : ℕ) (h : List Record) → last_request_version (requests_of_proxy p (requests_for config received r h)) ≡ last_version (records_of_proxy p h)
 last_of_proxy config received r p h = ap last_request_version (requests_of config received r p h) ∙ last_of_requests config received r (records_of_proxy p h)
 
 unseen_is : (config : Config) (received : Record → ℕ) (h : List Record) (r i : ℕ) (rec : Record) → IsHistory config h → slice_get h i ≡ Some rec →

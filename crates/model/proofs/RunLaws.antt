@@ -38,13 +38,13 @@ world_after_append config w (event ∷ xs) ys = world_after_append config (handl
 
 -- ---- a record among those of its proxy
 
-record OwnPlace (p : ℕ) (h : List Record) (k : ℕ) (rec : Record) : Type 0 where
-  i : ℕ
-  at : slice_get h i ≡ Some rec
-  own : rec.proxy ≡ p
-  earlier : records_of_proxy p (take i h) ≡ take k (records_of_proxy p h)
+pub record OwnPlace (p : ℕ) (h : List Record) (k : ℕ) (rec : Record) : Type 0 where
+  pub i : ℕ
+  pub at : slice_get h i ≡ Some rec
+  pub own : rec.proxy ≡ p
+  pub earlier : records_of_proxy p (take i h) ≡ take k (records_of_proxy p h)
 
-own_place : (p : ℕ) (h : List Record) (k : ℕ) (rec : Record) → slice_get (records_of_proxy p h) k ≡ Some rec → OwnPlace p h k rec
+pub own_place : (p : ℕ) (h : List Record) (k : ℕ) (rec : Record) → slice_get (records_of_proxy p h) k ≡ Some rec → OwnPlace p h k rec
 own_place p [] k rec at = absurd (cc)
 own_place p (x ∷ h) k rec at = by (nat_eq x.proxy p) refl k at (λ (k : ℕ) (is : slice_get (records_of_proxy p h) k ≡ Some rec). own_place p h k rec is)
   where
@@ -183,7 +183,7 @@ take_next (y ∷ ys) zero x at = let same : y ≡ x = cc in ap (λ z. z ∷ []) 
 take_next (y ∷ ys) (suc k) x at = ap (λ zs. y ∷ zs) (take_next ys k x at)
 
 -- up to a version before a record's, only records before it lie
-up_to_before : (config : Config) (h : List Record) (i : ℕ) (rec : Record) (version : ℕ) → 1 ≤ config.step → IsHistory config h → slice_get h i ≡ Some rec → version ≤ rec.previous → up_to_version version h ≡ up_to_version version (take i h)
+pub up_to_before : (config : Config) (h : List Record) (i : ℕ) (rec : Record) (version : ℕ) → 1 ≤ config.step → IsHistory config h → slice_get h i ≡ Some rec → version ≤ rec.previous → up_to_version version h ≡ up_to_version version (take i h)
 up_to_before config h i rec version stepping history at up_to =
     ap (up_to_version version) (sym (take-append-drop i h))
     ∙ filter-append (λ (s : Record). nat_le s.version version) (take i h) (drop i h)
@@ -205,7 +205,7 @@ up_to_before config h i rec version stepping history at up_to =
         lt-leb s.version version (omega (arith, own, stepped, rise, previous, up_to))
 
 -- the records up to one are those up to its proxy's record before, those after that, and itself
-up_to_own : (config : Config) (h : List Record) (i : ℕ) (rec : Record) → 1 ≤ config.step → IsHistory config h → slice_get h i ≡ Some rec → up_to_version rec.version h ≡ up_to_version rec.own_previous h ++ filter (is_after rec.own_previous) (take i h) ++ rec ∷ []
+pub up_to_own : (config : Config) (h : List Record) (i : ℕ) (rec : Record) → 1 ≤ config.step → IsHistory config h → slice_get h i ≡ Some rec → up_to_version rec.version h ≡ up_to_version rec.own_previous h ++ filter (is_after rec.own_previous) (take i h) ++ rec ∷ []
 up_to_own config h i rec stepping history at =
     ap (λ (version : ℕ). up_to_version version h) (sym (last_version_at h i rec at))
     ∙ up_to_front_are config h (suc i) stepping history (omega (arith, within))

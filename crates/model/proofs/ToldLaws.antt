@@ -24,7 +24,7 @@ use Rattle.model.proofs.HistoryLaws.{slice_get-push, last_version-push}
 
 -- ---- what one resolver tells is its part of the journal
 
-length-each_below : (n : ℕ) → length (each_below n) ≡ n
+pub length-each_below : (n : ℕ) → length (each_below n) ≡ n
 length-each_below zero = refl
 length-each_below (suc n) = omega (arith, length-append (each_below n) (n ∷ []), length-each_below n)
 

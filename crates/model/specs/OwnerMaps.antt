@@ -27,8 +27,8 @@ abbrev pub last_date : (date : ℕ) (moves : List Move) → ℕ
 last_date date [] = date
 last_date date (m ∷ moves) = last_date m.date moves
 
--- the map stands for these moves: each key has the owners that the moves give it, with the same
--- front forgotten
+-- the map stands for these moves: each key has the owners that the moves give it, without the
+-- oldest ones as far as the map drops them
 pub record StandsForMoves (map : Owned) (moves : List Move) : Type 0 where
   pub in_order : DatesInOrder 0 moves
   pub last : map.last_date ≡ last_date 0 moves
@@ -58,10 +58,12 @@ left_after_move map m key =
     then trimmed map.oldest (owners_left map key ++ owner_of m ∷ [])
     else owners_left map key
 
--- a map without moves stands for no moves
+-- a map in which each key has its first owner alone stands for no moves
 abbrev pub NewStandsForNoMoves : Type 0
 NewStandsForNoMoves =
-    (map : Owned) → map.moves ≡ [] → map.last_date ≡ 0 → StandsForMoves map []
+    (map : Owned)
+    → ((key : Key) → owners map.moves key ≡ owners [] key) → map.last_date ≡ 0
+    → StandsForMoves map []
 
 -- a map that at each key has gained the owner of one more move stands for one more move
 abbrev pub MoveAddsOneMove : Type 0

@@ -35,7 +35,7 @@ marks_from r n (t ∷ ts) =
 
 -- A request: the numbers of the record, the resolver's share, and the marks of the state
 -- transactions. `last_received` is the version of the last record that the proxy had finished when
--- its batch got this record.
+-- it began this one, or 0.
 pub record Request : Type 0 where
   pub resolver : ResolverNumber
   pub proxy : ProxyNumber

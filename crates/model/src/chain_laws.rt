@@ -7,9 +7,9 @@ ghost use Rattle.model.specs.Laws.Chain.{FirstRowsByVersion, CountOfRowsByVersio
 ghost use Rattle.model.specs.Laws.Chain.{CountOfRowsByRecord, NoRowIsUpToZero};
 ghost use Rattle.model.specs.Laws.Chain.{LowerVersionsAreInEarlierRows, VersionsAreUnique};
 
-/// In a history the row of a record gives its numbers: its previous version is the row times the step, and its
-/// version is one step more, below 2^63. So versions increase, oldest versions never decrease, and the
-/// version of the same proxy's record before is at most the previous version.
+/// In a history the row of a record gives its numbers: its previous version is the row times the
+/// step, and its version is one step more, below 2^63. So versions increase, oldest versions never
+/// decrease, and the version of the same proxy's record before is at most the previous version.
 pub fn chain_law()
     ensures before { VersionsAreMultiplesOfTheStep }
     ensures numbers { RowsGiveTheNumbers }
@@ -23,8 +23,8 @@ pub fn next_law()
     ensures { NextNumbersFollow }
 {}
 
-/// If the step is at least 1, a version names a row: the records up to a version are the first rows, and
-/// different rows have different versions.
+/// If the step is at least 1, a version names a row: the records up to a version are the first
+/// rows, and different rows have different versions.
 pub fn rows_law()
     ensures first { FirstRowsByVersion }
     ensures front { CountOfRowsByVersion }

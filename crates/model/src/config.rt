@@ -22,8 +22,8 @@ const WINDOW_LIMIT: u64 = 1_000_000_000;
 /// The greatest version, and the greatest step from one version to the next.
 const STEP_LIMIT: u64 = 9_223_372_036_854_775_807;
 
-/// The numbers of a cluster, each within its limits: how many proxies and resolvers it has, how many
-/// versions back a snapshot may lie, and how many versions lie between batches.
+/// The numbers of a cluster, each within its limits: how many proxies and resolvers it has, how
+/// many versions back a snapshot may lie, and how many versions lie between batches.
 #[derive(Clone, Copy, Debug, PartialEq, Eq)]
 pub struct Config {
     proxies: usize,
@@ -61,8 +61,8 @@ impl Model for Config {
 }
 
 impl Config {
-    /// Takes 1 to 64 proxies, 1 to 64 resolvers, a window from 1 to 1,000,000,000, and a step from 1
-    /// to 9,223,372,036,854,775,807. Otherwise it returns `BadConfig`. It allocates no memory.
+    /// Takes 1 to 64 proxies, 1 to 64 resolvers, a window from 1 to 1,000,000,000, and a step from
+    /// 1 to 9,223,372,036,854,775,807. Otherwise it returns `BadConfig`. It allocates no memory.
     pub fn new(proxies: usize, resolvers: usize, window: u64, step: u64) -> Result<Config, Refusal>
         ensures { let numbers : Numbers = record {
           proxies = proxies;

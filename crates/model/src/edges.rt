@@ -1,5 +1,5 @@
-//! Edge cases: small values for which a definition has exactly this value. No code: each contract is a list of
-//! edge cases.
+//! Edge cases: small values for which a definition has exactly this value. No code: each contract
+//! is a list of edge cases.
 
 ghost use Rattle.model.specs.Edges.{TheOutcomesUnderTheLock, TheOwnersAfterAMove};
 ghost use Rattle.model.specs.Edges.{TheOldestVersionOfARecord, ARepeatGetsTheSameReply};
@@ -47,7 +47,8 @@ pub fn missing_edges()
     ensures told { TooFewVerdicts }
 {}
 
-/// A repeated request, which check comes first, which missing reply is named, and the limits of numbers.
+/// A repeated request, which check comes first, which missing reply is named, and the limits of
+/// numbers.
 pub fn refusal_edges()
     ensures repeat { ARepeatGetsTheSameReply }
     ensures unknown_row { AnUnknownRowIsRefusedFirst }

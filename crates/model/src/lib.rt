@@ -1,4 +1,5 @@
-//! The specification of the cluster: its data, its definitions, and laws that check the definitions.
+//! The specification of the cluster: its data, its definitions, and laws that check the
+//! definitions.
 #![tactic(auto)]
 
 mod agreed_laws;
@@ -6,6 +7,8 @@ mod alike_laws;
 mod chain_laws;
 mod config;
 mod edges;
+mod finish_edges;
+mod finish_laws;
 mod history_laws;
 mod journal;
 mod journal_laws;
@@ -16,12 +19,14 @@ mod metadata_laws;
 mod missing_laws;
 mod move_laws;
 mod moves;
+mod offer_laws;
 mod outcome;
 mod owner_laws;
 mod owner_map_laws;
 mod part;
 mod refusal;
 mod reply;
+mod resolver_laws;
 mod routing;
 mod run_laws;
 #[cfg(test)]
@@ -30,12 +35,15 @@ mod unseen;
 mod verdict;
 mod verdict_laws;
 mod world_laws;
+mod write_laws;
 
 pub use agreed_laws::{agreed_law, growing_law};
 pub use alike_laws::alike_law;
 pub use chain_laws::{chain_law, next_law, rows_law};
 pub use config::{Config, RESOLVERS_LIMIT, is_from_one};
 pub use edges::{lock_edges, missing_edges, record_edges, refusal_edges, stamp_edges, tag_edges};
+pub use finish_edges::{disagreement_edges, other_record_edges, reply_edges};
+pub use finish_laws::{agreement_law, finish_law, world_finish_law};
 pub use history_laws::history_law;
 pub use journal::{JournalRow, StateTxn};
 pub use journal_laws::{journal_law, request_law, told_law, unseen_law};
@@ -46,12 +54,14 @@ pub use metadata_laws::{change_law, fold_law, lock_law, route_law, tags_law};
 pub use missing_laws::missing_law;
 pub use move_laws::{front_law, met_law, moves_law};
 pub use moves::Move;
+pub use offer_laws::{judged_law, offer_law};
 pub use outcome::{Finished, Outcome, Tagged};
 pub use owner_laws::{asked_law, overlap_law, owner_law, walk_law};
 pub use owner_map_laws::{stand_answers_law, stand_law};
 pub use part::Part;
 pub use refusal::Refusal;
 pub use reply::Reply;
+pub use resolver_laws::{resolver_answer_law, resolver_memory_law};
 pub use routing::{Route, Routing};
 pub use run_laws::{answers_law, events_law, proxy_law, routing_law};
 pub use unseen::{Carried, StateMark, UnseenRow, UnseenState};
@@ -61,3 +71,6 @@ pub use verdict_laws::{
     serial_law, share_law, verdict_law,
 };
 pub use world_laws::run_law;
+pub use write_laws::{
+    judged_shares_law, last_versions_law, parts_by_writes_law, shares_by_writes_law,
+};

@@ -1,8 +1,10 @@
 //! Laws of maps of owners that stand for moves. No code: each function's contract is a law of the
 //! definitions.
 
-ghost use Rattle.model.specs.OwnerMaps.{NewStandsForNoMoves, MoveAddsOneMove, ForgettingKeepsTheMoves, SameMovesLeaveTheSame};
-ghost use Rattle.model.specs.OwnerMaps.{LeftOwnersAreEnough, ReadersAreThoseOfTheMap, WritersAreThoseOfTheMap, SameMovesAnswerAlike};
+ghost use Rattle.model.specs.OwnerMaps.{NewStandsForNoMoves, MoveAddsOneMove};
+ghost use Rattle.model.specs.OwnerMaps.{ForgettingKeepsTheMoves, SameMovesLeaveTheSame};
+ghost use Rattle.model.specs.OwnerMaps.{LeftOwnersAreEnough, ReadersAreThoseOfTheMap};
+ghost use Rattle.model.specs.OwnerMaps.{WritersAreThoseOfTheMap, SameMovesAnswerAlike};
 
 /// A map without moves stands for no moves. If each key gains the owner of a move, the map stands
 /// for one more move; if each key loses more of its front, it stands for the same moves.

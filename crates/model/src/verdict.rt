@@ -5,10 +5,11 @@
 /// The verdict of a resolver, in the order Conflict, Too old, Committed.
 #[derive(Clone, Copy, Debug, PartialEq, Eq, PartialOrd, Ord)]
 pub enum Verdict {
-    /// In the part that this resolver gets, a read overlaps a write of a transaction that this resolver
-    /// committed. That one is after the snapshot, or earlier in the same batch.
+    /// In the part that this resolver gets, a read overlaps a write of a transaction that this
+    /// resolver committed. That one is after the snapshot, or earlier in the same batch.
     Conflict,
-    /// The part that this resolver gets has reads, and its snapshot lies further back than the window.
+    /// The part that this resolver gets has reads, and its snapshot lies further back than the
+    /// window.
     TooOld,
     /// Neither of these.
     Committed,

@@ -1,4 +1,5 @@
-//! The laws of verdicts, and the rule of commit. Each function has no code: its contract is the law.
+//! The laws of verdicts, and the rule of commit. Each function has no code: its contract is the
+//! law.
 
 ghost use Rattle.model.specs.Laws.Judging.{ConflictIsByParts, ConflictIsByPlaces};
 ghost use Rattle.model.specs.Laws.Judging.{TooOldIsByTheWindow, JoinedConflictIsSomeConflict};
@@ -19,9 +20,9 @@ ghost use Rattle.model.specs.Laws.Finished.{LaterRecordsKeepReplies, HistoriesAr
 ghost use Rattle.model.specs.Committed.{SerialKeepsTheLockRow, HistoriesKeepTheLockRow};
 ghost use Rattle.model.specs.Committed.{CommittedIsTold, ToldNumbersAreItsOwn};
 
-/// The verdict is Conflict exactly if there is a conflict by all pairs, over the parts that a resolver judges
-/// and over the places of a history. It is Too old exactly if the part has a read, and its snapshot and the
-/// window together are below its version. Otherwise it is Committed.
+/// The verdict is Conflict exactly if there is a conflict by all pairs, over the parts that a
+/// resolver judges and over the places of a history. It is Too old exactly if the part has a read,
+/// and its snapshot and the window together are below its version. Otherwise it is Committed.
 pub fn verdict_law()
     ensures parts { ConflictIsByParts }
     ensures places { ConflictIsByPlaces }
@@ -34,17 +35,18 @@ pub fn joined_law()
     ensures committed { JoinedCommittedIsAllCommitted }
 {}
 
-/// The verdicts of a resolver on its share of a record are its verdicts on the transactions that ask it, in
-/// order. Each part of the share is the part of such a transaction, by its number.
+/// The verdicts of a resolver on its share of a record are its verdicts on the transactions that
+/// ask it, in order. Each part of the share is the part of such a transaction, by its number.
 pub fn share_law()
     ensures parts { PartsAreOfAskers }
     ensures verdicts { ShareVerdictsAreOfAskers }
 {}
 
-/// If a cell has the verdicts of its resolver on its share, the cells say the history's verdict of each
-/// transaction that asks the resolver. Two sources of verdicts that agree on a record give it one journal row.
-/// A transaction that the cells say is Committed asks its resolver, and the cell has that verdict at the place
-/// of its part. A transaction that a history says is Committed is in the history.
+/// If a cell has the verdicts of its resolver on its share, the cells say the history's verdict of
+/// each transaction that asks the resolver. Two sources of verdicts that agree on a record give it
+/// one journal row. A transaction that the cells say is Committed asks its resolver, and the cell
+/// has that verdict at the place of its part. A transaction that a history says is Committed is in
+/// the history.
 pub fn saying_law()
     ensures known { CellsSayTheHistorysVerdicts }
     ensures journal { AgreeingSourcesGiveOneJournalRow }
@@ -52,19 +54,19 @@ pub fn saying_law()
     ensures there { CommittedByAHistoryIsInIt }
 {}
 
-/// The outcomes of a batch are those of its transactions, each at its number, after the records before it and
-/// after any journal. The lock refuses exactly the transactions that are not lock aware, while the database is
-/// locked.
+/// The outcomes of a batch are those of its transactions, each at its number, after the records
+/// before it and after any journal. The lock refuses exactly the transactions that are not lock
+/// aware, while the database is locked.
 pub fn outcome_law()
     ensures journal { OutcomesStandAtTheirNumbers }
     ensures records { OutcomesAfterRecords }
     ensures lock { TheLockRefusesThePlain }
 {}
 
-/// If the cells of the first rows of a history have the verdicts of their resolvers, the journal, the outcomes
-/// and the finished batches computed from the cells equal those of these rows' history. Of two holders that
-/// have the same records and cells of the first rows, the one with more rows has a journal that begins with
-/// the other's.
+/// If the cells of the first rows of a history have the verdicts of their resolvers, the journal,
+/// the outcomes and the finished batches computed from the cells equal those of these rows'
+/// history. Of two holders that have the same records and cells of the first rows, the one with
+/// more rows has a journal that begins with the other's.
 pub fn cells_law()
     ensures journal { CellsGiveTheJournal }
     ensures outcomes { CellsGiveTheOutcomes }
@@ -72,8 +74,8 @@ pub fn cells_law()
     ensures meet { JournalsOfTwoHoldersMeet }
 {}
 
-/// Later records change no earlier verdict, outcome, reply or finished batch. The journal of a longer history
-/// begins with that of the shorter one, and its metadata continues from there.
+/// Later records change no earlier verdict, outcome, reply or finished batch. The journal of a
+/// longer history begins with that of the shorter one, and its metadata continues from there.
 pub fn prefix_law()
     ensures verdicts { LaterRecordsKeepVerdicts }
     ensures journal { LaterRecordsKeepTheJournal }
@@ -89,16 +91,18 @@ pub fn serial_law()
     ensures { HistoriesAreSerial }
 {}
 
-/// The rule of commit, for the lock row: if a committed transaction writes over the lock row between the
-/// snapshot of another committed one and that one itself, the second is no state transaction or is lock aware.
-/// This holds for all records that obey the rule, and so for every history.
+/// The rule of commit, for the lock row: if a committed transaction writes over the lock row
+/// between the snapshot of another committed one and that one itself, the second is no state
+/// transaction or is lock aware. This holds for all records that obey the rule, and so for every
+/// history.
 pub fn lock_row_law()
     ensures serial { SerialKeepsTheLockRow }
     ensures histories { HistoriesKeepTheLockRow }
 {}
 
-/// A transaction of a history is committed exactly if its outcome is Committed with the version of its record
-/// and its own number in the batch. No outcome is Committed with another version or number.
+/// A transaction of a history is committed exactly if its outcome is Committed with the version of
+/// its record and its own number in the batch. No outcome is Committed with another version or
+/// number.
 pub fn committed_law()
     ensures told { CommittedIsTold }
     ensures numbers { ToldNumbersAreItsOwn }

@@ -1,5 +1,7 @@
--- The faults of a transaction as a client gives it, and of one with its stamps in, and the first of them (this project's profile).
-use Rattle.std.specs.Prelude.{ℕ, ◌+◌, List, [], ◌∷◌, ◌++◌, length, filter_map, Bool, true, false, ◌&&◌, nat_le, if◌then◌else◌, Option, Some, None, option_map}
+-- The faults of a transaction as a client gives it, and of one with its stamps in, and the first of
+-- them (this project's profile).
+use Rattle.std.specs.Prelude.{ℕ, ◌+◌, List, [], ◌∷◌, ◌++◌, length, filter_map, Bool, true, false}
+use Rattle.std.specs.Prelude.{◌&&◌, nat_le, if◌then◌else◌, Option, Some, None, option_map}
 use Rattle.std.specs.Option.{option_or}
 use Rattle.system_keys.specs.declared.change.Change.{Change}
 use Rattle.system_keys.specs.declared.change.Change.TheVariants as changes
@@ -37,11 +39,13 @@ is_formed kinds.OtherSystem = false
 is_formed kinds.NonMetadata = false
 is_formed kinds.Normal = false
 
--- the value has an offset of four bytes, and before them room for the ten bytes of a stamp at that offset
+-- the value has an offset of four bytes, and before them room for the ten bytes of a stamp at that
+-- offset
 abbrev pub has_place : List ℕ → Bool
 has_place value = nat_le 4 (length value) && nat_le (offset_of value + 10) (length (text_of value))
 
--- why no stamp can go into this row: its values have a fixed form, or the value has no place for one
+-- why no stamp can go into this row: its values have a fixed form, or the value has no place for
+-- one
 abbrev pub fault_of_stamp : Key → List ℕ → Option Refusal
 fault_of_stamp key value =
     if is_formed (kind_of key) then Some (refusals.Key BadRow)
@@ -52,7 +56,8 @@ fault_of_stamp key value =
 abbrev pub fault_of_mutation : Mutation → Option Refusal
 fault_of_mutation (Set key value) = fault_of_set key value
 fault_of_mutation (Clear range) = fault_of_range range
-fault_of_mutation (SetStamped key value) = option_or (fault_of_set key value) (fault_of_stamp key value)
+fault_of_mutation (SetStamped key value) =
+    option_or (fault_of_set key value) (fault_of_stamp key value)
 
 -- the first fault of a transaction: of its reads, then of its writes, then of its mutations
 abbrev pub transaction_fault : Given → Option Refusal
@@ -60,17 +65,21 @@ transaction_fault t =
     option_or (first_fault fault_of_range t.reads)
     (option_or (first_fault fault_of_range t.writes) (first_fault fault_of_mutation t.mutations))
 
--- all faults of a transaction: those of its reads, then of its writes, then of its mutations, each in order
+-- all faults of a transaction: those of its reads, then of its writes, then of its mutations, each
+-- in order
 abbrev pub faults_of : Given → List Refusal
 faults_of t =
-    filter_map fault_of_range t.reads ++ filter_map fault_of_range t.writes ++ filter_map fault_of_mutation t.mutations
+    filter_map fault_of_range t.reads
+    ++ filter_map fault_of_range t.writes
+    ++ filter_map fault_of_mutation t.mutations
 
 -- the first fault of a change
 abbrev pub fault_of_change : Change → Option Refusal
 fault_of_change (changes.Set key value) = fault_of_set key value
 fault_of_change (changes.Clear range) = fault_of_range range
 
--- the first fault of a transaction with its stamps in: of its reads, then of its writes, then of its changes
+-- the first fault of a transaction with its stamps in: of its reads, then of its writes, then of
+-- its changes
 abbrev pub stamped_fault : Transaction → Option Refusal
 stamped_fault t =
     option_or (first_fault fault_of_range t.reads)

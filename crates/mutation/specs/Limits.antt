@@ -1,4 +1,5 @@
--- What it means that every limit holds, in a transaction as a client gives it and in the changes that come of it (this project's profile).
+-- What it means that every limit holds, in a transaction as a client gives it and in the changes
+-- that come of it (this project's profile).
 use Rattle.std.specs.Prelude.{◌≡◌, ℕ, ◌+◌, ◌≤◌, List, length, true, false, All}
 use Rattle.system_keys.specs.declared.change.Change.{Change}
 use Rattle.system_keys.specs.declared.change.Change.TheVariants as changes
@@ -22,14 +23,16 @@ pub record IsRange (range : Range) : Type 0 where
   pub end_inside : is_key_up_to range.end key_space_end ≡ true
   pub not_empty : is_key_below range.begin range.end ≡ true
 
--- a row within the limits: its key lies in the key space, and its value decodes where rows of its kind have a form
+-- a row within the limits: its key lies in the key space, and its value decodes where rows of its
+-- kind have a form
 pub record IsRow (key : Key) (value : List ℕ) : Type 0 where
   pub key_length : length key ≤ key_limit
   pub value_length : length value ≤ value_limit
   pub key_inside : is_key_below key key_space_end ≡ true
   pub decodes : is_row_value (kind_of key) value ≡ true
 
--- a stamp can go into the row: its values have no fixed form, and before the four bytes of the offset there is room for ten bytes at it
+-- a stamp can go into the row: its values have no fixed form, and before the four bytes of the
+-- offset there is room for ten bytes at it
 pub record TakesStamp (key : Key) (value : List ℕ) : Type 0 where
   pub free : is_formed (kind_of key) ≡ false
   pub room : offset_of value + 10 + 4 ≤ length value

@@ -1,8 +1,10 @@
 -- The numbers and the names of refusals (this project's profile).
 use Rattle.std.specs.Prelude.{ℕ, List, codes, Option, Some, None}
-use Rattle.system_keys.specs.Refusals.{refusal_number as key_refusal_number, refusal_name as key_refusal_name}
+use Rattle.system_keys.specs.Refusals.{refusal_number as key_refusal_number}
+use Rattle.system_keys.specs.Refusals.{refusal_name as key_refusal_name}
 use Rattle.mutation.specs.declared.refusal.Refusal.{Refusal}
-use Rattle.mutation.specs.declared.refusal.Refusal.TheVariants.{Key, BadStamp, BatchTooLarge, OutOfMemory}
+use Rattle.mutation.specs.declared.refusal.Refusal.TheVariants.{Key, BadStamp, BatchTooLarge}
+use Rattle.mutation.specs.declared.refusal.Refusal.TheVariants.{OutOfMemory}
 
 -- the number that is printed; `OutOfMemory` has none
 abbrev pub refusal_number : Refusal → Option ℕ

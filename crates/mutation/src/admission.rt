@@ -17,9 +17,9 @@ use system_keys::{Bytes, KeyRange, OutOfMemory};
 
 /// Admits a transaction in which every limit holds. Every field is as given.
 ///
-/// Otherwise returns the first fault: of its reads, then of its writes, then of its mutations, each in order,
-/// and of each range or mutation in the order of the numbers. Fails with `OutOfMemory` only for a transaction
-/// without a fault.
+/// Otherwise returns the first fault: of its reads, then of its writes, then of its mutations, each
+/// in order, and of each range or mutation in the order of the numbers. Fails with `OutOfMemory`
+/// only for a transaction without a fault.
 pub fn admit(alloc: Global, transaction: &Transaction) -> Result<Admitted, Refusal>
     ensures kept { IfOk result (λ admitted. admitted ≡ given_from transaction.now) }
     ensures limits { OnOk result (transaction_fault (given_from transaction.now) ≡ None) }

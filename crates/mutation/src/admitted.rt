@@ -40,7 +40,8 @@ impl AdmittedMutation {
     }
 }
 
-/// A transaction as it was given, in which every limit holds: `admit` makes it (this project's profile).
+/// A transaction as it was given, in which every limit holds: `admit` makes it (this project's
+/// profile).
 #[derive(Clone, Debug, Drop)]
 pub struct Admitted {
     snapshot: u64,
@@ -152,9 +153,9 @@ impl Admitted {
         self.lock_aware
     }
 
-    /// Returns the transaction with its stamps in, as transaction `number` of the batch of `version`: each
-    /// SetStamped becomes a Set (release 7.1). A stamp holds the low two bytes of a number above 65,535,
-    /// which no batch has. Fails only with `OutOfMemory`.
+    /// Returns the transaction with its stamps in, as transaction `number` of the batch of
+    /// `version`: each SetStamped becomes a Set (release 7.1). A stamp holds the low two bytes of a
+    /// number above 65,535, which no batch has. Fails only with `OutOfMemory`.
     pub fn stamped(
         &self,
         alloc: Global,

@@ -3,7 +3,8 @@
 ghost use Rattle.std.specs.Prelude.{◌≡◌, ◌≢◌, map, Err};
 ghost use Rattle.std.specs.Result.{result_err};
 ghost use Rattle.mutation.specs.Faults.{first_fault, transaction_fault, is_formed};
-ghost use Rattle.mutation.specs.Faults.{fault_of_range, fault_of_set, fault_of_stamp, fault_of_mutation};
+ghost use Rattle.mutation.specs.Faults.{fault_of_range, fault_of_set, fault_of_stamp};
+ghost use Rattle.mutation.specs.Faults.{fault_of_mutation};
 ghost use Rattle.mutation.specs.Transactions.{range_from, from_unchecked, given_from};
 
 use crate::refusal::Refusal;

@@ -6,11 +6,12 @@ ghost use Rattle.mutation.specs.declared.refusal.Refusal.TheVariants as refusals
 use system_keys::OutOfMemory;
 use thiserror::Error;
 
-/// Why a transaction or a batch is refused (this project's profile). The number and the name are printed;
-/// `OutOfMemory` has no number and is never printed.
+/// Why a transaction or a batch is refused (this project's profile). The number and the name are
+/// printed; `OutOfMemory` has no number and is never printed.
 #[derive(Clone, Copy, Debug, PartialEq, Eq, Error)]
 pub enum Refusal {
-    /// A key, a value or a range is refused, or a stamp is to go into a row whose values have a fixed form.
+    /// A key, a value or a range is refused, or a stamp is to go into a row whose values have a
+    /// fixed form.
     #[error("{0}")]
     Key(system_keys::Refusal),
     /// A value that waits for its stamp has no place for it.

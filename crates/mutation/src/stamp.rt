@@ -1,8 +1,8 @@
 //! Stamps, and the values that wait for them.
 //!
-//! The last four bytes of such a value are an offset, low byte first; the bytes before them are the text. Ten
-//! bytes of the text at the offset become the stamp: the version of the batch in eight bytes and the number
-//! of the transaction in two, high byte first (release 7.1).
+//! The last four bytes of such a value are an offset, low byte first; the bytes before them are the
+//! text. Ten bytes of the text at the offset become the stamp: the version of the batch in eight
+//! bytes and the number of the transaction in two, high byte first (release 7.1).
 
 ghost use Rattle.std.specs.Prelude.{◌≡◌, ◌<◌, ◌^◌, length, IfOk, IsTrue};
 ghost use Rattle.model.specs.Stamps.{little_endian, stamp, stamped_value};
@@ -59,8 +59,8 @@ fn little_endian(bytes: &[u8]) -> usize
     }
 }
 
-/// The stamp of transaction `number` in the batch of `version`. It holds the low two bytes of a number above
-/// 65,535.
+/// The stamp of transaction `number` in the batch of `version`. It holds the low two bytes of a
+/// number above 65,535.
 fn stamp(version: u64, number: usize) -> [u8; 10]
     ensures { result ≡ stamp version number }
 {

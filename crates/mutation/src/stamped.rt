@@ -11,7 +11,8 @@ use std::alloc::Global;
 use std::marker::Model;
 use system_keys::{Bytes, Change, Items, KeyRange, OutOfMemory};
 
-/// A transaction with its stamps in, and so with changes alone (release 7.1). It is within every limit.
+/// A transaction with its stamps in, and so with changes alone (release 7.1). It is within every
+/// limit.
 #[derive(Clone, Debug, Drop)]
 pub struct Stamped {
     snapshot: u64,

@@ -1,6 +1,6 @@
-//! Tests against vectors and hand-made values. Each call that takes memory is made again where it was
-//! refused memory, and what it was made on is then as before, so that the tests also pass where any one
-//! allocation fails.
+//! Tests against vectors and hand-made values. Each call that takes memory is made again where it
+//! was refused memory, and what it was made on is then as before, so that the tests also pass where
+//! any one allocation fails.
 
 use super::*;
 use std::alloc::{AllocError, Global};
@@ -148,7 +148,8 @@ fn value_set(changes: &[Change]) -> Result<Option<Bytes>, Fail> {
     }
 }
 
-/// The value that the one admitted mutation sets, as transaction `number` of the batch of `version`.
+/// The value that the one admitted mutation sets, as transaction `number` of the batch of
+/// `version`.
 fn stamped_value(
     alloc: Global,
     admitted: &Admitted,

@@ -39,8 +39,8 @@ pub enum Mutation {
         /// Where it ends.
         end: Bytes,
     },
-    /// Puts the value at the key, with a stamp in it: its last four bytes are an offset, low byte first, and
-    /// are removed; ten bytes at the offset become the stamp.
+    /// Puts the value at the key, with a stamp in it: its last four bytes are an offset, low byte
+    /// first, and are removed; ten bytes at the offset become the stamp.
     SetStamped {
         /// The key of the row.
         key: Bytes,

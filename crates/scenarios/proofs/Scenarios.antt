@@ -20,6 +20,7 @@ use Rattle.scenarios.specs.ClearScenarios.{TheTagsOfAClear, AClearOfEverything}
 use Rattle.scenarios.specs.ProxyScenarios.{AProxyThatIsBehind}
 use Rattle.scenarios.specs.RefusalScenarios.{RefusalsInOrder, WhatIsCheckedFirst, TheLastVersion}
 use Rattle.scenarios.specs.RefusalScenarios.{TheGreatestVersion, WhatAProxyHasAcknowledged}
+use Rattle.scenarios.specs.ResolverScenarios.{RequestsOfStrangers}
 
 pub an_empty_journal : AnEmptyJournal
 unfolding the_definitions
@@ -148,3 +149,7 @@ the_greatest_version = refl
 pub what_a_proxy_has_acknowledged : WhatAProxyHasAcknowledged
 unfolding the_definitions
 what_a_proxy_has_acknowledged = refl
+
+pub requests_of_strangers : RequestsOfStrangers
+unfolding the_definitions
+requests_of_strangers = refl

@@ -5,6 +5,7 @@ pub mod MemoryScenarios
 pub mod OwnerScenarios
 pub mod ProxyScenarios
 pub mod RefusalScenarios
+pub mod ResolverScenarios
 pub mod StampScenarios
 pub mod VerdictScenarios
 pub mod Vocabulary

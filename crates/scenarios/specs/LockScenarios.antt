@@ -104,7 +104,11 @@ unlocking_row r =
       states = (record {
         verdict = Committed;
         carried = if nat_eq r 0
-            then Some (record { mutations = changes.Clear (only locked_key) ∷ []; lock_aware = true })
+            then
+            Some (record {
+              mutations = changes.Clear (only locked_key) ∷ [];
+              lock_aware = true;
+            })
             else None;
       }) ∷ [];
     }

@@ -1,8 +1,10 @@
-//! Scenarios: runs of a small cluster with all their answers. No code: each contract is a list of scenarios.
+//! Scenarios: runs of a small cluster with all their answers. No code: each contract is a list of
+//! scenarios.
 
 ghost use Rattle.scenarios.specs.FoldScenarios.{AnEmptyJournal, TheBoundaryBelongsToTheRightRow};
 ghost use Rattle.scenarios.specs.FoldScenarios.{OneResolverRefuses, TheLockIsReadOnceARow};
 ghost use Rattle.scenarios.specs.FoldScenarios.{TagsComeAndGoWithTheirRows};
+ghost use Rattle.scenarios.specs.ResolverScenarios.{RequestsOfStrangers};
 ghost use Rattle.scenarios.specs.StampScenarios.{TheMetadataVersionIsStamped, AStampInAText};
 ghost use Rattle.scenarios.specs.StampScenarios.{WhatAStateMutationIs};
 ghost use Rattle.scenarios.specs.OwnerScenarios.{ReadsAfterAMoveAskBothOwners};
@@ -82,11 +84,17 @@ pub fn proxy_scenarios()
     ensures { AProxyThatIsBehind }
 {}
 
-/// Refused events change nothing; which check comes first; the last versions; and which replies are given up.
+/// Refused events change nothing; which check comes first; the last versions; and which replies are
+/// given up.
 pub fn refusal_scenarios()
     ensures in_order { RefusalsInOrder }
     ensures checks { WhatIsCheckedFirst }
     ensures last_version { TheLastVersion }
     ensures greatest_version { TheGreatestVersion }
     ensures acknowledged { WhatAProxyHasAcknowledged }
+{}
+
+/// Requests that no proxy of the cluster would send, and repeats.
+pub fn resolver_scenarios()
+    ensures { RequestsOfStrangers }
 {}

@@ -1,5 +1,7 @@
--- The families of rows that the metadata keeps, and the kind of each key (release 7.1; that no other family is kept is this project's profile).
-use Rattle.std.specs.Prelude.{ℕ, ◌+◌, List, [], ◌∷◌, length, codes, nat_eq, Bool, true, false, ◌&&◌, ◌||◌, not, if◌then◌else◌}
+-- The families of rows that the metadata keeps, and the kind of each key (release 7.1; that no
+-- other family is kept is this project's profile).
+use Rattle.std.specs.Prelude.{ℕ, ◌+◌, List, [], ◌∷◌, length, codes, nat_eq, Bool, true, false, ◌&&◌}
+use Rattle.std.specs.Prelude.{◌||◌, not, if◌then◌else◌}
 use Rattle.std.specs.List.{starts_with}
 use Rattle.std.specs.Cmp.Lexicographic.{pointwise}
 use Rattle.system_keys.specs.declared.kind.RowKind.{RowKind}
@@ -28,23 +30,32 @@ non_metadata_prefix = 255 ∷ 2 ∷ []
 
 -- which storage servers have the keys from this one on
 abbrev pub key_servers_family : Family
-key_servers_family = record { kind = kinds.KeyServers; prefix = 255 ∷ codes "/keyServers/"; following = AnyBytes }
+key_servers_family =
+    record { kind = kinds.KeyServers; prefix = 255 ∷ codes "/keyServers/"; following = AnyBytes }
 
 -- the tag of a storage server
 abbrev pub server_tag_family : Family
-server_tag_family = record { kind = kinds.ServerTag; prefix = 255 ∷ codes "/serverTag/"; following = OneServerId }
+server_tag_family =
+    record { kind = kinds.ServerTag; prefix = 255 ∷ codes "/serverTag/"; following = OneServerId }
 
 -- the lock of the database
 abbrev pub locked_family : Family
-locked_family = record { kind = kinds.DatabaseLocked; prefix = 255 ∷ codes "/dbLocked"; following = Nothing }
+locked_family =
+    record { kind = kinds.DatabaseLocked; prefix = 255 ∷ codes "/dbLocked"; following = Nothing }
 
 -- the version of the metadata, as clients read it
 abbrev pub metadata_version_family : Family
-metadata_version_family = record { kind = kinds.MetadataVersion; prefix = 255 ∷ codes "/metadataVersion"; following = Nothing }
+metadata_version_family =
+    record {
+      kind = kinds.MetadataVersion;
+      prefix = 255 ∷ codes "/metadataVersion";
+      following = Nothing;
+    }
 
 -- the families that the metadata keeps, and no others
 abbrev pub kept_families : List Family
-kept_families = key_servers_family ∷ server_tag_family ∷ locked_family ∷ metadata_version_family ∷ []
+kept_families =
+    key_servers_family ∷ server_tag_family ∷ locked_family ∷ metadata_version_family ∷ []
 
 -- the length of a server id (this project's profile)
 abbrev pub server_id_length : ℕ
@@ -53,7 +64,8 @@ server_id_length = 16
 -- the key is the prefix and what may follow it
 abbrev pub is_prefixed : Following → Key → Key → Bool
 is_prefixed Nothing prefix key = pointwise nat_eq key prefix
-is_prefixed OneServerId prefix key = starts_with nat_eq key prefix && nat_eq (length key) (length prefix + server_id_length)
+is_prefixed OneServerId prefix key =
+    starts_with nat_eq key prefix && nat_eq (length key) (length prefix + server_id_length)
 is_prefixed AnyBytes prefix key = starts_with nat_eq key prefix
 
 -- the key is of the family
@@ -66,7 +78,8 @@ kind_among [] key =
     if starts_with nat_eq key non_metadata_prefix then kinds.NonMetadata
     else if starts_with nat_eq key system_prefix then kinds.OtherSystem
     else kinds.Normal
-kind_among (family ∷ families) key = if is_in family key then family.kind else kind_among families key
+kind_among (family ∷ families) key =
+    if is_in family key then family.kind else kind_among families key
 
 -- the kind of a key
 unfoldable pub kind_of : Key → RowKind
@@ -97,6 +110,9 @@ is_of_kind kinds.KeyServers key = is_in key_servers_family key
 is_of_kind kinds.ServerTag key = is_in server_tag_family key
 is_of_kind kinds.DatabaseLocked key = is_in locked_family key
 is_of_kind kinds.MetadataVersion key = is_in metadata_version_family key
-is_of_kind kinds.OtherSystem key = starts_with nat_eq key system_prefix && not (starts_with nat_eq key non_metadata_prefix) && not (is_in_some kept_families key)
+is_of_kind kinds.OtherSystem key =
+    starts_with nat_eq key system_prefix
+    && not (starts_with nat_eq key non_metadata_prefix)
+    && not (is_in_some kept_families key)
 is_of_kind kinds.NonMetadata key = starts_with nat_eq key non_metadata_prefix
 is_of_kind kinds.Normal key = not (starts_with nat_eq key system_prefix)

@@ -1,7 +1,10 @@
--- The limits of keys and values, and the faults of a range and of a change (this project's profile).
-use Rattle.std.specs.Prelude.{ℕ, List, [], ◌∷◌, length, not, ◌||◌, nat_lt, if◌then◌else◌, Option, Some, None}
+-- The limits of keys and values, and the faults of a range and of a change (this project's
+-- profile).
+use Rattle.std.specs.Prelude.{ℕ, List, [], ◌∷◌, length, not, ◌||◌, nat_lt, if◌then◌else◌, Option}
+use Rattle.std.specs.Prelude.{Some, None}
 use Rattle.system_keys.specs.declared.refusal.Refusal.{Refusal}
-use Rattle.system_keys.specs.declared.refusal.Refusal.TheVariants.{KeyTooLong, ValueTooLong, KeyOutside, EmptyRange, BadRow}
+use Rattle.system_keys.specs.declared.refusal.Refusal.TheVariants.{KeyTooLong, ValueTooLong}
+use Rattle.system_keys.specs.declared.refusal.Refusal.TheVariants.{KeyOutside, EmptyRange, BadRow}
 use Rattle.system_keys.specs.Families.{kind_of}
 use Rattle.system_keys.specs.Rows.{is_row_value}
 use Rattle.system_keys.specs.Keys.{Key, is_key_below, is_key_up_to}
@@ -26,7 +29,8 @@ value_limit = 100000
 abbrev pub range_fault : Key → Key → Option Refusal
 range_fault begin end =
     if nat_lt key_limit (length begin) || nat_lt end_limit (length end) then Some KeyTooLong
-    else if not (is_key_up_to end key_space_end) || not (is_key_below begin key_space_end) then Some KeyOutside
+    else if not (is_key_up_to end key_space_end) || not (is_key_below begin key_space_end)
+    then Some KeyOutside
     else if not (is_key_below begin end) then Some EmptyRange
     else None
 

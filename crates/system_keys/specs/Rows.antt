@@ -1,5 +1,8 @@
--- The values of the kept rows: one spelling of each, and reading it from the front with the first fault met (this project's profile).
-use Rattle.std.specs.Prelude.{◌≡◌, ℕ, ◌<◌, slice_index, zero, suc, ◌+◌, ◌*◌, ◌/◌, ◌%◌, List, [], ◌∷◌, ◌++◌, length, take, drop, Bool, true, false, ◌&&◌, nat_lt, nat_eq, if◌then◌else◌, Option, Some, None, Result, Ok, Err, is_ok}
+-- The values of the kept rows: one spelling of each, and reading it from the front with the first
+-- fault met (this project's profile).
+use Rattle.std.specs.Prelude.{◌≡◌, ℕ, ◌<◌, slice_index, zero, suc, ◌+◌, ◌*◌, ◌/◌, ◌%◌, List, []}
+use Rattle.std.specs.Prelude.{◌∷◌, ◌++◌, length, take, drop, Bool, true, false, ◌&&◌, nat_lt}
+use Rattle.std.specs.Prelude.{nat_eq, if◌then◌else◌, Option, Some, None, Result, Ok, Err, is_ok}
 use Rattle.std.specs.List.{flat_map, list_all}
 use Rattle.std.specs.Option.{option_or}
 use Rattle.system_keys.specs.declared.refusal.RowFault.{RowFault}
@@ -20,7 +23,8 @@ AreBytes bytes = (i : ℕ) → slice_index bytes i < 256
 abbrev pub Id : Type 0
 Id = List ℕ
 
--- the storage servers of a range of keys: those that have it, and those that it moves to (release 7.1)
+-- the storage servers of a range of keys: those that have it, and those that it moves to (release
+-- 7.1)
 pub record Servers : Type 0 where
   pub sources : List Id
   pub destinations : List Id
@@ -88,12 +92,15 @@ abbrev pub ◌>>=◌ : {A B : Type 0} → Result A RowFault → (A → Result B 
 abbrev pub with_first : Id → List Id × List ℕ → List Id × List ℕ
 with_first id read = (id ∷ read.0, read.1)
 
--- n ids after the one before, and the bytes behind them; an id is compared as soon as its bytes are there
+-- n ids after the one before, and the bytes behind them; an id is compared as soon as its bytes are
+-- there
 unfoldable pub ids_at : ℕ → Option Id → List ℕ → Result (List Id × List ℕ) RowFault
 ids_at zero before bytes = Ok ([], bytes)
 ids_at (suc n) before bytes =
     if nat_lt (length bytes) server_id_length then Err faults.Truncated
-    else if is_above before (take server_id_length bytes) then ids_at n (Some (take server_id_length bytes)) (drop server_id_length bytes) >>= (λ read. Ok (with_first (take server_id_length bytes) read))
+    else if is_above before (take server_id_length bytes) then
+    ids_at n (Some (take server_id_length bytes)) (drop server_id_length bytes)
+    >>= (λ read. Ok (with_first (take server_id_length bytes) read))
     else Err faults.NotRising
 
 -- a count byte, and that many ids

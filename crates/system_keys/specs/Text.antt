@@ -1,5 +1,7 @@
 -- Bytes as text: one text for each string of bytes (this project's profile).
-use Rattle.std.specs.Prelude.{ℕ, ◌+◌, ◌-◌, ◌*◌, ◌/◌, ◌%◌, List, [], ◌∷◌, Bool, ◌==◌, ◌&&◌, ◌||◌, not, nat_le, nat_lt, if◌then◌else◌, Option, Some, None, option_map, ok_or, Result}
+use Rattle.std.specs.Prelude.{ℕ, ◌+◌, ◌-◌, ◌*◌, ◌/◌, ◌%◌, List, [], ◌∷◌, Bool, ◌==◌, ◌&&◌, ◌||◌}
+use Rattle.std.specs.Prelude.{not, nat_le, nat_lt, if◌then◌else◌, Option, Some, None, option_map}
+use Rattle.std.specs.Prelude.{ok_or, Result}
 use Rattle.std.specs.List.{flat_map}
 use Rattle.std.specs.Char.{digit_char}
 use Rattle.system_keys.specs.declared.refusal.RowFault.{RowFault}
@@ -11,7 +13,9 @@ is_plain byte = nat_le 33 byte && nat_le byte 126 && not (byte == 34) && not (by
 
 -- a byte's text: its character, or `\x` and two lower-case hexadecimal digits
 abbrev pub byte_text : ℕ → List ℕ
-byte_text byte = if is_plain byte then byte ∷ [] else 92 ∷ 120 ∷ digit_char (byte / 16) ∷ digit_char (byte % 16) ∷ []
+byte_text byte =
+    if is_plain byte then byte ∷ []
+    else 92 ∷ 120 ∷ digit_char (byte / 16) ∷ digit_char (byte % 16) ∷ []
 
 -- the text of bytes, one after another
 abbrev pub text_of : List ℕ → List ℕ
@@ -19,7 +23,8 @@ text_of bytes = flat_map byte_text bytes
 
 -- a lower-case hexadecimal digit
 abbrev pub is_digit : ℕ → Bool
-is_digit character = (nat_le 48 character && nat_le character 57) || (nat_le 97 character && nat_le character 102)
+is_digit character =
+    (nat_le 48 character && nat_le character 57) || (nat_le 97 character && nat_le character 102)
 
 -- the value of a lower-case hexadecimal digit
 abbrev pub digit_of : ℕ → ℕ
@@ -31,7 +36,8 @@ byte_of high low = 16 * digit_of high + digit_of low
 
 -- four characters are the escape of a byte that is not its own character
 abbrev pub is_escape : ℕ → ℕ → ℕ → ℕ → Bool
-is_escape slash x high low = slash == 92 && x == 120 && is_digit high && is_digit low && not (is_plain (byte_of high low))
+is_escape slash x high low =
+    slash == 92 && x == 120 && is_digit high && is_digit low && not (is_plain (byte_of high low))
 
 -- a byte in front of those that were read, if they were
 abbrev pub with_byte : ℕ → Option (List ℕ) → Option (List ℕ)

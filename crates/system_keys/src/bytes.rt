@@ -6,7 +6,8 @@ use crate::memory::OutOfMemory;
 use std::alloc::{AllocError, Global};
 use std::marker::Model;
 
-/// Owned bytes: a key, or the value of a row. Converts from and into a `Vec<u8>` without allocating.
+/// Owned bytes: a key, or the value of a row. Converts from and into a `Vec<u8>` without
+/// allocating.
 #[derive(Debug, Drop)]
 pub struct Bytes {
     bytes: Vec<u8>,

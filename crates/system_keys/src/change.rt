@@ -29,7 +29,8 @@ pub enum Change {
 impl Change {
     ghost use Rattle.system_keys.specs.Limits.{set_fault};
 
-    /// Returns the Set of a key to a value, or the first fault that `check_set` finds. Does not allocate.
+    /// Returns the Set of a key to a value, or the first fault that `check_set` finds. Does not
+    /// allocate.
     pub fn set(key: Vec<u8>, value: Vec<u8>) -> Result<Change, Refusal>
         ensures { MatchResult result
             (λ change. (set_fault key.items value.items ≡ None)

@@ -1,12 +1,14 @@
 //! Laws of the definitions of this crate, each the contract of a function with an empty body.
 
-ghost use Rattle.std.specs.Prelude.{◌≡◌, ◌↔◌, ◌<◌, ℕ, List, IsTrue, Some, None, Ok, Err, slice_index};
+ghost use Rattle.std.specs.Prelude.{◌≡◌, ◌↔◌, ◌<◌, ℕ, List, IsTrue, Some, None, Ok, Err};
+ghost use Rattle.std.specs.Prelude.{slice_index};
 ghost use Rattle.system_keys.specs.declared.refusal.RowFault.{RowFault};
 ghost use Rattle.system_keys.specs.declared.kind.RowKind.{RowKind};
 ghost use Rattle.system_keys.specs.declared.tag.Tag.{Tag};
 ghost use Rattle.system_keys.specs.Keys.{Key};
 ghost use Rattle.system_keys.specs.Families.{kind_of, is_of_kind};
-ghost use Rattle.system_keys.specs.Rows.{Servers, HaveSpelling, is_of_rows, key_servers_value, servers_at, tag_value, tag_at, AreBytes};
+ghost use Rattle.system_keys.specs.Rows.{Servers, HaveSpelling, is_of_rows, key_servers_value};
+ghost use Rattle.system_keys.specs.Rows.{servers_at, tag_value, tag_at, AreBytes};
 ghost use Rattle.system_keys.specs.Text.{text_of, bytes_of};
 
 /// Each key is of exactly one kind: the one whose own condition it meets.
@@ -15,8 +17,8 @@ pub fn kind_law()
         → IsTrue (is_of_kind kind key) ↔ (kind_of key ≡ kind) }
 {}
 
-/// Each row value has one encoding: a value decodes only from the bytes that it encodes to, and an encoded
-/// value decodes to itself. A keyServers value has only faults of rows.
+/// Each row value has one encoding: a value decodes only from the bytes that it encodes to, and an
+/// encoded value decodes to itself. A keyServers value has only faults of rows.
 pub fn row_law()
     ensures servers_spelled { (bytes : List ℕ) (servers : Servers)
         → AreBytes bytes → servers_at bytes ≡ Ok servers

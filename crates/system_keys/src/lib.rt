@@ -1,8 +1,8 @@
-//! The lowest layer: keys and ranges of keys, changes of single rows and ranges, the values of the rows
-//! that the metadata keeps, and bytes as text.
+//! The lowest layer: keys and ranges of keys, changes of single rows and ranges, the values of the
+//! rows that the metadata keeps, and bytes as text.
 //!
-//! Sources: FoundationDB release 7.1 (the system keyspace, which mutations touch the metadata) and this
-//! project's profile (limits, the values of rows, the text of bytes).
+//! Sources: FoundationDB release 7.1 (the system keyspace, which mutations touch the metadata) and
+//! this project's profile (limits, the values of rows, the text of bytes).
 #![tactic(auto)]
 
 mod bytes;

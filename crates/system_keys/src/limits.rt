@@ -23,8 +23,9 @@ pub const KEY_SPACE_END: &[u8] = b"\xff\xff";
 
 /// Returns the first fault of the range from `begin` up to `end`. Does not allocate.
 ///
-/// In this order: `KeyTooLong` (a begin of more than 10,000 bytes, an end of more than 10,001), `KeyOutside`
-/// (an end after `\xff\xff`, a begin at or after it), `EmptyRange` (a begin that is not before the end).
+/// In this order: `KeyTooLong` (a begin of more than 10,000 bytes, an end of more than 10,001),
+/// `KeyOutside` (an end after `\xff\xff`, a begin at or after it), `EmptyRange` (a begin that is
+/// not before the end).
 pub fn check_range(begin: &[u8], end: &[u8]) -> Result<(), Refusal>
     ensures { result_err result ≡ range_fault begin.now end.now }
 {
@@ -42,8 +43,9 @@ pub fn check_range(begin: &[u8], end: &[u8]) -> Result<(), Refusal>
 
 /// Returns the first fault of a Set of a key to a value. Does not allocate.
 ///
-/// In this order: `KeyTooLong` (more than 10,000 bytes), `ValueTooLong` (more than 100,000), `KeyOutside`
-/// (at or after `\xff\xff`), `BadRow` (a keyServers or serverTag value that does not decode).
+/// In this order: `KeyTooLong` (more than 10,000 bytes), `ValueTooLong` (more than 100,000),
+/// `KeyOutside` (at or after `\xff\xff`), `BadRow` (a keyServers or serverTag value that does not
+/// decode).
 pub fn check_set(key: &[u8], value: &[u8]) -> Result<(), Refusal>
     ensures { result_err result ≡ set_fault key.now value.now }
 {

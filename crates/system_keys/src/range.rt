@@ -9,8 +9,8 @@ use crate::order::{both_precede, precedes};
 use crate::refusal::Refusal;
 use std::marker::Model;
 
-/// The keys from `begin` up to `end`, without `end`. Never empty: `begin` is below `end`, and both are
-/// within the limits.
+/// The keys from `begin` up to `end`, without `end`. Never empty: `begin` is below `end`, and both
+/// are within the limits.
 #[derive(Clone, Debug, Drop)]
 pub struct KeyRange {
     begin: Bytes,
@@ -33,8 +33,8 @@ impl KeyRange {
     ghost use Rattle.system_keys.specs.Keys.{holds, overlaps, Overlap};
     ghost use Rattle.system_keys.specs.Limits.{range_fault};
 
-    /// Returns the range from `begin` up to `end`, or the first fault that `check_range` finds. Does not
-    /// allocate.
+    /// Returns the range from `begin` up to `end`, or the first fault that `check_range` finds.
+    /// Does not allocate.
     pub fn new(begin: Vec<u8>, end: Vec<u8>) -> Result<KeyRange, Refusal>
         ensures { MatchResult result
             (λ range. (range_fault begin.items end.items ≡ None)

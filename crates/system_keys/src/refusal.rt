@@ -6,7 +6,8 @@ ghost use Rattle.system_keys.specs.declared.refusal.RowFault.TheVariants as faul
 use crate::memory::OutOfMemory;
 use thiserror::Error;
 
-/// Why a key, a range or a change is refused (this project's profile). The number and the name are printed.
+/// Why a key, a range or a change is refused (this project's profile). The number and the name are
+/// printed.
 #[derive(Clone, Copy, Debug, PartialEq, Eq, Error)]
 pub enum Refusal {
     /// A key has more than 10,000 bytes, or the end of a range more than 10,001.

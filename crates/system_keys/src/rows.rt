@@ -1,8 +1,8 @@
 //! The values of keyServers and serverTag rows, as bytes.
 //!
 //! A keyServers value is a count byte, that many source ids of 16 bytes, a count byte, that many
-//! destination ids, and nothing after. A serverTag value is a locality byte and two bytes of the id, the
-//! high one first (this project's profile). Each value has one encoding.
+//! destination ids, and nothing after. A serverTag value is a locality byte and two bytes of the
+//! id, the high one first (this project's profile). Each value has one encoding.
 
 ghost use Rattle.std.specs.Prelude.{◌≡◌, ◌≤◌, ◌*◌, ◌++◌, length};
 ghost use Rattle.std.specs.Prelude.{IfOk, OnOk, MatchResult, IsOk, Ok, Err, None, true};
@@ -36,9 +36,9 @@ pub fn encode_key_servers(alloc: Global, teams: &Teams) -> Result<Vec<u8>, OutOf
 
 /// Decodes a keyServers value.
 ///
-/// Returns the first error from the front: `Truncated` (bytes are missing), `NotRising` (ids that are not
-/// strictly increasing), `Trailing` (bytes after the end). Fails with `OutOfMemory` only for a value without
-/// such an error.
+/// Returns the first error from the front: `Truncated` (bytes are missing), `NotRising` (ids that
+/// are not strictly increasing), `Trailing` (bytes after the end). Fails with `OutOfMemory` only
+/// for a value without such an error.
 pub fn decode_key_servers(alloc: Global, bytes: &[u8]) -> Result<Teams, RowFault>
     ensures value { IsAsSpecified row_fault (λ teams. teams) result (servers_at bytes.now) }
     ensures spelled { IfOk result (λ teams. key_servers_value teams ≡ bytes.now) }

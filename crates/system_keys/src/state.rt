@@ -2,7 +2,8 @@
 
 ghost use Rattle.std.specs.Prelude.{◌≡◌, nat_eq, ◌&&◌, not};
 ghost use Rattle.std.specs.List.{starts_with};
-ghost use Rattle.system_keys.specs.Changes.{is_state, is_past_system_prefix, is_inside_non_metadata};
+ghost use Rattle.system_keys.specs.Changes.{is_state, is_past_system_prefix};
+ghost use Rattle.system_keys.specs.Changes.{is_inside_non_metadata};
 ghost use Rattle.system_keys.specs.Families.{system_prefix, non_metadata_prefix};
 
 use crate::change::Change;
@@ -11,8 +12,9 @@ use crate::range::KeyRange;
 
 /// Whether the change goes to every commit proxy (release 7.1).
 ///
-/// A Set does if its key starts with `\xff` and not with `\xff\x02`; a Clear does if its end has more than
-/// one byte and starts with `\xff`, and its range does not lie inside `[\xff\x02, \xff\x03)`.
+/// A Set does if its key starts with `\xff` and not with `\xff\x02`; a Clear does if its end has
+/// more than one byte and starts with `\xff`, and its range does not lie inside `[\xff\x02,
+/// \xff\x03)`.
 pub fn is_state(change: &Change) -> bool
     ensures { result ≡ is_state change.now }
 {

@@ -24,8 +24,8 @@ pub enum TeamsFault {
     NotRising,
 }
 
-/// The storage servers of a range of keys: the sources, which have it, and the destinations, which it moves
-/// to (release 7.1). Both lists are strictly increasing and have at most 255 servers.
+/// The storage servers of a range of keys: the sources, which have it, and the destinations, which
+/// it moves to (release 7.1). Both lists are strictly increasing and have at most 255 servers.
 #[derive(Clone, Debug, Drop)]
 pub struct Teams {
     sources: Items<ServerId>,
@@ -47,8 +47,8 @@ impl Model for Teams {
 impl Teams {
     ghost use Rattle.system_keys.specs.Rows.{Servers, servers_fault};
 
-    /// Returns the teams of these servers, or the first fault, of the sources before the destinations, and both
-    /// lists, unchanged. Does not allocate.
+    /// Returns the teams of these servers, or the first fault, of the sources before the
+    /// destinations, and both lists, unchanged. Does not allocate.
     pub fn new(
         sources: Vec<ServerId>,
         destinations: Vec<ServerId>,

@@ -1,6 +1,6 @@
-//! Tests against vectors and hand-made values. Each call that takes memory is made again where it was
-//! refused memory, and what was copied is then as before, so that the tests also pass where any one
-//! allocation fails.
+//! Tests against vectors and hand-made values. Each call that takes memory is made again where it
+//! was refused memory, and what was copied is then as before, so that the tests also pass where any
+//! one allocation fails.
 
 use crate::{
     Bytes, Change, KeyRange, OutOfMemory, Refusal, RowFault, RowKind, ServerId, Tag, Teams,

@@ -1,5 +1,6 @@
-//! Bytes as text: a byte from 0x21 to 0x7e, other than the double quote and the backslash, is its ASCII
-//! character, and every other byte is `\x` and two lower-case hexadecimal digits (this project's profile).
+//! Bytes as text: a byte from 0x21 to 0x7e, other than the double quote and the backslash, is its
+//! ASCII character, and every other byte is `\x` and two lower-case hexadecimal digits (this
+//! project's profile).
 
 ghost use Rattle.std.specs.Prelude.{◌≡◌, ◌+◌, ◌-◌, ◌^◌, ◌<◌, ◌≤◌, ◌++◌, length, min, string_bytes};
 ghost use Rattle.std.specs.Prelude.{IfOk, IfSome, OnOk, IsSome, IsTrue, Some, option_map};
@@ -76,8 +77,9 @@ fn hex_digit(value: u8) -> char
 
 /// Returns the bytes of the text.
 ///
-/// Fails with `BadText` for another character, an escape with another letter, a missing or upper-case digit,
-/// or an escape of a byte that has its own character. Fails with `OutOfMemory` only for a text of bytes.
+/// Fails with `BadText` for another character, an escape with another letter, a missing or
+/// upper-case digit, or an escape of a byte that has its own character. Fails with `OutOfMemory`
+/// only for a text of bytes.
 pub fn read_bytes(alloc: Global, text: &str) -> Result<Vec<u8>, RowFault>
     ensures value { IsAsSpecified row_fault (λ bytes. bytes.items) result (bytes_read text.now) }
     ensures spelled { IfOk result (λ bytes. text_of bytes.items ≡ text.now) }
