@@ -5,7 +5,7 @@ ghost use Rattle.model.specs.declared.moves.Move.{Move};
 ghost use Rattle.model.specs.OwnerMaps.{StandsForMoves};
 ghost use Rattle.dated_owners.specs.Answers.{GainsMove, KeepsMoves, AreReaders, AreWriters};
 ghost use Rattle.dated_owners.specs.Asking.{askers};
-ghost use Rattle.dated_owners.specs.Refusals.{move_fault, Explains};
+ghost use Rattle.dated_owners.specs.Refusals.{move_fault, refusal_fault};
 
 use crate::asking::{Walk, askers};
 use crate::refusal::Refusal;
@@ -70,7 +70,7 @@ impl OwnerMap {
     pub fn move_range(&mut self, range: &KeyRange, date: u64, dest: usize) -> Result<(), Refusal>
         ensures ok { OnOk result (move_fault self.old date dest ≡ None) }
         ensures refused { let fault = move_fault self.old date dest in
-            IfErr result (λ refusal. Explains refusal fault) }
+            IfErr result (λ refusal. refusal_fault refusal ≡ fault) }
         ensures resolvers { self.new.resolvers ≡ self.old.resolvers }
         ensures oldest { self.new.oldest ≡ self.old.oldest }
         ensures stands { let m : Move = record { range = range.now; date = date; dest = dest } in
@@ -131,10 +131,10 @@ impl OwnerMap {
         askers(alloc, self.resolvers, &self.moves, walk, range)
     }
 
-    /// Makes `oldest` the oldest version remembered, unless a greater one is. Allocates nothing.
+    /// Raises the oldest version remembered to `oldest`; a lower value changes nothing. Allocates
+    /// nothing.
     ///
-    /// Answers then no longer reach the first owner of a key while the second one is dated below the
-    /// oldest version.
+    /// The oldest owner of a key then no longer counts if the next one is dated below that version.
     pub fn forget(&mut self, oldest: u64)
         ensures resolvers { self.new.resolvers ≡ self.old.resolvers }
         ensures oldest { self.new.oldest ≡ max self.old.oldest oldest }

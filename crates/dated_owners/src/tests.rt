@@ -1,5 +1,6 @@
-//! Tests against answers worked out by hand, and against lists of owners that are kept key by key. Each call
-//! that allocates is made again after a failed allocation, so that the tests also pass if any one fails.
+//! Tests against answers worked out by hand, and against lists of owners that are kept key by key.
+//! Each call that allocates is made again after a failed allocation, so that the tests also pass if
+//! any one fails.
 
 use crate::{OwnerMap, Refusal};
 use std::alloc::{AllocError, Global};
