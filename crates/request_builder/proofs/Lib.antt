@@ -1,0 +1,6 @@
+pub mod AskedLists
+pub mod Built
+pub mod KeptRule
+pub mod MarkedLists
+pub mod RequestTests
+pub mod Steps

@@ -1,0 +1,109 @@
+//! From a record to one request for each resolver.
+//!
+//! Release 7.1, `CommitProxyServer.actor.cpp`, ResolutionRequestBuilder; what differs is marked
+//! *profile*.
+
+ghost use Rattle.std.specs.Prelude.{◌≡◌, ◌∷◌, [], length, map, IfOk};
+ghost use Rattle.system_keys.specs.Keys.{only};
+ghost use Rattle.model.specs.Transactions.{locked_key};
+ghost use Rattle.model.specs.Shares.{each_below, asked_back_to};
+ghost use Rattle.model.specs.Requests.{request_back_to};
+ghost use Rattle.model.specs.OwnerMaps.{StandsForMoves};
+ghost use Rattle.request_builder.specs.Asking.{request_by};
+
+use crate::asked::asked_lists;
+use crate::asking::{Asking, askings, lock_row};
+use crate::header::RequestHeader;
+use crate::marks::marks_by;
+use crate::parts::parts_by;
+use crate::record::Record;
+use crate::request::Request;
+use crate::requests::Requests;
+use crate::share::Share;
+use dated_owners::OwnerMap;
+use std::alloc::Global;
+use system_keys::{Items, KeyRange, OutOfMemory};
+
+/// Returns the requests for a record, one for each resolver of the map, and the resolvers that get
+/// a part of each transaction.
+///
+/// The map must stand for the record's moves; otherwise nothing is promised but the rules of the
+/// types. Owners are remembered back to the map's oldest version (*profile*). `last_received` is the
+/// version of the last record that the proxy had finished when it began this one, or 0. Each range is
+/// looked up in the map once, and copied only for the resolvers that get it. Fails only with
+/// `OutOfMemory`.
+pub fn build(
+    alloc: Global,
+    rec: &Record,
+    owners: &OwnerMap,
+    last_received: u64,
+) -> Result<Requests, OutOfMemory>
+    ensures requests { StandsForMoves owners.now rec.now.moves → IfOk result (λ built.
+        built.requests ≡ map (request_back_to owners.now.oldest rec.now last_received)
+        (each_below owners.now.resolvers)) }
+    ensures asked { StandsForMoves owners.now rec.now.moves → IfOk result (λ built.
+        built.asked
+        ≡ map (asked_back_to owners.now.oldest owners.now.resolvers rec.now) rec.now.batch) }
+{
+    let lock_row = lock_row(alloc)?;
+    let askings = askings(alloc, owners, rec.batch(), &lock_row)?;
+    let requests = requests_by(
+        alloc,
+        owners.resolvers(),
+        rec,
+        last_received,
+        &lock_row,
+        &askings,
+    )?;
+    let asked = asked_lists(alloc, owners.resolvers(), &askings)?;
+    Ok(Requests { requests, asked })
+}
+
+/// The requests to the resolvers, in their order.
+fn requests_by(
+    alloc: Global,
+    resolvers: usize,
+    rec: &Record,
+    last_received: u64,
+    lock_row: &[KeyRange],
+    askings: &[Asking],
+) -> Result<Items<Request>, OutOfMemory>
+    requires row { lock_row.now ≡ only locked_key ∷ [] }
+    requires length { length askings.now ≡ length rec.now.batch }
+    ensures { IfOk result (λ requests.
+        requests ≡ map (request_by rec.now last_received askings.now) (each_below resolvers)) }
+{
+    let mut requests = Vec::with_capacity(alloc, resolvers)?;
+    for resolver in 0..resolvers {
+        requests.push(request_by(alloc, resolver, rec, last_received, lock_row, askings)?)?;
+    }
+    Ok(Items::from(requests))
+}
+
+/// The request to one resolver.
+fn request_by(
+    alloc: Global,
+    resolver: usize,
+    rec: &Record,
+    last_received: u64,
+    lock_row: &[KeyRange],
+    askings: &[Asking],
+) -> Result<Request, OutOfMemory>
+    requires row { lock_row.now ≡ only locked_key ∷ [] }
+    requires length { length askings.now ≡ length rec.now.batch }
+    ensures { IfOk result (λ request.
+        request ≡ request_by rec.now last_received askings.now resolver) }
+{
+    let header = RequestHeader {
+        resolver,
+        proxy: rec.proxy(),
+        row: rec.row(),
+        previous: rec.previous(),
+        version: rec.version(),
+        last_received,
+    };
+    let parts = parts_by(alloc, resolver, rec.batch(), lock_row, askings)?;
+    let marks = marks_by(alloc, resolver, rec.batch(), askings)?;
+    let share = Share::new(Items::from(parts));
+    Ok(Request::of_parts(header, share, Items::from(marks)))
+}

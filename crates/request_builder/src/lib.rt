@@ -1,0 +1,28 @@
+//! Records, and the requests of a proxy to the resolvers for a record.
+//!
+//! Source: FoundationDB release 7.1, `CommitProxyServer.actor.cpp` (ResolutionRequestBuilder); what
+//! differs is marked *profile*.
+#![tactic(auto)]
+
+mod asked;
+mod asking;
+mod building;
+mod header;
+mod marks;
+mod parts;
+#[cfg(test)]
+mod random_tests;
+mod record;
+mod request;
+mod requests;
+mod share;
+#[cfg(test)]
+mod tests;
+
+pub use building::build;
+pub use header::RequestHeader;
+pub use model::{Carried, Config, Move, Part, Refusal, StateMark};
+pub use record::Record;
+pub use request::Request;
+pub use requests::Requests;
+pub use share::Share;

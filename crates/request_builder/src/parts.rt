@@ -1,0 +1,124 @@
+//! The parts of transactions that a resolver gets.
+
+ghost use Rattle.std.specs.Prelude.{◌≡◌, ◌∷◌, ◌++◌, [], if◌then◌else◌, length, IfOk, OnOk};
+ghost use Rattle.system_keys.specs.Keys.{only};
+ghost use Rattle.model.specs.Transactions.{locked_key};
+ghost use Rattle.model.specs.Journal.{list_at};
+ghost use Rattle.request_builder.specs.Asking.{is_in, ranges_for, part_by, is_sent};
+ghost use Rattle.request_builder.specs.Asking.{sent_part, parts_by};
+
+use crate::asking::Asking;
+use model::Part;
+use mutation::Stamped;
+use std::alloc::Global;
+use system_keys::{Items, KeyRange, OutOfMemory};
+
+/// The parts of the transactions that the resolver gets, in the order of the batch.
+pub(crate) fn parts_by(
+    alloc: Global,
+    resolver: usize,
+    batch: &[Stamped],
+    lock_row: &[KeyRange],
+    askings: &[Asking],
+) -> Result<Vec<Part>, OutOfMemory>
+    requires row { lock_row.now ≡ only locked_key ∷ [] }
+    requires length { length askings.now ≡ length batch.now }
+    ensures { IfOk result (λ parts. parts.items ≡ parts_by resolver 0 batch.now askings.now) }
+{
+    let mut parts = Vec::new(alloc);
+    for (number, transaction) in batch.iter().enumerate() {
+        let asking = &askings[number];
+        let part = part_by(alloc, resolver, number, transaction, lock_row, asking)?;
+        push_sent(&mut parts, asking.is_state, part)?;
+    }
+    Ok(parts)
+}
+
+/// Adds the part, if it is sent.
+fn push_sent(parts: &mut Vec<Part>, is_state: bool, part: Part) -> Result<(), OutOfMemory>
+    ensures { OnOk result (parts.new.items ≡ parts.old.items ++ sent_part is_state part) }
+{
+    if is_sent(is_state, &part) {
+        parts.push(part)?;
+    }
+    Ok(())
+}
+
+/// Whether the part is sent: it has a range, or its transaction is a state transaction.
+fn is_sent(is_state: bool, part: &Part) -> bool
+    ensures { result ≡ is_sent is_state part.now }
+{
+    is_state || !part.reads.as_slice().is_empty() || !part.writes.as_slice().is_empty()
+}
+
+/// The part of the transaction that the resolver gets.
+fn part_by(
+    alloc: Global,
+    resolver: usize,
+    number: usize,
+    transaction: &Stamped,
+    lock_row: &[KeyRange],
+    asking: &Asking,
+) -> Result<Part, OutOfMemory>
+    requires { lock_row.now ≡ only locked_key ∷ [] }
+    ensures { IfOk result (λ part. part ≡ part_by resolver number transaction.now asking.now) }
+{
+    let mut reads = Vec::new(alloc);
+    push_ranges(
+        &mut reads,
+        resolver,
+        transaction.reads(),
+        asking.reads.as_slice(),
+    )?;
+    push_ranges(&mut reads, resolver, lock_row, asking.lock.as_slice())?;
+    let mut writes = Vec::new(alloc);
+    push_ranges(
+        &mut writes,
+        resolver,
+        transaction.writes(),
+        asking.writes.as_slice(),
+    )?;
+    Ok(Part {
+        number,
+        snapshot: transaction.snapshot(),
+        reads: Items::from(reads),
+        writes: Items::from(writes),
+    })
+}
+
+/// Adds copies of the ranges whose lists have the resolver.
+fn push_ranges(
+    copies: &mut Vec<KeyRange>,
+    resolver: usize,
+    ranges: &[KeyRange],
+    lists: &[Items<usize>],
+) -> Result<(), OutOfMemory>
+    ensures { OnOk result
+        (copies.new.items ≡ copies.old.items ++ ranges_for resolver ranges.now lists.now) }
+{
+    for (number, range) in ranges.iter().enumerate() {
+        push_if(copies, is_listed(resolver, lists, number), range)?;
+    }
+    Ok(())
+}
+
+/// Adds a copy of the range, if it is asked for.
+fn push_if(copies: &mut Vec<KeyRange>, is_asked: bool, range: &KeyRange) -> Result<(), OutOfMemory>
+    ensures { OnOk result (copies.new.items
+        ≡ copies.old.items ++ (if is_asked then range.now ∷ [] else [])) }
+{
+    if is_asked {
+        copies.push(range.copy()?)?;
+    }
+    Ok(())
+}
+
+/// Whether the list of this number has the resolver.
+fn is_listed(resolver: usize, lists: &[Items<usize>], number: usize) -> bool
+    ensures { result ≡ is_in resolver (list_at lists.now number) }
+{
+    match lists.get(number) {
+        Some(list) => list.as_slice().contains(&resolver),
+        None => false,
+    }
+}

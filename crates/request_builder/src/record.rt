@@ -1,0 +1,157 @@
+//! Records: what the sequencer gives to a batch.
+//!
+//! Release 7.1, `masterserver.actor.cpp`, getVersion.
+
+ghost use Rattle.std.specs.Prelude.{◌≡◌, ◌<◌, IfOk};
+ghost use Rattle.model.specs.Stamps.{stamped_from};
+
+use model::Move;
+use mutation::{Admitted, Batch, Stamped};
+use std::alloc::Global;
+use std::marker::Model;
+use system_keys::{Items, OutOfMemory};
+
+/// What the sequencer gives to a batch: its place in the order of all batches, its version, the
+/// version before it, and all moves so far. The transactions have their stamps in.
+#[derive(Clone, Debug, Drop)]
+pub struct Record {
+    row: usize,
+    previous: u64,
+    version: u64,
+    own_previous: u64,
+    proxy: usize,
+    moves: Items<Move>,
+    batch: Items<Stamped>,
+}
+
+impl Model for Record {
+    ghost use Rattle.std.specs.Prelude.{◌<◌};
+    ghost use Rattle.model.specs.Records.{Record as Sequenced};
+
+    ghost Value = { Sequenced };
+
+    ghost view = { λ rec. record {
+      row = rec.row;
+      previous = rec.previous;
+      version = rec.version;
+      own_previous = rec.own_previous;
+      proxy = rec.proxy;
+      moves = rec.moves;
+      batch = rec.batch;
+    } };
+
+    ghost invariant = { λ rec. rec.previous < rec.version };
+}
+
+impl Record {
+    /// Returns the record of a batch, and puts the stamps into its transactions.
+    ///
+    /// `row` is its place in the order of all batches, from 0. `previous` is the version before
+    /// `version`, and `own_previous` the version of this proxy's record before, or 0. `moves` are
+    /// all moves so far. Fails only with `OutOfMemory`.
+    pub fn new(
+        alloc: Global,
+        row: usize,
+        previous: u64,
+        version: u64,
+        own_previous: u64,
+        proxy: usize,
+        moves: Items<Move>,
+        batch: &Batch,
+    ) -> Result<Record, OutOfMemory>
+        requires { previous < version }
+        ensures { IfOk result (λ made. made ≡ record {
+          row = row;
+          previous = previous;
+          version = version;
+          own_previous = own_previous;
+          proxy = proxy;
+          moves = moves;
+          batch = stamped_from version 0 batch.now;
+        }) }
+    {
+        let batch = stamped_batch(alloc, version, batch.transactions())?;
+        Ok(Record {
+            row,
+            previous,
+            version,
+            own_previous,
+            proxy,
+            moves,
+            batch: Items::from(batch),
+        })
+    }
+
+    /// The place of the record in the order of all batches, from 0.
+    pub fn row(&self) -> usize
+        ensures { result ≡ self.now.row }
+    {
+        self.row
+    }
+
+    /// The version before the record's.
+    pub fn previous(&self) -> u64
+        ensures value { result ≡ self.now.previous }
+        ensures kept { self.now.previous < self.now.version }
+    {
+        self.previous
+    }
+
+    /// The version of the record.
+    pub fn version(&self) -> u64
+        ensures value { result ≡ self.now.version }
+        ensures kept { self.now.previous < self.now.version }
+    {
+        self.version
+    }
+
+    /// The version of this proxy's record before, or 0 if it has none.
+    pub fn own_previous(&self) -> u64
+        ensures { result ≡ self.now.own_previous }
+    {
+        self.own_previous
+    }
+
+    /// The number of the proxy whose batch it is.
+    pub fn proxy(&self) -> usize
+        ensures { result ≡ self.now.proxy }
+    {
+        self.proxy
+    }
+
+    /// All moves so far, in the order in which they were made.
+    pub fn moves(&self) -> &[Move]
+        ensures { result.now ≡ self.now.moves }
+    {
+        self.moves.as_slice()
+    }
+
+    /// The transactions in the order of their numbers, from 0, with their stamps in.
+    pub fn batch(&self) -> &[Stamped]
+        ensures { result.now ≡ self.now.batch }
+    {
+        self.batch.as_slice()
+    }
+
+    /// Returns a deep copy. Fails only with `OutOfMemory`.
+    pub fn copy(&self) -> Result<Record, OutOfMemory>
+        ensures { IfOk result (λ copy. copy ≡ self.now) }
+    {
+        Ok(self.clone()?)
+    }
+}
+
+/// The transactions of the batch of `version`, numbered from 0, with their stamps in.
+fn stamped_batch(
+    alloc: Global,
+    version: u64,
+    transactions: &[Admitted],
+) -> Result<Vec<Stamped>, OutOfMemory>
+    ensures { IfOk result (λ stamped. stamped.items ≡ stamped_from version 0 transactions.now) }
+{
+    let mut stamped = Vec::with_capacity(alloc, transactions.len())?;
+    for (number, transaction) in transactions.iter().enumerate() {
+        stamped.push(transaction.stamped(alloc, version, number)?)?;
+    }
+    Ok(stamped)
+}
