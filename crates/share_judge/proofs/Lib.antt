@@ -1,0 +1,3 @@
+pub mod JudgedParts
+pub mod KeptWrites
+pub mod StoodFor

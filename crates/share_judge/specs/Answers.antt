@@ -1,0 +1,30 @@
+-- What a history of writes answers, over every list of shares that it stands for.
+use Rattle.std.specs.Prelude.{◌≡◌, ◌-◌, max, min, List, [], ◌∷◌, ◌++◌}
+use Rattle.model.specs.Numbers.{Version}
+use Rattle.model.specs.declared.verdict.Verdict.{Verdict}
+use Rattle.model.specs.Verdicts.{judged_at, verdicts_after}
+use Rattle.model.specs.WriteHistories.{Written, ShareAt, all_judged, StandsForShares}
+
+-- the verdicts are those on the share after every list of shares that the history stands for
+abbrev pub AreVerdicts : (history : Written) (s : ShareAt) (verdicts : List Verdict) → Type 0
+AreVerdicts history s verdicts =
+    (shares : List ShareAt) (forgotten : Version)
+    → StandsForShares history shares forgotten
+    → verdicts
+    ≡ verdicts_after history.window (all_judged shares) (judged_at s.version s.parts)
+
+-- whatever shares the history stands for, the next one stands for these and then one more
+abbrev pub GainsShare : (history : Written) (s : ShareAt) (next : Written) → Type 0
+GainsShare history s next =
+    (shares : List ShareAt) (forgotten : Version)
+    → StandsForShares history shares forgotten
+    → StandsForShares next (shares ++ s ∷ []) forgotten
+
+-- Whatever shares the history stands for, the next one stands for the same. It has forgotten what
+-- is at or below `oldest` and lies at least the window before the last version.
+abbrev pub Forgets : (history : Written) (oldest : Version) (next : Written) → Type 0
+Forgets history oldest next =
+    (shares : List ShareAt) (forgotten : Version)
+    → StandsForShares history shares forgotten
+    → let bound = min oldest (history.last - history.window) in
+    StandsForShares next shares (max forgotten bound)

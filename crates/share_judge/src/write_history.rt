@@ -1,0 +1,106 @@
+//! The history of writes.
+
+ghost use Rattle.std.specs.Prelude.{◌≡◌, ◌<◌, [], IfOk, OnOk, OnErr};
+ghost use Rattle.model.specs.WriteHistories.{ShareAt, StandsForShares};
+ghost use Rattle.share_judge.specs.Answers.{AreVerdicts, GainsShare, Forgets};
+
+use crate::judging::{forget_up_to, judge_parts};
+use crate::verdicts::Verdicts;
+use crate::write::Write;
+use request_builder::Share;
+use std::alloc::Global;
+use std::collections::VecDeque;
+use std::marker::Model;
+use system_keys::{Items, OutOfMemory};
+
+/// The committed writes of one resolver, with their versions.
+///
+/// Contracts say which lists of judged shares the history stands for, and not how it keeps them.
+#[derive(Clone, Debug, Drop)]
+pub struct WriteHistory {
+    window: u64,
+    last: u64,
+    writes: VecDeque<Write>,
+}
+
+impl Model for WriteHistory {
+    ghost use Rattle.model.specs.WriteHistories.{Written};
+    ghost use Rattle.share_judge.specs.Kept.{AreInOrder};
+
+    ghost Value = { Written };
+
+    ghost view = { λ history. record {
+      window = history.window;
+      last = history.last;
+      writes = history.writes.items;
+    } };
+
+    ghost invariant = { λ history. AreInOrder history.last history.writes.items };
+}
+
+impl WriteHistory {
+    /// Returns the history before any share. `window` is how far, in versions, a snapshot may lie
+    /// before the version that is judged. Fails only with `OutOfMemory`.
+    pub fn new(alloc: Global, window: u64) -> Result<WriteHistory, OutOfMemory>
+        ensures window { IfOk result (λ history. history.window ≡ window) }
+        ensures last { IfOk result (λ history. history.last ≡ 0) }
+        ensures stands { IfOk result (λ history. StandsForShares history [] 0) }
+    {
+        Ok(WriteHistory {
+            window,
+            last: 0,
+            writes: VecDeque::new(alloc),
+        })
+    }
+
+    /// Returns the version that was judged last, or 0.
+    pub fn last(&self) -> u64
+        ensures { result ≡ self.now.last }
+    {
+        self.last
+    }
+
+    /// Judges the share of the record of `version`, which must be above the version judged last.
+    /// Returns one verdict for each part, in order. Remembers the writes of the committed parts.
+    ///
+    /// A part is too old if it has a read and its snapshot is below the version minus the window.
+    /// Otherwise it conflicts if one of its reads overlaps a write of a committed part, at a version
+    /// above its snapshot or earlier in the same share. Fails only with `OutOfMemory`, and then
+    /// leaves the history unchanged. What is judged cannot be undone: a caller that needs further
+    /// memory allocates it first.
+    pub fn judge(&mut self, version: u64, share: &Share) -> Result<Verdicts, OutOfMemory>
+        requires { self.old.last < version }
+        ensures verdicts { let s : ShareAt = record { version = version; parts = share.now } in
+            IfOk result (λ verdicts. AreVerdicts self.old s verdicts) }
+        ensures stands { let s : ShareAt = record { version = version; parts = share.now } in
+            OnOk result (GainsShare self.old s self.new) }
+        ensures window { self.new.window ≡ self.old.window }
+        ensures last { OnOk result (self.new.last ≡ version) }
+        ensures err { OnErr result (self.new ≡ self.old) }
+    {
+        let alloc: Global = *self.writes.allocator();
+        let parts = share.parts();
+        let (verdicts, mut writes) = judge_parts(alloc, self.window, &self.writes, version, parts)?;
+        self.writes.append(&mut writes)?;
+        self.last = version;
+        Ok(Items::from(verdicts))
+    }
+
+    /// Forgets the writes at or below `oldest` that no later verdict needs: those at least the
+    /// window before the version judged last. Allocates nothing.
+    pub fn forget(&mut self, oldest: u64)
+        ensures window { self.new.window ≡ self.old.window }
+        ensures last { self.new.last ≡ self.old.last }
+        ensures stands { Forgets self.old oldest self.new }
+    {
+        let bound = oldest.min(self.last.saturating_sub(self.window));
+        forget_up_to(&mut self.writes, bound);
+    }
+
+    /// Returns a deep copy. Fails only with `OutOfMemory`.
+    pub fn copy(&self) -> Result<WriteHistory, OutOfMemory>
+        ensures { IfOk result (λ copy. copy ≡ self.now) }
+    {
+        Ok(self.clone()?)
+    }
+}
