@@ -1,0 +1,5 @@
+pub mod Courses
+pub mod JudgedRequests
+pub mod KeptLaws
+pub mod OfferedRequests
+pub mod RowLaws

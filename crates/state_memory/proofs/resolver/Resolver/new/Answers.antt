@@ -1,0 +1,13 @@
+-- Nothing is kept at first.
+use Rattle.std.proofs.Common.{refl}
+use Rattle.model.proofs.MemoryGrows.{new_stands}
+use Rattle.state_memory.proofs.resolver.Resolver.new.Goals as goal
+
+pub returns-clause-stands : goal.returns-clause-stands
+returns-clause-stands c =
+    new_stands _ (record {
+      version = refl;
+      written = c.in_ok-new.ensures.stands;
+      rows = c.new-2.ensures.items;
+      proxies = c.in_ok-new_proxies.ensures.each;
+    })

@@ -1,0 +1,84 @@
+-- What a resolver answers, whichever requests it stands for, and the numbers and names of refusals
+-- (this project's profile).
+use Rattle.std.specs.Prelude.{◌≡◌, ℕ, List, [], ◌∷◌, ◌++◌, length, codes, Option, Some, None, Result}
+use Rattle.system_keys.specs.AsSpecified.{IsAsSpecified}
+use Rattle.model.specs.declared.reply.Reply.{Reply}
+use Rattle.model.specs.Requests.{Request, request_reply, remembered_requests}
+use Rattle.model.specs.Offers.{OfferAnswer, OfferFault, answer_to}
+use Rattle.model.specs.Offers as offers
+use Rattle.model.specs.ResolverMemory.{Memory, StandsForRequests, Course as Way}
+use Rattle.model.specs.ResolverMemory as way
+use Rattle.state_memory.specs.declared.answer.Answer.{Answer}
+use Rattle.state_memory.specs.declared.answer.Answer.TheVariants as answers
+use Rattle.state_memory.specs.declared.answer.Course.{Course}
+use Rattle.state_memory.specs.declared.answer.Course.TheVariants as courses
+use Rattle.state_memory.specs.declared.refusal.Refusal.{Refusal}
+use Rattle.state_memory.specs.declared.refusal.Refusal.TheVariants as refusals
+
+-- the answer, in the model's words
+abbrev pub answer_of : Answer → OfferAnswer
+answer_of (answers.Judged reply) = offers.Judged reply
+answer_of (answers.Again reply) = offers.Again reply
+
+-- what it does, in the model's words
+abbrev pub course_of : Course → Way
+course_of (courses.GiveAgain reply) = way.GiveAgain reply
+course_of courses.Judge = way.Judge
+
+-- which fault a refusal is; `OutOfMemory` is none
+abbrev pub fault_of : Refusal → Option OfferFault
+fault_of refusals.WrongResolver = Some offers.WrongResolver
+fault_of refusals.NoSuchProxy = Some offers.NoSuchProxy
+fault_of (refusals.OutsideChain version) = Some (offers.OutsideChain version)
+fault_of (refusals.GivenUp acknowledged) = Some (offers.GivenUp acknowledged)
+fault_of (refusals.Early version) = Some (offers.Early version)
+fault_of refusals.OutOfMemory = None
+
+-- the number that is printed; `OutOfMemory` has none, and is never printed
+abbrev pub refusal_number : Refusal → Option ℕ
+refusal_number refusals.WrongResolver = Some 33
+refusal_number refusals.NoSuchProxy = Some 32
+refusal_number (refusals.OutsideChain version) = Some 34
+refusal_number (refusals.GivenUp acknowledged) = Some 31
+refusal_number (refusals.Early version) = Some 30
+refusal_number refusals.OutOfMemory = None
+
+abbrev pub refusal_name : Refusal → List ℕ
+refusal_name refusals.WrongResolver = codes "WrongResolver"
+refusal_name refusals.NoSuchProxy = codes "NoSuchProxy"
+refusal_name (refusals.OutsideChain version) = codes "OutsideChain"
+refusal_name (refusals.GivenUp acknowledged) = codes "GivenUp"
+refusal_name (refusals.Early version) = codes "Early"
+refusal_name refusals.OutOfMemory = codes "OutOfMemory"
+
+-- whatever requests the resolver stands for, the result is the answer of the definition after these
+-- requests; or it is out of memory, and then the definition does not refuse the request
+abbrev pub AnswersAfterJudged :
+    (before : Memory) (q : Request) (result : Result Answer Refusal) → Type 0
+AnswersAfterJudged before q result =
+    (judged : List Request) → StandsForRequests before judged
+    → IsAsSpecified fault_of answer_of result
+    (answer_to before.number (length before.proxies) before.written.window judged q)
+
+-- whatever requests the resolver stood for, it stands for this one too
+abbrev pub GainsRequest : (before : Memory) (q : Request) (after : Memory) → Type 0
+GainsRequest before q after =
+    (judged : List Request) → StandsForRequests before judged
+    → StandsForRequests after (judged ++ q ∷ [])
+
+-- a request that was judged adds to what the resolver stands for, and a repeat changes nothing
+abbrev pub IsAfterAnswer : (before : Memory) (q : Request) (after : Memory) → Answer → Type 0
+IsAfterAnswer before q after (answers.Judged reply) = GainsRequest before q after
+IsAfterAnswer before q after (answers.Again reply) = after ≡ before
+
+-- whatever requests the resolver stands for, this is the reply to the next one
+abbrev pub RepliesAfterJudged : (before : Memory) (q : Request) (reply : Reply) → Type 0
+RepliesAfterJudged before q reply =
+    (judged : List Request) → StandsForRequests before judged
+    → reply ≡ request_reply before.written.window judged q
+
+-- whatever requests the resolver stands for, so many of them are remembered
+abbrev pub IsRememberedCount : (memory : Memory) (count : ℕ) → Type 0
+IsRememberedCount memory count =
+    (judged : List Request) → StandsForRequests memory judged
+    → count ≡ length (remembered_requests (length memory.proxies) judged)

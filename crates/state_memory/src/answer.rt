@@ -1,0 +1,20 @@
+//! The answer of a resolver to a request that it serves.
+
+use model::Reply;
+
+/// The answer to a request that is served.
+#[derive(Clone, Debug, Drop)]
+pub enum Answer {
+    /// The request was judged, and this is its reply.
+    Judged(Reply),
+    /// The request was judged before, and this is the reply that it got.
+    Again(Reply),
+}
+
+/// What a resolver does with a request that it does not refuse.
+pub(crate) enum Course {
+    /// It gives this reply again.
+    GiveAgain(Reply),
+    /// It judges the request.
+    Judge,
+}

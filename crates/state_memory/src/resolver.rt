@@ -1,0 +1,262 @@
+//! The resolver.
+
+ghost use Rattle.std.specs.Prelude.{◌≡◌, ◌<◌, [], ◌∷◌, Ok, length, map, IfOk, OnOk, OnErr};
+ghost use Rattle.system_keys.specs.AsSpecified.{IsAsSpecified};
+ghost use Rattle.model.specs.ResolverMemory.{StandsForRequests, course};
+ghost use Rattle.model.specs.ResolverMemory as way;
+ghost use Rattle.state_memory.specs.Answers.{AnswersAfterJudged, IsAfterAnswer, GainsRequest};
+ghost use Rattle.state_memory.specs.Answers.{RepliesAfterJudged, IsRememberedCount, course_of};
+ghost use Rattle.state_memory.specs.Answers.{fault_of};
+ghost use Rattle.state_memory.specs.Kept.{AreNew, HasRoom, AllIncrease, HasNoted, all_kept, reply_of};
+
+use crate::answer::{Answer, Course};
+use crate::proxy_memory::{ProxyMemory, reached_by_all};
+use crate::refusal::Refusal;
+use crate::rows::{copies_above, forget_rows, judge_states, unjudged_states};
+use model::{Reply, UnseenRow, Verdict};
+use request_builder::Request;
+use share_judge::WriteHistory;
+use std::alloc::Global;
+use std::collections::VecDeque;
+use std::marker::Model;
+use system_keys::{Items, OutOfMemory};
+
+/// One resolver, and what it keeps of the requests that it judged.
+///
+/// Contracts say which lists of requests the resolver stands for, and not how it keeps them.
+#[derive(Debug, Drop)]
+pub struct Resolver {
+    number: usize,
+    version: u64,
+    history: WriteHistory,
+    rows: VecDeque<UnseenRow>,
+    proxies: Vec<ProxyMemory>,
+}
+
+impl Model for Resolver {
+    ghost use Rattle.std.specs.Prelude.{◌≡◌};
+    ghost use Rattle.model.specs.ResolverMemory.{Memory};
+    ghost use Rattle.state_memory.specs.Kept.{all_kept};
+    ghost use Rattle.state_memory.specs.Order.{AreInOrder};
+
+    ghost Value = { Memory };
+
+    ghost view = { λ r. record {
+      number = r.number;
+      version = r.version;
+      written = r.history;
+      rows = r.rows.items;
+      proxies = all_kept r.proxies.items;
+    } };
+
+    ghost invariant = { λ r. (r.history.last ≡ r.version)
+        × AreInOrder r.version r.rows.items (all_kept r.proxies.items) };
+}
+
+impl Resolver {
+    /// Returns the resolver before any request. `number` is its number, from 0; `proxies` is how
+    /// many proxies there are; `window` is how far, in versions, a snapshot may lie before the
+    /// version that is judged. Fails only with `OutOfMemory`.
+    pub fn new(
+        alloc: Global,
+        number: usize,
+        proxies: usize,
+        window: u64,
+    ) -> Result<Resolver, OutOfMemory>
+        ensures number { IfOk result (λ made. made.number ≡ number) }
+        ensures proxies { IfOk result (λ made. length made.proxies ≡ proxies) }
+        ensures window { IfOk result (λ made. made.written.window ≡ window) }
+        ensures stands { IfOk result (λ made. StandsForRequests made []) }
+    {
+        Ok(Resolver {
+            number,
+            version: 0,
+            history: WriteHistory::new(alloc, window)?,
+            rows: VecDeque::new(alloc),
+            proxies: new_proxies(alloc, proxies)?,
+        })
+    }
+
+    /// Returns the version of the last request that it judged, or 0.
+    pub fn version(&self) -> u64
+        ensures { result ≡ self.now.version }
+    {
+        self.version
+    }
+
+    /// Returns how many versions are remembered, since some proxy has not reached them.
+    pub fn remembered(&self) -> usize
+        ensures rows { result ≡ length self.now.rows }
+        ensures count { IsRememberedCount self.now result }
+    {
+        self.rows.len()
+    }
+
+    /// Answers a request: judges it if it comes next, or gives the reply again that it got.
+    ///
+    /// Fails with `WrongResolver` if the request is to another resolver, otherwise with
+    /// `NoSuchProxy` if the proxy is not below the number of proxies, and otherwise with
+    /// `OutsideChain` if its version is not above its previous one, or its last received version is
+    /// above the previous one. A request at or below the resolver's version then gets its reply
+    /// again, if that is kept; it fails with `GivenUp` if the proxy has acknowledged its version, and
+    /// otherwise with `OutsideChain`. A later request fails with `Early` if its previous version is
+    /// above the resolver's, and with `OutsideChain` if it is below. A request that does not fail
+    /// so fails only with `OutOfMemory`. Each failure leaves the resolver unchanged.
+    pub fn offer(&mut self, request: &Request) -> Result<Answer, Refusal>
+        ensures answer { AnswersAfterJudged self.old request.now result }
+        ensures after { IfOk result (λ answer. IsAfterAnswer self.old request.now self.new answer) }
+        ensures number { self.new.number ≡ self.old.number }
+        ensures proxies { length self.new.proxies ≡ length self.old.proxies }
+        ensures window { self.new.written.window ≡ self.old.written.window }
+        ensures err { OnErr result (self.new ≡ self.old) }
+    {
+        match self.course(request)? {
+            Course::GiveAgain(reply) => Ok(Answer::Again(reply)),
+            Course::Judge => Ok(Answer::Judged(self.judge(request)?)),
+        }
+    }
+
+    /// Returns a deep copy. Fails only with `OutOfMemory`.
+    pub fn copy(&self) -> Result<Resolver, OutOfMemory>
+        ensures { IfOk result (λ copy. copy ≡ self.now) }
+    {
+        Ok(Resolver {
+            number: self.number,
+            version: self.version,
+            history: self.history.copy()?,
+            rows: self.rows.clone()?,
+            proxies: copy_proxies(&self.proxies)?,
+        })
+    }
+
+    /// What it does with the request.
+    fn course(&self, request: &Request) -> Result<Course, Refusal>
+        ensures { IsAsSpecified fault_of course_of result (course self.now request.now) }
+    {
+        let version = self.version;
+        if request.resolver() != self.number {
+            return Err(Refusal::WrongResolver);
+        }
+        let Some(proxy) = self.proxies.get(request.proxy()) else {
+            return Err(Refusal::NoSuchProxy);
+        };
+        if request.version() <= request.previous() || request.previous() < request.last_received() {
+            return Err(Refusal::OutsideChain { version });
+        }
+        if request.version() <= version {
+            return proxy.again(request.version(), version);
+        }
+        if version < request.previous() {
+            return Err(Refusal::Early { version });
+        }
+        if request.previous() < version {
+            return Err(Refusal::OutsideChain { version });
+        }
+        Ok(Course::Judge)
+    }
+
+    /// Judges the request, which comes next, and returns the reply. Everything is allocated before
+    /// anything is changed.
+    fn judge(&mut self, request: &Request) -> Result<Reply, OutOfMemory>
+        requires { course self.old request.now ≡ Ok way.Judge }
+        ensures reply { IfOk result (λ reply. RepliesAfterJudged self.old request.now reply) }
+        ensures gains { IfOk result (λ reply. GainsRequest self.old request.now self.new) }
+        ensures number { self.new.number ≡ self.old.number }
+        ensures proxies { length self.new.proxies ≡ length self.old.proxies }
+        ensures window { self.new.written.window ≡ self.old.written.window }
+        ensures err { OnErr result (self.new ≡ self.old) }
+    {
+        let alloc: Global = *self.rows.allocator();
+        let place = request.proxy();
+        let unseen = copies_above(alloc, &self.rows, self.proxies[place].last)?;
+        let kept_unseen = copy_rows(&unseen)?;
+        let mut states = unjudged_states(alloc, request)?;
+        let parts = request.share().parts();
+        let mut kept_verdicts = vec![in alloc; Verdict::Conflict; parts.len()]?;
+        self.rows.reserve(1)?;
+        reserve_reply(&mut self.proxies, place)?;
+        let verdicts = self.history.judge(request.version(), request.share())?;
+        copy_verdicts(&mut kept_verdicts, verdicts.as_slice());
+        judge_states(&mut states, request, verdicts.as_slice());
+        self.rows.push_back_reserved(UnseenRow {
+            version: request.version(),
+            states: Items::from(states),
+        });
+        let kept = reply(request, Items::from(kept_verdicts), kept_unseen);
+        note_reply(&mut self.proxies, request, kept);
+        self.version = request.version();
+        forget_rows(&mut self.rows, reached_by_all(&self.proxies));
+        self.history.forget(request.version());
+        Ok(reply(request, verdicts, unseen))
+    }
+}
+
+/// What is kept of so many proxies without requests.
+fn new_proxies(alloc: Global, proxies: usize) -> Result<Vec<ProxyMemory>, OutOfMemory>
+    ensures { IfOk result (λ made. AreNew proxies made.items) }
+{
+    let mut made = Vec::with_capacity(alloc, proxies)?;
+    while made.len() < proxies {
+        made.push(ProxyMemory::new(alloc))?;
+    }
+    Ok(made)
+}
+
+/// Makes room for one more reply to the proxy.
+fn reserve_reply(proxies: &mut Vec<ProxyMemory>, place: usize) -> Result<(), OutOfMemory>
+    requires { place < length proxies.old.items }
+    ensures same { all_kept proxies.new.items ≡ all_kept proxies.old.items }
+    ensures room { OnOk result (HasRoom proxies.new.items place) }
+{
+    proxies[place].reserve()?;
+    Ok(())
+}
+
+/// Notes at its proxy that the request was judged, and that this reply was given.
+fn note_reply(proxies: &mut Vec<ProxyMemory>, request: &Request, reply: Reply)
+    requires there { request.now.proxy < length proxies.old.items }
+    requires room { HasRoom proxies.old.items request.now.proxy }
+    requires order { AllIncrease proxies.old.items }
+    ensures { HasNoted (all_kept proxies.old.items) request.now reply (all_kept proxies.new.items) }
+{
+    proxies[request.proxy()].note(request, reply);
+}
+
+/// A deep copy of what is kept of the proxies.
+fn copy_proxies(proxies: &Vec<ProxyMemory>) -> Result<Vec<ProxyMemory>, OutOfMemory>
+    ensures { IfOk result (λ copy. all_kept copy.items ≡ all_kept proxies.now.items) }
+{
+    Ok(proxies.clone()?)
+}
+
+/// A deep copy of the rows.
+fn copy_rows(rows: &Items<UnseenRow>) -> Result<Items<UnseenRow>, OutOfMemory>
+    ensures { IfOk result (λ copy. copy ≡ rows.now) }
+{
+    Ok(rows.clone()?)
+}
+
+/// Copies the verdicts, if there is a place for each.
+fn copy_verdicts(kept: &mut Vec<Verdict>, verdicts: &[Verdict])
+    ensures { length kept.old.items ≡ length verdicts.now → kept.new.items ≡ verdicts.now }
+{
+    for i in 0..kept.len() {
+        if i < verdicts.len() {
+            kept[i] = verdicts[i];
+        }
+    }
+}
+
+/// The reply to the request with these verdicts and these unseen rows.
+fn reply(request: &Request, verdicts: Items<Verdict>, unseen: Items<UnseenRow>) -> Reply
+    ensures { result ≡ reply_of request.now verdicts unseen }
+{
+    Reply {
+        resolver: request.resolver(),
+        proxy: request.proxy(),
+        row: request.row(),
+        version: request.version(),
+        verdicts,
+        unseen,
+    }
+}
