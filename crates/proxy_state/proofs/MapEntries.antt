@@ -1,16 +1,18 @@
 -- What the calls of the map do to its entries with the bytes of their keys.
-use Rattle.std.proofs.Common.{◌≡◌, refl, ap, ℕ, List, [], ◌∷◌, filter, Bool, true, false, cond, Option, Some, Ordering, Less, Equal, Greater, nat_cmp}
+use Rattle.std.proofs.Common.{◌≡◌, refl, sym, ap, ◌∙◌, Result, Ok, Err, OnOk, OnErr, ℕ, List, [], ◌∷◌, filter, Bool, true, false, cond, Option, Some, None, Ordering, Less, Equal, Greater, nat_cmp}
 use Rattle.std.specs.Global.{Vec}
 use Rattle.std.specs.Vec.{vec_len}
 use Rattle.std.specs.List.{AllByRecursion, AllZip, each_same}
 use Rattle.std.specs.List.Sorted.{IsStrictlySortedBy}
 use Rattle.std.specs.Ordering.{match_ordering}
-use Rattle.std.specs.Map.{lookup, keys_of}
+use Rattle.std.specs.Map.{lookup, keys_of, remove_entry}
+use Rattle.std.specs.Option.{is_some}
 use Rattle.std.specs.BTreeMap.{insert_entry, is_at}
 use Rattle.std.specs.Cmp.Lexicographic.{slice_cmp}
 use Rattle.system_keys.specs.Keys.{Key}
 use Rattle.model.specs.Metadata.{Entry, Entries, IsInOrder, entry_value}
 use Rattle.proxy_state.specs.MapEntries.{entry_from, entries_of}
+use Rattle.proxy_state.specs.Overwrites.{has_entry}
 
 abbrev pub vec_cmp : Vec ℕ → Vec ℕ → Ordering
 vec_cmp a b = slice_cmp nat_cmp a.items b.items
@@ -63,3 +65,22 @@ pub entries_in_order : (es : List (Vec ℕ × List ℕ)) → IsStrictlySortedBy 
 unfolding IsStrictlySortedBy
 entries_in_order [] s = tt
 entries_in_order (e ∷ es) s = (behind_of e.0 es s.0, entries_in_order es s.1)
+
+-- ---- one entry
+
+-- an insertion at a key that is there succeeds
+pub filled : {X Y : Type 0} (r : Result X Y) (es new : List (Vec ℕ × List ℕ)) (key : Vec ℕ) (value : List ℕ) → OnOk r (new ≡ insert_entry vec_cmp es key value) → OnErr r (lookup (is_at (vec_cmp key)) es ≡ None)
+    → has_entry (entries_of es) key.items ≡ true → entries_of new ≡ insert_entry (slice_cmp nat_cmp) (entries_of es) key.items value
+filled (Ok x) es new key value ok absent there = ap entries_of ok ∙ inserted es key value
+filled (Err e) es new key value ok absent there =
+    let none : entry_value (entries_of es) key.items ≡ None = sym (looked_up key.items es) ∙ absent in
+    let two : false ≡ true = sym (ap is_some none) ∙ there in absurd (cc)
+
+pub removed : (key : Key) (es : List (Vec ℕ × List ℕ)) → entries_of (remove_entry (is_at (λ (k : Vec ℕ). slice_cmp nat_cmp key k.items)) es) ≡ remove_entry (is_at (slice_cmp nat_cmp key)) (entries_of es)
+removed key [] = refl
+removed key (e ∷ es) = by (is_at (slice_cmp nat_cmp key) e.0.items) (removed key es)
+  where
+    by : (t : Bool) → entries_of (remove_entry (is_at (λ (k : Vec ℕ). slice_cmp nat_cmp key k.items)) es) ≡ remove_entry (is_at (slice_cmp nat_cmp key)) (entries_of es)
+        → entries_of (cond t es (e ∷ remove_entry (is_at (λ (k : Vec ℕ). slice_cmp nat_cmp key k.items)) es)) ≡ cond t (entries_of es) (entry_from e ∷ remove_entry (is_at (slice_cmp nat_cmp key)) (entries_of es))
+    by true rest = refl
+    by false rest = ap (λ (rows : Entries). entry_from e ∷ rows) rest

@@ -1,2 +1,7 @@
+pub mod Begun
+pub mod Beginning
+pub mod Learning
 pub mod MapEntries
+pub mod Overwrites
 pub mod OwnRoutes
+pub mod Refusals

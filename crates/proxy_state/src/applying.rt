@@ -1,11 +1,15 @@
-//! Which state transactions are applied to the metadata.
+//! Which state transactions are applied to the metadata, and which entries they clear.
 
-ghost use Rattle.std.specs.Prelude.{◌≡◌};
+ghost use Rattle.std.specs.Prelude.{◌≡◌, ◌++◌, ◌∷◌, [], IfOk, IfSome, OnOk};
 ghost use Rattle.std.specs.List.{list_all, list_any};
 ghost use Rattle.model.specs.Verdicts.{is_committed};
 ghost use Rattle.model.specs.Metadata.{is_applied};
+ghost use Rattle.proxy_state.specs.MapEntries.{bytes_of_keys};
+ghost use Rattle.proxy_state.specs.Overwrites.{changes_of, cleared_keys};
 
+use crate::entry_map::EntryMap;
 use model::{StateTxn, Verdict};
+use system_keys::{Change, OutOfMemory};
 
 /// Whether the transaction is applied: every resolver committed it, and it is lock aware or the
 /// database is not locked (release 7.1).
@@ -22,6 +26,62 @@ pub(crate) fn any_applied(locked: bool, transactions: &[StateTxn]) -> bool
     transactions
         .iter()
         .any(|transaction| is_applied(locked, transaction))
+}
+
+/// The change that the transactions make, if they are one that is applied and has a single change.
+pub(crate) fn only_change<'a>(locked: bool, transactions: &'a [StateTxn]) -> Option<&'a Change>
+    ensures { IfSome result (λ change. changes_of locked transactions.now ≡ change.now ∷ []) }
+{
+    match transactions {
+        [transaction] if is_applied(locked, transaction) => one_change(transaction),
+        _ => None,
+    }
+}
+
+fn one_change(transaction: &StateTxn) -> Option<&Change>
+    ensures { IfSome result (λ change. transaction.now.mutations ≡ change.now ∷ []) }
+{
+    match transaction.mutations.as_slice() {
+        [change] => Some(change),
+        _ => None,
+    }
+}
+
+/// The keys of the entries in the ranges that the applied transactions clear. Fails only with
+/// `OutOfMemory`.
+pub(crate) fn cleared_keys(
+    entries: &EntryMap,
+    locked: bool,
+    transactions: &[StateTxn],
+) -> Result<Vec<Vec<u8>>, OutOfMemory>
+    ensures { IfOk result (λ keys. bytes_of_keys keys.items
+        ≡ cleared_keys entries.now (changes_of locked transactions.now)) }
+{
+    let mut keys = Vec::new(entries.alloc());
+    for transaction in transactions {
+        if is_applied(locked, transaction) {
+            list_cleared_keys(entries, transaction.mutations.as_slice(), &mut keys)?;
+        }
+    }
+    Ok(keys)
+}
+
+/// Lists the keys of the entries in the ranges that the changes clear. Fails only with
+/// `OutOfMemory`.
+fn list_cleared_keys(
+    entries: &EntryMap,
+    changes: &[Change],
+    keys: &mut Vec<Vec<u8>>,
+) -> Result<(), OutOfMemory>
+    ensures { OnOk result (bytes_of_keys keys.new.items
+        ≡ bytes_of_keys keys.old.items ++ cleared_keys entries.now changes.now) }
+{
+    for change in changes {
+        if let Change::Clear { range } = change {
+            entries.list_keys_inside(range, keys)?;
+        }
+    }
+    Ok(())
 }
 
 fn are_committed(verdicts: &[Verdict]) -> bool

@@ -1,15 +1,19 @@
 //! The entries that the metadata keeps, in the order of their keys.
 
-ghost use Rattle.std.specs.Prelude.{◌≡◌, ◌++◌, [], IfOk, OnOk, OnErr, option_map, filter, map, not};
+ghost use Rattle.std.specs.Prelude.{◌≡◌, ◌++◌, ◌&&◌, [], true, false, None, Some, IfOk, OnOk, OnErr};
+ghost use Rattle.std.specs.Prelude.{option_map, filter, map, not, if◌then◌else◌};
+ghost use Rattle.std.specs.Option.{option_or};
 ghost use Rattle.std.specs.Ordering.{nat_cmp};
 ghost use Rattle.std.specs.BTreeMap.{insert_entry};
 ghost use Rattle.std.specs.Cmp.Lexicographic.{slice_cmp};
 ghost use Rattle.std.specs.Map.{keys_of};
-ghost use Rattle.system_keys.specs.Keys.{holds};
+ghost use Rattle.system_keys.specs.Keys.{Key, holds};
 ghost use Rattle.system_keys.specs.Families.{key_servers_family};
 ghost use Rattle.model.specs.Metadata.{IsInOrder, entry_value, serving_entry, key_servers_entries};
 ghost use Rattle.model.specs.Metadata.{behind_prefix, is_entry_inside};
 ghost use Rattle.proxy_state.specs.MapEntries.{entries_of, bytes_of_keys};
+ghost use Rattle.proxy_state.specs.Overwrites.{is_same_key, is_listed, has_entry, missing_keys};
+ghost use Rattle.proxy_state.specs.Overwrites.{IsOverwritten};
 
 use std::alloc::Global;
 use std::collections::BTreeMap;
@@ -27,12 +31,14 @@ pub(crate) struct EntryMap {
 }
 
 impl Model for EntryMap {
-    ghost use Rattle.model.specs.Metadata.{Entries};
+    ghost use Rattle.model.specs.Metadata.{Entries, IsInOrder};
     ghost use Rattle.proxy_state.specs.MapEntries.{entries_of};
 
     ghost Value = { Entries };
 
     ghost view = { λ m. entries_of m.values.entries };
+
+    ghost invariant = { λ m. IsInOrder (entries_of m.values.entries) };
 }
 
 impl EntryMap {
@@ -71,6 +77,7 @@ impl EntryMap {
     pub(crate) fn put(&mut self, key: &[u8], value: &Bytes) -> Result<(), OutOfMemory>
         ensures ok { OnOk result
             (self.new ≡ insert_entry (slice_cmp nat_cmp) self.old key.now value.now) }
+        ensures order { IsInOrder self.new }
         ensures err { OnErr result (self.new ≡ self.old) }
     {
         let key = Vec::from_slice(self.alloc, key)?;
@@ -86,26 +93,141 @@ impl EntryMap {
             (self.new ≡ filter (λ entry. not (holds range.now entry.0)) self.old) }
         ensures err { OnErr result (self.new ≡ self.old) }
     {
-        let keys = self.keys_inside(range)?;
-        for key in &keys {
-            self.values.remove(key.as_slice());
-        }
+        let mut keys = Vec::new(self.alloc);
+        self.list_keys_inside(range, &mut keys)?;
+        self.remove_listed(&keys, &EntryMap::new(self.alloc));
         Ok(())
     }
 
-    /// The keys of the entries of the range, in order. Fails only with `OutOfMemory`.
-    fn keys_inside(&self, range: &KeyRange) -> Result<Vec<Vec<u8>>, OutOfMemory>
-        ensures { IfOk result (λ keys. bytes_of_keys keys.items
-            ≡ keys_of (filter (λ entry. holds range.now entry.0) self.now)) }
+    /// Lists the keys of the entries of the range, in order. Fails only with `OutOfMemory`.
+    pub(crate) fn list_keys_inside(
+        &self,
+        range: &KeyRange,
+        keys: &mut Vec<Vec<u8>>,
+    ) -> Result<(), OutOfMemory>
+        ensures { OnOk result (bytes_of_keys keys.new.items ≡ bytes_of_keys keys.old.items
+            ++ keys_of (filter (λ entry. holds range.now entry.0) self.now)) }
     {
         let begin = Vec::from_slice(self.alloc, range.begin())?;
         let end = Vec::from_slice(self.alloc, range.end())?;
         let bounds = (Bound::Included(&begin), Bound::Excluded(&end));
-        let mut keys = Vec::new(self.alloc);
         for (key, _) in self.values.range(bounds) {
             keys.push(Vec::from_slice(self.alloc, key.as_slice())?)?;
         }
+        Ok(())
+    }
+
+    /// Removes the entries at the keys, except for the keys of the other map. Does not allocate.
+    fn remove_listed(&mut self, keys: &[Vec<u8>], kept: &EntryMap)
+        ensures values { (key : Key) → entry_value self.new key
+            ≡ (if not (has_entry kept.now key) && is_listed (bytes_of_keys keys.now) key
+            then None else entry_value self.old key) }
+        ensures order { IsInOrder self.old → IsInOrder self.new }
+    {
+        for key in keys {
+            self.remove_unless_kept(key.as_slice(), kept);
+        }
+    }
+
+    fn remove_unless_kept(&mut self, key: &[u8], kept: &EntryMap)
+        ensures values { (other : Key) → entry_value self.new other
+            ≡ (if not (has_entry kept.now other) && is_same_key other key.now
+            then None else entry_value self.old other) }
+        ensures order { IsInOrder self.old → IsInOrder self.new }
+    {
+        if kept.get(key).is_none() {
+            self.remove_key(key);
+        }
+    }
+
+    /// Removes the entry at the key, if there is one. Does not allocate.
+    fn remove_key(&mut self, key: &[u8])
+        ensures values { (other : Key) → entry_value self.new other
+            ≡ (if is_same_key other key.now then None else entry_value self.old other) }
+        ensures order { IsInOrder self.new }
+    {
+        self.values.remove(key);
+    }
+
+    /// Removes the entries at the keys, and then puts all entries of the other map.
+    ///
+    /// What can fail comes first: an entry is added at each key of the other map that this one
+    /// lacks. Fails only with `OutOfMemory`; the map is then unchanged.
+    pub(crate) fn overwrite(
+        &mut self,
+        removed: &[Vec<u8>],
+        puts: EntryMap,
+    ) -> Result<(), OutOfMemory>
+        ensures ok { OnOk result
+            (IsOverwritten (bytes_of_keys removed.now) puts self.old self.new) }
+        ensures order { IsInOrder self.new }
+        ensures err { OnErr result (self.new ≡ self.old) }
+    {
+        let missing = self.missing_keys(&puts)?;
+        match self.add_keys(&missing) {
+            Ok(()) => {
+                self.remove_listed(removed, &puts);
+                self.write(puts);
+                Ok(())
+            }
+            Err(OutOfMemory) => {
+                self.remove_listed(&missing, &EntryMap::new(self.alloc));
+                Err(OutOfMemory)
+            }
+        }
+    }
+
+    /// The keys of the other map that this one lacks, in order. Fails only with `OutOfMemory`.
+    fn missing_keys(&self, puts: &EntryMap) -> Result<Vec<Vec<u8>>, OutOfMemory>
+        ensures keys { IfOk result (λ keys. bytes_of_keys keys.items
+            ≡ missing_keys self.now puts.now) }
+        ensures order { IsInOrder self.now }
+    {
+        let mut keys = Vec::new(self.alloc);
+        for (key, _) in puts.iter() {
+            if self.get(key.as_slice()).is_none() {
+                keys.push(Vec::from_slice(self.alloc, key.as_slice())?)?;
+            }
+        }
         Ok(keys)
+    }
+
+    /// Puts an empty value at each of the keys. Fails only with `OutOfMemory`; only entries at these
+    /// keys may then have changed.
+    fn add_keys(&mut self, keys: &[Vec<u8>]) -> Result<(), OutOfMemory>
+        ensures ok { OnOk result ((key : Key) → entry_value self.new key
+            ≡ (if is_listed (bytes_of_keys keys.now) key then Some [] else entry_value self.old key)) }
+        ensures others { (key : Key) → is_listed (bytes_of_keys keys.now) key ≡ false
+            → entry_value self.new key ≡ entry_value self.old key }
+        ensures order { IsInOrder self.new }
+    {
+        let empty = Bytes::from(Vec::new(self.alloc));
+        for key in keys {
+            self.put(key.as_slice(), &empty)?;
+        }
+        Ok(())
+    }
+
+    /// Puts all entries of the other map, if this one has an entry at each of their keys. Does not
+    /// allocate.
+    fn write(&mut self, puts: EntryMap)
+        ensures values { ((key : Key) → has_entry puts key ≡ true → has_entry self.old key ≡ true)
+            → (key : Key) → entry_value self.new key
+            ≡ option_or (entry_value puts key) (entry_value self.old key) }
+        ensures order { IsInOrder self.old → IsInOrder self.new }
+    {
+        for (key, value) in puts.values {
+            self.fill(key, value);
+        }
+    }
+
+    /// Puts the value at the key, if the map has an entry there. Does not allocate.
+    fn fill(&mut self, key: Vec<u8>, value: Bytes)
+        ensures value { has_entry self.old key.items ≡ true
+            → self.new ≡ insert_entry (slice_cmp nat_cmp) self.old key.items value }
+        ensures order { IsInOrder self.new }
+    {
+        let _ = self.values.insert(key, value);
     }
 
     /// The value of the keyServers entry that serves a key: the greatest one at or before it

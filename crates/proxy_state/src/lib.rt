@@ -7,9 +7,19 @@
 #![tactic(auto)]
 
 mod applying;
+mod begun;
 mod entry_map;
 mod joining;
+mod learning;
 mod metadata;
+mod moving;
+mod proxy;
+#[cfg(test)]
+mod proxy_tests;
+mod refusal;
+mod replies;
+#[cfg(test)]
+mod reply_tests;
 mod routes;
 mod tagging;
 #[cfg(test)]
@@ -18,3 +28,6 @@ mod tests;
 pub use joining::join;
 pub use metadata::Metadata;
 pub use model::{JournalRow, Route, Routing, StateTxn, Verdict};
+pub use proxy::Proxy;
+pub use refusal::Refusal;
+pub use replies::Replies;

@@ -12,7 +12,7 @@ ghost use Rattle.model.specs.Metadata.{after_changes, is_applied, after_state, a
 ghost use Rattle.model.specs.Metadata.{key_servers_entries, serving_entry, entry_tags, tag_cmp, tags, tags_of_key};
 ghost use Rattle.model.specs.Metadata.{routing};
 
-use crate::applying::{any_applied, is_applied};
+use crate::applying::{any_applied, cleared_keys, is_applied, only_change};
 use crate::entry_map::EntryMap;
 use crate::routes::routes;
 use crate::tagging::{add_tags, add_tags_inside, listed};
@@ -94,8 +94,8 @@ impl Metadata {
     /// committed, if it is lock aware or the metadata was not locked before the row (release 7.1).
     /// A transaction has one verdict for each resolver; one that is missing is not asked for.
     ///
-    /// Does not allocate if no transaction is applied, and otherwise copies the metadata. Fails
-    /// only with `OutOfMemory`; the metadata is then unchanged.
+    /// Does not allocate if no transaction is applied, and otherwise only for what the row changes:
+    /// the metadata is not copied. Fails only with `OutOfMemory`; the metadata is then unchanged.
     #[tactic(auto, using(crate::proofs::AppliedLaws::none_applied))]
     pub fn apply_row(&mut self, row: &JournalRow) -> Result<(), OutOfMemory>
         ensures ok { OnOk result (self.new ≡ after_journal_row self.old row.now) }
@@ -104,12 +104,18 @@ impl Metadata {
         ensures err { OnErr result (self.new ≡ self.old) }
     {
         let states = row.states.as_slice();
-        if !any_applied(self.is_locked(), states) {
+        let locked = self.is_locked();
+        if !any_applied(locked, states) {
             return Ok(());
         }
-        let mut next = self.copy()?;
-        next.apply_states(states)?;
-        *self = next;
+        if let Some(change) = only_change(locked, states) {
+            self.apply(change)?;
+            return Ok(());
+        }
+        let mut puts = Metadata::new(self.entries.alloc());
+        puts.apply_states(locked, states)?;
+        let removed = cleared_keys(&self.entries, locked, states)?;
+        self.entries.overwrite(&removed, puts.entries)?;
         Ok(())
     }
 
@@ -120,16 +126,16 @@ impl Metadata {
         ensures { IfOk result (λ folded. folded ≡ fold after_journal_row self rows.now) }
     {
         for row in rows {
-            self.apply_states(row.states.as_slice())?;
+            self.apply_states(self.is_locked(), row.states.as_slice())?;
         }
         Ok(self)
     }
 
-    fn apply_states(&mut self, states: &[StateTxn]) -> Result<(), OutOfMemory>
-        ensures { OnOk result
-            (self.new ≡ fold (after_state (is_locked self.old)) self.old states.now) }
+    /// Applies the transactions, if the lock permits them. Fails only with `OutOfMemory`; some of
+    /// their changes are then applied.
+    fn apply_states(&mut self, locked: bool, states: &[StateTxn]) -> Result<(), OutOfMemory>
+        ensures { OnOk result (self.new ≡ fold (after_state locked) self.old states.now) }
     {
-        let locked = self.is_locked();
         for transaction in states {
             if is_applied(locked, transaction) {
                 self.apply_changes(transaction.mutations.as_slice())?;

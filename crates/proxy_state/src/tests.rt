@@ -679,3 +679,121 @@ fn a_routing_has_a_route_for_each_key_servers_entry(rt: HostRuntime) -> Result<(
     assert!(rt; is_routed(rt.alloc(), &mut metadata)?);
     Ok(())
 }
+
+/// A change of the entries of these tests: a Set of the key, or a Clear up to the key beside it.
+#[derive(Clone, Copy)]
+enum Step {
+    Put(&'static [u8], &'static [u8]),
+    Remove(&'static [u8], &'static [u8]),
+}
+
+fn change_of(alloc: Global, step: Step) -> Result<Option<Change>, AllocError> {
+    match step {
+        Step::Put(key, value) => Ok(Some(set(alloc, key, value)?)),
+        Step::Remove(begin, end) => clear(alloc, begin, end),
+    }
+}
+
+/// The changes of these steps; a Clear whose ends are no range is left out.
+fn changes_of(alloc: Global, steps: &[Step]) -> Result<Items<Change>, AllocError> {
+    let mut changes = twice!(Vec::with_capacity(alloc, steps.len()))?;
+    for step in steps {
+        if let Some(change) = change_of(alloc, *step)? {
+            changes.push(change)?;
+        }
+    }
+    Ok(Items::from(changes))
+}
+
+/// The row of one transaction that every resolver committed, with these steps.
+fn row_of_steps(alloc: Global, steps: &[Step]) -> Result<JournalRow, AllocError> {
+    let mut states = room_for_states(alloc, 1)?;
+    states.push(StateTxn {
+        mutations: changes_of(alloc, steps)?,
+        lock_aware: true,
+        verdicts: Items::from(owned(alloc, COMMITTED)?),
+    })?;
+    Ok(JournalRow {
+        version: 10,
+        states: Items::from(states),
+    })
+}
+
+/// Sets before and after Clears that hold their keys, of entries that are there and of new ones.
+const SETS_AND_CLEARS: &[Step] = &[
+    Step::Put(ROW_OF_F, SERVER_4),
+    Step::Remove(ROW_OF_B, ROW_OF_Q),
+    Step::Put(ROW_OF_B, SERVER_4),
+    Step::Put(LOCK, b"L"),
+    Step::Remove(LOCK, ROW_OF_ALL),
+    Step::Put(VERSION, b"1"),
+    Step::Put(VERSION, b"2"),
+];
+
+const AFTER_SETS_AND_CLEARS: &[(&[u8], Option<&[u8]>)] = &[
+    (ROW_OF_ALL, Some(SERVER_1)),
+    (ROW_OF_B, Some(SERVER_4)),
+    (ROW_OF_F, None),
+    (ROW_OF_Q, Some(SERVER_4)),
+    (LOCK, None),
+    (VERSION, Some(b"2")),
+];
+
+fn has_applied_steps(alloc: Global, row: &JournalRow) -> Result<bool, OutOfMemory> {
+    let mut metadata = four_servers(alloc)?;
+    Ok(apply_row(&mut metadata, row)? && has_rows(&metadata, AFTER_SETS_AND_CLEARS))
+}
+
+#[test]
+fn a_row_sets_and_clears_in_order(rt: HostRuntime) -> Result<(), Fail> {
+    let row = row_of_steps(rt.alloc(), SETS_AND_CLEARS)?;
+    assert!(rt; has_applied_steps(rt.alloc(), &row)?);
+    Ok(())
+}
+
+/// Steps among which some are chosen.
+const STEPS: &[Step] = &[
+    Step::Put(ROW_OF_B, SERVER_1),
+    Step::Put(ROW_OF_B, SERVER_2),
+    Step::Put(ROW_OF_F, SERVER_4),
+    Step::Put(ROW_OF_Q, SERVER_1),
+    Step::Put(VERSION, b"v"),
+    Step::Remove(ROW_OF_ALL, ROW_OF_F),
+    Step::Remove(ROW_OF_B, ROW_OF_Q),
+    Step::Remove(TAG_ROW_1, TAG_ROW_4),
+    Step::Remove(LOCK, TAG_ROW_2),
+];
+
+/// Rows of five steps each, chosen by the digits of a number.
+fn chosen_rows(alloc: Global, number: usize) -> Result<Vec<JournalRow>, AllocError> {
+    let mut rows = twice!(Vec::with_capacity(alloc, 4))?;
+    for row in 0..4usize {
+        let mut steps = [STEPS[0]; 5];
+        for place in 0..5usize {
+            steps[place] = STEPS[number % 1_000_000 / (row + 2) * (place * 7 + 3) / 5
+                % STEPS.len()];
+        }
+        rows.push(row_of_steps(alloc, &steps)?)?;
+    }
+    Ok(rows)
+}
+
+/// Whether the rows, applied one by one, give what they give folded.
+fn are_alike(alloc: Global, rows: &[JournalRow]) -> Result<bool, OutOfMemory> {
+    let mut metadata = Metadata::new(alloc);
+    for row in rows {
+        if !apply_row(&mut metadata, row)? {
+            return Ok(false);
+        }
+    }
+    Ok(are_same(&metadata, &folded(alloc, rows)?))
+}
+
+#[test]
+fn rows_one_by_one_give_what_they_give_folded(rt: HostRuntime) -> Result<(), Fail> {
+    for round in 0..12usize {
+        let rows = chosen_rows(rt.alloc(), round * 7919 + 13)?;
+        assert!(rt; are_alike(rt.alloc(), rows.as_slice())?);
+    }
+    Ok(())
+}

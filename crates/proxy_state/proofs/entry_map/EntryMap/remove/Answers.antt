@@ -1,19 +1,14 @@
--- A turn of the loop removes one entry of the range, and after the last none is left.
-use Rattle.std.proofs.Common.{◌∙◌, ap, arith, ℕ, nat_cmp}
-use Rattle.std.specs.Global.{Vec}
-use Rattle.std.specs.Map.{remove_entry}
-use Rattle.std.specs.BTreeMap.{is_at}
-use Rattle.std.specs.Cmp.Lexicographic.{slice_cmp}
-use Rattle.system_keys.specs.Keys.{Key, holds}
-use Rattle.proxy_state.proofs.RemovedEntries.{next_removed, all_removed}
+-- Once the entries at the keys of the range are removed, none of the range is left.
+use Rattle.std.proofs.Common.{◌∙◌, ◌++◌, ap, filter, subst}
+use Rattle.std.specs.Map.{keys_of}
+use Rattle.system_keys.specs.Keys.{holds}
+use Rattle.model.specs.Metadata.{Entry, IsInOrder}
+use Rattle.proxy_state.specs.MapEntries.{bytes_of_keys}
+use Rattle.proxy_state.proofs.OverwrittenEntries.{range_removed}
 use Rattle.proxy_state.proofs.entry_map.EntryMap.remove.Goals as goal
 
-pub loop-key-preserved : goal.loop-key-preserved
-loop-key-preserved c =
-    next_removed (holds c.args.range.now) c.args.self.now c.loop-key.self-inside.values.entries c.remove.new.self.entries _ c.key-item.result c.loop-key.key-index c.loop-key-test.true
-    (c.remove.ensures.entries
-    ∙ ap (λ (key : Key). remove_entry (is_at (λ (k : Vec ℕ). slice_cmp nat_cmp key k.items)) c.loop-key.self-inside.values.entries) (c.as_slice.ensures.value ∙ ap (λ (key : Vec ℕ). key.items) c.key-item.is))
-    c.loop-key.invariant
-
 pub returns-clause-ok : goal.returns-clause-ok
-returns-clause-ok c = all_removed (holds c.args.range.now) c.args.self.now c.loop-key.self-inside.values.entries _ c.loop-key.key-index (omega arith) c.loop-key.invariant
+returns-clause-ok c =
+    range_removed c.args.range.now (bytes_of_keys c.deref.result.now) _ c.args.self.now c.remove_listed-3.new.self (subst IsInOrder c.self.view_is c.self.invariant)
+    (c.remove_listed-3.ensures.order (subst IsInOrder c.self.view_is c.self.invariant))
+    (ap bytes_of_keys c.deref.ensures.value ∙ c.in_ok-list_keys_inside.ensures ∙ ap (λ keys. bytes_of_keys keys ++ keys_of (filter (λ (row : Entry). holds c.args.range.now row.0) c.args.self.now)) c.new-keys.ensures.items) c.new.ensures c.remove_listed-3.ensures.values

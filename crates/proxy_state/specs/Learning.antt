@@ -1,0 +1,45 @@
+-- What the lists of asked resolvers say of the shares of a record.
+use Rattle.std.specs.Prelude.{◌≡◌, ℕ, List, [], ◌∷◌, Bool, length, filter, map, nat_eq}
+use Rattle.std.specs.Prelude.{unwrap_or, slice_get, drop, if◌then◌else◌, ◌&&◌}
+use Rattle.std.specs.List.{list_any}
+use Rattle.model.specs.Configs.{Config}
+use Rattle.model.specs.Shares.{asked}
+use Rattle.model.specs.declared.reply.Reply.{Reply}
+use Rattle.model.specs.Records.{Record}
+use Rattle.model.specs.declared.verdict.Verdict.{Verdict}
+use Rattle.model.specs.declared.verdict.Verdict.TheVariants.{Conflict}
+use Rattle.proxy_state.specs.declared.begun.BegunRecord.{BegunRecord}
+
+-- beside the record stand the resolvers that it asks about each transaction
+abbrev pub IsAsking : Config → BegunRecord → Type 0
+IsAsking config begun = begun.asked ≡ map (asked config begun.rec) begun.rec.batch
+
+-- the resolver is in the list
+abbrev pub is_in : (r : ℕ) → List ℕ → Bool
+is_in r list = list_any (λ a. nat_eq a r) list
+
+-- how many of the lists have the resolver
+abbrev pub part_count : (r : ℕ) → List (List ℕ) → ℕ
+part_count r lists = length (filter (is_in r) lists)
+
+-- the first verdict, or Conflict if there is none
+abbrev pub first_verdict : List Verdict → Verdict
+first_verdict verdicts = unwrap_or (slice_get verdicts 0) Conflict
+
+-- The verdicts of resolver r, one for each list: the next of these verdicts if the list has r, and
+-- Conflict if it has not or if no verdict is left.
+abbrev pub column_by : (r : ℕ) → List (List ℕ) → List Verdict → List Verdict
+column_by r [] verdicts = []
+column_by r (list ∷ lists) verdicts =
+    if is_in r list
+    then first_verdict verdicts ∷ column_by r lists (drop 1 verdicts)
+    else Conflict ∷ column_by r lists verdicts
+
+-- the reply has the numbers of resolver r and of the record, and so many verdicts
+abbrev pub has_numbers : Record → (r count : ℕ) → Reply → Bool
+has_numbers rec r count reply =
+    nat_eq reply.resolver r
+    && nat_eq reply.proxy rec.proxy
+    && nat_eq reply.row rec.row
+    && nat_eq reply.version rec.version
+    && nat_eq (length reply.verdicts) count

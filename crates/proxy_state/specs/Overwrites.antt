@@ -1,0 +1,50 @@
+-- Entries that are written over others: what one row of a journal removes, and what it puts.
+use Rattle.std.specs.Prelude.{◌≡◌, List, [], Bool, None, if◌then◌else◌, filter, not}
+use Rattle.std.specs.Option.{is_some, option_or}
+use Rattle.std.specs.List.{flat_map, list_any}
+use Rattle.std.specs.Map.{keys_of}
+use Rattle.std.specs.BTreeMap.{is_at}
+use Rattle.std.specs.Ordering.{nat_cmp}
+use Rattle.std.specs.Cmp.Lexicographic.{slice_cmp}
+use Rattle.system_keys.specs.declared.change.Change.{Change}
+use Rattle.system_keys.specs.declared.change.Change.TheVariants.{Set, Clear}
+use Rattle.system_keys.specs.Keys.{Key, holds}
+use Rattle.model.specs.declared.journal.StateTxn.{StateTxn}
+use Rattle.model.specs.Metadata.{Entry, Entries, entry_value, is_applied}
+
+-- the two keys are the same
+abbrev pub is_same_key : Key → Key → Bool
+is_same_key key other = is_at (slice_cmp nat_cmp key) other
+
+-- the key is one of these
+abbrev pub is_listed : List Key → Key → Bool
+is_listed keys key = list_any (is_same_key key) keys
+
+-- the entries have one at this key
+abbrev pub has_entry : Entries → Key → Bool
+has_entry entries key = is_some (entry_value entries key)
+
+-- the keys of other entries that these entries lack, in order
+abbrev pub missing_keys : (entries puts : Entries) → List Key
+missing_keys entries puts = filter (λ (key : Key). not (has_entry entries key)) (keys_of puts)
+
+-- The entries after the entries at some keys are removed, and then others are put: what each key
+-- has.
+abbrev pub IsOverwritten : (removed : List Key) (puts old new : Entries) → Type 0
+IsOverwritten removed puts old new =
+    (key : Key)
+    → entry_value new key
+    ≡ option_or (entry_value puts key) (if is_listed removed key then None else entry_value old key)
+
+-- the changes of the transactions that are applied, in order
+abbrev pub changes_of : (locked : Bool) → List StateTxn → List Change
+changes_of locked states = flat_map (λ (t : StateTxn). t.mutations) (filter (is_applied locked) states)
+
+-- the keys of the entries that a change clears
+abbrev pub keys_cleared : Entries → Change → List Key
+keys_cleared entries (Set key value) = []
+keys_cleared entries (Clear range) = keys_of (filter (λ (entry : Entry). holds range entry.0) entries)
+
+-- the keys of the entries that some changes clear, one change after another
+abbrev pub cleared_keys : Entries → List Change → List Key
+cleared_keys entries changes = flat_map (keys_cleared entries) changes

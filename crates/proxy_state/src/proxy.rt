@@ -1,0 +1,231 @@
+//! A commit proxy: the records that it begins and finishes, its journal, and its metadata.
+//!
+//! Release 7.1, `CommitProxyServer.actor.cpp`, commitBatch; what differs is marked *profile*.
+
+ghost use Rattle.std.specs.Prelude.{◌≡◌, ◌≤◌, ◌<◌, [], map, None, IfOk, IfErr, OnOk, OnErr};
+ghost use Rattle.model.specs.Metadata.{metadata as metadata_of};
+ghost use Rattle.model.specs.Shares.{asked};
+ghost use Rattle.model.specs.Finishing.{HoldsMoves, MayBegin, HasBegun};
+ghost use Rattle.proxy_state.specs.declared.refusal.Refusal.TheVariants as refusals;
+ghost use Rattle.proxy_state.specs.Beginning.{refusal_fault, begin_fault, requests_for, rows_up_to};
+ghost use Rattle.proxy_state.specs.Beginning.{IsMapFor};
+
+use crate::begun::BegunRecord;
+use crate::metadata::Metadata;
+use crate::moving::make_moves;
+use crate::refusal::Refusal;
+use dated_owners::OwnerMap;
+use model::{Config, JournalRow};
+use request_builder::{Record, Requests, build};
+use std::alloc::Global;
+use std::marker::Model;
+use system_keys::OutOfMemory;
+
+/// A commit proxy over time: it begins records, in the order of their versions, and finishes them in
+/// the same order. Its metadata is always that of its journal.
+#[derive(Drop)]
+pub struct Proxy {
+    number: usize,
+    config: Config,
+    owners: OwnerMap,
+    moved: usize,
+    last_begun: u64,
+    begun: Vec<BegunRecord>,
+    version: u64,
+    journal: Vec<JournalRow>,
+    metadata: Metadata,
+}
+
+impl Model for Proxy {
+    ghost use Rattle.std.specs.Prelude.{map};
+    ghost use Rattle.model.specs.Finishing.{Follower};
+    ghost use Rattle.proxy_state.specs.Begun.{IsKept, record_of};
+
+    ghost Value = { Follower };
+
+    ghost view = { λ p. record {
+      number = p.number;
+      config = p.config;
+      owned = p.owners;
+      moved = p.moved;
+      last_begun = p.last_begun;
+      begun = map record_of p.begun.items;
+      version = p.version;
+      journal = p.journal.items;
+    } };
+
+    ghost invariant = { λ p.
+        IsKept p.config p.owners p.version p.last_begun p.begun.items p.journal.items p.metadata };
+}
+
+impl Proxy {
+    /// Returns proxy `number` of the cluster, before its first record. Fails only with
+    /// `OutOfMemory`.
+    pub fn new(alloc: Global, number: usize, config: &Config) -> Result<Proxy, OutOfMemory>
+        ensures number { IfOk result (λ made. made.number ≡ number) }
+        ensures config { IfOk result (λ made. made.config ≡ config.now) }
+        ensures begun { IfOk result (λ made. (made.last_begun ≡ 0) × (made.begun ≡ [])) }
+        ensures finished { IfOk result (λ made. (made.version ≡ 0) × (made.journal ≡ [])) }
+        ensures moves { IfOk result (λ made. HoldsMoves made []) }
+    {
+        Ok(Proxy {
+            number,
+            config: *config,
+            owners: OwnerMap::new(alloc, config.resolvers())?,
+            moved: 0,
+            last_begun: 0,
+            begun: Vec::new(alloc),
+            version: 0,
+            journal: Vec::new(alloc),
+            metadata: Metadata::new(alloc),
+        })
+    }
+
+    /// The version of the record last finished, or 0.
+    pub fn version(&self) -> u64
+        ensures { result ≡ self.now.version }
+    {
+        self.version
+    }
+
+    /// The version of the record last begun, or 0.
+    pub fn last_begun(&self) -> u64
+        ensures { result ≡ self.now.last_begun }
+    {
+        self.last_begun
+    }
+
+    /// The journal: a row for each version up to the proxy's own.
+    pub fn journal(&self) -> &[JournalRow]
+        ensures { result.now ≡ self.now.journal }
+    {
+        self.journal.as_slice()
+    }
+
+    /// The metadata at the version of the proxy: the fold of its journal.
+    pub fn metadata(&self) -> &Metadata
+        ensures { result.now ≡ metadata_of self.now.journal }
+    {
+        &self.metadata
+    }
+
+    /// Returns the metadata at a version: the fold of the rows of the journal up to it.
+    ///
+    /// Fails with `NotReached` and the proxy's version if `version` is above it, and otherwise only
+    /// with `OutOfMemory`.
+    pub fn metadata_at(&self, version: u64) -> Result<Metadata, Refusal>
+        ensures value { IfOk result (λ found.
+            (version ≤ self.now.version)
+            × (found ≡ metadata_of (rows_up_to version self.now.journal))) }
+        ensures refused { IfErr result (λ refusal.
+            (self.now.version < version → refusal ≡ refusals.NotReached self.now.version)
+            × (version ≤ self.now.version → refusal ≡ refusals.OutOfMemory)) }
+    {
+        if self.version < version {
+            return Err(Refusal::NotReached {
+                version: self.version,
+            });
+        }
+        let alloc: Global = *self.journal.allocator();
+        Ok(folded_up_to(alloc, version, &self.journal)?)
+    }
+
+    /// Begins a record of this proxy, and returns the requests for it. Several records may be begun
+    /// before one is finished.
+    ///
+    /// The requests name the version of the proxy as received. Fails with `NotMine` if the record is
+    /// of another proxy, otherwise with `OutOfOrder` and the version last begun if the record's
+    /// `own_previous` is another one, and otherwise only with `OutOfMemory`. Each failure leaves the
+    /// proxy unchanged.
+    pub fn begin(&mut self, rec: &Record) -> Result<Requests, Refusal>
+        requires { MayBegin self.old rec.now }
+        ensures ok { OnOk result (begin_fault self.old rec.now ≡ None) }
+        ensures refused { let fault = begin_fault self.old rec.now in
+            IfErr result (λ refusal. refusal_fault refusal ≡ fault) }
+        ensures requests { IfOk result (λ built. built.requests ≡ requests_for self.old rec.now) }
+        ensures asked { IfOk result (λ built.
+            built.asked ≡ map (asked self.old.config rec.now) rec.now.batch) }
+        ensures begun { OnOk result (HasBegun self.old self.new rec.now) }
+        ensures err { OnErr result (self.new ≡ self.old) }
+    {
+        if rec.proxy() != self.number {
+            return Err(Refusal::NotMine);
+        }
+        if rec.own_previous() != self.last_begun {
+            return Err(Refusal::OutOfOrder {
+                expected: self.last_begun,
+            });
+        }
+        let alloc: Global = *self.journal.allocator();
+        let owners = self.owners_for(rec)?;
+        let requests = build(alloc, rec, &owners, self.version)?;
+        let begun = BegunRecord::of_requests(rec, &requests)?;
+        let Ok(()) = self.begun.reserve(1) else {
+            return Err(Refusal::OutOfMemory);
+        };
+        self.begun.push_reserved(begun);
+        self.owners = owners;
+        self.moved = rec.moves().len();
+        self.last_begun = rec.version();
+        Ok(requests)
+    }
+
+    /// The map of owners after the moves of the record, which remembers owners as far back as the
+    /// record asks.
+    fn owners_for(&self, rec: &Record) -> Result<OwnerMap, OutOfMemory>
+        requires may { MayBegin self.now rec.now }
+        requires own { begin_fault self.now rec.now ≡ None }
+        ensures { IfOk result (λ owners. IsMapFor self.now.config rec.now owners) }
+    {
+        let mut owners = self.owners.copy()?;
+        make_moves(&mut owners, &rec.moves()[self.moved..])?;
+        owners.forget(rec.previous().saturating_sub(self.config.window()));
+        Ok(owners)
+    }
+
+    /// Returns a deep copy. Fails only with `OutOfMemory`.
+    pub fn copy(&self) -> Result<Proxy, OutOfMemory>
+        ensures { IfOk result (λ copy. copy ≡ self.now) }
+    {
+        Ok(Proxy {
+            number: self.number,
+            config: self.config,
+            owners: self.owners.copy()?,
+            moved: self.moved,
+            last_begun: self.last_begun,
+            begun: self.begun.clone()?,
+            version: self.version,
+            journal: copied_rows(&self.journal)?,
+            metadata: self.metadata.copy()?,
+        })
+    }
+}
+
+/// Copies of the rows.
+fn copied_rows(rows: &Vec<JournalRow>) -> Result<Vec<JournalRow>, OutOfMemory>
+    ensures { IfOk result (λ copied. copied.items ≡ rows.now.items) }
+{
+    let mut copied = Vec::with_capacity(*rows.allocator(), rows.len())?;
+    for row in rows {
+        copied.push(row.copy()?)?;
+    }
+    Ok(copied)
+}
+
+/// The fold of the rows up to a version.
+#[tactic(auto, unfolding(model::specs::Metadata::metadata))]
+fn folded_up_to(
+    alloc: Global,
+    version: u64,
+    journal: &[JournalRow],
+) -> Result<Metadata, OutOfMemory>
+    ensures { IfOk result (λ found. found ≡ metadata_of (rows_up_to version journal.now)) }
+{
+    let mut metadata = Metadata::new(alloc);
+    for row in journal {
+        if row.version <= version {
+            metadata.apply_row(row)?;
+        }
+    }
+    Ok(metadata)
+}
