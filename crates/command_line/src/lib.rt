@@ -1,5 +1,5 @@
-//! The command line: which run the words after the program's name ask for, by `clap`'s reading of them, and
-//! that run.
+//! The command line: which run the words after the program's name ask for, by `clap`'s reading of
+//! them, and that run.
 //!
 //! Source: this project's profile (words, modes and statuses).
 #![tactic(auto)]

@@ -8,8 +8,8 @@ use clap::{Arg, ArgMatches, Command, Error};
 use std::alloc::{AllocError, Global};
 use std::convert::AsStr;
 
-/// The mode that `clap` reads from the words after the program's name, or its refusal of them. Fails with the
-/// kind `OutOfMemory` if an allocation fails.
+/// The mode that `clap` reads from the words after the program's name, or its refusal of them.
+/// Fails with the kind `OutOfMemory` if an allocation fails.
 pub fn read_mode<'a, W: AsStr>(alloc: Global, words: &'a [W]) -> Result<Option<Mode>, Error>
     ensures read { ReadsMode (map W.text words.entry.now) result }
     ensures offered { IfOk result (λ mode. mode ≡ Some Mode.Fold) }

@@ -17,8 +17,8 @@ use script_run::{RunStatus, Sink, Source, run_fold};
 use std::alloc::Global;
 use std::convert::AsStr;
 
-/// Runs the mode that `clap` reads from the words after the program's name. If it refuses them, nothing is
-/// read or written.
+/// Runs the mode that `clap` reads from the words after the program's name. If it refuses them,
+/// nothing is read or written.
 pub fn run_words<'a, W: AsStr, S: Source, T: Sink>(
     rt: &impl AllocGlobal,
     words: &'a [W],

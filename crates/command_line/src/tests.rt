@@ -1,5 +1,6 @@
-//! What no clause says: that runs succeed if no allocation fails, and `clap`'s texts. A run that failed with
-//! `OutOfMemory` is made once more, so that the tests also pass if any one allocation fails.
+//! What no clause says: that runs succeed if no allocation fails, and `clap`'s texts. A run that
+//! failed with `OutOfMemory` is made once more, so that the tests also pass if any one allocation
+//! fails.
 use crate::run::run_words;
 use crate::status::Status;
 use script_run::{Reader, RunStatus, Writer};
@@ -39,8 +40,8 @@ fn run_once(rt: &impl AllocGlobal, words: &[&str], script: &mut &[u8], room: &mu
     run_words(rt, words, &mut reader, &mut writer)
 }
 
-// Runs these words over the script, and once more, from its beginning, after `OutOfMemory`: how it ended, how
-// many bytes of the script were left, and what was written.
+// Runs these words over the script, and once more, from its beginning, after `OutOfMemory`: how it
+// ended, how many bytes of the script were left, and what was written.
 fn run(rt: &impl AllocGlobal, words: &[&str], given: &[u8]) -> (Status, usize, [u8; 128]) {
     let mut script = given;
     let mut room = ROOM;
@@ -52,7 +53,8 @@ fn run(rt: &impl AllocGlobal, words: &[&str], given: &[u8]) -> (Status, usize, [
     (status, script.len(), room)
 }
 
-// The words are taken, the whole script is read and answered by this text, and the status has this number.
+// The words are taken, the whole script is read and answered by this text, and the status has this
+// number.
 fn answers(rt: &(impl Abort + AllocGlobal), words: &[&str], script: &[u8], text: &str, number: u8) {
     let (status, left, room) = run(rt, words, script);
     assert_eq!(rt; status.number(), number);

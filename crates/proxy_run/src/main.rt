@@ -1,5 +1,5 @@
-//! The program: its words say what to do with the script on standard input, and the result goes to standard
-//! output.
+//! The program: its words say what to do with the script on standard input, and the result goes to
+//! standard output.
 #![tactic(auto)]
 
 ghost use Rattle.std.specs.Prelude.{codes};

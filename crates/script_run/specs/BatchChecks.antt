@@ -1,5 +1,6 @@
 -- The refusals of a batch, in their order (this project's profile).
-use Rattle.std.specs.Prelude.{List, length, nat_le, if◌then◌else◌, Option, Some, None, option_map, Result}
+use Rattle.std.specs.Prelude.{List, length, nat_le, if◌then◌else◌, Option, Some, None, option_map}
+use Rattle.std.specs.Prelude.{Result}
 use Rattle.std.specs.Option.{option_or}
 use Rattle.system_keys.specs.AsSpecified.{unless_fault}
 use Rattle.model.specs.Stamps.{Given}
@@ -22,12 +23,14 @@ batch_fault transactions =
 
 -- the batch of these transactions, as they were given, or its first fault
 abbrev pub checked_batch : List Given → Result (List Given) ScriptFault
-checked_batch transactions = unless_fault (option_map faults.Refused (batch_fault transactions)) transactions
+checked_batch transactions =
+    unless_fault (option_map faults.Refused (batch_fault transactions)) transactions
 
 -- the transactions, as they were given, or the first fault of one
 abbrev pub checked_each : List Given → Result (List Given) ScriptFault
 checked_each transactions =
-    unless_fault (option_map faults.Refused (first_fault transaction_fault transactions)) transactions
+    unless_fault (option_map faults.Refused (first_fault transaction_fault transactions))
+    transactions
 
 -- a refusal, as a fault of the script
 abbrev pub fault_of_refusal : Refusal → ScriptFault

@@ -1,4 +1,5 @@
--- The checks of the keys, values and ranges of a fold script: the first fault in the order of the script's lists (this project's profile).
+-- The checks of the keys, values and ranges of a fold script: the first fault in the order of the
+-- script's lists (this project's profile).
 use Rattle.std.specs.Prelude.{List, [], ◌∷◌, option_map, Result, Ok, Err}
 use Rattle.system_keys.specs.declared.refusal.Refusal.{Refusal}
 use Rattle.system_keys.specs.AsSpecified.{unless_fault}
@@ -18,7 +19,8 @@ use Rattle.script_run.specs.declared.script_fault.ScriptFault.{ScriptFault}
 use Rattle.script_run.specs.declared.script_fault.ScriptFault.TheVariants as faults
 
 infixl 10 ◌>>=◌
-abbrev pub ◌>>=◌ : {A B : Type 0} → Result A ScriptFault → (A → Result B ScriptFault) → Result B ScriptFault
+abbrev pub ◌>>=◌ : {A B : Type 0}
+    → Result A ScriptFault → (A → Result B ScriptFault) → Result B ScriptFault
 (Ok x) >>= f = f x
 (Err fault) >>= f = Err fault
 
@@ -28,15 +30,19 @@ of_key refusal = faults.Refused (Key refusal)
 
 -- the change, or its fault
 abbrev pub checked_change : RawChange → Result Change ScriptFault
-checked_change (raw.Set key value) = unless_fault (option_map of_key (set_fault key value)) (changes.Set key value)
-checked_change (raw.Clear begin end) = unless_fault (option_map of_key (range_fault begin end)) (changes.Clear (record { begin = begin; end = end }))
+checked_change (raw.Set key value) =
+    unless_fault (option_map of_key (set_fault key value)) (changes.Set key value)
+checked_change (raw.Clear begin end) =
+    unless_fault (option_map of_key (range_fault begin end))
+    (changes.Clear (record { begin = begin; end = end }))
 
 abbrev pub with_first : {X : Type 0} → X → Result (List X) ScriptFault → Result (List X) ScriptFault
 with_first x (Ok xs) = Ok (x ∷ xs)
 with_first x (Err fault) = Err fault
 
 -- all of a list, or the first fault
-abbrev pub each_checked : {X Y : Type 0} → (X → Result Y ScriptFault) → List X → Result (List Y) ScriptFault
+abbrev pub each_checked : {X Y : Type 0}
+    → (X → Result Y ScriptFault) → List X → Result (List Y) ScriptFault
 each_checked check [] = Ok []
 each_checked check (x ∷ xs) = do
   y ← check x

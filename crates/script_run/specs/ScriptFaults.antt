@@ -3,7 +3,8 @@ use Rattle.std.specs.Prelude.{ℕ, List, codes, Option, Some, None, Result}
 use Rattle.system_keys.specs.AsSpecified.{IsAsSpecifiedIfAllocated}
 use Rattle.mutation.specs.Refusals.{refusal_number, refusal_name}
 use Rattle.script_run.specs.declared.script_fault.ScriptFault.{ScriptFault}
-use Rattle.script_run.specs.declared.script_fault.ScriptFault.TheVariants.{NotJson, BadShape, Refused, OutOfMemory}
+use Rattle.script_run.specs.declared.script_fault.ScriptFault.TheVariants.{NotJson, BadShape}
+use Rattle.script_run.specs.declared.script_fault.ScriptFault.TheVariants.{Refused, OutOfMemory}
 
 -- the number that is printed; `OutOfMemory` has none
 abbrev pub fault_number : ScriptFault → Option ℕ
@@ -25,5 +26,6 @@ script_fault OutOfMemory = None
 script_fault fault = Some fault
 
 -- a reader returns the specified value, as `view` sees it, or the specified fault, or out of memory
-abbrev pub IsReadAs : {X Y : Type 0} → (X → Y) → Result X ScriptFault → Result Y ScriptFault → Type 0
+abbrev pub IsReadAs : {X Y : Type 0}
+    → (X → Y) → Result X ScriptFault → Result Y ScriptFault → Type 0
 IsReadAs view result specified = IsAsSpecifiedIfAllocated script_fault view result specified

@@ -1,5 +1,7 @@
--- The shapes of JSON values: what a value stands for, where it has the shape (this project's profile).
-use Rattle.std.specs.Prelude.{ℕ, zero, suc, List, [], ◌∷◌, Bool, false, ◌==◌, nat_eq, nat_le, if◌then◌else◌, codes, Option, Some, None, option_map, ok_or, Result}
+-- The shapes of JSON values: what a value stands for, where it has the shape (this project's
+-- profile).
+use Rattle.std.specs.Prelude.{ℕ, zero, suc, List, [], ◌∷◌, Bool, false, ◌==◌, nat_eq, nat_le}
+use Rattle.std.specs.Prelude.{if◌then◌else◌, codes, Option, Some, None, option_map, ok_or, Result}
 use Rattle.std.specs.Cmp.Lexicographic.{pointwise}
 use Rattle.serde_json.specs.Data.{Data, Items, no_items, item, Members, no_members, member}
 use Rattle.serde_json.specs.Find.{get, as_number, as_str, as_array, as_object, as_u64}

@@ -3,7 +3,8 @@
 ghost use Rattle.std.specs.Prelude.{◌≡◌, ◌++◌, IfOk, IsSome, OnOk, Ok, Err, string_bytes};
 ghost use Rattle.model.specs.Metadata.{metadata};
 ghost use Rattle.script_run.specs.FoldLines.{asked_text};
-ghost use Rattle.script_run.specs.FoldText.{IsOutput, answer_of, fold_text, folded_text, last_version, refusal_text};
+ghost use Rattle.script_run.specs.FoldText.{IsOutput, answer_of, fold_text, folded_text};
+ghost use Rattle.script_run.specs.FoldText.{last_version, refusal_text};
 ghost use Rattle.script_run.specs.ScriptFaults.{fault_number, fault_name};
 ghost use Rattle.script_run.specs.Statuses.{IsAnswered};
 
@@ -26,8 +27,8 @@ pub struct Output {
     pub status: RunStatus,
 }
 
-/// The output of a fold script: the routing of its folded rows and the tags of its asked keys, or its first
-/// fault (this project's profile). Fails only with `OutOfMemory`.
+/// The output of a fold script: the routing of its folded rows and the tags of its asked keys, or
+/// its first fault (this project's profile). Fails only with `OutOfMemory`.
 pub fn answer(alloc: Global, bytes: &[u8]) -> Result<Output, OutOfMemory>
     ensures output { IfOk result (IsOutput (fold_text bytes.now)) }
     ensures answered { IfOk result (λ output. IsAnswered output.status) }

@@ -16,10 +16,10 @@ use system_keys::Items;
 
 /// Returns the batch that the bytes are (this project's profile): a list of transactions.
 ///
-/// Otherwise returns the first of: `NotJson` (`serde_json` reads no value), `BadShape` (the value does not have
-/// the form of a batch, a text of it is not the text of any bytes, or a snapshot of it is above the greatest
-/// number), the first fault of a transaction, in the order of the list, and that there are more than 1,024.
-/// May fail with `OutOfMemory` at any point.
+/// Otherwise returns the first of: `NotJson` (`serde_json` reads no value), `BadShape` (the value
+/// does not have the form of a batch, a text of it is not the text of any bytes, or a snapshot of
+/// it is above the greatest number), the first fault of a transaction, in the order of the list,
+/// and that there are more than 1,024. May fail with `OutOfMemory` at any point.
 #[tactic(auto, unfolding(crate::specs::BatchScripts::batch_of))]
 pub fn read_batch(alloc: Global, bytes: &[u8]) -> Result<Batch, ScriptFault>
     ensures { IsReadAs (λ found. found) result (batch_of bytes.now) }

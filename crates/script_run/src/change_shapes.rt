@@ -2,7 +2,8 @@
 
 ghost use Rattle.std.specs.Prelude.{◌≡◌};
 ghost use Rattle.serde_json.specs.View.{view};
-ghost use Rattle.script_run.specs.ChangeShapes.{change_shape, clear_shape, from_raw, mutation_shape, pair_named};
+ghost use Rattle.script_run.specs.ChangeShapes.{change_shape, clear_shape, from_raw};
+ghost use Rattle.script_run.specs.ChangeShapes.{mutation_shape, pair_named};
 ghost use Rattle.script_run.specs.ScriptFaults.{IsReadAs};
 ghost use Rattle.script_run.specs.Shapes.{or_bad_shape};
 
@@ -54,7 +55,8 @@ fn from_raw(change: RawChange) -> Mutation
     }
 }
 
-// The two texts in the field of this name, which has to be the only field; `None` without such a field.
+// The two texts in the field of this name, which has to be the only field; `None` without such a
+// field.
 fn pair_named(
     alloc: Global,
     value: &Value,

@@ -1,9 +1,12 @@
-//! The devices of a run: a source with one read call, a sink with one write call, and counts of failed calls.
-ghost use Rattle.std.specs.Prelude.{◌≡◌, ◌⊎◌, ◌+◌, ◌-◌, ◌^◌, ◌<◌, ◌≤◌, length, ℕ, List, [], Option, IfOk, IfSome};
+//! The devices of a run: a source with one read call, a sink with one write call, and counts of
+//! failed calls.
+ghost use Rattle.std.specs.Prelude.{◌≡◌, ◌⊎◌, ◌+◌, ◌-◌, ◌^◌, ◌<◌, ◌≤◌, length, ℕ, List, [], Option};
+ghost use Rattle.std.specs.Prelude.{IfOk, IfSome};
 ghost use Rattle.std.specs.Prelude.{IsErrOf, OnErr, OnOk};
 ghost use Rattle.std.specs.Io.{ReadsAtMost, WritesAtMost};
 ghost use Rattle.std.specs.Io.KnownBytes.{Appends, IsAtEnd, ReadConsumes, WriteAppends};
-ghost use Rattle.script_run.specs.Devices.{AppendsBeginning, IsIncremented, input_limit, saturating_add, read_limit};
+ghost use Rattle.script_run.specs.Devices.{AppendsBeginning, IsIncremented, input_limit};
+ghost use Rattle.script_run.specs.Devices.{saturating_add, read_limit};
 ghost use Rattle.script_run.specs.declared.devices.ReadFault.TheVariants as faults;
 
 use std::alloc::{AllocError, Global};
@@ -21,8 +24,8 @@ pub trait Source {
 
     ghost reads: { Self → ℕ };
 
-    /// Fills the front of the buffer and returns the number of bytes: 0 only at the end of the input, or if the
-    /// buffer is empty.
+    /// Fills the front of the buffer and returns the number of bytes: 0 only at the end of the
+    /// input, or if the buffer is empty.
     fn read(&mut self, buffer: &mut [u8]) -> Result<usize, Failed>
         ensures bound { ReadsAtMost result buffer.new }
         ensures taken { ReadConsumes (remaining self.old) (remaining self.new) result buffer.new }
@@ -43,8 +46,8 @@ pub trait Sink {
 
     ghost writes: { Self → ℕ };
 
-    /// Writes a front of the bytes and returns its length. A call that takes none of at least one byte counts
-    /// as failed.
+    /// Writes a front of the bytes and returns its length. A call that takes none of at least one
+    /// byte counts as failed.
     fn write(&mut self, bytes: &[u8]) -> Result<usize, Failed>
         ensures bound { WritesAtMost result bytes.now }
         ensures put { WriteAppends (written self.old) (written self.new) result bytes.now }
@@ -184,18 +187,18 @@ impl From<Failed> for ReadFault {
     }
 }
 
-// How many read calls a whole input may take (this project's profile). The call that meets the end is one of
-// them.
+// How many read calls a whole input may take (this project's profile). The call that meets the end
+// is one of them.
 const READ_LIMIT: u64 = 1_048_576;
 
-// How many bytes one read call asks for (this project's profile). An input without an end is refused after
-// `READ_LIMIT` calls, so the two bound the memory that it takes.
+// How many bytes one read call asks for (this project's profile). An input without an end is
+// refused after `READ_LIMIT` calls, so the two bound the memory that it takes.
 const READ_SIZE: usize = 4_096;
 
 /// Reads all bytes of the source, up to its end, and does not call it after that.
 ///
-/// Fails with `Device` if a read failed, with `Limit` if the last call allowed did not meet the end, and with
-/// `OutOfMemory` if an allocation fails.
+/// Fails with `Device` if a read failed, with `Limit` if the last call allowed did not meet the
+/// end, and with `OutOfMemory` if an allocation fails.
 pub fn read_all<S: Source>(alloc: Global, source: &mut S) -> Result<Vec<u8>, ReadFault>
     requires { S.failed source.old < 2 ^ 64 - 1 }
     ensures whole { IfOk result (λ bytes.
@@ -229,8 +232,8 @@ pub fn read_all<S: Source>(alloc: Global, source: &mut S) -> Result<Vec<u8>, Rea
     Err(ReadFault::Limit)
 }
 
-/// Writes all bytes, in as many calls as it takes. Each call takes at least one byte or fails, and no call
-/// follows one that failed.
+/// Writes all bytes, in as many calls as it takes. Each call takes at least one byte or fails, and
+/// no call follows one that failed.
 pub fn write_all<T: Sink>(sink: &mut T, bytes: &[u8]) -> Result<(), Failed>
     requires { T.failed sink.old < 2 ^ 64 - 1 }
     ensures ok { OnOk result (Appends (T.written sink.old) (T.written sink.new) bytes.now) }

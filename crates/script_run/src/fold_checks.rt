@@ -3,7 +3,8 @@
 ghost use Rattle.std.specs.Prelude.{◌≡◌, Result};
 ghost use Rattle.script_run.specs.ScriptFaults.{IsReadAs};
 ghost use Rattle.script_run.specs.declared.script_fault.ScriptFault.{ScriptFault as Fault};
-ghost use Rattle.script_run.specs.FoldChecks.{of_key, checked_change, checked_state, checked_row, checked_script, each_checked};
+ghost use Rattle.script_run.specs.FoldChecks.{of_key, checked_change, checked_state, checked_row};
+ghost use Rattle.script_run.specs.FoldChecks.{checked_script, each_checked};
 
 use crate::fold_script::{FoldScript, RawChange, RawRow, RawScript, RawState};
 use crate::script_fault::ScriptFault;
@@ -15,7 +16,8 @@ use system_keys::{Change, Items, KeyRange};
 pub(crate) trait Checked<R: Drop>: Drop {
     ghost checked: { R → Result Self Fault };
 
-    /// Returns what was checked, or its first fault in the order of the script (this project's profile).
+    /// Returns what was checked, or its first fault in the order of the script (this project's
+    /// profile).
     fn check(alloc: Global, raw: R) -> Result<Self, ScriptFault>
         ensures { IsReadAs (λ found. found) result (checked raw) };
 }

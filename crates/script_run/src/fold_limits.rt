@@ -2,13 +2,14 @@
 
 ghost use Rattle.std.specs.Prelude.{◌≡◌};
 ghost use Rattle.std.specs.List.{list_all};
-ghost use Rattle.script_run.specs.FoldLimits.{are_rising, has_verdicts, row_has_verdicts, is_within_limits};
+ghost use Rattle.script_run.specs.FoldLimits.{are_rising, has_verdicts, row_has_verdicts};
+ghost use Rattle.script_run.specs.FoldLimits.{is_within_limits};
 
 use crate::fold_script::{RawRow, RawScript, RawState};
 use model::{RESOLVERS_LIMIT, is_from_one};
 
-/// Whether there are from 1 to 64 resolvers, the versions are at least 1 and rise, and each transaction has
-/// one verdict for each resolver (this project's profile).
+/// Whether there are from 1 to 64 resolvers, the versions are at least 1 and rise, and each
+/// transaction has one verdict for each resolver (this project's profile).
 pub(crate) fn is_within_limits(script: &RawScript) -> bool
     ensures { result ≡ is_within_limits script.now }
 {

@@ -2,16 +2,17 @@
 
 ghost use Rattle.std.specs.Prelude.{◌≡◌, ◌++◌, OnOk, string_bytes, map};
 ghost use Rattle.std.specs.List.{flat_map};
-ghost use Rattle.script_run.specs.FoldLines.{quoted, quoted_or_none, tag_text, tags_text, spaced, version_line, locked_line, metadata_version_line, route_line, routing_text, tags_line, refused_line};
+ghost use Rattle.script_run.specs.FoldLines.{quoted, quoted_or_none, tag_text, tags_text, spaced};
+ghost use Rattle.script_run.specs.FoldLines.{version_line, locked_line, metadata_version_line};
+ghost use Rattle.script_run.specs.FoldLines.{route_line, routing_text, tags_line, refused_line};
 
 use model::{Route, Routing};
 use std::alloc::Global;
 use std::fmt::Write;
 use system_keys::{Bytes, OutOfMemory, Tag, print_bytes};
 
-/// Prints a routing: its version, whether it is locked, its metadata version, and a line for each of its
-/// routes.
-/// Fails only with `OutOfMemory`.
+/// Prints a routing: its version, whether it is locked, its metadata version, and a line for each
+/// of its routes. Fails only with `OutOfMemory`.
 pub fn print_routing(alloc: Global, text: &mut String, routing: &Routing) -> Result<(), OutOfMemory>
     ensures { OnOk result (string_bytes text.new
         ≡ string_bytes text.old ++ routing_text routing.now) }

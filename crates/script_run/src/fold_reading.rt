@@ -17,10 +17,10 @@ use std::alloc::Global;
 
 /// Returns the fold script that the bytes are (this project's profile).
 ///
-/// Otherwise returns the first of: `NotJson` (`serde_json` reads no value), `BadShape` (the value does not have
-/// the form of a fold script, a text of it is not the text of any bytes, or a number of it is outside its
-/// limits), and the refusal of the first key, value or range at fault, in the order of the script's lists. May
-/// fail with `OutOfMemory` at any point.
+/// Otherwise returns the first of: `NotJson` (`serde_json` reads no value), `BadShape` (the value
+/// does not have the form of a fold script, a text of it is not the text of any bytes, or a number
+/// of it is outside its limits), and the refusal of the first key, value or range at fault, in the
+/// order of the script's lists. May fail with `OutOfMemory` at any point.
 #[tactic(auto, unfolding(crate::specs::FoldScripts::script_of))]
 pub fn read_script(alloc: Global, bytes: &[u8]) -> Result<FoldScript, ScriptFault>
     ensures { IsReadAs (λ found. found) result (script_of bytes.now) }

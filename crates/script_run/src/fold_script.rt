@@ -3,7 +3,8 @@
 use model::{JournalRow, Verdict};
 use system_keys::{Bytes, Items};
 
-/// A fold script: the rows of a journal, and the keys whose tags are asked (this project's profile).
+/// A fold script: the rows of a journal, and the keys whose tags are asked (this project's
+/// profile).
 #[derive(Debug, Drop)]
 pub struct FoldScript {
     /// The rows to fold, by rising versions.

@@ -1,5 +1,5 @@
-//! Tests of whole fold scripts against worked texts. Each call that allocates is made once more after
-//! `OutOfMemory`, so that the tests also pass if any one allocation fails.
+//! Tests of whole fold scripts against worked texts. Each call that allocates is made once more
+//! after `OutOfMemory`, so that the tests also pass if any one allocation fails.
 
 use crate::fold_lines::{print_asked, print_routing};
 use crate::fold_reading::read_script;
@@ -210,7 +210,8 @@ fn what_is_no_json_is_refused(rt: HostRuntime) {
     }
 }
 
-/// How a run over this text ends, the reads that it made, and what it wrote. Each read gets all that it asks for.
+/// How a run over this text ends, the reads that it made, and what it wrote. Each read gets all
+/// that it asks for.
 fn read_in_full_chunks(rt: &impl AllocGlobal, text: &[u8]) -> (RunStatus, u64, MemorySink) {
     let mut source = MemorySource::new(text, text.len());
     let mut sink = MemorySink::new(rt.alloc(), 4_096);

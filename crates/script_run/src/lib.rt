@@ -1,5 +1,6 @@
-//! Runs of scripts: a script of journal rows is read, checked and folded, and the lines of its routing are
-//! written; a batch is read and admitted. Bytes are read from a source and written to a sink of the caller.
+//! Runs of scripts: a script of journal rows is read, checked and folded, and the lines of its
+//! routing are written; a batch is read and admitted. Bytes are read from a source and written to a
+//! sink of the caller.
 //!
 //! Source: this project's profile (scripts, lines and statuses).
 #![tactic(auto)]

@@ -8,8 +8,8 @@ use crate::devices::{Failed, ReadFault, Sink, Source, read_all, write_all};
 use crate::status::RunStatus;
 use std::alloc::Global;
 
-/// Reads a fold script from the source to its end, and writes the text that it comes to. If a read fails, or
-/// the limit on read calls is passed, nothing is written.
+/// Reads a fold script from the source to its end, and writes the text that it comes to. If a read
+/// fails, or the limit on read calls is passed, nothing is written.
 #[tactic(auto, using(crate::proofs::RunLemmas::begins_nothing, crate::proofs::RunLemmas::begins_text, crate::proofs::RunLemmas::writes_text))]
 pub fn run_fold<S: Source, T: Sink>(alloc: Global, source: &mut S, sink: &mut T) -> RunStatus
     requires read_count { S.failed source.old < 2 ^ 64 - 1 }

@@ -8,8 +8,8 @@ use std::alloc::{AllocError, AllocFailed};
 use system_keys::OutOfMemory;
 use thiserror::Error;
 
-/// Why a script is refused (this project's profile). The number and the name are printed; `OutOfMemory` has no
-/// number and is never printed.
+/// Why a script is refused (this project's profile). The number and the name are printed;
+/// `OutOfMemory` has no number and is never printed.
 #[derive(Clone, Copy, Debug, PartialEq, Eq, Error)]
 pub enum ScriptFault {
     /// The bytes are not a JSON value.

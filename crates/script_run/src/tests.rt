@@ -1,5 +1,5 @@
-//! What no clause says: that runs succeed if no allocation fails. A run that failed with `OutOfMemory` is made
-//! once more, so that the tests also pass if any one allocation fails.
+//! What no clause says: that runs succeed if no allocation fails. A run that failed with
+//! `OutOfMemory` is made once more, so that the tests also pass if any one allocation fails.
 pub(crate) mod again;
 pub(crate) mod fakes;
 mod std_devices;
@@ -15,8 +15,8 @@ const SCRIPT: &[u8] = br#"{"resolvers":1,"rows":[],"ask":["a"]}"#;
 
 const TEXT: &[u8] = b"version 0\nlocked no\nmetadata_version none\ntags \"a\" none\n";
 
-// What may go wrong with the devices of a run: how many bytes a call gives or takes at most, which call fails,
-// and which write takes no byte. Calls count from 1.
+// What may go wrong with the devices of a run: how many bytes a call gives or takes at most, which
+// call fails, and which write takes no byte. Calls count from 1.
 #[derive(Clone, Copy)]
 struct Devices {
     read_at_most: usize,

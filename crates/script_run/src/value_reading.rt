@@ -8,8 +8,8 @@ use crate::script_fault::ScriptFault;
 use serde_json::Value;
 use std::alloc::Global;
 
-/// Returns the JSON value that the bytes are (this project's profile). Fails with `NotJson` if `serde_json`
-/// reads none, and with `OutOfMemory`.
+/// Returns the JSON value that the bytes are (this project's profile). Fails with `NotJson` if
+/// `serde_json` reads none, and with `OutOfMemory`.
 #[tactic(auto, using(crate::proofs::ValueLemmas::value_of_text, crate::proofs::ValueLemmas::no_value_of))]
 pub(crate) fn read_value(alloc: Global, bytes: &[u8]) -> Result<Value, ScriptFault>
     ensures { IsReadAs (λ value. view value) result (value_read bytes.now) }
