@@ -18,12 +18,13 @@ class Room:
     """A folder with a copy of the repository, in which each crate is proved as it is: the base of all trials."""
 
     def __init__(self, root, folder, anew):
+        self.root, self.anew = root, anew
         self.folder, self.base, self.lines = folder, f"{folder}/base", lines_of(root)
         named = {name: line.partition(":")[2].split() for name, line in self.lines.items()}
         self.below = {name: [it for it in words if it in named] for name, words in named.items()}
         self.begin(self.base, self.below)
         for crate in self.below:
-            for part in (*SOURCES, *([] if anew else ["out/rlib", "out/incremental"])):
+            for part in SOURCES:
                 copy_folder(f"{root}/crates/{crate}/{part}", f"{self.base}/crates/{crate}/{part}")
 
     def begin(self, folder, crates):
@@ -42,7 +43,9 @@ class Room:
         return found
 
     def prove(self, crate):
-        """Proves the crate as it is, and says what went wrong, if anything did."""
+        """Proves the crate as it is, from what is kept of it unless anew, and says what went wrong, if anything did."""
+        for part in [] if self.anew else ["out/rlib", "out/incremental"]:
+            copy_folder(f"{self.root}/crates/{crate}/{part}", f"{self.home(crate)}/{part}")
         is_library = any(crate in names for names in self.below.values())
         ran = rt(self.home(crate), "lib" if is_library else "check", [])
         return "" if ran.returncode == 0 else ran.stdout[-2000:]
