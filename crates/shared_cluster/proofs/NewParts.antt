@@ -1,0 +1,48 @@
+-- Lists of new parts, one part longer; and lists of replies.
+use Rattle.std.proofs.Common.{◌≡◌, refl, sym, ap, ◌∙◌, subst, ℕ, zero, suc, ◌+◌, ◌<◌, ◌⊎◌, inl, inr, List, [], ◌∷◌, ◌++◌, length, length-append, replicate, slice_get, slice_set, Option, Some, None, arith}
+use Rattle.model.specs.Configs.{Config}
+use Rattle.model.specs.declared.reply.Reply.{Reply}
+use Rattle.model.specs.ResolverMemory.{Memory}
+use Rattle.model.specs.Finishing.{Follower}
+use Rattle.model.specs.Turns.{IsNewResolver, IsNewProxy}
+use Rattle.model.proofs.HistoryLaws.{push_cases}
+use Rattle.shared_cluster.specs.Parts.{AreNewResolvers, AreNewProxies}
+
+pub no_resolvers : (config : Config) → AreNewResolvers config 0 []
+no_resolvers config = record { count_is = refl; each = λ r v at. absurd (cc) }
+
+pub one_more_resolver : (config : Config) (n m : ℕ) (made new : List Memory) (v : Memory) → m ≡ suc n → new ≡ made ++ v ∷ [] → IsNewResolver config n v → AreNewResolvers config n made → AreNewResolvers config m new
+one_more_resolver config n m made new v next is one are =
+    record {
+      count_is = ap length is ∙ length-append made (v ∷ []) ∙ (let many = are.count_is in omega (arith, many, next));
+      each = λ r u at. by r u (push_cases made v r u (ap (λ xs. slice_get xs r) (sym is) ∙ at));
+    }
+  where
+    by : (r : ℕ) (u : Memory) → ((r ≡ length made) × (v ≡ u)) ⊎ ((r < length made) × (slice_get made r ≡ Some u)) → IsNewResolver config r u
+    by r u (inl last) = subst (λ (k : ℕ). IsNewResolver config k u) (sym (last.0 ∙ are.count_is)) (subst (IsNewResolver config n) last.1 one)
+    by r u (inr there) = are.each r u there.1
+
+pub no_proxies : (config : Config) → AreNewProxies config 0 []
+no_proxies config = record { count_is = refl; each = λ p v at. absurd (cc) }
+
+pub one_more_proxy : (config : Config) (n m : ℕ) (made new : List Follower) (v : Follower) → m ≡ suc n → new ≡ made ++ v ∷ [] → IsNewProxy config n v → AreNewProxies config n made → AreNewProxies config m new
+one_more_proxy config n m made new v next is one are =
+    record {
+      count_is = ap length is ∙ length-append made (v ∷ []) ∙ (let many = are.count_is in omega (arith, many, next));
+      each = λ p u at. by p u (push_cases made v p u (ap (λ xs. slice_get xs p) (sym is) ∙ at));
+    }
+  where
+    by : (p : ℕ) (u : Follower) → ((p ≡ length made) × (v ≡ u)) ⊎ ((p < length made) × (slice_get made p ≡ Some u)) → IsNewProxy config p u
+    by p u (inl last) = subst (λ (k : ℕ). IsNewProxy config k u) (sym (last.0 ∙ are.count_is)) (subst (IsNewProxy config n) last.1 one)
+    by p u (inr there) = are.each p u there.1
+
+-- the next empty place is filled
+pub fill_next : (xs : List (Option Reply)) (k : ℕ) (x : Reply) (i : ℕ) → i ≡ length xs → slice_set (xs ++ replicate (suc k) None) i (Some x) ≡ (xs ++ Some x ∷ []) ++ replicate k None
+fill_next [] k x zero is = refl
+fill_next [] k x (suc i) is = absurd (omega (arith, is))
+fill_next (y ∷ ys) k x zero is = absurd (omega (arith, is))
+fill_next (y ∷ ys) k x (suc i) is = ap (λ zs. y ∷ zs) (fill_next ys k x i (omega (arith, is)))
+
+pub leave_next : (xs : List (Option Reply)) (k : ℕ) → xs ++ replicate (suc k) None ≡ (xs ++ None ∷ []) ++ replicate k None
+leave_next [] k = refl
+leave_next (y ∷ ys) k = ap (λ zs. y ∷ zs) (leave_next ys k)

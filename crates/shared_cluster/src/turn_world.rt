@@ -1,0 +1,185 @@
+//! A cluster without threads.
+
+ghost use Rattle.std.specs.Prelude.{◌≡◌, ◌+◌, ◌<◌, ◌≤◌, IfOk, OnOk, OnErr, MatchOption};
+ghost use Rattle.model.specs.Configs.{version_limit};
+ghost use Rattle.model.specs.Records.{last_version};
+ghost use Rattle.model.specs.World.{Sequence, MoveRange, Offer as OfferOf, initial_world};
+ghost use Rattle.model.specs.World.{next_record};
+ghost use Rattle.model.specs.Serial.{IsSerial};
+ghost use Rattle.model.specs.Turns.{after_event, IsResolver, IsProxy};
+ghost use Rattle.shared_cluster.specs.Events.{event_of};
+ghost use Rattle.shared_cluster.specs.Steps.{AnswersEvent};
+
+use crate::answer::Answer;
+use crate::event::Event;
+use crate::offering::{offer_at, passed_on};
+use crate::refusal::Refusal;
+use crate::row::Row;
+use crate::sequencing::{begin_at, copied_moves};
+use crate::starting::{new_proxies, new_resolvers, zeros};
+use model::{Config, Move};
+use mutation::Batch;
+use proxy_state::Proxy;
+use request_builder::Record;
+use state_memory::{Answer as OfferAnswer, Resolver};
+use std::alloc::Global;
+use std::marker::Model;
+use system_keys::{KeyRange, OutOfMemory};
+
+/// Each version is below this limit.
+const VERSION_LIMIT: u64 = 9_223_372_036_854_775_808;
+
+/// A cluster without threads, which carries out one event after another. It sequences by itself.
+#[derive(Drop)]
+pub struct TurnWorld {
+    config: Config,
+    rows: Vec<Row>,
+    moves: Vec<Move>,
+    judged_counts: Vec<usize>,
+    finished: Vec<usize>,
+    resolvers: Vec<Resolver>,
+    proxies: Vec<Proxy>,
+    last: u64,
+}
+
+impl Model for TurnWorld {
+    ghost use Rattle.model.specs.Turns.{Cluster};
+    ghost use Rattle.shared_cluster.specs.Kept.{world_of, requests_of, IsKept};
+
+    ghost Value = { Cluster };
+
+    ghost view = { λ t. record {
+      config = t.config;
+      world = world_of t.rows.items t.moves.items t.judged_counts.items t.finished.items;
+    } };
+
+    ghost invariant = { λ t. IsKept t.config
+        (world_of t.rows.items t.moves.items t.judged_counts.items t.finished.items)
+        t.resolvers.items t.proxies.items (requests_of t.rows.items) t.last };
+}
+
+impl TurnWorld {
+    /// Returns the cluster before its first event. Fails only with `OutOfMemory`.
+    pub fn new(alloc: Global, config: &Config) -> Result<TurnWorld, OutOfMemory>
+        ensures { IfOk result (λ made.
+            made ≡ record { config = config.now; world = initial_world config.now }) }
+    {
+        Ok(TurnWorld {
+            config: *config,
+            rows: Vec::new(alloc),
+            moves: Vec::new(alloc),
+            judged_counts: zeros(alloc, config.resolvers())?,
+            finished: zeros(alloc, config.proxies())?,
+            resolvers: new_resolvers(alloc, config)?,
+            proxies: new_proxies(alloc, config)?,
+            last: 0,
+        })
+    }
+
+    /// The proxy of this number, or None if the cluster has none.
+    pub fn proxy(&self, proxy: usize) -> Option<&Proxy>
+        ensures { MatchOption result (self.now.config.proxies ≤ proxy)
+            (λ found. IsProxy self.now.config self.now.world proxy found.now) }
+    {
+        self.proxies.get(proxy)
+    }
+
+    /// The resolver of this number, or None if the cluster has none.
+    pub fn resolver(&self, resolver: usize) -> Option<&Resolver>
+        ensures { MatchOption result (self.now.config.resolvers ≤ resolver)
+            (λ found. IsResolver self.now.config self.now.world resolver found.now) }
+    {
+        self.resolvers.get(resolver)
+    }
+
+    /// A batch of the proxy gets the next record, and the proxy begins it.
+    fn sequence(&mut self, proxy: usize, batch: &Batch) -> Result<Answer, Refusal>
+        ensures answer { AnswersEvent self.old (Sequence proxy batch.now) result }
+        ensures ok { OnOk result (self.new ≡ after_event self.old (Sequence proxy batch.now)) }
+        ensures err { OnErr result (self.new ≡ self.old) }
+    {
+        if self.config.proxies() <= proxy {
+            return Err(Refusal::NoSuchProxy);
+        }
+        if VERSION_LIMIT - self.last <= self.config.step() {
+            return Err(Refusal::VersionsEnd);
+        }
+        let rec = self.next_record(proxy, batch)?;
+        let Ok(()) = self.rows.reserve(1) else {
+            return Err(Refusal::OutOfMemory);
+        };
+        let row = self.rows.len();
+        let version = rec.version();
+        let received = self.proxies[proxy].version();
+        let requests = begin_at(&mut self.proxies, proxy, &rec)?;
+        self.rows.push_reserved(Row {
+            rec,
+            received,
+            requests,
+        });
+        self.last = version;
+        Ok(Answer::Sequenced { row, version })
+    }
+
+    /// The record that the next batch gets.
+    fn next_record(&self, proxy: usize, batch: &Batch) -> Result<Record, OutOfMemory>
+        requires there { proxy < self.now.config.proxies }
+        requires limit { last_version self.now.world.history + self.now.config.step < version_limit }
+        ensures { IfOk result (λ rec.
+            rec ≡ next_record self.now.config self.now.world proxy batch.now) }
+    {
+        let moves = copied_moves(&self.moves)?;
+        let alloc: Global = *self.rows.allocator();
+        Record::new(
+            alloc,
+            self.rows.len(),
+            self.last,
+            self.last + self.config.step(),
+            self.proxies[proxy].last_begun(),
+            proxy,
+            moves,
+            batch,
+        )
+    }
+
+    /// The range moves to the resolver.
+    fn move_range(&mut self, range: &KeyRange, dest: usize) -> Result<Answer, Refusal>
+        ensures answer { AnswersEvent self.old (MoveRange range.now dest) result }
+        ensures ok { OnOk result (self.new ≡ after_event self.old (MoveRange range.now dest)) }
+        ensures err { OnErr result (self.new ≡ self.old) }
+    {
+        if self.config.resolvers() <= dest {
+            return Err(Refusal::NoSuchResolver);
+        }
+        let date = self.last + 1;
+        let range = range.copy()?;
+        let Ok(()) = self.moves.reserve(1) else {
+            return Err(Refusal::OutOfMemory);
+        };
+        self.moves.push_reserved(Move { range, date, dest });
+        Ok(Answer::Moved { date })
+    }
+
+    /// The resolver gets the request for the record at this row.
+    fn offer(&mut self, row: usize, resolver: usize) -> Result<Answer, Refusal>
+        ensures answer { AnswersEvent self.old (OfferOf row resolver) result }
+        ensures ok { OnOk result (self.new ≡ after_event self.old (OfferOf row resolver)) }
+        ensures err { OnErr result (self.new ≡ self.old) }
+    {
+        if self.rows.len() <= row {
+            return Err(Refusal::NoSuchRow);
+        }
+        if self.config.resolvers() <= resolver {
+            return Err(Refusal::WrongResolver);
+        }
+        let requests = self.rows[row].requests.as_slice();
+        match offer_at(&mut self.resolvers, resolver, &requests[resolver]) {
+            Ok(OfferAnswer::Judged(reply)) => {
+                self.judged_counts[resolver] = row + 1;
+                Ok(Answer::Offered(OfferAnswer::Judged(reply)))
+            }
+            Ok(OfferAnswer::Again(reply)) => Ok(Answer::Offered(OfferAnswer::Again(reply))),
+            Err(refusal) => Err(passed_on(refusal)),
+        }
+    }
+}
