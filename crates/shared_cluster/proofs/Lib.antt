@@ -1,1 +1,4 @@
+pub mod MovedRanges
 pub mod NewParts
+pub mod OfferedParts
+pub mod SequencedBatches

@@ -1,10 +1,15 @@
 -- Lists of new parts, one part longer; and lists of replies.
 use Rattle.std.proofs.Common.{◌≡◌, refl, sym, ap, ◌∙◌, subst, ℕ, zero, suc, ◌+◌, ◌<◌, ◌⊎◌, inl, inr, List, [], ◌∷◌, ◌++◌, length, length-append, replicate, slice_get, slice_set, Option, Some, None, arith}
-use Rattle.model.specs.Configs.{Config}
+use Rattle.model.specs.Configs.{Config, IsConfig}
+use Rattle.model.specs.Records.{last_version}
+use Rattle.model.specs.Requests.{Request}
+use Rattle.model.specs.World.{World, initial_world}
+use Rattle.model.proofs.InStep.{new_in_step}
+use Rattle.shared_cluster.specs.Kept.{IsKept}
 use Rattle.model.specs.declared.reply.Reply.{Reply}
 use Rattle.model.specs.ResolverMemory.{Memory}
 use Rattle.model.specs.Finishing.{Follower}
-use Rattle.model.specs.Turns.{IsNewResolver, IsNewProxy}
+use Rattle.model.specs.Turns.{IsNewResolver, IsNewProxy, AreInStep}
 use Rattle.model.proofs.HistoryLaws.{push_cases}
 use Rattle.shared_cluster.specs.Parts.{AreNewResolvers, AreNewProxies}
 
@@ -46,3 +51,14 @@ fill_next (y ∷ ys) k x (suc i) is = ap (λ zs. y ∷ zs) (fill_next ys k x i (
 pub leave_next : (xs : List (Option Reply)) (k : ℕ) → xs ++ replicate (suc k) None ≡ (xs ++ None ∷ []) ++ replicate k None
 leave_next [] k = refl
 leave_next (y ∷ ys) k = ap (λ zs. y ∷ zs) (leave_next ys k)
+
+pub kept_new : (config : Config) (w : World) (resolvers : List Memory) (proxies : List Follower) (requests : List (List Request)) → IsConfig config → w ≡ initial_world config → requests ≡ [] → AreNewResolvers config config.resolvers resolvers → AreNewProxies config config.proxies proxies → IsKept config w resolvers proxies requests 0
+kept_new config w resolvers proxies requests limits world none of_resolvers of_proxies =
+    record {
+      parts = parts_at;
+      last_is = ap (λ (x : World). last_version x.history) (sym world);
+      below = omega arith;
+    }
+  where
+    parts_at : AreInStep config w resolvers proxies requests
+    parts_at = subst (λ (x : World). AreInStep config x resolvers proxies requests) (sym world) (subst (AreInStep config (initial_world config) resolvers proxies) (sym none) (new_in_step config resolvers proxies limits of_resolvers.count_is of_proxies.count_is of_resolvers.each of_proxies.each))

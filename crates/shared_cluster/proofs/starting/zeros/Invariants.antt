@@ -3,4 +3,4 @@ use Rattle.std.proofs.Common.{◌≡◌, ◌≤◌, replicate}
 use Rattle.shared_cluster.proofs.starting.zeros.Given as goal
 
 abbrev pub invariant-loop : goal.invariant-loop
-invariant-loop l = (l.made.items ≡ replicate l.counter 0) × (l.counter ≤ l.end)
+invariant-loop l = (l.made.items ≡ replicate l.counter 0) × (l.counter ≤ l.count)

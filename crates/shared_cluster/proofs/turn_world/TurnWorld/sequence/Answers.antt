@@ -1,0 +1,64 @@
+-- The batch is refused, or gets its record.
+use Rattle.std.proofs.Common.{◌≡◌, ◌∙◌, ◌+◌, ◌-◌, ◌<◌, refl, sym, ap, subst, ℕ, List, [], ◌∷◌, ◌++◌, length, slice_get, Some, map, arith, rules}
+use Rattle.std.specs.Prelude.{Err, Ok}
+use Rattle.model.specs.Configs.{version_limit}
+use Rattle.model.specs.Records.{Record, last_version}
+use Rattle.model.specs.World.{World, Sequence, Sequenced, next_record, finished_version}
+use Rattle.shared_cluster.specs.Kept.{world_of, requests_of}
+use Rattle.shared_cluster.specs.Steps.{AnswersEvent}
+use Rattle.shared_cluster.specs.declared.row.Row.{Row}
+use Rattle.shared_cluster.specs.declared.refusal.Refusal.TheVariants as refusals
+use Rattle.shared_cluster.proofs.OfferedParts.{got}
+use Rattle.shared_cluster.proofs.SequencedBatches.{no_proxy, no_version, limit_is, answered, not_refused, record_is, may_begin_at, world_is, kept, after}
+use Rattle.shared_cluster.proofs.turn_world.TurnWorld.sequence.Goals as goal
+
+pub returns-then-proxies-proxy-clause-answer : goal.returns-then-proxies-proxy-clause-answer
+returns-then-proxies-proxy-clause-answer c =
+    let t = c.self.inside in
+    no_proxy t.config (world_of t.rows.items t.moves.items t.judged_counts.items t.finished.items) c.args.self.now c.args.proxy c.args.batch.now c.self.view_is (omega (arith, c.proxies.ensures.value, c.if-proxies-proxy.true))
+
+pub returns-then-self-step-clause-answer : goal.returns-then-self-step-clause-answer
+returns-then-self-step-clause-answer c =
+    let t = c.self.inside in
+    no_version t.config (world_of t.rows.items t.moves.items t.judged_counts.items t.finished.items) c.args.self.now c.args.proxy t.last c.args.batch.now c.self.view_is (omega (arith, c.proxies.ensures.value, c.if-proxies-proxy.false)) c.self.invariant.last_is (omega (arith, c.step.ensures.value, c.if-self-step.true))
+
+pub returns-in_err-rec-clause-answer : goal.returns-in_err-rec-clause-answer
+returns-in_err-rec-clause-answer c =
+    let t = c.self.inside in
+    let w = world_of t.rows.items t.moves.items t.judged_counts.items t.finished.items in
+    let is : c.from_residual.result ≡ Err refusals.OutOfMemory = search rules in
+    let limit : last_version w.history + t.config.step < version_limit = limit_is t.config w t.last c.self.invariant.last_is (omega (arith, c.step.ensures.value, c.if-self-step.false)) in
+    subst (AnswersEvent c.args.self.now (Sequence c.args.proxy c.args.batch.now)) (sym is) (not_refused t.config w c.args.self.now c.args.proxy c.args.batch.now c.self.view_is (omega (arith, c.proxies.ensures.value, c.if-proxies-proxy.false)) limit)
+
+pub returns-in_default-clause-answer : goal.returns-in_default-clause-answer
+returns-in_default-clause-answer c =
+    let t = c.self.inside in
+    let w = world_of t.rows.items t.moves.items t.judged_counts.items t.finished.items in
+    let limit : last_version w.history + t.config.step < version_limit = limit_is t.config w t.last c.self.invariant.last_is (omega (arith, c.step.ensures.value, c.if-self-step.false)) in
+    not_refused t.config w c.args.self.now c.args.proxy c.args.batch.now c.self.view_is (omega (arith, c.proxies.ensures.value, c.if-proxies-proxy.false)) limit
+
+pub begin_at-requires : goal.begin_at-requires
+begin_at-requires c =
+    let t = c.self.inside in
+    let w = world_of t.rows.items t.moves.items t.judged_counts.items t.finished.items in
+    let limit : last_version w.history + t.config.step < version_limit = limit_is t.config w t.last c.self.invariant.last_is (omega (arith, c.step.ensures.value, c.if-self-step.false)) in
+    let within : c.args.proxy < length t.proxies.items = omega (arith, c.proxies.ensures.value, c.if-proxies-proxy.false, c.self.invariant.parts.proxy_count) in
+    may_begin_at t.config w c.args.proxy c.args.batch.now c.index.result.now c.in_ok-rec.rec t.resolvers.items t.proxies.items (requests_of t.rows.items) t.last c.self.invariant (omega (arith, c.proxies.ensures.value, c.if-proxies-proxy.false)) limit
+    (got t.proxies.items c.args.proxy c.index.result.now within c.index.ensures) (record_is t.config w c.args.self.now c.args.proxy c.args.batch.now c.in_ok-rec.rec c.self.view_is c.in_ok-rec.ensures)
+
+pub returns-in_err-requests-clause-answer : goal.returns-in_err-requests-clause-answer
+returns-in_err-requests-clause-answer c =
+    let t = c.self.inside in
+    let w = world_of t.rows.items t.moves.items t.judged_counts.items t.finished.items in
+    let is : c.from_residual-in_err-requests.result ≡ Err refusals.OutOfMemory = search rules in
+    let limit : last_version w.history + t.config.step < version_limit = limit_is t.config w t.last c.self.invariant.last_is (omega (arith, c.step.ensures.value, c.if-self-step.false)) in
+    subst (AnswersEvent c.args.self.now (Sequence c.args.proxy c.args.batch.now)) (sym is) (not_refused t.config w c.args.self.now c.args.proxy c.args.batch.now c.self.view_is (omega (arith, c.proxies.ensures.value, c.if-proxies-proxy.false)) limit)
+
+pub invariant_of-self-2 : goal.invariant_of-self-2
+invariant_of-self-2 c = ?
+
+pub returns-clause-answer : goal.returns-clause-answer
+returns-clause-answer c = ?
+
+pub returns-clause-ok : goal.returns-clause-ok
+returns-clause-ok c = ?
