@@ -1,4 +1,5 @@
 pub mod MovedRanges
 pub mod NewParts
 pub mod OfferedParts
+pub mod OfferedRows
 pub mod SequencedBatches

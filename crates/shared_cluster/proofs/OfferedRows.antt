@@ -1,0 +1,127 @@
+-- A resolver gets the request for a row.
+use Rattle.std.proofs.Common.{◌≡◌, refl, sym, ap, ◌∙◌, subst, ℕ, zero, suc, ◌+◌, ◌<◌, ◌≤◌, List, [], ◌∷◌, ◌++◌, map, length, get_or, slice_get, slice_set, Bool, true, false, nat_le, Option, Some, None, option_map, arith}
+use Rattle.std.specs.Prelude.{Result, Ok, Err, IsOk}
+use Rattle.std.proofs.lemmas.Bool.{le-leb}
+use Rattle.std.proofs.lemmas.Option.{slice_get-map}
+use Rattle.system_keys.specs.AsSpecified.{IsFaultOf}
+use Rattle.model.specs.Configs.{Config}
+use Rattle.model.specs.declared.reply.Reply.{Reply}
+use Rattle.model.specs.Records.{Record}
+use Rattle.model.specs.Shares.{each_below}
+use Rattle.model.specs.Requests.{Request}
+use Rattle.model.specs.Offers.{OfferResult, sent_request, judged_requests, answer_to, world_answer}
+use Rattle.model.specs.Offers as offers
+use Rattle.model.specs.ResolverMemory.{Memory, StandsForRequests}
+use Rattle.model.specs.Finishing.{Follower}
+use Rattle.model.specs.World.{World, Answer, Offer, Handled, NoSuchRow, WrongResolver, handle_event}
+use Rattle.model.specs.World as world
+use Rattle.model.specs.Turns.{Cluster, success_or_refusal, answer_to_event, after_event, AreInStep, sent_requests}
+use Rattle.model.specs.Laws.Turns.{IsOffered}
+use Rattle.model.proofs.OfferInStep.{answers_as_world, judged_row_next, judged_in_step, refused_unchanged}
+use Rattle.model.proofs.JudgedLaws.{others_change_nothing}
+use Rattle.model.proofs.ToldLaws.{slice_get-each_below}
+use Rattle.state_memory.specs.Answers.{fault_of as offer_fault}
+use Rattle.state_memory.specs.declared.answer.Answer.TheVariants as offered
+use Rattle.state_memory.specs.declared.refusal.Refusal.{Refusal as Offered}
+use Rattle.state_memory.specs.declared.refusal.Refusal.TheVariants as offer_refusals
+use Rattle.shared_cluster.specs.Events.{fault_of}
+use Rattle.shared_cluster.specs.Kept.{IsKept, world_of, records_of, requests_of}
+use Rattle.shared_cluster.specs.Parts.{HasJudgedAt}
+use Rattle.shared_cluster.specs.Steps.{passed_on, IsOfTheWorld}
+use Rattle.shared_cluster.specs.declared.refusal.Refusal.{Refusal}
+use Rattle.shared_cluster.specs.declared.refusal.Refusal.TheVariants as refusals
+use Rattle.shared_cluster.specs.declared.row.Row.{Row}
+
+no_element : {X : Type 0} (xs : List X) (i : ℕ) → length xs ≤ i → slice_get xs i ≡ None
+no_element [] i past = refl
+no_element (x ∷ xs) zero past = absurd (omega (arith, past))
+no_element (x ∷ xs) (suc i) past = no_element xs i (omega (arith, past))
+
+pub no_row : (config : Config) (rows : List Row) (w : World) (now : Cluster) (row r : ℕ) → w.history ≡ records_of rows → (record { config = config; world = w }) ≡ now → length rows ≤ row → answer_to_event now (Offer row r) ≡ Err NoSuchRow
+unfolding handle_event
+no_row config rows w now row r is view past =
+    let none : slice_get w.history row ≡ None = ap (λ (h : List Record). slice_get h row) is ∙ slice_get-map (λ (x : Row). x.rec) rows row ∙ ap (option_map (λ (x : Row). x.rec)) (no_element rows row past) in
+    ap (λ (t : Cluster). answer_to_event t (Offer row r)) (sym view) ∙ rw none refl
+
+pub record_at : (rows : List Row) (row : ℕ) (one : Row) → slice_get rows row ≡ Some one → slice_get (records_of rows) row ≡ Some one.rec
+record_at rows row one at = slice_get-map (λ (x : Row). x.rec) rows row ∙ ap (option_map (λ (x : Row). x.rec)) at
+
+pub no_resolver : (config : Config) (w : World) (now : Cluster) (row r : ℕ) (rec : Record) → (record { config = config; world = w }) ≡ now → slice_get w.history row ≡ Some rec → config.resolvers ≤ r → answer_to_event now (Offer row r) ≡ Err WrongResolver
+unfolding handle_event
+no_resolver config w now row r rec view at past =
+    let unknown : nat_le config.resolvers r ≡ true = le-leb config.resolvers r past in
+    ap (λ (t : Cluster). answer_to_event t (Offer row r)) (sym view) ∙ rw (at, unknown) refl
+
+-- the requests for a row are those that were sent for its record
+pub requests_at : (config : Config) (w : World) (rows : List Row) (row : ℕ) (one : Row) → w.history ≡ records_of rows → requests_of rows ≡ map (sent_requests config w) w.history → slice_get rows row ≡ Some one → one.requests ≡ sent_requests config w one.rec
+requests_at config w rows row one is sent at =
+    let left : slice_get (requests_of rows) row ≡ Some one.requests = slice_get-map (λ (x : Row). x.requests) rows row ∙ ap (option_map (λ (x : Row). x.requests)) at in
+    let right : slice_get (requests_of rows) row ≡ Some (sent_requests config w one.rec) = ap (λ (qs : List (List Request)). slice_get qs row) sent ∙ slice_get-map (sent_requests config w) w.history row ∙ ap (option_map (sent_requests config w)) (ap (λ (h : List Record). slice_get h row) is ∙ record_at rows row one at) in
+    let both : Some one.requests ≡ Some (sent_requests config w one.rec) = sym left ∙ right in
+    cc
+
+pub request_at : (config : Config) (w : World) (rec : Record) (r : ℕ) (q : Request) → r < config.resolvers → slice_get (sent_requests config w rec) r ≡ Some q → q ≡ sent_request config w r rec
+request_at config w rec r q there at =
+    let own : slice_get (sent_requests config w rec) r ≡ Some (sent_request config w r rec) = slice_get-map (λ (s : ℕ). sent_request config w s rec) (each_below config.resolvers) r ∙ ap (option_map (λ (s : ℕ). sent_request config w s rec)) (slice_get-each_below config.resolvers r there) in
+    let both : Some q ≡ Some (sent_request config w r rec) = sym at ∙ own in
+    cc
+
+-- what the world answers, by what the resolver answers
+pub judged_told : (specified : OfferResult) (answer : Answer) (reply : Reply) → world_answer specified ≡ Some answer → specified ≡ Ok (offers.Judged reply) → answer ≡ world.Judged reply
+judged_told specified answer reply told is = let both : Some (world.Judged reply) ≡ Some answer = ap world_answer (sym is) ∙ told in cc
+
+pub again_told : (specified : OfferResult) (answer : Answer) (reply : Reply) → world_answer specified ≡ Some answer → specified ≡ Ok (offers.Again reply) → answer ≡ world.Again reply
+again_told specified answer reply told is = let both : Some (world.Again reply) ≡ Some answer = ap world_answer (sym is) ∙ told in cc
+
+pub in_chain : (specified : OfferResult) (answer : Answer) (refusal : Offered) → world_answer specified ≡ Some answer → IsFaultOf (offer_fault refusal) specified → IsOfTheWorld refusal
+in_chain specified answer (offer_refusals.OutsideChain version) told is = let both : None ≡ Some answer = ap world_answer (sym is) ∙ told in absurd (cc)
+in_chain specified answer offer_refusals.WrongResolver told is = tt
+in_chain specified answer offer_refusals.NoSuchProxy told is = tt
+in_chain specified answer (offer_refusals.GivenUp acknowledged) told is = tt
+in_chain specified answer (offer_refusals.Early version) told is = tt
+in_chain specified answer offer_refusals.OutOfMemory told is = tt
+
+told_fault : (specified : OfferResult) (answer : Answer) (fault : offers.OfferFault) (why : world.Refusal) (result known : Refusal) → fault_of known ≡ Some why → world_answer (Err fault) ≡ Some (world.Refused why) → world_answer specified ≡ Some answer → specified ≡ Err fault → Some known ≡ Some result → IsFaultOf (fault_of result) (success_or_refusal answer)
+told_fault specified answer fault why result known known_is passed told is same =
+    let both : Some (world.Refused why) ≡ Some answer = sym passed ∙ ap world_answer (sym is) ∙ told in
+    let answer_is : world.Refused why ≡ answer = cc in
+    let result_is : known ≡ result = cc in
+    subst (λ (f : Option world.Refusal). IsFaultOf f (success_or_refusal answer)) (sym known_is ∙ ap fault_of result_is) (ap success_or_refusal (sym answer_is))
+
+served : (specified : OfferResult) (answer : Answer) → world_answer specified ≡ Some answer → IsOk specified → IsOk (success_or_refusal answer)
+served (Ok (offers.Judged reply)) answer told ok = let is : world.Judged reply ≡ answer = cc in subst (λ (a : Answer). IsOk (success_or_refusal a)) is refl
+served (Ok (offers.Again reply)) answer told ok = let is : world.Again reply ≡ answer = cc in subst (λ (a : Answer). IsOk (success_or_refusal a)) is refl
+served (Err fault) answer told ok = absurd (cc)
+
+pub refused_told : (specified : OfferResult) (answer : Answer) (refusal : Offered) (result : Refusal) → world_answer specified ≡ Some answer → IsFaultOf (offer_fault refusal) specified → passed_on refusal ≡ Some result → IsFaultOf (fault_of result) (success_or_refusal answer)
+refused_told specified answer offer_refusals.WrongResolver result told is same = told_fault specified answer _ _ result _ refl refl told is same
+refused_told specified answer offer_refusals.NoSuchProxy result told is same = told_fault specified answer _ _ result _ refl refl told is same
+refused_told specified answer (offer_refusals.OutsideChain version) result told is same = absurd (cc)
+refused_told specified answer (offer_refusals.GivenUp acknowledged) result told is same = told_fault specified answer _ _ result _ refl refl told is same
+refused_told specified answer (offer_refusals.Early version) result told is same = told_fault specified answer _ _ result _ refl refl told is same
+refused_told specified answer offer_refusals.OutOfMemory result told is same = let known : refusals.OutOfMemory ≡ result = cc in subst (λ (x : Refusal). IsFaultOf (fault_of x) (success_or_refusal answer)) known (served specified answer told is)
+
+-- the answer to the event, from the answer of the world
+pub event_answer : (config : Config) (w : World) (now : Cluster) (row r : ℕ) (answer : Answer) → (record { config = config; world = w }) ≡ now → (handle_event config w (Offer row r)).answer ≡ answer → answer_to_event now (Offer row r) ≡ success_or_refusal answer
+event_answer config w now row r answer view is = ap (λ (t : Cluster). answer_to_event t (Offer row r)) (sym view) ∙ ap success_or_refusal is
+
+pub judged_kept : (config : Config) (w : World) (row r : ℕ) (rec : Record) (v : Memory) (q : Request) (resolvers after : List Memory) (proxies : List Follower) (requests : List (List Request)) (last : ℕ) (reply : Reply) → IsKept config w resolvers proxies requests last → IsOffered config w row r rec v resolvers proxies requests → q ≡ sent_request config w r rec → (handle_event config w (Offer row r)).answer ≡ world.Judged reply → HasJudgedAt resolvers r v q after
+    → IsKept config (record w { judged_counts = slice_set w.judged_counts r (row + 1) }) after proxies requests last
+judged_kept config w row r rec v q resolvers after proxies requests last reply keeps is_offered q_is answered judged =
+    record {
+      parts = subst (λ (x : World). AreInStep config x after proxies requests) (judged_row_next config w row r rec v resolvers proxies requests reply is_offered answered)
+          (subst (λ (rs : List Memory). AreInStep config (handle_event config w (Offer row r)).world rs proxies requests) (sym judged.after_is)
+          (judged_in_step config w row r rec v judged.new resolvers proxies requests reply is_offered answered judged.number judged.proxies judged.window
+          (subst (λ (s : Request). StandsForRequests judged.new (judged_requests config w r ++ s ∷ [])) q_is (judged.gains (judged_requests config w r) (answers_as_world config w row r rec v resolvers proxies requests is_offered).0))));
+      last_is = keeps.last_is;
+      below = keeps.below;
+    }
+
+pub judged_after : (config : Config) (w : World) (now : Cluster) (row r : ℕ) (rec : Record) (v : Memory) (resolvers : List Memory) (proxies : List Follower) (requests : List (List Request)) (reply : Reply) → (record { config = config; world = w }) ≡ now → IsOffered config w row r rec v resolvers proxies requests → (handle_event config w (Offer row r)).answer ≡ world.Judged reply
+    → (record { config = config; world = record w { judged_counts = slice_set w.judged_counts r (row + 1) } }) ≡ after_event now (Offer row r)
+judged_after config w now row r rec v resolvers proxies requests reply view is_offered answered =
+    ap (λ (x : World). record { config = config; world = x }) (sym (judged_row_next config w row r rec v resolvers proxies requests reply is_offered answered)) ∙ ap (λ (t : Cluster). after_event t (Offer row r)) view
+
+pub again_after : (config : Config) (w : World) (now : Cluster) (row r : ℕ) (reply : Reply) → (record { config = config; world = w }) ≡ now → (handle_event config w (Offer row r)).answer ≡ world.Again reply → (record { config = config; world = w }) ≡ after_event now (Offer row r)
+again_after config w now row r reply view answered =
+    ap (λ (x : World). record { config = config; world = x }) (sym (others_change_nothing config w row r (λ other same. let both : world.Again reply ≡ world.Judged other = sym answered ∙ same in absurd (cc)))) ∙ ap (λ (t : Cluster). after_event t (Offer row r)) view
