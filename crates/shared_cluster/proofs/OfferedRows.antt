@@ -2,6 +2,7 @@
 use Rattle.std.proofs.Common.{◌≡◌, refl, sym, ap, ◌∙◌, subst, ℕ, zero, suc, ◌+◌, ◌<◌, ◌≤◌, List, [], ◌∷◌, ◌++◌, map, length, get_or, slice_get, slice_set, Bool, true, false, nat_le, Option, Some, None, option_map, arith}
 use Rattle.std.specs.Prelude.{Result, Ok, Err, IsOk}
 use Rattle.std.proofs.lemmas.Bool.{le-leb}
+use Rattle.std.proofs.lemmas.List.{length-map}
 use Rattle.std.proofs.lemmas.Option.{slice_get-map}
 use Rattle.system_keys.specs.AsSpecified.{IsFaultOf}
 use Rattle.model.specs.Configs.{Config}
@@ -19,7 +20,7 @@ use Rattle.model.specs.Turns.{Cluster, success_or_refusal, answer_to_event, afte
 use Rattle.model.specs.Laws.Turns.{IsOffered}
 use Rattle.model.proofs.OfferInStep.{answers_as_world, judged_row_next, judged_in_step, refused_unchanged}
 use Rattle.model.proofs.JudgedLaws.{others_change_nothing}
-use Rattle.model.proofs.ToldLaws.{slice_get-each_below}
+use Rattle.model.proofs.ToldLaws.{slice_get-each_below, length-each_below}
 use Rattle.state_memory.specs.Answers.{fault_of as offer_fault}
 use Rattle.state_memory.specs.declared.answer.Answer.TheVariants as offered
 use Rattle.state_memory.specs.declared.refusal.Refusal.{Refusal as Offered}
@@ -125,3 +126,26 @@ judged_after config w now row r rec v resolvers proxies requests reply view is_o
 pub again_after : (config : Config) (w : World) (now : Cluster) (row r : ℕ) (reply : Reply) → (record { config = config; world = w }) ≡ now → (handle_event config w (Offer row r)).answer ≡ world.Again reply → (record { config = config; world = w }) ≡ after_event now (Offer row r)
 again_after config w now row r reply view answered =
     ap (λ (x : World). record { config = config; world = x }) (sym (others_change_nothing config w row r (λ other same. let both : world.Again reply ≡ world.Judged other = sym answered ∙ same in absurd (cc)))) ∙ ap (λ (t : Cluster). after_event t (Offer row r)) view
+
+-- what is known where a resolver has answered the request for a row
+pub record Known (config : Config) (w : World) (row r : ℕ) (one : Row) (v : Memory) (q : Request) (resolvers : List Memory) (proxies : List Follower) (requests : List (List Request)) : Type 0 where
+  pub is_offered : IsOffered config w row r one.rec v resolvers proxies requests
+  pub q_is : q ≡ sent_request config w r one.rec
+  pub stands : StandsForRequests v (judged_requests config w r)
+  pub told : world_answer (answer_to v.number (length v.proxies) v.written.window (judged_requests config w r) q) ≡ Some (handle_event config w (Offer row r)).answer
+
+pub known : (config : Config) (w : World) (rows : List Row) (row r : ℕ) (one : Row) (v : Memory) (q : Request) (resolvers : List Memory) (proxies : List Follower) (last : ℕ) → w.history ≡ records_of rows → IsKept config w resolvers proxies (requests_of rows) last → r < config.resolvers → slice_get rows row ≡ Some one → slice_get one.requests r ≡ Some q → slice_get resolvers r ≡ Some v → Known config w row r one v q resolvers proxies (requests_of rows)
+known config w rows row r one v q resolvers proxies last is keeps there at at_q at_v =
+    record { is_offered = is_offered; q_is = q_is; stands = answers.0; told = ap (λ (s : Request). world_answer (answer_to v.number (length v.proxies) v.written.window (judged_requests config w r) s)) q_is ∙ answers.1 }
+  where
+    is_offered : IsOffered config w row r one.rec v resolvers proxies (requests_of rows)
+    is_offered = record { parts = keeps.parts; there = there; resolver_is = at_v; record_is = ap (λ (h : List Record). slice_get h row) is ∙ record_at rows row one at }
+
+    q_is : q ≡ sent_request config w r one.rec
+    q_is = request_at config w one.rec r q there (ap (λ (qs : List Request). slice_get qs r) (sym (requests_at config w rows row one is keeps.parts.requests_are at)) ∙ at_q)
+
+    answers : StandsForRequests v (judged_requests config w r) × (world_answer (answer_to v.number (length v.proxies) v.written.window (judged_requests config w r) (sent_request config w r one.rec)) ≡ Some (handle_event config w (Offer row r)).answer)
+    answers = answers_as_world config w row r one.rec v resolvers proxies (requests_of rows) is_offered
+
+pub request_count : (config : Config) (w : World) (rows : List Row) (row : ℕ) (one : Row) (resolvers : List Memory) (proxies : List Follower) (last : ℕ) → w.history ≡ records_of rows → IsKept config w resolvers proxies (requests_of rows) last → slice_get rows row ≡ Some one → length one.requests ≡ config.resolvers
+request_count config w rows row one resolvers proxies last is keeps at = ap length (requests_at config w rows row one is keeps.parts.requests_are at) ∙ length-map (each_below config.resolvers) (λ (r : ℕ). sent_request config w r one.rec) ∙ length-each_below config.resolvers
