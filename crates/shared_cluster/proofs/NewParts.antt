@@ -1,5 +1,5 @@
 -- Lists of new parts, one part longer; and lists of replies.
-use Rattle.std.proofs.Common.{◌≡◌, refl, sym, ap, ◌∙◌, subst, ℕ, zero, suc, ◌+◌, ◌<◌, ◌⊎◌, inl, inr, List, [], ◌∷◌, ◌++◌, length, length-append, replicate, slice_get, slice_set, Option, Some, None, arith}
+use Rattle.std.proofs.Common.{◌≡◌, refl, sym, ap, ◌∙◌, subst, ℕ, zero, suc, ◌+◌, ◌-◌, ◌<◌, ◌⊎◌, inl, inr, List, [], ◌∷◌, ◌++◌, length, length-append, length-take-le, take, replicate, slice_get, slice_set, Option, Some, None, arith}
 use Rattle.model.specs.Configs.{Config, IsConfig}
 use Rattle.model.specs.Records.{last_version}
 use Rattle.model.specs.Requests.{Request}
@@ -10,8 +10,11 @@ use Rattle.model.specs.declared.reply.Reply.{Reply}
 use Rattle.model.specs.ResolverMemory.{Memory}
 use Rattle.model.specs.Finishing.{Follower}
 use Rattle.model.specs.Turns.{IsNewResolver, IsNewProxy, AreInStep}
+use Rattle.std.proofs.lemmas.List.{length-map, map-append}
 use Rattle.model.proofs.HistoryLaws.{push_cases}
-use Rattle.shared_cluster.specs.Parts.{AreNewResolvers, AreNewProxies}
+use Rattle.model.proofs.RequestLaws.{take_suc}
+use Rattle.state_memory.specs.Kept.{kept_reply}
+use Rattle.shared_cluster.specs.Parts.{AreNewResolvers, AreNewProxies, kept_replies_at}
 
 pub no_resolvers : (config : Config) → AreNewResolvers config 0 []
 no_resolvers config = record { count_is = refl; each = λ r v at. absurd (cc) }
@@ -62,3 +65,38 @@ kept_new config w resolvers proxies requests limits world none of_resolvers of_p
   where
     parts_at : AreInStep config w resolvers proxies requests
     parts_at = subst (λ (x : World). AreInStep config x resolvers proxies requests) (sym world) (subst (AreInStep config (initial_world config) resolvers proxies) (sym none) (new_in_step config resolvers proxies limits of_resolvers.count_is of_proxies.count_is of_resolvers.each of_proxies.each))
+
+-- one place more: filled with the reply that the resolver keeps
+pub kept_next : (resolvers : List Memory) (p version i : ℕ) (v : Memory) (reply : Reply) (replies filled : List (Option Reply)) → i < length resolvers → slice_get resolvers i ≡ Some v → kept_reply v p version ≡ Some reply → replies ≡ kept_replies_at (take i resolvers) p version ++ replicate (length resolvers - i) None → filled ≡ slice_set replies i (Some reply)
+    → filled ≡ kept_replies_at (take (i + 1) resolvers) p version ++ replicate (length resolvers - (i + 1)) None
+kept_next resolvers p version i v reply replies filled within at kept is put =
+    put
+    ∙ ap (λ (rs : List (Option Reply)). slice_set rs i (Some reply)) (is ∙ ap (λ (n : ℕ). kept_replies_at (take i resolvers) p version ++ replicate n None) count)
+    ∙ fill_next (kept_replies_at (take i resolvers) p version) (length resolvers - (i + 1)) reply i (sym (length-map (take i resolvers) (λ (u : Memory). kept_reply u p version) ∙ length-take-le i resolvers (omega (arith, within))))
+    ∙ ap (λ (rs : List (Option Reply)). rs ++ replicate (length resolvers - (i + 1)) None) one
+  where
+    count : length resolvers - i ≡ suc (length resolvers - (i + 1))
+    count = omega (arith, within)
+
+    suc_is : suc i ≡ i + 1
+    suc_is = omega arith
+
+    one : kept_replies_at (take i resolvers) p version ++ Some reply ∷ [] ≡ kept_replies_at (take (i + 1) resolvers) p version
+    one = ap (λ (found : Option Reply). kept_replies_at (take i resolvers) p version ++ found ∷ []) (sym kept) ∙ sym (map-append (λ (u : Memory). kept_reply u p version) (take i resolvers) (v ∷ [])) ∙ ap (λ (vs : List Memory). kept_replies_at vs p version) (take_suc resolvers i v at ∙ ap (λ (n : ℕ). take n resolvers) suc_is)
+
+-- one place more: empty, since the resolver keeps no reply
+pub none_next : (resolvers : List Memory) (p version i : ℕ) (v : Memory) (replies : List (Option Reply)) → i < length resolvers → slice_get resolvers i ≡ Some v → kept_reply v p version ≡ None → replies ≡ kept_replies_at (take i resolvers) p version ++ replicate (length resolvers - i) None
+    → replies ≡ kept_replies_at (take (i + 1) resolvers) p version ++ replicate (length resolvers - (i + 1)) None
+none_next resolvers p version i v replies within at kept is =
+    is ∙ ap (λ (n : ℕ). kept_replies_at (take i resolvers) p version ++ replicate n None) count
+    ∙ leave_next (kept_replies_at (take i resolvers) p version) (length resolvers - (i + 1))
+    ∙ ap (λ (rs : List (Option Reply)). rs ++ replicate (length resolvers - (i + 1)) None) one
+  where
+    count : length resolvers - i ≡ suc (length resolvers - (i + 1))
+    count = omega (arith, within)
+
+    suc_is : suc i ≡ i + 1
+    suc_is = omega arith
+
+    one : kept_replies_at (take i resolvers) p version ++ None ∷ [] ≡ kept_replies_at (take (i + 1) resolvers) p version
+    one = ap (λ (found : Option Reply). kept_replies_at (take i resolvers) p version ++ found ∷ []) (sym kept) ∙ sym (map-append (λ (u : Memory). kept_reply u p version) (take i resolvers) (v ∷ [])) ∙ ap (λ (vs : List Memory). kept_replies_at vs p version) (take_suc resolvers i v at ∙ ap (λ (n : ℕ). take n resolvers) suc_is)
