@@ -1,6 +1,6 @@
 -- A resolver gets the request for a row.
-use Rattle.std.proofs.Common.{◌≡◌, refl, sym, ap, ◌∙◌, subst, ℕ, zero, suc, ◌+◌, ◌<◌, ◌≤◌, List, [], ◌∷◌, ◌++◌, map, length, get_or, slice_get, slice_set, Bool, true, false, nat_le, Option, Some, None, option_map, arith}
-use Rattle.std.specs.Prelude.{Result, Ok, Err, IsOk}
+use Rattle.std.proofs.Common.{◌≡◌, refl, sym, ap, ◌∙◌, subst, ℕ, zero, suc, ◌+◌, ◌<◌, ◌≤◌, List, [], ◌∷◌, ◌++◌, map, length, slice_get, slice_set, true, nat_le, Option, Some, None, option_map, arith}
+use Rattle.std.specs.Prelude.{Ok, Err, IsOk}
 use Rattle.std.proofs.lemmas.Bool.{le-leb}
 use Rattle.std.proofs.lemmas.List.{length-map}
 use Rattle.std.proofs.lemmas.Option.{slice_get-map}
@@ -18,15 +18,14 @@ use Rattle.model.specs.World.{World, Answer, Offer, Handled, NoSuchRow, WrongRes
 use Rattle.model.specs.World as world
 use Rattle.model.specs.Turns.{Cluster, success_or_refusal, answer_to_event, after_event, AreInStep, sent_requests}
 use Rattle.model.specs.Laws.Turns.{IsOffered}
-use Rattle.model.proofs.OfferInStep.{answers_as_world, judged_row_next, judged_in_step, refused_unchanged}
+use Rattle.model.proofs.OfferInStep.{answers_as_world, judged_row_next, judged_in_step}
 use Rattle.model.proofs.JudgedLaws.{others_change_nothing}
 use Rattle.model.proofs.ToldLaws.{slice_get-each_below, length-each_below}
 use Rattle.state_memory.specs.Answers.{fault_of as offer_fault}
-use Rattle.state_memory.specs.declared.answer.Answer.TheVariants as offered
 use Rattle.state_memory.specs.declared.refusal.Refusal.{Refusal as Offered}
 use Rattle.state_memory.specs.declared.refusal.Refusal.TheVariants as offer_refusals
 use Rattle.shared_cluster.specs.Events.{fault_of}
-use Rattle.shared_cluster.specs.Kept.{IsKept, world_of, records_of, requests_of}
+use Rattle.shared_cluster.specs.Kept.{IsKept, records_of, requests_of}
 use Rattle.shared_cluster.specs.Parts.{HasJudgedAt}
 use Rattle.shared_cluster.specs.Steps.{passed_on, IsOfTheWorld}
 use Rattle.shared_cluster.specs.declared.refusal.Refusal.{Refusal}

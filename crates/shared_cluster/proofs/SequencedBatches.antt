@@ -1,6 +1,6 @@
 -- A batch gets its record, and its proxy begins it.
-use Rattle.std.proofs.Common.{◌≡◌, refl, sym, ap, ◌∙◌, subst, ℕ, ◌+◌, ◌-◌, ◌<◌, ◌≤◌, List, [], ◌∷◌, ◌++◌, map, length, slice_get, Bool, true, false, not, nat_le, nat_eq, Some, None, arith}
-use Rattle.std.specs.Prelude.{Result, Ok, Err, IsOk}
+use Rattle.std.proofs.Common.{◌≡◌, refl, sym, ap, ◌∙◌, subst, ℕ, ◌+◌, ◌-◌, ◌<◌, ◌≤◌, List, [], ◌∷◌, ◌++◌, map, length, slice_get, true, false, nat_le, nat_eq, Some, None, arith}
+use Rattle.std.specs.Prelude.{Ok, Err, IsOk}
 use Rattle.std.proofs.lemmas.Bool.{le-leb, lt-leb, eq-eqb}
 use Rattle.std.proofs.lemmas.List.{map-append}
 use Rattle.model.specs.Configs.{Config, version_limit}
@@ -13,11 +13,10 @@ use Rattle.model.specs.ResolverMemory.{Memory}
 use Rattle.model.specs.Finishing.{Follower, HasBegun}
 use Rattle.model.specs.World.{World, Sequence, Handled, NoSuchProxy, VersionsEnd, Sequenced, next_record, handle_event, finished_version}
 use Rattle.model.specs.Turns.{Cluster, success_or_refusal, answer_to_event, after_event, AreInStep, IsProxy}
-use Rattle.model.specs.Laws.Turns.{MaySequence}
 use Rattle.model.proofs.HistoryLaws.{last_version-push}
 use Rattle.model.proofs.InStep.{sequence_is, may_begin, begun_in_step}
-use Rattle.proxy_state.specs.Beginning.{begin_fault, requests_for}
-use Rattle.shared_cluster.specs.Kept.{IsKept, world_of, records_of, requests_of}
+use Rattle.proxy_state.specs.Beginning.{begin_fault}
+use Rattle.shared_cluster.specs.Kept.{IsKept, world_of, requests_of}
 use Rattle.shared_cluster.specs.Parts.{MayBeginAt, IsBegunAt}
 use Rattle.shared_cluster.specs.declared.row.Row.{Row}
 

@@ -1,6 +1,6 @@
 -- The events, the answers and the refusals of the code, in the model's words; and the numbers and
 -- names of refusals (this project's profile).
-use Rattle.std.specs.Prelude.{ℕ, List, codes, Option, Some, None, Result, Ok, Err}
+use Rattle.std.specs.Prelude.{ℕ, List, codes, Option, Some, None}
 use Rattle.model.specs.World as world
 use Rattle.state_memory.specs.declared.answer.Answer.TheVariants as offered
 use Rattle.shared_cluster.specs.declared.event.Event.{Event}

@@ -1,6 +1,6 @@
 -- What the calls on one resolver or one proxy of a cluster leave.
 use Rattle.std.specs.Prelude.{◌≡◌, ℕ, List, map, filter, length, slice_get, slice_index, slice_set, nat_le}
-use Rattle.std.specs.Prelude.{Option, Some, None, Result, Ok, Err}
+use Rattle.std.specs.Prelude.{Some, None, Result, Ok, Err}
 use Rattle.model.specs.Numbers.{ResolverNumber, ProxyNumber, Version}
 use Rattle.model.specs.Configs.{Config}
 use Rattle.model.specs.Records.{Record}

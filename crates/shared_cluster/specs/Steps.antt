@@ -1,9 +1,9 @@
 -- What an event does to a cluster, and what a run of events does.
-use Rattle.std.specs.Prelude.{◌≡◌, ◌≤◌, ℕ, List, map, take, length, Option, Some, None, Result, Ok, Err}
+use Rattle.std.specs.Prelude.{◌≡◌, List, map, Option, Some, None, Result, Ok, Err}
 use Rattle.system_keys.specs.AsSpecified.{IsAsSpecified}
 use Rattle.model.specs.World as world
 use Rattle.model.specs.World.{answers, world_after}
-use Rattle.model.specs.Turns.{Cluster, answer_to_event, after_event}
+use Rattle.model.specs.Turns.{Cluster, answer_to_event}
 use Rattle.shared_cluster.specs.declared.answer.Answer.{Answer}
 use Rattle.shared_cluster.specs.declared.refusal.Refusal.{Refusal}
 use Rattle.shared_cluster.specs.declared.refusal.Refusal.TheVariants as refusals

@@ -1,5 +1,5 @@
 -- One resolver more.
-use Rattle.std.proofs.Common.{◌≡◌, ◌∙◌, ◌+◌, sym, ap, subst, ℕ, slice_set, Option, Some, None, arith, rules}
+use Rattle.std.proofs.Common.{◌≡◌, ◌∙◌, sym, ap, ℕ, slice_set, Some, arith}
 use Rattle.model.specs.declared.reply.Reply.{Reply}
 use Rattle.shared_cluster.proofs.NewParts.{kept_next, none_next}
 use Rattle.shared_cluster.proofs.OfferedParts.{got}

@@ -1,5 +1,4 @@
 -- One resolver answers.
-use Rattle.std.proofs.Common.{arith}
 use Rattle.shared_cluster.proofs.OfferedParts.{got, offered_at}
 use Rattle.shared_cluster.proofs.offering.offer_at.Goals as goal
 

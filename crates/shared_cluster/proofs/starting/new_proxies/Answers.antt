@@ -1,5 +1,5 @@
 -- One more.
-use Rattle.std.proofs.Common.{◌+◌, ◌∙◌, arith}
+use Rattle.std.proofs.Common.{◌+◌, arith}
 use Rattle.shared_cluster.proofs.NewParts.{one_more_proxy}
 use Rattle.shared_cluster.proofs.starting.new_proxies.Goals as goal
 

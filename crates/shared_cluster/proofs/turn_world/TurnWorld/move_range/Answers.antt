@@ -1,8 +1,8 @@
 -- The move is refused, or made.
-use Rattle.std.proofs.Common.{◌≡◌, ◌∙◌, ◌+◌, ◌<◌, sym, ap, subst, List, [], ◌∷◌, ◌++◌, arith, rules}
+use Rattle.std.proofs.Common.{◌≡◌, ◌∙◌, ◌+◌, sym, ap, subst, List, [], ◌∷◌, ◌++◌, arith, rules}
 use Rattle.std.specs.Prelude.{Err}
 use Rattle.model.specs.declared.moves.Move.{Move}
-use Rattle.model.specs.World.{World, MoveRange}
+use Rattle.model.specs.World.{MoveRange}
 use Rattle.shared_cluster.specs.Kept.{world_of, requests_of}
 use Rattle.shared_cluster.specs.Steps.{AnswersEvent}
 use Rattle.shared_cluster.specs.declared.refusal.Refusal.TheVariants as refusals

@@ -1,5 +1,5 @@
 -- New parts are in step with the world before the first event.
-use Rattle.std.proofs.Common.{◌≡◌, ◌∙◌, sym, ap, subst, ℕ, replicate}
+use Rattle.std.proofs.Common.{◌∙◌, ap, ℕ, replicate}
 use Rattle.shared_cluster.specs.Kept.{world_of, requests_of}
 use Rattle.shared_cluster.proofs.NewParts.{kept_new}
 use Rattle.shared_cluster.proofs.turn_world.TurnWorld.new.Goals as goal

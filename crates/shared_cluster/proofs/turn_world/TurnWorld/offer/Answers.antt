@@ -7,7 +7,7 @@ use Rattle.model.specs.World.{Offer}
 use Rattle.model.specs.Turns.{answer_to_event}
 use Rattle.system_keys.specs.AsSpecified.{IsFaultOf}
 use Rattle.shared_cluster.specs.Events.{fault_of}
-use Rattle.shared_cluster.specs.Kept.{world_of, records_of, requests_of}
+use Rattle.shared_cluster.specs.Kept.{world_of, requests_of}
 use Rattle.std.specs.Prelude.{Ok}
 use Rattle.state_memory.specs.declared.answer.Answer.{Answer as OfferAnswer}
 use Rattle.state_memory.specs.declared.answer.Answer.TheVariants as offered

@@ -1,10 +1,10 @@
 -- The batch is refused, or gets its record.
-use Rattle.std.proofs.Common.{◌≡◌, ◌∙◌, ◌+◌, ◌-◌, ◌<◌, refl, sym, ap, subst, ℕ, List, [], ◌∷◌, ◌++◌, length, slice_get, Some, map, arith, rules}
+use Rattle.std.proofs.Common.{◌≡◌, ◌∙◌, ◌+◌, ◌<◌, sym, ap, subst, List, [], ◌∷◌, ◌++◌, length, arith, rules}
 use Rattle.std.specs.Prelude.{Err, Ok}
 use Rattle.std.proofs.lemmas.List.{length-map}
 use Rattle.model.specs.Configs.{version_limit}
 use Rattle.model.specs.Records.{Record, last_version}
-use Rattle.model.specs.World.{World, Sequence, Sequenced, next_record, finished_version}
+use Rattle.model.specs.World.{Sequence, Sequenced, next_record, finished_version}
 use Rattle.shared_cluster.specs.Kept.{IsKept, world_of, requests_of}
 use Rattle.shared_cluster.specs.Steps.{AnswersEvent}
 use Rattle.shared_cluster.specs.declared.row.Row.{Row}
