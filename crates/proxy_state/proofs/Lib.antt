@@ -1,7 +1,9 @@
 pub mod AppliedLaws
 pub mod AskedParts
 pub mod BelowLaws
+pub mod ColumnLaws
 pub mod Joins
+pub mod FinishedProxies
 pub mod KeptInOrder
 pub mod KeyValues
 pub mod KeptProxies
