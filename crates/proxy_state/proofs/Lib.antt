@@ -12,6 +12,7 @@ pub mod MadeMoves
 pub mod MapEntries
 pub mod Misfits
 pub mod OverwrittenEntries
+pub mod PutEntries
 pub mod RangeEntries
 pub mod RouteEntries
 pub mod ServingEntries
