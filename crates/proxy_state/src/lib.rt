@@ -8,11 +8,16 @@
 
 mod applying;
 mod begun;
+mod columns;
 mod entry_map;
+mod finishing;
 mod joining;
+mod learned;
 mod learning;
 mod metadata;
 mod moving;
+mod outcomes;
+mod own_row;
 mod proxy;
 #[cfg(test)]
 mod proxy_tests;
@@ -22,12 +27,13 @@ mod replies;
 mod reply_tests;
 mod routes;
 mod tagging;
+mod telling;
 #[cfg(test)]
 mod tests;
 
 pub use joining::join;
 pub use metadata::Metadata;
-pub use model::{JournalRow, Route, Routing, StateTxn, Verdict};
+pub use model::{Finished, JournalRow, Outcome, Route, Routing, StateTxn, Tagged, Verdict};
 pub use proxy::Proxy;
 pub use refusal::Refusal;
 pub use replies::Replies;
