@@ -21,11 +21,11 @@ same_judged : (config : Config) (w v : World) (r : ℕ) → v.history ≡ w.hist
 unfolding judged_requests
 same_judged config w v r history received count = λ i. map (λ (rec : Record). request config rec (slice_index (received i) rec.row) r) (take (count i) (history i))
 
-map_each : {X Y : Type 0} (f g : X → Y) (xs : List X) → ((k : ℕ) (x : X) → slice_get xs k ≡ Some x → f x ≡ g x) → map f xs ≡ map g xs
+pub map_each : {X Y : Type 0} (f g : X → Y) (xs : List X) → ((k : ℕ) (x : X) → slice_get xs k ≡ Some x → f x ≡ g x) → map f xs ≡ map g xs
 map_each f g [] each = refl
 map_each f g (x ∷ xs) each = let first = each 0 x refl in let rest = map_each f g xs (λ k y at. each (suc k) y at) in λ i. first i ∷ rest i
 
-slice_index-append : (ns ms : List ℕ) (i : ℕ) → i < length ns → slice_index (ns ++ ms) i ≡ slice_index ns i
+pub slice_index-append : (ns ms : List ℕ) (i : ℕ) → i < length ns → slice_index (ns ++ ms) i ≡ slice_index ns i
 slice_index-append [] ms i within = absurd (omega arith)
 slice_index-append (n ∷ ns) ms zero within = refl
 slice_index-append (n ∷ ns) ms (suc i) within = slice_index-append ns ms i (omega arith)
@@ -76,7 +76,7 @@ others_leave config w (Finish p) r sound there other = either_judged config w r 
 
 -- ---- an Offer to the resolver
 
-one_more : (config : Config) (w : World) (row r : ℕ) (rec : Record) → IsSound config w → r < config.resolvers → slice_get w.history row ≡ Some rec → slice_index w.judged_counts r ≡ row →
+pub one_more : (config : Config) (w : World) (row r : ℕ) (rec : Record) → IsSound config w → r < config.resolvers → slice_get w.history row ≡ Some rec → slice_index w.judged_counts r ≡ row →
     judged_requests config (record w { judged_counts = slice_set w.judged_counts r (suc (slice_index w.judged_counts r)) }) r ≡ judged_requests config w r ++ sent_request config w r rec ∷ []
 unfolding judged_requests
 one_more config w row r rec sound there at next =

@@ -8,10 +8,12 @@ pub mod ChangeLaws
 pub mod CommittedLaws
 pub mod Definitions
 pub mod EdgeCases
+pub mod FinishInStep
 pub mod FinishLaws
 pub mod FinishingEdgeCases
 pub mod GrowingLaws
 pub mod HistoryLaws
+pub mod InStep
 pub mod JoinLaws
 pub mod JudgedByWrites
 pub mod JudgedLaws
@@ -27,6 +29,7 @@ pub mod MetLaws
 pub mod MetadataLaws
 pub mod MissingLaws
 pub mod MoveLaws
+pub mod OfferInStep
 pub mod OfferLaws
 pub mod OwnerLaws
 pub mod OwnerMapLaws

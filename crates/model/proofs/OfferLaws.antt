@@ -255,12 +255,12 @@ offered_next config w row r rec stepping sound at next =
     (ap world_answer (sent_answer config w row r rec stepping sound at ∙ answer_judged config.window (judged_requests config w r) (last_version (take (slice_index w.judged_counts r) w.history)) (sent_request config w r rec) reached turn.version ∙ ap (λ (reply : Reply). Ok (Judged reply)) told))
 
 -- the request that was judged for a row
-judged_at_row : (config : Config) (w : World) (row r : ℕ) (rec : Record) → slice_get w.history row ≡ Some rec → row < slice_index w.judged_counts r → slice_get (judged_requests config w r) row ≡ Some (sent_request config w r rec)
+pub judged_at_row : (config : Config) (w : World) (row r : ℕ) (rec : Record) → slice_get w.history row ≡ Some rec → row < slice_index w.judged_counts r → slice_get (judged_requests config w r) row ≡ Some (sent_request config w r rec)
 unfolding judged_requests
 judged_at_row config w row r rec at below =
     slice_get-map (sent_request config w r) (take (slice_index w.judged_counts r) w.history) row ∙ ap (option_map (sent_request config w r)) (slice_get-take_back w.history (slice_index w.judged_counts r) row rec below at)
 
-judged_before_row : (config : Config) (w : World) (row r : ℕ) → row < slice_index w.judged_counts r → take row (judged_requests config w r) ≡ requests_for config (λ (s : Record). slice_index w.received s.row) r (take row w.history)
+pub judged_before_row : (config : Config) (w : World) (row r : ℕ) → row < slice_index w.judged_counts r → take row (judged_requests config w r) ≡ requests_for config (λ (s : Record). slice_index w.received s.row) r (take row w.history)
 unfolding judged_requests
 judged_before_row config w row r below =
     take-map (sent_request config w r) row (take (slice_index w.judged_counts r) w.history) ∙ ap (λ (h : List Record). map (sent_request config w r) h) (take-take_le w.history row (slice_index w.judged_counts r) (omega (arith, below)))

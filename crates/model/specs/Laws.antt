@@ -16,4 +16,5 @@ pub mod ResolverMemory
 pub mod Routes
 pub mod Runs
 pub mod Sources
+pub mod Turns
 pub mod WriteHistories

@@ -26,6 +26,7 @@ pub mod Serial
 pub mod Shares
 pub mod Stamps
 pub mod Transactions
+pub mod Turns
 pub mod Verdicts
 pub mod World
 pub mod WriteHistories

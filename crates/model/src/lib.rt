@@ -31,6 +31,7 @@ mod routing;
 mod run_laws;
 #[cfg(test)]
 mod tests;
+mod turn_laws;
 mod unseen;
 mod verdict;
 mod verdict_laws;
@@ -64,6 +65,7 @@ pub use reply::Reply;
 pub use resolver_laws::{resolver_answer_law, resolver_memory_law};
 pub use routing::{Route, Routing};
 pub use run_laws::{answers_law, events_law, proxy_law, routing_law};
+pub use turn_laws::{finished_turn_law, offered_law, sequenced_law, turn_law};
 pub use unseen::{Carried, StateMark, UnseenRow, UnseenState};
 pub use verdict::Verdict;
 pub use verdict_laws::{

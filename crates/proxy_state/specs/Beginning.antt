@@ -1,5 +1,5 @@
 -- Which records a proxy refuses to begin, and what becomes of its map of owners.
-use Rattle.std.specs.Prelude.{◌≡◌, ℕ, List, ◌++◌, Option, Some, None, not, nat_eq, nat_le}
+use Rattle.std.specs.Prelude.{◌≡◌, ℕ, List, ◌∷◌, ◌++◌, Option, Some, None, not, nat_eq, nat_le}
 use Rattle.std.specs.Prelude.{if◌then◌else◌, filter, map}
 use Rattle.model.specs.Configs.{Config}
 use Rattle.model.specs.declared.moves.Move.{Move}
@@ -32,6 +32,10 @@ requests_for v rec = map (request v.config rec v.version) (each_below v.config.r
 abbrev pub rows_up_to : ℕ → List JournalRow → List JournalRow
 rows_up_to version journal =
     filter (λ (row : JournalRow). nat_le row.version version) journal
+
+-- the record is the first of these
+abbrev pub IsFirst : List Record → Record → Type 0
+IsFirst records rec = (rest : List Record) × (records ≡ rec ∷ rest)
 
 -- ---- the map of owners
 

@@ -3,13 +3,13 @@
 //! Release 7.1, `CommitProxyServer.actor.cpp`, commitBatch; what differs is marked *profile*.
 
 ghost use Rattle.std.specs.Prelude.{◌≡◌, ◌≤◌, ◌<◌, [], map, None, Some, IfOk, IfErr, OnOk, OnErr};
-ghost use Rattle.std.specs.Prelude.{MatchResult};
+ghost use Rattle.std.specs.Prelude.{MatchResult, MatchOption};
 ghost use Rattle.model.specs.Metadata.{metadata as metadata_of};
 ghost use Rattle.model.specs.Shares.{asked};
 ghost use Rattle.model.specs.Finishing.{HoldsMoves, MayBegin, HasBegun, HasFinished};
 ghost use Rattle.proxy_state.specs.declared.refusal.Refusal.TheVariants as refusals;
 ghost use Rattle.proxy_state.specs.Beginning.{refusal_fault, begin_fault, requests_for, rows_up_to};
-ghost use Rattle.proxy_state.specs.Beginning.{IsMapFor};
+ghost use Rattle.proxy_state.specs.Beginning.{IsMapFor, IsFirst};
 ghost use Rattle.proxy_state.specs.Finishing.{finish_fault, IsReplied, IsLearned};
 
 use crate::begun::BegunRecord;
@@ -99,6 +99,16 @@ impl Proxy {
         ensures { result ≡ self.now.last_begun }
     {
         self.last_begun
+    }
+
+    /// The earliest record that is begun and not finished: the one that is finished next.
+    pub fn awaited(&self) -> Option<&Record>
+        ensures { MatchOption result (self.now.begun ≡ []) (λ rec. IsFirst self.now.begun rec.now) }
+    {
+        match self.begun.as_slice().first() {
+            Some(begun) => Some(&begun.rec),
+            None => None,
+        }
     }
 
     /// The journal: a row for each version up to the proxy's own.

@@ -1,13 +1,14 @@
 -- What a resolver keeps, in the model's words.
 use Rattle.std.specs.Prelude.{◌≡◌, ℕ, List, [], ◌∷◌, map, filter, nat_lt, nat_le, Bool}
-use Rattle.std.specs.Prelude.{false, ◌<◌, length, slice_get, slice_set, Some}
+use Rattle.std.specs.Prelude.{false, ◌<◌, length, slice_get, slice_set, Option, Some, None}
 use Rattle.std.specs.VecDeque.{deque_len, deque_capacity}
 use Rattle.model.specs.Numbers.{Version, ProxyNumber}
 use Rattle.model.specs.declared.reply.Reply.{Reply}
 use Rattle.model.specs.declared.unseen.UnseenRow.{UnseenRow}
 use Rattle.model.specs.declared.verdict.Verdict.{Verdict}
 use Rattle.model.specs.Requests.{Request}
-use Rattle.model.specs.ResolverMemory.{ProxyMemory as Kept, is_row_above, proxy_after}
+use Rattle.model.specs.Offers.{reply_at}
+use Rattle.model.specs.ResolverMemory.{Memory, ProxyMemory as Kept, is_row_above, proxy_after}
 use Rattle.state_memory.specs.Order.{RepliesIncrease}
 use Rattle.state_memory.specs.declared.proxy_memory.ProxyMemory.{ProxyMemory}
 
@@ -52,6 +53,15 @@ pub record AreNew (proxies : ℕ) (made : List ProxyMemory) : Type 0 where
   pub each :
       (p : ProxyNumber) (one : Kept) → slice_get (all_kept made) p ≡ Some one
       → one ≡ nothing_kept
+
+-- the reply at a version that is kept of a proxy, and None for no proxy
+abbrev pub reply_of_proxy : Version → Option Kept → Option Reply
+reply_of_proxy version None = None
+reply_of_proxy version (Some one) = reply_at version one.replies
+
+-- the reply that a resolver keeps for a proxy at a version
+abbrev pub kept_reply : Memory → (p : ProxyNumber) (version : Version) → Option Reply
+kept_reply v p version = reply_of_proxy version (slice_get v.proxies p)
 
 -- there is room for one more reply to the proxy
 abbrev pub HasRoom : List ProxyMemory → ProxyNumber → Type 0

@@ -58,7 +58,7 @@ impl ProxyMemory {
     }
 
     /// The reply that is kept at the version.
-    fn reply_at(&self, version: u64) -> Option<&Reply>
+    pub(crate) fn reply_at(&self, version: u64) -> Option<&Reply>
         ensures { let kept = reply_at version self.now.replies.items in
             MatchOption result (kept ≡ None) (λ reply. kept ≡ Some reply.now) }
     {

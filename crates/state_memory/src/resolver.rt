@@ -1,6 +1,7 @@
 //! The resolver.
 
 ghost use Rattle.std.specs.Prelude.{◌≡◌, ◌<◌, [], ◌∷◌, Ok, length, map, IfOk, OnOk, OnErr};
+ghost use Rattle.std.specs.Prelude.{None, Some, MatchOption};
 ghost use Rattle.system_keys.specs.AsSpecified.{IsAsSpecified};
 ghost use Rattle.model.specs.ResolverMemory.{StandsForRequests, course};
 ghost use Rattle.model.specs.ResolverMemory as way;
@@ -8,6 +9,7 @@ ghost use Rattle.state_memory.specs.Answers.{AnswersAfterJudged, IsAfterAnswer, 
 ghost use Rattle.state_memory.specs.Answers.{RepliesAfterJudged, IsRememberedCount, course_of};
 ghost use Rattle.state_memory.specs.Answers.{fault_of};
 ghost use Rattle.state_memory.specs.Kept.{AreNew, HasRoom, AllIncrease, HasNoted, all_kept, reply_of};
+ghost use Rattle.state_memory.specs.Kept.{kept_reply};
 
 use crate::answer::{Answer, Course};
 use crate::proxy_memory::{ProxyMemory, reached_by_all};
@@ -90,6 +92,17 @@ impl Resolver {
         ensures count { IsRememberedCount self.now result }
     {
         self.rows.len()
+    }
+
+    /// Returns the reply that it keeps for a proxy at a version, or None if it keeps none.
+    pub fn kept_reply(&self, proxy: usize, version: u64) -> Option<&Reply>
+        ensures { let kept = kept_reply self.now proxy version in
+            MatchOption result (kept ≡ None) (λ reply. kept ≡ Some reply.now) }
+    {
+        match self.proxies.get(proxy) {
+            Some(one) => one.reply_at(version),
+            None => None,
+        }
     }
 
     /// Answers a request: judges it if it comes next, or gives the reply again that it got.
