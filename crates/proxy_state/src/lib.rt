@@ -10,6 +10,8 @@ mod applying;
 mod begun;
 mod columns;
 mod entry_map;
+#[cfg(test)]
+mod finish_tests;
 mod finishing;
 mod joining;
 mod learned;
