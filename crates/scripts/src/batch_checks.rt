@@ -23,7 +23,7 @@ impl From<Refusal> for ScriptFault {
 
 /// Returns the batch of these transactions, or the first fault of one in their order, or else that
 /// they are too many (this project's profile).
-pub(crate) fn admit_batch(alloc: Global, given: &[Transaction]) -> Result<Batch, ScriptFault>
+pub fn admit_batch(alloc: Global, given: &[Transaction]) -> Result<Batch, ScriptFault>
     ensures { IsReadAs (λ found. found) result (checked_batch (map given_from given.now)) }
 {
     match Batch::new(admit_each(alloc, given)?) {

@@ -23,10 +23,11 @@ mod status;
 mod tests;
 mod value_reading;
 
+pub use batch_checks::admit_batch;
 pub use batch_reading::read_batch;
 pub use checks::{Checked, check_each};
 pub use devices::{Failed, Reader, Sink, Source, Writer};
-pub use lines::{print_asked, print_routing};
+pub use lines::{print_asked, print_routing, push_tags};
 pub use output::{Output, refused};
 pub use raw_change::RawChange;
 pub use run::{ScriptKind, run_script};

@@ -132,7 +132,9 @@ fn push_quoted(alloc: Global, text: &mut String, bytes: &[u8]) -> Result<(), Out
     Ok(())
 }
 
-fn push_tags(text: &mut String, tags: &[Tag]) -> Result<(), OutOfMemory>
+/// Prints tags in one line, with one space between, or `none` without tags. Fails only with
+/// `OutOfMemory`.
+pub fn push_tags(text: &mut String, tags: &[Tag]) -> Result<(), OutOfMemory>
     ensures { OnOk result (string_bytes text.new ≡ string_bytes text.old ++ tags_text tags.now) }
 {
     match tags.split_first() {

@@ -48,6 +48,15 @@ impl Shaped for u64 {
     }
 }
 
+impl Shaped for usize {
+    ghost shape = { number_shape };
+
+    fn shaped(alloc: Global, value: &Value) -> Result<usize, ScriptFault> {
+        let number = u64::shaped(alloc, value)?;
+        Ok(number as usize)
+    }
+}
+
 impl Shaped for Bytes {
     ghost shape = { bytes_shape };
 
