@@ -16,6 +16,8 @@ mod records;
 mod refusal;
 mod sequenced;
 mod sequencer;
+#[cfg(test)]
+mod tests;
 mod ticket;
 
 pub use column::Column;
