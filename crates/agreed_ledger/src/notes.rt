@@ -52,7 +52,8 @@ impl<N: Naming> Model for VerdictNote<N> {
 
     ghost view = { λ n. record { row = n.row; resolver = n.resolver; known = n.note.known } };
 
-    ghost invariant = { λ n. slice_get (verdict_cells N.cells n.resolver) n.row ≡ Some n.note.cell };
+    ghost invariant = { λ n.
+        slice_get (verdict_cells N.cells n.resolver) n.row ≡ Some n.note.cell };
 }
 
 impl<N: Naming> Ledger<N> {

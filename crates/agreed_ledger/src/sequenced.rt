@@ -75,7 +75,8 @@ impl<N: Naming> Sequenced<N> {
         proxy: usize,
         batch: Batch,
     ) -> Result<Ticket<N>, (Refusal, Batch)>
-        ensures ok { let fault = sequence_fault N.cells self.old proxy in OnOk result (fault ≡ None) }
+        ensures ok { let fault = sequence_fault N.cells self.old proxy in
+            OnOk result (fault ≡ None) }
         ensures sequenced { IfOk result (λ ticket.
             HasSequenced N.cells.config self.old proxy batch self.new ticket) }
         ensures refused { let fault = sequence_fault N.cells self.old proxy in
@@ -133,7 +134,8 @@ impl<N: Naming> Sequenced<N> {
     /// Moves the keys of the range to the resolver, from the version after the last one on, and
     /// returns that date.
     ///
-    /// Fails with `NoSuchResolver`, and otherwise only with `OutOfMemory`. Then nothing has changed.
+    /// Fails with `NoSuchResolver`, and otherwise only with `OutOfMemory`. Then nothing has
+    /// changed.
     pub fn move_range(
         &mut self,
         ledger: &Ledger<N>,

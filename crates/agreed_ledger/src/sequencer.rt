@@ -2,7 +2,12 @@
 
 ghost use Rattle.std.specs.Prelude.{◌≡◌, IfOk, IfErr, OnOk, None};
 ghost use Rattle.agreed_ledger.specs.Refusals.{refusal_fault};
-ghost use Rattle.agreed_ledger.specs.Sequencing.{HasMoved, HasSequenced, move_fault, sequence_fault};
+ghost use Rattle.agreed_ledger.specs.Sequencing.{
+  HasMoved,
+  HasSequenced,
+  move_fault,
+  sequence_fault,
+};
 
 use crate::ledger::Ledger;
 use crate::naming::Naming;
@@ -59,7 +64,8 @@ impl<'a, N: Naming> Model for SequencerGuard<'a, N> {
 impl<'a, N: Naming> SequencerGuard<'a, N> {
     /// Gives the batch of the proxy the next row and version, as [`Sequenced::sequence`] does.
     pub fn sequence(&mut self, proxy: usize, batch: Batch) -> Result<Ticket<N>, (Refusal, Batch)>
-        ensures ok { let fault = sequence_fault N.cells self.old proxy in OnOk result (fault ≡ None) }
+        ensures ok { let fault = sequence_fault N.cells self.old proxy in
+            OnOk result (fault ≡ None) }
         ensures sequenced { IfOk result (λ ticket.
             HasSequenced N.cells.config self.old proxy batch self.new ticket) }
         ensures refused { let fault = sequence_fault N.cells self.old proxy in
