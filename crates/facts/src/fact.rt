@@ -25,7 +25,8 @@ impl<T> Fact<T> {
     /// Returns what a note knows, as a fact. The note is unchanged.
     pub fn of(note: &mut Note<T>) -> Fact<T>
         requires { IsSome note.old.known }
-        ensures { (note.new ≡ note.old) × (result.cell ≡ note.old.cell) × (note.old.known ≡ Some result.value) }
+        ensures { (note.new ≡ note.old) × (result.cell ≡ note.old.cell)
+            × (note.old.known ≡ Some result.value) }
     {
         let _ = note;
         Fact {
