@@ -1,5 +1,6 @@
-//! The metadata of a commit proxy: the entries that it keeps, how a row of the journal changes
-//! them, the lock, and the tags of the keys.
+//! A commit proxy. Its metadata: the entries that it keeps, how a row of the journal changes them,
+//! the lock, and the tags of the keys. And the proxy over time, which begins records and finishes
+//! them by the replies of the resolvers.
 //!
 //! Sources: FoundationDB release 7.1 (how commit proxies apply the state transactions, and which
 //! tags a mutation gets) and this project's profile (the values of entries, a server without a

@@ -111,7 +111,7 @@ impl Proxy {
         }
     }
 
-    /// The journal: a row for each version up to the proxy's own.
+    /// The journal: the rows that the proxy has learned, and those of its own finished records.
     pub fn journal(&self) -> &[JournalRow]
         ensures { result.now ≡ self.now.journal }
     {
