@@ -1,7 +1,7 @@
 //! What the sequencer keeps: the records that it gave out, and the moves.
 
 ghost use Rattle.std.specs.Prelude.{◌≡◌, ◌+◌, ◌<◌, [], IfOk, IfErr, OnOk, None};
-ghost use Rattle.model.specs.Records.{last_version};
+ghost use Rattle.model.specs.Records.{MovesFollow, last_version};
 ghost use Rattle.agreed_ledger.specs.Refusals.{refusal_fault};
 ghost use Rattle.agreed_ledger.specs.Sequencing.{
   HasMoved,
@@ -61,6 +61,14 @@ impl<N: Naming> Sequenced<N> {
             own_versions: Vec::from_elem(alloc, 0, ledger.config().proxies())?,
             moves: Vec::new(alloc),
         })
+    }
+
+    /// The records given out so far, from row 0. They are a history, and the moves follow them.
+    pub fn records(&self) -> &Records<N>
+        ensures value { result.now ≡ record { first = 0; known = self.now.records } }
+        ensures kept { MovesFollow N.cells.config self.now.records self.now.moves }
+    {
+        &self.records
     }
 
     /// Gives the batch of the proxy the next row and version, sets the row's record cell, and

@@ -1,6 +1,7 @@
 //! The sequencer that threads share.
 
 ghost use Rattle.std.specs.Prelude.{◌≡◌, IfOk, IfErr, OnOk, None};
+ghost use Rattle.model.specs.Records.{MovesFollow};
 ghost use Rattle.agreed_ledger.specs.Refusals.{refusal_fault};
 ghost use Rattle.agreed_ledger.specs.Sequencing.{
   HasMoved,
@@ -11,6 +12,7 @@ ghost use Rattle.agreed_ledger.specs.Sequencing.{
 
 use crate::ledger::Ledger;
 use crate::naming::Naming;
+use crate::records::Records;
 use crate::refusal::Refusal;
 use crate::sequenced::Sequenced;
 use crate::ticket::Ticket;
@@ -62,6 +64,14 @@ impl<'a, N: Naming> Model for SequencerGuard<'a, N> {
 }
 
 impl<'a, N: Naming> SequencerGuard<'a, N> {
+    /// The records given out so far, from row 0. They are a history, and the moves follow them.
+    pub fn records(&self) -> &Records<N>
+        ensures value { result.now ≡ record { first = 0; known = self.now.records } }
+        ensures kept { MovesFollow N.cells.config self.now.records self.now.moves }
+    {
+        self.guard.records()
+    }
+
     /// Gives the batch of the proxy the next row and version, as [`Sequenced::sequence`] does.
     pub fn sequence(&mut self, proxy: usize, batch: Batch) -> Result<Ticket<N>, (Refusal, Batch)>
         ensures ok { let fault = sequence_fault N.cells self.old proxy in
