@@ -460,6 +460,11 @@ fn is_row_2(finished: &Finished) -> bool {
         && has_tag_1(finished, 1)
 }
 
+/// The outcome of the transaction of this number, if there is one.
+fn outcome_at(finished: &Finished, number: usize) -> Option<Outcome> {
+    finished.outcomes.as_slice().get(number).copied()
+}
+
 /// Whether there are so many mutations, and the first has tag 1 alone.
 fn has_tag_1(finished: &Finished, count: usize) -> bool {
     let tagged = finished.tagged.as_slice();
@@ -518,13 +523,13 @@ fn the_lock_is_read_before_the_batch(rt: HostRuntime) -> Result<(), Fail> {
     let verdicts = &[COMMITTED, COMMITTED];
     let replies = both(alloc, to_row_0(0, verdicts), to_row_0(1, verdicts))?;
     let finished = tested.finish(replies).map_err(|refused| refused.0)?;
-    let second = finished.outcomes.as_slice()[1];
+    let second = outcome_at(&finished, 1);
     assert_eq!(rt;
         second,
-        Outcome::Committed {
+        Some(Outcome::Committed {
             version: 10,
             number: 1
-        }
+        })
     );
     assert!(rt; tested.proxy.metadata().is_locked());
     assert!(rt; tested.proxy.metadata().row(ROW_OF_ALL).is_some());
@@ -567,13 +572,13 @@ fn what_one_resolver_alone_committed_is_not_applied(rt: HostRuntime) -> Result<(
     let of_0: &[Told] = &[(COMMITTED, LOCKS)];
     let (tested, finished) = after_row_of_another(rt.alloc(), of_0, &[(CONFLICT, LOCKS)])?;
     assert!(rt; !tested.proxy.metadata().is_locked());
-    let first = finished.outcomes.as_slice()[0];
+    let first = outcome_at(&finished, 0);
     assert_eq!(rt;
         first,
-        Outcome::Committed {
+        Some(Outcome::Committed {
             version: 20,
             number: 0
-        }
+        })
     );
     Ok(())
 }
@@ -584,7 +589,7 @@ fn the_lock_of_another_proxy_is_kept(rt: HostRuntime) -> Result<(), Fail> {
     let (tested, finished) = after_row_of_another(rt.alloc(), told, told)?;
     assert!(rt; tested.proxy.metadata().is_locked());
     assert!(rt; tested.proxy.metadata().row(ROW_OF_ALL).is_none());
-    assert_eq!(rt; finished.outcomes.as_slice()[0], Outcome::Locked);
+    assert_eq!(rt; outcome_at(&finished, 0), Some(Outcome::Locked));
     assert_eq!(rt; finished.tagged.as_slice().len(), 0);
     Ok(())
 }
@@ -621,7 +626,7 @@ fn a_foreign_transaction_that_is_not_lock_aware_waits_for_no_lock(
         .map_err(|refused| refused.0)?;
     assert!(rt; tested.proxy.metadata().row(ROW_OF_ALL).is_none());
     assert!(rt; tested.proxy.metadata().row(TAG_ROW).is_some());
-    assert_eq!(rt; finished.outcomes.as_slice()[0], Outcome::Locked);
+    assert_eq!(rt; outcome_at(&finished, 0), Some(Outcome::Locked));
     Ok(())
 }
 
