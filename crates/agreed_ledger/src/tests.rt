@@ -47,7 +47,9 @@ fn sequence<N: Naming, R: Wait>(
     sequencer: &Sequencer<'_, N>,
     proxy: usize,
 ) -> Result<Result<Ticket<N>, Refusal>, Fail> {
-    match sequencer.lock(rt).sequence(proxy, no_batch(alloc)?) {
+    // (a guard in the match itself would hold the lock when it is taken again)
+    let answer = sequencer.lock(rt).sequence(proxy, no_batch(alloc)?);
+    match answer {
         Err((Refusal::OutOfMemory, back)) => {
             Ok(
                 sequencer
