@@ -2,9 +2,9 @@
 use Rattle.std.specs.Prelude.{◌≡◌, ℕ, List, string_bytes}
 use Rattle.command_line.specs.declared.status.Status.{Status}
 use Rattle.command_line.specs.declared.status.Status.TheVariants.{CommandLineRefused, Ran}
-use Rattle.script_run.specs.Statuses.{run_status_number}
-use Rattle.script_run.specs.declared.status.RunStatus.{RunStatus}
-use Rattle.script_run.specs.declared.status.RunStatus.TheVariants.{OutOfMemory}
+use Rattle.scripts.specs.Statuses.{run_status_number}
+use Rattle.scripts.specs.declared.status.RunStatus.{RunStatus}
+use Rattle.scripts.specs.declared.status.RunStatus.TheVariants.{OutOfMemory}
 
 -- the number that the process ends with
 abbrev pub status_number : Status → ℕ

@@ -7,8 +7,8 @@ use Rattle.command_line.specs.declared.mode.Mode.{Mode}
 use Rattle.command_line.specs.declared.mode.Mode.TheVariants.{Fold}
 use Rattle.command_line.specs.declared.status.Status.{Status}
 use Rattle.command_line.specs.declared.status.Status.TheVariants.{CommandLineRefused, Ran}
-use Rattle.script_run.specs.declared.status.RunStatus.{RunStatus}
-use Rattle.script_run.specs.declared.status.RunStatus.TheVariants.{OutOfMemory}
+use Rattle.scripts.specs.declared.status.RunStatus.{RunStatus}
+use Rattle.scripts.specs.declared.status.RunStatus.TheVariants.{OutOfMemory}
 
 -- what a run in a mode leaves; every command line that `clap` takes gives a mode
 abbrev pub RunsMode : Option Mode → Type 0 → Type 0

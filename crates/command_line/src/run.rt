@@ -2,8 +2,8 @@
 ghost use Rattle.std.specs.Prelude.{◌≡◌, ◌-◌, ◌^◌, ◌<◌, map};
 ghost use Rattle.clap.specs.Words.{kind_of};
 ghost use Rattle.clap.specs.declared.error.kind.ErrorKind.TheVariants as kinds;
-ghost use Rattle.script_run.specs.FoldText.{fold_text};
-ghost use Rattle.script_run.specs.Runs.{Folds, LeavesDevices};
+ghost use Rattle.fold_run.specs.FoldText.{Folds, fold_text};
+ghost use Rattle.scripts.specs.Runs.{LeavesDevices};
 ghost use Rattle.command_line.specs.Statuses.{IfRan, IsRejected};
 ghost use Rattle.command_line.specs.WordRuns.{FoldsOrRunsOut, IsFoldLine, IsRejectedLine};
 ghost use Rattle.command_line.specs.WordRuns.{LeavesByStatus, RunsWords};
@@ -13,7 +13,8 @@ use crate::mode_reading::read_mode;
 use crate::status::Status;
 use clap::Error;
 use clap::error::ErrorKind;
-use script_run::{RunStatus, Sink, Source, run_fold};
+use fold_run::run_fold;
+use scripts::{RunStatus, Sink, Source};
 use std::alloc::Global;
 use std::convert::AsStr;
 

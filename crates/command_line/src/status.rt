@@ -2,7 +2,7 @@
 ghost use Rattle.std.specs.Prelude.{◌≡◌};
 ghost use Rattle.command_line.specs.Statuses.{status_number};
 
-use script_run::RunStatus;
+use scripts::RunStatus;
 
 /// How the program ended (this project's profile).
 #[derive(Debug, Drop)]

@@ -3,7 +3,7 @@
 //! fails.
 use crate::run::run_words;
 use crate::status::Status;
-use script_run::{Reader, RunStatus, Writer};
+use scripts::{Reader, RunStatus, Writer};
 use std::process::Abort;
 
 const FOLD: &[&str] = &["fold"];

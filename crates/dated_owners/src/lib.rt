@@ -15,5 +15,6 @@ mod refusal;
 #[cfg(test)]
 mod tests;
 
+pub use marks::{mark, marked};
 pub use owner_map::OwnerMap;
 pub use refusal::Refusal;

@@ -1,4 +1,4 @@
-//! Marks, one for each resolver.
+//! Marks, one for each resolver, from which a list of resolvers in rising order is made.
 
 ghost use Rattle.std.specs.Prelude.{◌≡◌, length, nat_eq, filter, IfOk};
 ghost use Rattle.model.specs.Shares.{each_below};
@@ -7,8 +7,8 @@ ghost use Rattle.dated_owners.specs.Marks.{is_marked, Marks};
 use std::alloc::Global;
 use system_keys::{Items, OutOfMemory};
 
-/// Marks the resolver, if there is a mark for it.
-pub(crate) fn mark(marks: &mut [bool], resolver: usize)
+/// Marks the resolver, if there is a mark for it. Does not allocate.
+pub fn mark(marks: &mut [bool], resolver: usize)
     ensures { Marks marks.old (λ r. nat_eq resolver r) marks.new }
 {
     if resolver < marks.len() {
@@ -16,8 +16,9 @@ pub(crate) fn mark(marks: &mut [bool], resolver: usize)
     }
 }
 
-/// The numbers of the resolvers that are marked, in rising order.
-pub(crate) fn marked(alloc: Global, marks: &[bool]) -> Result<Items<usize>, OutOfMemory>
+/// Returns the numbers of the resolvers that are marked, in rising order. Fails only with
+/// `OutOfMemory`.
+pub fn marked(alloc: Global, marks: &[bool]) -> Result<Items<usize>, OutOfMemory>
     ensures { let marks = marks.now in
         IfOk result (λ list. list ≡ filter (is_marked marks) (each_below (length marks))) }
 {

@@ -3,11 +3,11 @@
 #![tactic(auto)]
 
 ghost use Rattle.std.specs.Prelude.{codes};
-ghost use Rattle.script_run.specs.FoldLines.{line};
+ghost use Rattle.scripts.specs.Lines.{line};
 ghost use Rattle.command_line.specs.Statuses.{IsRejectedWith};
 
 use command_line::{Status, run_words};
-use script_run::{Reader, RunStatus, Writer};
+use scripts::{Reader, RunStatus, Writer};
 use std::alloc::Global;
 use std::env;
 use std::io::ErrorKind;

@@ -1,7 +1,9 @@
 pub mod AppliedLaws
 pub mod AskedParts
 pub mod BelowLaws
+pub mod ColumnLaws
 pub mod Joins
+pub mod FinishedProxies
 pub mod KeptInOrder
 pub mod KeyValues
 pub mod KeptProxies
@@ -10,6 +12,7 @@ pub mod MadeMoves
 pub mod MapEntries
 pub mod Misfits
 pub mod OverwrittenEntries
+pub mod PutEntries
 pub mod RangeEntries
 pub mod RouteEntries
 pub mod ServingEntries

@@ -87,15 +87,15 @@ range_removed range keys kept old new s t is none removed =
 -- ---- a row of a journal
 
 -- the change clears the key
-abbrev clears : Change → Key → Bool
+abbrev pub clears : Change → Key → Bool
 clears (Set k value) key = false
 clears (Clear range) key = holds range key
 
-abbrev are_clearing : List Change → Key → Bool
+abbrev pub are_clearing : List Change → Key → Bool
 are_clearing changes key = list_any (λ (change : Change). clears change key) changes
 
 -- the value of the key is that among those put, or else what it was if nothing cleared it
-abbrev IsOver : (key : Key) (cleared : Bool) (puts old now : Entries) → Type 0
+abbrev pub IsOver : (key : Key) (cleared : Bool) (puts old now : Entries) → Type 0
 IsOver key cleared puts old now = entry_value now key ≡ option_or (entry_value puts key) (if cleared then None else entry_value old key)
 
 over_change : (change : Change) (key : Key) (cleared : Bool) (puts old now : Entries) → IsOver key cleared puts old now → IsOver key (cleared || clears change key) (after_change puts change) old (after_change now change)
@@ -122,7 +122,7 @@ either_group : (a b c : Bool) → ((a || b) || c) ≡ (a || (b || c))
 either_group true b c = refl
 either_group false b c = refl
 
-over_changes : (changes : List Change) (key : Key) (cleared : Bool) (puts old now : Entries) → IsOver key cleared puts old now → IsOver key (cleared || are_clearing changes key) (after_changes puts changes) old (after_changes now changes)
+pub over_changes : (changes : List Change) (key : Key) (cleared : Bool) (puts old now : Entries) → IsOver key cleared puts old now → IsOver key (cleared || are_clearing changes key) (after_changes puts changes) old (after_changes now changes)
 over_changes [] key true puts old now is = is
 over_changes [] key false puts old now is = is
 over_changes (change ∷ changes) key cleared puts old now is =

@@ -3,7 +3,9 @@ use Rattle.std.specs.Prelude.{◌≡◌, ℕ, List, [], ◌∷◌, Bool, length,
 use Rattle.std.specs.Prelude.{unwrap_or, slice_get, drop, if◌then◌else◌, ◌&&◌}
 use Rattle.std.specs.List.{list_any}
 use Rattle.model.specs.Configs.{Config}
-use Rattle.model.specs.Shares.{asked}
+use Rattle.model.specs.Shares.{asked, each_below}
+use Rattle.model.specs.Journal.{VerdictSource}
+use Rattle.model.specs.Finishing.{Replies, reply_from, verdicts_of_reply}
 use Rattle.model.specs.declared.reply.Reply.{Reply}
 use Rattle.model.specs.Records.{Record}
 use Rattle.model.specs.declared.verdict.Verdict.{Verdict}
@@ -43,3 +45,14 @@ has_numbers rec r count reply =
     && nat_eq reply.row rec.row
     && nat_eq reply.version rec.version
     && nat_eq (length reply.verdicts) count
+
+-- a column for each resolver, by the verdicts that it replied
+abbrev pub columns_of : (resolvers : ℕ) → List (List ℕ) → Replies → List (List Verdict)
+columns_of resolvers lists replies =
+    map (λ r. column_by r lists (verdicts_of_reply (reply_from replies r))) (each_below resolvers)
+
+-- the verdicts on a record by columns, whatever row is named: that of resolver r on transaction n is
+-- element n of its column, or Conflict if there is none
+abbrev pub by_columns : (columns : List (List Verdict)) → VerdictSource
+by_columns columns r i n =
+    unwrap_or (slice_get (unwrap_or (slice_get columns r) []) n) Conflict

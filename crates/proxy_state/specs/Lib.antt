@@ -1,5 +1,6 @@
 pub mod Begun
 pub mod Beginning
+pub mod Finishing
 pub mod Learning
 pub mod MapEntries
 pub mod Overwrites

@@ -1,5 +1,5 @@
 -- Entries that are written over others: what one row of a journal removes, and what it puts.
-use Rattle.std.specs.Prelude.{◌≡◌, List, [], Bool, None, if◌then◌else◌, filter, not}
+use Rattle.std.specs.Prelude.{◌≡◌, List, [], Bool, true, false, ◌&&◌, None, if◌then◌else◌, filter, not}
 use Rattle.std.specs.Option.{is_some, option_or}
 use Rattle.std.specs.List.{flat_map, list_any}
 use Rattle.std.specs.Map.{keys_of}
@@ -10,7 +10,7 @@ use Rattle.system_keys.specs.declared.change.Change.{Change}
 use Rattle.system_keys.specs.declared.change.Change.TheVariants.{Set, Clear}
 use Rattle.system_keys.specs.Keys.{Key, holds}
 use Rattle.model.specs.declared.journal.StateTxn.{StateTxn}
-use Rattle.model.specs.Metadata.{Entry, Entries, entry_value, is_applied}
+use Rattle.model.specs.Metadata.{Entry, Entries, IsInOrder, AreKept, entry_value, is_applied}
 
 -- the two keys are the same
 abbrev pub is_same_key : Key → Key → Bool
@@ -48,3 +48,53 @@ keys_cleared entries (Clear range) = keys_of (filter (λ (entry : Entry). holds 
 -- the keys of the entries that some changes clear, one change after another
 abbrev pub cleared_keys : Entries → List Change → List Key
 cleared_keys entries changes = flat_map (keys_cleared entries) changes
+
+-- ---- entries that are put over others, and taken back
+
+-- the entries after others are put over them: what each key has
+abbrev pub IsPutOver : (puts old new : Entries) → Type 0
+IsPutOver puts old new =
+    (key : Key) → entry_value new key ≡ option_or (entry_value puts key) (entry_value old key)
+
+-- some entries with these put over them are the entries of a metadata
+pub record MayBePut (puts old : Entries) : Type 0 where
+  pub new : Entries
+  pub over : IsPutOver puts old new
+  pub order : IsInOrder new
+  pub kept : AreKept new
+
+-- What takes back entries that were put: keys that had none, and the entries displaced at the
+-- others.
+pub record TakesBack (missing : List Key) (displaced old new : Entries) : Type 0 where
+  pub missing_before : (key : Key) → is_listed missing key ≡ true → entry_value old key ≡ None
+  pub displaced_before :
+      (key : Key) → has_entry displaced key ≡ true → entry_value displaced key ≡ entry_value old key
+  pub displaced_there : (key : Key) → has_entry displaced key ≡ true → has_entry new key ≡ true
+  pub others :
+      (key : Key) → is_listed missing key ≡ false → has_entry displaced key ≡ false
+      → entry_value new key ≡ entry_value old key
+
+-- these take back entries that were put over those of a metadata
+pub record MayTakeBack (missing : List Key) (displaced new : Entries) : Type 0 where
+  pub old : Entries
+  pub takes : TakesBack missing displaced old new
+  pub order : IsInOrder old
+  pub kept : AreKept old
+
+-- each entry of the metadata at a key of `puts` is among those displaced, and no others are
+pub record AreDisplaced (entries puts displaced : Entries) : Type 0 where
+  pub same :
+      (key : Key) → has_entry displaced key ≡ true
+      → entry_value displaced key ≡ entry_value entries key
+  pub all :
+      (key : Key) → has_entry puts key ≡ true → has_entry entries key ≡ true
+      → has_entry displaced key ≡ true
+
+-- the change is a Clear
+abbrev pub is_clear : Change → Bool
+is_clear (Set key value) = false
+is_clear (Clear range) = true
+
+-- the transaction is applied, and has a Clear
+abbrev pub clears_some : (locked : Bool) → StateTxn → Bool
+clears_some locked t = is_applied locked t && list_any is_clear t.mutations

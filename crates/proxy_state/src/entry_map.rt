@@ -9,11 +9,12 @@ ghost use Rattle.std.specs.Cmp.Lexicographic.{slice_cmp};
 ghost use Rattle.std.specs.Map.{keys_of};
 ghost use Rattle.system_keys.specs.Keys.{Key, holds};
 ghost use Rattle.system_keys.specs.Families.{key_servers_family};
-ghost use Rattle.model.specs.Metadata.{IsInOrder, entry_value, serving_entry, key_servers_entries};
+ghost use Rattle.model.specs.Metadata.{Entries, IsInOrder, entry_value};
+ghost use Rattle.model.specs.Metadata.{serving_entry, key_servers_entries};
 ghost use Rattle.model.specs.Metadata.{behind_prefix, is_entry_inside};
 ghost use Rattle.proxy_state.specs.MapEntries.{entries_of, bytes_of_keys};
 ghost use Rattle.proxy_state.specs.Overwrites.{is_same_key, is_listed, has_entry, missing_keys};
-ghost use Rattle.proxy_state.specs.Overwrites.{IsOverwritten};
+ghost use Rattle.proxy_state.specs.Overwrites.{IsOverwritten, IsPutOver, TakesBack, AreDisplaced};
 
 use std::alloc::Global;
 use std::collections::BTreeMap;
@@ -177,6 +178,55 @@ impl EntryMap {
         }
     }
 
+    /// Puts all entries of the other map, and returns what takes them back. Fails only with
+    /// `OutOfMemory`; the map is then unchanged.
+    pub(crate) fn put_all(&mut self, puts: EntryMap) -> Result<Undo, OutOfMemory>
+        ensures ok { OnOk result (IsPutOver puts self.old self.new) }
+        ensures undo { IfOk result (λ undo. TakesBack undo.0 undo.1 self.old self.new) }
+        ensures order { IsInOrder self.new }
+        ensures err { OnErr result (self.new ≡ self.old) }
+    {
+        let missing = self.missing_keys(&puts)?;
+        let displaced = self.displaced_by(&puts)?;
+        self.overwrite(&[], puts)?;
+        Ok(Undo { missing, displaced })
+    }
+
+    /// The entries at the keys of the other map. Fails only with `OutOfMemory`.
+    fn displaced_by(&self, puts: &EntryMap) -> Result<EntryMap, OutOfMemory>
+        ensures { IfOk result (λ displaced. AreDisplaced self.now puts.now displaced) }
+    {
+        let mut displaced = EntryMap::new(self.alloc);
+        for (key, _) in puts.iter() {
+            self.copy_entry(key.as_slice(), &mut displaced)?;
+        }
+        Ok(displaced)
+    }
+
+    /// Puts a copy of the entry at the key in the other map, if there is one.
+    fn copy_entry(&self, key: &[u8], other: &mut EntryMap) -> Result<(), OutOfMemory>
+        ensures { OnOk result ((at : Key) → entry_value other.new at
+            ≡ (if is_same_key at key.now
+            then option_or (entry_value self.now key.now) (entry_value other.old at)
+            else entry_value other.old at)) }
+    {
+        let Some(value) = self.get(key) else {
+            return Ok(());
+        };
+        let value = Bytes::from(Vec::from_slice(self.alloc, value)?);
+        other.put(key, &value)?;
+        Ok(())
+    }
+
+    /// Takes back entries that were put. Does not allocate.
+    pub(crate) fn take_back(&mut self, undo: Undo)
+        ensures old { (old : Entries) → IsInOrder old → TakesBack undo.0 undo.1 old self.old
+            → self.new ≡ old }
+    {
+        self.remove_listed(&undo.missing, &EntryMap::new(self.alloc));
+        self.write(undo.displaced);
+    }
+
     /// The keys of the other map that this one lacks, in order. Fails only with `OutOfMemory`.
     fn missing_keys(&self, puts: &EntryMap) -> Result<Vec<Vec<u8>>, OutOfMemory>
         ensures keys { IfOk result (λ keys. bytes_of_keys keys.items
@@ -270,6 +320,26 @@ impl EntryMap {
             values,
         })
     }
+}
+
+/// What takes back entries that were put in a map.
+#[derive(Drop)]
+pub(crate) struct Undo {
+    /// The keys at which there was no entry.
+    missing: Vec<Vec<u8>>,
+    /// The entries at the other keys, as they were.
+    displaced: EntryMap,
+}
+
+impl Model for Undo {
+    ghost use Rattle.std.specs.Prelude.{List};
+    ghost use Rattle.system_keys.specs.Keys.{Key};
+    ghost use Rattle.model.specs.Metadata.{Entries};
+    ghost use Rattle.proxy_state.specs.MapEntries.{bytes_of_keys};
+
+    ghost Value = { List Key × Entries };
+
+    ghost view = { λ u. (bytes_of_keys u.missing.items, u.displaced) };
 }
 
 /// The key of the keyServers entry at a key. Fails only with `OutOfMemory`.

@@ -18,7 +18,7 @@ pub fn join(verdicts: &[Verdict]) -> Verdict
     least
 }
 
-fn least_of(a: Verdict, b: Verdict) -> Verdict
+pub(crate) fn least_of(a: Verdict, b: Verdict) -> Verdict
     ensures { result ≡ least_of a b }
 {
     match (a, b) {

@@ -1,5 +1,6 @@
-//! The metadata of a commit proxy: the entries that it keeps, how a row of the journal changes
-//! them, the lock, and the tags of the keys.
+//! A commit proxy. Its metadata: the entries that it keeps, how a row of the journal changes them,
+//! the lock, and the tags of the keys. And the proxy over time, which begins records and finishes
+//! them by the replies of the resolvers.
 //!
 //! Sources: FoundationDB release 7.1 (how commit proxies apply the state transactions, and which
 //! tags a mutation gets) and this project's profile (the values of entries, a server without a
@@ -8,11 +9,18 @@
 
 mod applying;
 mod begun;
+mod columns;
 mod entry_map;
+#[cfg(test)]
+mod finish_tests;
+mod finishing;
 mod joining;
+mod learned;
 mod learning;
 mod metadata;
 mod moving;
+mod outcomes;
+mod own_row;
 mod proxy;
 #[cfg(test)]
 mod proxy_tests;
@@ -22,12 +30,13 @@ mod replies;
 mod reply_tests;
 mod routes;
 mod tagging;
+mod telling;
 #[cfg(test)]
 mod tests;
 
 pub use joining::join;
 pub use metadata::Metadata;
-pub use model::{JournalRow, Route, Routing, StateTxn, Verdict};
+pub use model::{Finished, JournalRow, Outcome, Route, Routing, StateTxn, Tagged, Verdict};
 pub use proxy::Proxy;
 pub use refusal::Refusal;
 pub use replies::Replies;

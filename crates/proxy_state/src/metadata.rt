@@ -1,8 +1,9 @@
 //! The metadata that every commit proxy keeps the same.
 
-ghost use Rattle.std.specs.Prelude.{◌≡◌, [], false, IsOk, IfOk, OnOk, OnErr, option_map, fold};
+ghost use Rattle.std.specs.Prelude.{◌≡◌, [], true, false, IsOk, IfOk, OnOk, OnErr, IfSome};
+ghost use Rattle.std.specs.Prelude.{option_map, fold};
 ghost use Rattle.std.specs.List.{flat_map, list_any};
-ghost use Rattle.std.specs.Option.{option_to_list};
+ghost use Rattle.std.specs.Option.{option_to_list, option_or};
 ghost use Rattle.std.specs.BTreeSet.{insert_key};
 ghost use Rattle.system_keys.specs.declared.change.Change.TheVariants.{Set, Clear};
 ghost use Rattle.system_keys.specs.Keys.{Key};
@@ -10,10 +11,13 @@ ghost use Rattle.system_keys.specs.Families.{is_kept, metadata_version_family};
 ghost use Rattle.model.specs.Metadata.{IsInOrder, AreKept, entry_value, is_locked, after_change};
 ghost use Rattle.model.specs.Metadata.{after_changes, is_applied, after_state, after_journal_row};
 ghost use Rattle.model.specs.Metadata.{key_servers_entries, serving_entry, entry_tags, tag_cmp, tags, tags_of_key};
-ghost use Rattle.model.specs.Metadata.{routing};
+ghost use Rattle.model.specs.Metadata.{Entries, is_filled, routing};
+ghost use Rattle.model.specs.Transactions.{locked_key};
+ghost use Rattle.proxy_state.specs.Overwrites.{IsPutOver, MayBePut, MayTakeBack, TakesBack};
+ghost use Rattle.proxy_state.specs.Finishing.{after_rows};
 
-use crate::applying::{any_applied, cleared_keys, is_applied, only_change};
-use crate::entry_map::EntryMap;
+use crate::applying::{any_applied, any_clears, cleared_keys, is_applied, only_change};
+use crate::entry_map::{EntryMap, Undo};
 use crate::routes::routes;
 use crate::tagging::{add_tags, add_tags_inside, listed};
 use model::{JournalRow, Routing, StateTxn};
@@ -117,6 +121,82 @@ impl Metadata {
         let removed = cleared_keys(&self.entries, locked, states)?;
         self.entries.overwrite(&removed, puts.entries)?;
         Ok(())
+    }
+
+    /// What the rows put, if they clear nothing: the entries that, put over these, give the metadata
+    /// after the rows. Returns `None` if a transaction that is applied has a Clear. Fails only with
+    /// `OutOfMemory`.
+    pub(crate) fn puts_of_rows(&self, rows: &[JournalRow]) -> Result<Option<Metadata>, OutOfMemory>
+        ensures { IfOk result (λ found. IfSome found (λ puts.
+            IsPutOver puts self.now (after_rows self.now rows.now))) }
+    {
+        let mut puts = Metadata::new(self.entries.alloc());
+        for row in rows {
+            if !self.add_puts(row, &mut puts)? {
+                return Ok(None);
+            }
+        }
+        Ok(Some(puts))
+    }
+
+    /// Adds what the row puts after others were put, if it clears nothing. Returns whether it does
+    /// not. Fails only with `OutOfMemory`.
+    pub(crate) fn add_puts(
+        &self,
+        row: &JournalRow,
+        puts: &mut Metadata,
+    ) -> Result<bool, OutOfMemory>
+        ensures { IfOk result (λ all. all ≡ true → (now : Entries)
+            → IsPutOver puts.old self.now now
+            → IsPutOver puts.new self.now (after_journal_row now row.now)) }
+    {
+        let states = row.states.as_slice();
+        let locked = self.is_locked_under(puts);
+        if any_clears(locked, states) {
+            return Ok(false);
+        }
+        puts.apply_states(locked, states)?;
+        Ok(true)
+    }
+
+    /// Whether the database is locked once these entries are put over those of the metadata. Does
+    /// not allocate.
+    pub(crate) fn is_locked_under(&self, puts: &Metadata) -> bool
+        ensures value { result ≡ is_filled
+            (option_or (entry_value puts.now locked_key) (entry_value self.now locked_key)) }
+        ensures order { IsInOrder self.now }
+        ensures kept { AreKept self.now }
+    {
+        let own = self.row(LOCKED_KEY);
+        match puts.row(LOCKED_KEY) {
+            Some(value) => !value.is_empty(),
+            None => match own {
+                Some(value) => !value.is_empty(),
+                None => false,
+            },
+        }
+    }
+
+    /// Puts the entries over those of the metadata, and returns what takes them back. Fails only
+    /// with `OutOfMemory`; the metadata is then unchanged.
+    pub(crate) fn put_over(&mut self, puts: Metadata) -> Result<Undo, OutOfMemory>
+        requires { MayBePut puts self.old }
+        ensures ok { OnOk result ((new : Entries) → IsInOrder new → IsPutOver puts self.old new
+            → self.new ≡ new) }
+        ensures undo { IfOk result (λ undo. TakesBack undo.0 undo.1 self.old self.new) }
+        ensures err { OnErr result (self.new ≡ self.old) }
+    {
+        let undo = self.entries.put_all(puts.entries)?;
+        Ok(undo)
+    }
+
+    /// Takes back entries that were put. Does not allocate.
+    pub(crate) fn take_back(&mut self, undo: Undo)
+        requires { MayTakeBack undo.0 undo.1 self.old }
+        ensures { (old : Entries) → IsInOrder old → TakesBack undo.0 undo.1 old self.old
+            → self.new ≡ old }
+    {
+        self.entries.take_back(undo);
     }
 
     /// The metadata after the rows of the journal, applied in order without copying the metadata.

@@ -2,20 +2,26 @@
 //!
 //! Release 7.1, `CommitProxyServer.actor.cpp`, commitBatch; what differs is marked *profile*.
 
-ghost use Rattle.std.specs.Prelude.{◌≡◌, ◌≤◌, ◌<◌, [], map, None, MatchOption, IfOk, IfErr, OnOk, OnErr};
+ghost use Rattle.std.specs.Prelude.{◌≡◌, ◌≤◌, ◌<◌, [], map, None, Some, IfOk, IfErr, OnOk, OnErr};
+ghost use Rattle.std.specs.Prelude.{MatchResult, MatchOption};
 ghost use Rattle.model.specs.Metadata.{metadata as metadata_of};
 ghost use Rattle.model.specs.Shares.{asked};
-ghost use Rattle.model.specs.Finishing.{HoldsMoves, MayBegin, HasBegun};
+ghost use Rattle.model.specs.Finishing.{HoldsMoves, MayBegin, HasBegun, HasFinished};
 ghost use Rattle.proxy_state.specs.declared.refusal.Refusal.TheVariants as refusals;
 ghost use Rattle.proxy_state.specs.Beginning.{refusal_fault, begin_fault, requests_for, rows_up_to};
 ghost use Rattle.proxy_state.specs.Beginning.{IsMapFor, IsFirst};
+ghost use Rattle.proxy_state.specs.Finishing.{finish_fault, IsReplied, IsLearned};
 
 use crate::begun::BegunRecord;
+use crate::finishing::finish_batch;
+use crate::learned::Learned;
+use crate::learning::{first_disagreement, first_unreplied};
 use crate::metadata::Metadata;
 use crate::moving::make_moves;
 use crate::refusal::Refusal;
+use crate::replies::Replies;
 use dated_owners::OwnerMap;
-use model::{Config, JournalRow};
+use model::{Config, Finished, JournalRow, Reply};
 use request_builder::{Record, Requests, build};
 use std::alloc::Global;
 use std::marker::Model;
@@ -105,7 +111,7 @@ impl Proxy {
         }
     }
 
-    /// The journal: a row for each version up to the proxy's own.
+    /// The journal: the rows that the proxy has learned, and those of its own finished records.
     pub fn journal(&self) -> &[JournalRow]
         ensures { result.now ≡ self.now.journal }
     {
@@ -191,6 +197,83 @@ impl Proxy {
         make_moves(&mut owners, &rec.moves()[self.moved..])?;
         owners.forget(rec.previous().saturating_sub(self.config.window()));
         Ok(owners)
+    }
+
+    /// Finishes the earliest record that is begun and not finished, by the replies to it. The journal
+    /// grows by the rows that the replies tell and by the record's own row, the metadata follows it,
+    /// and the version is that of the record. Returns the outcome of each transaction of the batch,
+    /// and each mutation of the committed ones with its tags in the metadata after the whole batch.
+    ///
+    /// Fails with `OutOfTurn` if no record is begun, otherwise with `MissingReply` and the least
+    /// resolver that has not replied, otherwise with `RepliesDisagree` and the first version at which
+    /// the replies disagree, and otherwise only with `OutOfMemory`. Each failure leaves the proxy
+    /// unchanged, and the replies come back.
+    pub fn finish(&mut self, replies: Replies) -> Result<Finished, (Refusal, Replies)>
+        ensures ok { OnOk result (finish_fault self.old replies ≡ None) }
+        ensures finished { IfOk result (λ finished.
+            HasFinished self.old self.new replies finished) }
+        ensures refused { let fault = finish_fault self.old replies in
+            IfErr result (λ refused. refusal_fault refused.0 ≡ fault) }
+        ensures back { IfErr result (λ refused. refused.1 ≡ replies) }
+        ensures err { OnErr result (self.new ≡ self.old) }
+    {
+        match self.finish_by(replies.places()) {
+            Ok(finished) => Ok(finished),
+            Err(refusal) => Err((refusal, replies)),
+        }
+    }
+
+    fn finish_by(&mut self, replies: &[Option<Reply>]) -> Result<Finished, Refusal>
+        ensures ok { OnOk result (finish_fault self.old replies.now ≡ None) }
+        ensures finished { IfOk result (λ finished.
+            HasFinished self.old self.new replies.now finished) }
+        ensures refused { let fault = finish_fault self.old replies.now in
+            IfErr result (λ refusal. refusal_fault refusal ≡ fault) }
+        ensures err { OnErr result (self.new ≡ self.old) }
+    {
+        let alloc: Global = *self.journal.allocator();
+        let mut learned = self.learn(replies)?;
+        let Ok(()) = self.journal.reserve(learned.told.len() + 1) else {
+            return Err(Refusal::OutOfMemory);
+        };
+        let begun = &self.begun[0];
+        let version = begun.rec.version();
+        let finished = finish_batch(alloc, &mut self.metadata, &self.config, begun, &learned)?;
+        self.begun.remove(0);
+        self.version = version;
+        let _ = self.journal.append(&mut learned.told);
+        self.journal.push_reserved(learned.own);
+        Ok(finished)
+    }
+
+    /// What the proxy learns from the replies to its earliest record, if it may finish it by them.
+    fn learn(&self, replies: &[Option<Reply>]) -> Result<Learned, Refusal>
+        ensures fault { let fault = finish_fault self.now replies.now in
+            MatchResult result (λ learned. fault ≡ None) (λ refusal. fault ≡ refusal_fault refusal) }
+        ensures learned { IfOk result (λ learned. IsLearned self.now replies.now learned) }
+    {
+        let begun = self.next_begun(replies)?;
+        let alloc: Global = *self.journal.allocator();
+        Ok(Learned::of_replies(alloc, &self.config, begun, replies)?)
+    }
+
+    /// The earliest record that is begun and not finished, if the proxy may finish it by these
+    /// replies. Does not allocate.
+    fn next_begun(&self, replies: &[Option<Reply>]) -> Result<&BegunRecord, Refusal>
+        ensures fault { let fault = finish_fault self.now replies.now in
+            MatchResult result (λ begun. fault ≡ None) (λ refusal. fault ≡ Some refusal) }
+        ensures replied { IfOk result (λ begun. IsReplied self.now replies.now begun.now) }
+    {
+        let Some(begun) = self.begun.as_slice().first() else {
+            return Err(Refusal::OutOfTurn { expected: None });
+        };
+        if let Some(resolver) = first_unreplied(self.config.resolvers(), replies) {
+            return Err(Refusal::MissingReply { resolver });
+        }
+        match first_disagreement(&self.config, begun, self.version, replies) {
+            Some(version) => Err(Refusal::RepliesDisagree { version }),
+            None => Ok(begun),
+        }
     }
 
     /// Returns a deep copy. Fails only with `OutOfMemory`.

@@ -20,7 +20,7 @@ pub enum Refusal {
     #[error("the record does not follow version {expected}, which was last begun")]
     OutOfOrder { expected: u64 },
     /// No record is begun, or another one is expected.
-    #[error("the record is not the one that is next")]
+    #[error("no record is begun, or another one is expected")]
     OutOfTurn { expected: Option<u64> },
     /// A resolver has not replied: the least such one.
     #[error("resolver {resolver} has not replied")]

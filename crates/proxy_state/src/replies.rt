@@ -62,4 +62,10 @@ impl Replies {
         self.places[resolver] = Some(reply);
         Ok(())
     }
+    /// The places in the order of the resolvers, each with the reply that has come.
+    pub(crate) fn places(&self) -> &[Option<Reply>]
+        ensures { result.now ≡ self.now }
+    {
+        self.places.as_slice()
+    }
 }

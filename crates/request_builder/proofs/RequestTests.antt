@@ -13,7 +13,7 @@ use Rattle.request_builder.specs.Requests.{numbers_rise, names_part, is_carried_
 
 -- ---- the numbers rise
 
-rise_from : (least : ℕ) (parts : List Part) → numbers_rise least parts ≡ true → NumbersRise least parts
+pub rise_from : (least : ℕ) (parts : List Part) → numbers_rise least parts ≡ true → NumbersRise least parts
 rise_from least [] h = tt
 rise_from least (part ∷ parts) h =
     let both = and_parts (nat_le least part.number) (numbers_rise (suc part.number) parts) h in
@@ -32,7 +32,7 @@ contains_next x n numbers at = Contains-append_right (x ∷ []) numbers n at
 contains_first : (x n : ℕ) (numbers : List ℕ) → x ≡ n → Contains (x ∷ numbers) n
 contains_first x n numbers same = (0, omega arith, same)
 
-named_from : (parts : List Part) (n : ℕ) → list_any (λ (part : Part). nat_eq part.number n) parts ≡ true → Contains (part_numbers parts) n
+pub named_from : (parts : List Part) (n : ℕ) → list_any (λ (part : Part). nat_eq part.number n) parts ≡ true → Contains (part_numbers parts) n
 named_from [] n h = absurd (false≢true h)
 named_from (part ∷ parts) n h =
     by (nat_eq part.number n) refl (named_from parts n)
@@ -41,7 +41,7 @@ named_from (part ∷ parts) n h =
     by true e later = contains_first part.number n (part_numbers parts) (eqb-true part.number n e)
     by false e later = contains_next part.number n (part_numbers parts) (later (ap (λ t. t || list_any (λ (part : Part). nat_eq part.number n) parts) (sym e) ∙ h))
 
-named_test : (parts : List Part) (n : ℕ) → Contains (part_numbers parts) n → list_any (λ (part : Part). nat_eq part.number n) parts ≡ true
+pub named_test : (parts : List Part) (n : ℕ) → Contains (part_numbers parts) n → list_any (λ (part : Part). nat_eq part.number n) parts ≡ true
 named_test [] n at = absurd (omega (arith, at.1))
 named_test (part ∷ parts) n at = by (nat_eq part.number n) refl (named_test parts n)
   where

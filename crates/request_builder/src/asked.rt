@@ -1,11 +1,11 @@
 //! The resolvers that get a part of a transaction.
 
-ghost use Rattle.std.specs.Prelude.{◌≡◌, length, map, filter, nat_eq, IfOk};
-ghost use Rattle.model.specs.Shares.{each_below};
-ghost use Rattle.dated_owners.specs.Marks.{is_marked, Marks};
+ghost use Rattle.std.specs.Prelude.{◌≡◌, map, IfOk};
+ghost use Rattle.dated_owners.specs.Marks.{Marks};
 ghost use Rattle.request_builder.specs.Asking.{is_in, is_in_some, is_asked_about, asked_by};
 
 use crate::asking::Asking;
+use dated_owners::{mark, marked};
 use std::alloc::Global;
 use system_keys::{Items, OutOfMemory};
 
@@ -58,27 +58,4 @@ fn mark_list(list: &[usize], marks: &mut [bool])
     for resolver in list {
         mark(marks, *resolver);
     }
-}
-
-/// Marks the resolver, if there is a mark for it.
-fn mark(marks: &mut [bool], resolver: usize)
-    ensures { Marks marks.old (λ r. nat_eq resolver r) marks.new }
-{
-    if resolver < marks.len() {
-        marks[resolver] = true;
-    }
-}
-
-/// The numbers of the resolvers that are marked, in rising order.
-fn marked(alloc: Global, marks: &[bool]) -> Result<Items<usize>, OutOfMemory>
-    ensures { let marks = marks.now in
-        IfOk result (λ list. list ≡ filter (is_marked marks) (each_below (length marks))) }
-{
-    let mut resolvers = Vec::new(alloc);
-    for (resolver, marked) in marks.iter().enumerate() {
-        if *marked {
-            resolvers.push(resolver)?;
-        }
-    }
-    Ok(Items::from(resolvers))
 }

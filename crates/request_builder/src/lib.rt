@@ -10,6 +10,7 @@ mod building;
 mod header;
 mod marks;
 mod parts;
+mod places;
 #[cfg(test)]
 mod random_tests;
 mod record;

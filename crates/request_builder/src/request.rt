@@ -2,13 +2,14 @@
 //!
 //! Release 7.1, `CommitProxyServer.actor.cpp`, ResolutionRequestBuilder.
 
-ghost use Rattle.std.specs.Prelude.{◌≡◌, IfOk, MatchOption, nat_lt};
+ghost use Rattle.std.specs.Prelude.{◌≡◌, Some, IfOk, MatchOption, Contains, nat_lt, slice_get};
 ghost use Rattle.std.specs.List.{list_all, list_any};
-ghost use Rattle.model.specs.RequestRules.{IsRequest};
+ghost use Rattle.model.specs.RequestRules.{IsRequest, NumbersRise, part_numbers};
 ghost use Rattle.request_builder.specs.Requests.{request_of, least_after, numbers_rise};
 ghost use Rattle.request_builder.specs.Requests.{names_part, is_carried_to};
 
 use crate::header::RequestHeader;
+use crate::places::place_of;
 use crate::share::Share;
 use model::{Part, StateMark};
 use std::alloc::AllocError;
@@ -133,6 +134,17 @@ impl Request {
         self.states.as_slice()
     }
 
+    /// The place in the share of the part with this number, or None if there is no such part. It
+    /// looks at few parts, since their numbers rise. Does not allocate.
+    pub fn place_of(&self, number: usize) -> Option<usize>
+        ensures place { let numbers = part_numbers self.now.share in
+            MatchOption result (Contains numbers number → ⊥)
+            (λ place. slice_get numbers place ≡ Some number) }
+        ensures kept { IsRequest self.now }
+    {
+        place_of(self.share.parts(), number)
+    }
+
     /// Returns a deep copy. Fails only with `OutOfMemory`.
     pub fn copy(&self) -> Result<Request, OutOfMemory>
         ensures { IfOk result (λ copy. copy ≡ self.now) }
@@ -179,6 +191,7 @@ fn is_at_or_below(number: usize, last: Option<usize>) -> bool
 
 /// Whether each mark names one of the parts.
 fn name_parts(parts: &[Part], marks: &[StateMark]) -> bool
+    requires { NumbersRise 0 parts.now }
     ensures { result ≡ list_all (names_part parts.now) marks.now }
 {
     marks.iter().all(|mark| names_part(parts, mark))
@@ -186,9 +199,10 @@ fn name_parts(parts: &[Part], marks: &[StateMark]) -> bool
 
 /// Whether the mark names one of the parts.
 fn names_part(parts: &[Part], mark: &StateMark) -> bool
+    requires { NumbersRise 0 parts.now }
     ensures { result ≡ names_part parts.now mark.now }
 {
-    parts.iter().any(|part| part.number == mark.number)
+    place_of(parts, mark.number).is_some()
 }
 
 /// Whether the marks have the content of their transactions exactly if the resolver is 0.

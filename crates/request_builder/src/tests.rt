@@ -489,6 +489,27 @@ fn resolver_0_alone_gets_content(rt: HostRuntime) -> Result<(), Fail> {
     Ok(())
 }
 
+/// Numbers, and the places of the parts with these numbers.
+const PLACES: [(usize, Option<usize>); 7] = [
+    (0, None),
+    (1, Some(0)),
+    (3, None),
+    (4, Some(1)),
+    (5, Some(2)),
+    (9, Some(3)),
+    (10, None),
+];
+
+#[test]
+fn a_part_is_found_by_its_number(rt: HostRuntime) -> Result<(), Fail> {
+    let alloc = rt.alloc();
+    let request = request_of(alloc, 2, &[1, 4, 5, 9], &[], false)?.ok_or("no request")?;
+    for (number, place) in PLACES {
+        assert_eq!(rt; request.place_of(number), place);
+    }
+    Ok(())
+}
+
 #[test]
 fn a_copy_of_requests_is_whole(rt: HostRuntime) -> Result<(), Fail> {
     let alloc = rt.alloc();

@@ -1,6 +1,10 @@
 -- Rows in the order of their versions, and the states of a row.
-use Rattle.std.proofs.Common.{◌≡◌, ℕ, zero, suc, ◌<◌, ◌≤◌, refl, sym, ap, ◌∙◌, Bool, true, false, cond, nat_eq, nat_lt, slice_set, if◌then◌else◌, List, [], ◌∷◌, ◌++◌, length, map, filter, take, drop, get_or, arith}
-use Rattle.std.proofs.lemmas.Bool.{lt-ltb, le-ltb, eqb-true}
+use Rattle.std.proofs.Common.{◌≡◌, slice_get, Some, Contains, ℕ, zero, suc, ◌<◌, ◌≤◌, refl, sym, ap, ◌∙◌, Bool, true, false, cond, nat_eq, nat_lt, slice_set, List, [], ◌∷◌, ◌++◌, length, map, filter, take, drop, get_or, arith}
+use Rattle.std.specs.Prelude.{unwrap_or}
+use Rattle.std.proofs.lemmas.Bool.{lt-ltb, le-ltb, eq-eqb, ne_eqb}
+use Rattle.std.proofs.lemmas.Option.{none-some, same_Some}
+use Rattle.std.proofs.lemmas.List.Elements.{Contains-append_right}
+use Rattle.model.specs.RequestRules.{NumbersRise, part_numbers}
 use Rattle.std.proofs.lemmas.List.{length-map}
 use Rattle.model.specs.declared.part.Part.{Part}
 use Rattle.model.specs.declared.verdict.Verdict.{Verdict}
@@ -95,24 +99,37 @@ rise_filter {X} version_of test low high (x ∷ xs) order = by (test x) (rise_fi
 
 -- ---- the verdict on a part
 
-pub none_given : (parts : List Part) (n : ℕ) → verdict_at parts [] n ≡ Conflict
-none_given [] n = refl
-none_given (part ∷ parts) n = refl
+-- the number of a part is at least the least one
+from_least : (least : ℕ) (parts : List Part) (place n : ℕ) → NumbersRise least parts → slice_get (part_numbers parts) place ≡ Some n → least ≤ n
+from_least least [] place n rise at = absurd (none-some n at)
+from_least least (part ∷ parts) zero n rise at =
+    let same : part.number ≡ n = same_Some part.number n at in
+    let first : least ≤ part.number = rise.0 in
+    omega (arith, same, first)
+from_least least (part ∷ parts) (suc place) n rise at =
+    let later = from_least (suc part.number) parts place n rise.1 at in
+    let first : least ≤ part.number = rise.0 in
+    omega (arith, later, first)
 
--- past a part with another number
-pub verdict_past : (parts : List Part) (verdicts : List Verdict) (i : ℕ) (n : ℕ) (part : Part) → i < length parts → part ≡ get_or parts i part → (part.number ≡ n → ⊥) → verdict_at (drop i parts) (drop i verdicts) n ≡ verdict_at (drop (suc i) parts) (drop (suc i) verdicts) n
-verdict_past [] verdicts i n part there is other = absurd (omega arith)
-verdict_past (p ∷ parts) [] zero n part there is other = sym (none_given parts n)
-verdict_past (p ∷ parts) (v ∷ verdicts) zero n part there is other = by (nat_eq p.number n) refl
-  where
-    by : (t : Bool) → nat_eq p.number n ≡ t → (if t then v else verdict_at parts verdicts n) ≡ verdict_at parts verdicts n
-    by true same = absurd (other (ap (λ (q : Part). q.number) is ∙ eqb-true p.number n same))
-    by false apart = refl
-verdict_past (p ∷ parts) [] (suc i) n part there is other = none_given (drop i parts) n ∙ sym (none_given (drop (suc i) parts) n)
-verdict_past (p ∷ parts) (v ∷ verdicts) (suc i) n part there is other = verdict_past parts verdicts i n part (omega arith) is other
+-- the verdict on the part of a number is the one at its place
+pub verdict_there : (least : ℕ) (parts : List Part) (verdicts : List Verdict) (place n : ℕ) → NumbersRise least parts → slice_get (part_numbers parts) place ≡ Some n → verdict_at parts verdicts n ≡ unwrap_or (slice_get verdicts place) Conflict
+verdict_there least [] verdicts place n rise at = absurd (none-some n at)
+verdict_there least (part ∷ parts) [] place n rise at = refl
+verdict_there least (part ∷ parts) (v ∷ verdicts) zero n rise at =
+    let same : nat_eq part.number n ≡ true = eq-eqb part.number n (same_Some part.number n at) in
+    rw same refl
+verdict_there least (part ∷ parts) (v ∷ verdicts) (suc place) n rise at =
+    let later = from_least (suc part.number) parts place n rise.1 at in
+    let apart : nat_eq part.number n ≡ false = ne_eqb part.number n (λ same. omega (arith, later, same)) in
+    rw apart (verdict_there (suc part.number) parts verdicts place n rise.1 at)
 
-pub verdict_past_at : (parts : List Part) (verdicts : List Verdict) (i j n : ℕ) (part : Part) → j ≡ suc i → i < length parts → part ≡ get_or parts i part → (part.number ≡ n → ⊥) → verdict_at (drop i parts) (drop i verdicts) n ≡ verdict_at (drop j parts) (drop j verdicts) n
-verdict_past_at parts verdicts i j n part next there is other = verdict_past parts verdicts i n part there is other ∙ ap (λ k. verdict_at (drop k parts) (drop k verdicts) n) (sym next)
+-- if no part has the number, the verdict is missing
+pub verdict_nowhere : (parts : List Part) (verdicts : List Verdict) (n : ℕ) → (Contains (part_numbers parts) n → ⊥) → verdict_at parts verdicts n ≡ Conflict
+verdict_nowhere [] verdicts n none = refl
+verdict_nowhere (part ∷ parts) [] n none = refl
+verdict_nowhere (part ∷ parts) (v ∷ verdicts) n none =
+    let apart : nat_eq part.number n ≡ false = ne_eqb part.number n (λ same. none (0, omega arith, same)) in
+    rw apart (verdict_nowhere parts verdicts n (λ at. none (Contains-append_right (part.number ∷ []) (part_numbers parts) n at)))
 
 -- ---- the states of a row
 

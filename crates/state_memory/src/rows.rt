@@ -6,7 +6,7 @@ ghost use Rattle.model.specs.Requests.{reply_state_of_mark};
 ghost use Rattle.state_memory.specs.Kept.{rows_above, is_first_row_up_to};
 ghost use Rattle.state_memory.specs.Order.{RowsIncrease};
 
-use model::{Part, StateMark, UnseenRow, UnseenState, Verdict};
+use model::{StateMark, UnseenRow, UnseenState, Verdict};
 use request_builder::Request;
 use std::alloc::Global;
 use std::collections::VecDeque;
@@ -98,23 +98,20 @@ pub(crate) fn judge_states(states: &mut Vec<UnseenState>, request: &Request, ver
         states.new.items ≡ map (reply_state_of_mark q.share verdicts.now) q.states }
 {
     let marks = request.states();
-    let parts = request.share().parts();
     for i in 0..marks.len() {
-        states[i].verdict = verdict_at(parts, verdicts, marks[i].number);
+        states[i].verdict = verdict_at(request, verdicts, marks[i].number);
     }
 }
 
-/// The verdict on the part with this number, or Conflict if there is none.
-fn verdict_at(parts: &[Part], verdicts: &[Verdict], number: usize) -> Verdict
-    ensures { result ≡ verdict_at parts.now verdicts.now number }
+/// The verdict on the part of the request with this number, or Conflict if there is none.
+fn verdict_at(request: &Request, verdicts: &[Verdict], number: usize) -> Verdict
+    ensures { result ≡ verdict_at request.now.share verdicts.now number }
 {
-    for (i, part) in parts.iter().enumerate() {
-        if part.number == number {
-            return match verdicts.get(i) {
-                Some(verdict) => *verdict,
-                None => Verdict::Conflict,
-            };
-        }
+    let Some(place) = request.place_of(number) else {
+        return Verdict::Conflict;
+    };
+    match verdicts.get(place) {
+        Some(verdict) => *verdict,
+        None => Verdict::Conflict,
     }
-    Verdict::Conflict
 }

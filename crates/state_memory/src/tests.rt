@@ -1,6 +1,10 @@
 //! Tests against answers worked out by hand. Each call that allocates is made again after a failed
 //! allocation, so that the tests also pass if any one fails.
 
+ghost use Rattle.std.specs.Prelude.{◌≡◌, [], ◌∷◌, Ok, IfOk, IfSome};
+ghost use Rattle.model.specs.Offers.{answer_to};
+ghost use Rattle.state_memory.specs.Answers.{answer_of};
+
 use crate::{
     Answer, Carried, Refusal, Reply, Request, Resolver, StateMark, UnseenRow, UnseenState, Verdict,
 };
@@ -18,6 +22,25 @@ macro_rules! twice {
             answer => answer,
         }
     };
+}
+
+// ---- a caller, proved from the public contracts alone
+
+/// Offers two requests to a new resolver 0 of two proxies, with a window of 100. If the first is
+/// judged, returns the answer to the second: that of the definition after the first.
+fn second_answer(
+    alloc: Global,
+    first: &Request,
+    second: &Request,
+) -> Result<Option<Answer>, Refusal>
+    ensures { let defined = answer_to 0 2 100 (first.now ∷ []) second.now in
+        IfOk result (λ answer. IfSome answer (λ given. defined ≡ Ok (answer_of given))) }
+{
+    let mut resolver = Resolver::new(alloc, 0, 2, 100)?;
+    match resolver.offer(first)? {
+        Answer::Judged(_reply) => Ok(Some(resolver.offer(second)?)),
+        Answer::Again(_reply) => Ok(None),
+    }
 }
 
 // ---- requests
@@ -243,6 +266,28 @@ fn is_refused(
         Ok(_) => Ok(false),
         Err(found) => Ok(found == refusal),
     }
+}
+
+// ---- two requests
+
+/// Whether the second of two empty requests is judged, or gets its reply again.
+fn is_second_judged(alloc: Global, first: Line, second: Line) -> Result<bool, Fail> {
+    let (first, second) = (request(alloc, first, None)?, request(alloc, second, None)?);
+    match twice!(second_answer(alloc, &first, &second), Refusal::OutOfMemory)? {
+        Some(Answer::Judged(reply)) => Ok(tells(&reply, &[10])),
+        Some(Answer::Again(_)) | None => Ok(false),
+    }
+}
+
+#[test]
+fn a_request_is_judged_once(rt: HostRuntime) -> Result<(), Fail> {
+    let (first, second) = (
+        (0usize, 0usize, 0u64, 10u64, 0u64),
+        (0usize, 1usize, 10u64, 20u64, 0u64),
+    );
+    assert!(rt; is_second_judged(rt.alloc(), first, second)?);
+    assert!(rt; !is_second_judged(rt.alloc(), first, first)?);
+    Ok(())
 }
 
 // ---- strangers

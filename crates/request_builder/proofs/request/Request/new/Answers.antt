@@ -7,7 +7,7 @@ use Rattle.model.specs.Requests.{Request}
 use Rattle.model.specs.RequestRules.{IsRequest}
 use Rattle.std.specs.List.{list_all}
 use Rattle.request_builder.specs.Requests.{request_of, numbers_rise, names_part, is_carried_to}
-use Rattle.request_builder.proofs.RequestTests.{is_request_from, rise_of, named_of, carried_of}
+use Rattle.request_builder.proofs.RequestTests.{is_request_from, rise_from, rise_of, named_of, carried_of}
 use Rattle.request_builder.proofs.request.Request.new.Goals as goal
 use Rattle.request_builder.proofs.request.Request.new.Goals.{else-numbers_rise-via-then-numbers_rise+then-name_parts+else-are_carried_to, else-numbers_rise-via-then-numbers_rise+else-name_parts, else-numbers_rise-via-else-numbers_rise}
 
@@ -37,3 +37,6 @@ returns-else-numbers_rise c = λ is.
       | else-numbers_rise-via-then-numbers_rise+else-name_parts w ↦ false≢true (sym w.if-name_parts.false ∙ w.name_parts.ensures ∙ named)
       | else-numbers_rise-via-else-numbers_rise w ↦ false≢true (sym w.if-numbers_rise.false ∙ c.numbers_rise.ensures ∙ risen)
     ]
+
+pub name_parts-requires : goal.name_parts-requires
+name_parts-requires c = rise_from 0 c.parts-parts.result.now (sym c.numbers_rise.ensures ∙ c.if-numbers_rise.true)

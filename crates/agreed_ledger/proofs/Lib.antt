@@ -1,0 +1,3 @@
+mod CellLaws
+mod SequenceLaws
+mod StretchLaws

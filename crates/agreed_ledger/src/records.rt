@@ -1,0 +1,162 @@
+//! What is kept of the records of consecutive rows.
+
+ghost use Rattle.std.specs.Prelude.{
+  ◌≡◌,
+  ◌-◌,
+  ◌<◌,
+  ◌≤◌,
+  ◌⊎◌,
+  [],
+  ◌∷◌,
+  ◌++◌,
+  length,
+  slice_get,
+  MatchResult,
+  MatchOption,
+  IfOk,
+};
+ghost use Rattle.std.specs.declared.option.Option.TheVariants.{Some};
+ghost use Rattle.facts.specs.Stretches.{StretchesAgree, end_of, extended, part_of, rows_limit};
+ghost use Rattle.agreed_ledger.specs.declared.refusal.Refusal.TheVariants as refusals;
+
+use crate::ledger::Ledger;
+use crate::naming::Naming;
+use crate::refusal::Refusal;
+use facts::Stretch;
+use request_builder::Record;
+use std::alloc::Global;
+use std::marker::{Model, PhantomData};
+use system_keys::OutOfMemory;
+
+/// The known records of consecutive rows of a ledger, from a first row on. It takes no bytes for a
+/// record: the ledger lends them.
+#[derive(Drop)]
+pub struct Records<N: Naming> {
+    stretch: Stretch<Record>,
+    of: PhantomData<N>,
+}
+
+impl<N: Naming> Model for Records<N> {
+    ghost use Rattle.facts.specs.Stretches.{Stretch, values_of};
+    ghost use Rattle.model.specs.Records.{Record};
+    ghost use Rattle.agreed_ledger.specs.Cells.{AreAbout};
+
+    ghost Value = { Stretch Record };
+
+    ghost view = { λ r. values_of r.stretch };
+
+    ghost invariant = { λ r. AreAbout N.cells.records r.stretch };
+}
+
+impl<N: Naming> Records<N> {
+    /// Returns an empty stretch from row 0. It needs no memory.
+    pub fn new(alloc: Global) -> Records<N>
+        ensures { result ≡ record { first = 0; known = [] } }
+    {
+        Records {
+            stretch: Stretch::new(alloc),
+            of: PhantomData,
+        }
+    }
+
+    /// The first row.
+    pub fn first(&self) -> usize
+        ensures value { result ≡ self.now.first }
+        ensures limit { end_of self.now ≤ rows_limit }
+    {
+        let _end = self.stretch.end();
+        self.stretch.first()
+    }
+
+    /// The row after the last one.
+    pub fn end(&self) -> usize
+        ensures value { result ≡ end_of self.now }
+        ensures limit { end_of self.now ≤ rows_limit }
+    {
+        self.stretch.end()
+    }
+
+    /// Returns the record known of the row, or `None` if the stretch lacks the row. It never waits
+    /// and needs no memory.
+    pub fn get<'a>(&self, ledger: &'a Ledger<N>, row: usize) -> Option<&'a Record>
+        ensures { MatchOption result
+            ((row < self.now.first) ⊎ (end_of self.now ≤ row))
+            (λ rec. (self.now.first ≤ row)
+            × (slice_get self.now.known (row - self.now.first) ≡ Some rec.now)) }
+    {
+        let fact = self.stretch.get(row)?;
+        Some(fact.value(ledger.record_cell(row)))
+    }
+
+    /// Returns a copy. It copies no record. Fails only with `OutOfMemory`.
+    pub fn copy(&self) -> Result<Records<N>, OutOfMemory>
+        ensures { IfOk result (λ copy. copy ≡ self.now) }
+    {
+        Ok(Records {
+            stretch: self.stretch.copy()?,
+            of: PhantomData,
+        })
+    }
+
+    /// Returns a copy of the rows from `start` up to, not including, `end`, as far as the stretch
+    /// has these. Fails only with `OutOfMemory`.
+    pub fn part(&self, start: usize, end: usize) -> Result<Records<N>, OutOfMemory>
+        ensures { IfOk result (λ part. part ≡ part_of start end self.now) }
+    {
+        Ok(Records {
+            stretch: self.stretch.part(start, end)?,
+            of: PhantomData,
+        })
+    }
+
+    /// Appends what the other has from this one's end on; nothing if the other lacks that row.
+    ///
+    /// Fails only with `OutOfMemory`, and then leaves this one unchanged.
+    pub fn extend_from(&mut self, other: &Records<N>) -> Result<(), OutOfMemory>
+        ensures { MatchResult result
+            (λ _. self.new ≡ extended self.old other.now)
+            (λ _. self.new ≡ self.old) }
+    {
+        let Ok(()) = self.stretch.extend_from(&other.stretch) else {
+            return Err(OutOfMemory);
+        };
+        Ok(())
+    }
+
+    /// Two stretches are equal wherever both have a row.
+    pub fn agree(&self, other: &Records<N>)
+        ensures { StretchesAgree self.now other.now }
+    {
+        self.stretch.agree(&other.stretch);
+    }
+
+    /// Sets the record cell of the next row, and returns a copy of all that is then known.
+    ///
+    /// Otherwise returns the record and leaves the stretch unchanged: with `CellTaken` if the cell
+    /// held a record, or with `OutOfMemory`.
+    pub(crate) fn set(
+        &mut self,
+        ledger: &Ledger<N>,
+        rec: Record,
+    ) -> Result<Records<N>, (Refusal, Record)>
+        requires { end_of self.old < length N.cells.records }
+        ensures { MatchResult result
+            (λ copy. (self.new ≡ record {
+              first = self.old.first;
+              known = self.old.known ++ rec ∷ [];
+            }) × (copy ≡ self.new))
+            (λ refused. (self.new ≡ self.old) × (refused.1 ≡ rec)
+            × ((refused.0 ≡ refusals.CellTaken) ⊎ (refused.0 ≡ refusals.OutOfMemory))) }
+    {
+        let _rows = ledger.rows();
+        let cell = ledger.record_cell(self.stretch.end());
+        let stretch = match self.stretch.set_and_copy(cell, rec) {
+            Ok(stretch) => stretch,
+            Err((why, rec)) => return Err((Refusal::of(why), rec)),
+        };
+        Ok(Records {
+            stretch,
+            of: PhantomData,
+        })
+    }
+}

@@ -1,0 +1,97 @@
+//! The sequencer that threads share.
+
+ghost use Rattle.std.specs.Prelude.{◌≡◌, IfOk, IfErr, OnOk, None};
+ghost use Rattle.model.specs.Records.{MovesFollow};
+ghost use Rattle.agreed_ledger.specs.Refusals.{refusal_fault};
+ghost use Rattle.agreed_ledger.specs.Sequencing.{
+  HasMoved,
+  HasSequenced,
+  move_fault,
+  sequence_fault,
+};
+
+use crate::ledger::Ledger;
+use crate::naming::Naming;
+use crate::records::Records;
+use crate::refusal::Refusal;
+use crate::sequenced::Sequenced;
+use crate::ticket::Ticket;
+use mutation::Batch;
+use std::alloc::Global;
+use std::marker::Model;
+use std::sync::{Mutex, MutexGuard, Wait};
+use system_keys::{KeyRange, OutOfMemory};
+
+/// Gives each batch its row and version, in one order for all threads.
+#[derive(Drop)]
+pub struct Sequencer<'l, N: Naming> {
+    ledger: &'l Ledger<N>,
+    lock: Mutex<Sequenced<N>>,
+}
+
+impl<'l, N: Naming> Sequencer<'l, N> {
+    /// A sequencer that has given out nothing. Fails only with `OutOfMemory`.
+    pub fn new(alloc: Global, ledger: &'l Ledger<N>) -> Result<Sequencer<'l, N>, OutOfMemory> {
+        Ok(Sequencer {
+            ledger,
+            lock: Mutex::new(Sequenced::new(alloc, ledger)?),
+        })
+    }
+
+    /// Waits for the lock. What is under it is known by its type alone: records that are a history,
+    /// and moves that follow them.
+    pub fn lock<R: Wait>(&self, rt: &R) -> SequencerGuard<'_, N> {
+        SequencerGuard {
+            ledger: self.ledger,
+            guard: self.lock.lock(rt),
+        }
+    }
+}
+
+/// The sequencer, locked.
+#[derive(Drop)]
+pub struct SequencerGuard<'a, N: Naming> {
+    ledger: &'a Ledger<N>,
+    guard: MutexGuard<'a, Sequenced<N>>,
+}
+
+impl<'a, N: Naming> Model for SequencerGuard<'a, N> {
+    ghost use Rattle.agreed_ledger.specs.Sequencing.{SequencedView};
+
+    ghost Value = { SequencedView };
+
+    ghost view = { λ g. g.guard.value };
+}
+
+impl<'a, N: Naming> SequencerGuard<'a, N> {
+    /// The records given out so far, from row 0. They are a history, and the moves follow them.
+    pub fn records(&self) -> &Records<N>
+        ensures value { result.now ≡ record { first = 0; known = self.now.records } }
+        ensures kept { MovesFollow N.cells.config self.now.records self.now.moves }
+    {
+        self.guard.records()
+    }
+
+    /// Gives the batch of the proxy the next row and version, as [`Sequenced::sequence`] does.
+    pub fn sequence(&mut self, proxy: usize, batch: Batch) -> Result<Ticket<N>, (Refusal, Batch)>
+        ensures ok { let fault = sequence_fault N.cells self.old proxy in
+            OnOk result (fault ≡ None) }
+        ensures sequenced { IfOk result (λ ticket.
+            HasSequenced N.cells.config self.old proxy batch self.new ticket) }
+        ensures refused { let fault = sequence_fault N.cells self.old proxy in
+            IfErr result (λ refused. (refusal_fault refused.0 ≡ fault)
+            × (self.new ≡ self.old) × (refused.1 ≡ batch)) }
+    {
+        self.guard.sequence(self.ledger, proxy, batch)
+    }
+
+    /// Moves the keys of the range to the resolver, as [`Sequenced::move_range`] does.
+    pub fn move_range(&mut self, range: &KeyRange, dest: usize) -> Result<u64, Refusal>
+        ensures ok { let fault = move_fault N.cells.config dest in OnOk result (fault ≡ None) }
+        ensures moved { IfOk result (λ date. HasMoved self.old range.now dest self.new date) }
+        ensures refused { let fault = move_fault N.cells.config dest in
+            IfErr result (λ refusal. (refusal_fault refusal ≡ fault) × (self.new ≡ self.old)) }
+    {
+        self.guard.move_range(self.ledger, range, dest)
+    }
+}

@@ -1,0 +1,46 @@
+//! Fold scripts: rows of a journal to fold, and keys whose tags are asked.
+
+use model::{JournalRow, Verdict};
+use scripts::RawChange;
+use system_keys::{Bytes, Items};
+
+/// A fold script: the rows of a journal, and the keys whose tags are asked (this project's
+/// profile).
+#[derive(Debug, Drop)]
+pub struct FoldScript {
+    /// The rows to fold, by rising versions.
+    pub rows: Items<JournalRow>,
+    /// The keys whose tags are printed: any bytes.
+    pub ask: Items<Bytes>,
+}
+
+/// A fold script as it is written, before its keys, values and ranges are checked.
+#[derive(Drop)]
+pub(crate) struct RawScript {
+    /// How many resolvers there are: each transaction has a verdict of each.
+    pub(crate) resolvers: u64,
+    /// The rows of the journal.
+    pub(crate) rows: Items<RawRow>,
+    /// The keys whose tags are asked.
+    pub(crate) ask: Items<Bytes>,
+}
+
+/// A row of the journal as it is written.
+#[derive(Drop)]
+pub(crate) struct RawRow {
+    /// The version of the row.
+    pub(crate) version: u64,
+    /// Its state transactions.
+    pub(crate) states: Items<RawState>,
+}
+
+/// A state transaction as it is written.
+#[derive(Drop)]
+pub(crate) struct RawState {
+    /// Its changes, in order.
+    pub(crate) mutations: Items<RawChange>,
+    /// Whether it may commit while the database is locked.
+    pub(crate) lock_aware: bool,
+    /// The verdict of each resolver.
+    pub(crate) verdicts: Items<Verdict>,
+}

@@ -1,0 +1,21 @@
+//! Runs of fold scripts: a script of journal rows is read, checked and folded, and the lines of its
+//! routing are written.
+//!
+//! Source: this project's profile (scripts, lines and statuses).
+#![tactic(auto)]
+
+mod answer;
+mod fold_checks;
+mod fold_limits;
+mod fold_reading;
+mod fold_script;
+mod fold_shapes;
+#[cfg(test)]
+mod fold_tests;
+mod run;
+#[cfg(test)]
+mod tests;
+
+pub use fold_reading::read_script;
+pub use fold_script::FoldScript;
+pub use run::run_fold;

@@ -1,0 +1,198 @@
+-- Entries that are put over others, and taken back; and rows of a journal that clear nothing.
+use Rattle.std.proofs.Common.{◌≡◌, refl, sym, ap, ◌∙◌, subst, ℕ, ◌+◌, ◌<◌, length, drop, get_or, add-one, List, [], ◌∷◌, ◌++◌, Bool, true, false, cond, if◌then◌else◌, not, ◌&&◌, ◌||◌, filter, fold, flat_map, Option, Some, None}
+use Rattle.std.specs.Option.{is_some, option_or}
+use Rattle.std.specs.List.{list_any}
+use Rattle.std.specs.BTreeMap.{insert_entry}
+use Rattle.system_keys.specs.declared.change.Change.{Change}
+use Rattle.system_keys.specs.declared.change.Change.TheVariants.{Set, Clear}
+use Rattle.system_keys.specs.Keys.{Key}
+use Rattle.model.specs.Transactions.{locked_key}
+use Rattle.model.specs.declared.journal.StateTxn.{StateTxn}
+use Rattle.model.specs.declared.journal.JournalRow.{JournalRow}
+use Rattle.model.specs.Metadata.{Entry, Entries, IsInOrder, entry_value, is_applied, is_filled, is_locked, after_changes, after_state, after_journal_row}
+use Rattle.model.proofs.MetadataLaws.{states_let_pass, after_row_in_order}
+use Rattle.model.proofs.ChangeLaws.{kept_after_row}
+use Rattle.proxy_state.specs.declared.learned.Learned.{Learned}
+use Rattle.proxy_state.specs.Finishing.{after_rows, after_told, after_batch}
+use Rattle.proxy_state.proofs.KeptInOrder.{AreKeptInOrder}
+use Rattle.std.proofs.Math.Seq.{drop-cons}
+use Rattle.proxy_state.specs.Overwrites.{is_same_key, is_listed, has_entry, missing_keys, changes_of, IsPutOver, MayBePut, TakesBack, AreDisplaced, is_clear, clears_some}
+use Rattle.proxy_state.proofs.KeyValues.{key_cmp, same_key, same_entries, value_put}
+use Rattle.proxy_state.proofs.ListedKeys.{listed_missing}
+use Rattle.proxy_state.proofs.OverwrittenEntries.{are_clearing, over_changes}
+
+-- ---- the entries that are displaced
+
+-- of the entries so far; those at the keys of the rest are still to come
+pub record AreDisplacing (entries puts displaced rest : Entries) : Type 0 where
+  pub same : (key : Key) → has_entry displaced key ≡ true → entry_value displaced key ≡ entry_value entries key
+  pub all : (key : Key) → has_entry puts key ≡ true → has_entry entries key ≡ true → (has_entry displaced key || has_entry rest key) ≡ true
+
+pub displacing_first : (entries puts none rest : Entries) → none ≡ [] → rest ≡ puts → AreDisplacing entries puts none rest
+displacing_first entries puts none rest is are = rw (is, are) (record { same = λ key has. absurd (cc); all = λ key put there. put })
+
+-- a copy of the entry at a key
+pub copied_entry : (entries before after : Entries) (key : Key) (value : List ℕ) → entry_value entries key ≡ Some value → after ≡ insert_entry key_cmp before key value
+    → (at : Key) → entry_value after at ≡ (if is_same_key at key then option_or (entry_value entries key) (entry_value before at) else entry_value before at)
+copied_entry entries before after key value there is = λ at.
+    ap (λ (now : Entries). entry_value now at) is
+    ∙ value_put before key at value
+    ∙ ap (λ (found : Option (List ℕ)). if is_same_key at key then option_or found (entry_value before at) else entry_value before at) (sym there)
+
+-- one entry more
+same_next : (same : Bool) (here before after was : Option (List ℕ)) → after ≡ (if same then option_or here before else before) → (same ≡ true → was ≡ here) → (is_some before ≡ true → before ≡ was) → is_some after ≡ true → after ≡ was
+same_next false here before after was is at old has = is ∙ old (ap is_some (sym is) ∙ has)
+same_next true (Some value) before after was is at old has = is ∙ sym (at refl)
+same_next true None before after was is at old has = is ∙ old (ap is_some (sym is) ∙ has)
+
+all_next : (same : Bool) (here before after rest was : Option (List ℕ)) (value : List ℕ) → after ≡ (if same then option_or here before else before) → (same ≡ true → was ≡ here) → is_some was ≡ true
+    → (is_some before || is_some (cond same (Some value) rest)) ≡ true → (is_some after || is_some rest) ≡ true
+all_next false here before after rest was value is at there old = ap (λ (found : Option (List ℕ)). is_some found || is_some rest) is ∙ old
+all_next true (Some here) before after rest was value is at there old = ap (λ (found : Option (List ℕ)). is_some found || is_some rest) is
+all_next true None before after rest was value is at there old = let none : is_some was ≡ false = ap is_some (at refl) in absurd (cc)
+
+pub displacing_next : (entries puts before after : Entries) (row : Entry) (rest : Entries) → ((key : Key) → entry_value after key ≡ (if is_same_key key row.0 then option_or (entry_value entries row.0) (entry_value before key) else entry_value before key))
+    → AreDisplacing entries puts before (row ∷ rest) → AreDisplacing entries puts after rest
+displacing_next entries puts before after row rest is so_far =
+    record {
+      same = λ key has. same_next (is_same_key key row.0) (entry_value entries row.0) (entry_value before key) (entry_value after key) (entry_value entries key) (is key) (at key) (so_far.same key) has;
+      all = λ key put there. all_next (is_same_key key row.0) (entry_value entries row.0) (entry_value before key) (entry_value after key) (entry_value rest key) (entry_value entries key) row.1 (is key) (at key) there (so_far.all key put there);
+    }
+  where
+    at : (key : Key) → is_same_key key row.0 ≡ true → entry_value entries key ≡ entry_value entries row.0
+    at key same = ap (entry_value entries) (same_key key row.0 same)
+
+nothing_more : (b : Bool) → (b || false) ≡ true → b ≡ true
+nothing_more true h = refl
+nothing_more false h = h
+
+pub displacing_last : (entries puts displaced : Entries) → AreDisplacing entries puts displaced [] → AreDisplaced entries puts displaced
+displacing_last entries puts displaced done = record { same = done.same; all = λ key put there. nothing_more (has_entry displaced key) (done.all key put there) }
+
+-- ---- entries that are put can be taken back
+
+others_at : (put old new displaced : Option (List ℕ)) (listed : Bool) → new ≡ option_or put old → listed ≡ (not (is_some old) && is_some put) → (is_some put ≡ true → is_some old ≡ true → is_some displaced ≡ true) → listed ≡ false → is_some displaced ≡ false → new ≡ old
+others_at None old new displaced listed is listed_is all out none = is
+others_at (Some put) None new displaced listed is listed_is all out none = absurd (cc)
+others_at (Some put) (Some old) new displaced listed is listed_is all out none = let there = all refl refl in absurd (cc)
+
+missing_at : (put old : Option (List ℕ)) (listed : Bool) → listed ≡ (not (is_some old) && is_some put) → listed ≡ true → old ≡ None
+missing_at put None listed is there = refl
+missing_at put (Some old) listed is there = absurd (cc)
+
+there_at : (put old new displaced : Option (List ℕ)) → new ≡ option_or put old → displaced ≡ old → is_some displaced ≡ true → is_some new ≡ true
+there_at (Some put) old new displaced is same has = ap is_some is
+there_at None old new displaced is same has = ap is_some (is ∙ sym same) ∙ has
+
+pub takes_back : (missing : List Key) (puts displaced old new : Entries) → missing ≡ missing_keys old puts → AreDisplaced old puts displaced → IsPutOver puts old new → TakesBack missing displaced old new
+takes_back missing puts displaced old new is are over =
+    record {
+      missing_before = λ key there. missing_at (entry_value puts key) (entry_value old key) (is_listed missing key) (listed key) there;
+      displaced_before = are.same;
+      displaced_there = λ key has. there_at (entry_value puts key) (entry_value old key) (entry_value new key) (entry_value displaced key) (over key) (are.same key has) has;
+      others = λ key out none. others_at (entry_value puts key) (entry_value old key) (entry_value new key) (entry_value displaced key) (is_listed missing key) (over key) (listed key) (are.all key) out none;
+    }
+  where
+    listed : (key : Key) → is_listed missing key ≡ (not (has_entry old key) && has_entry puts key)
+    listed key = ap (λ (keys : List Key). is_listed keys key) is ∙ listed_missing old puts key
+
+undone_at : (displaced old new left after : Option (List ℕ)) (listed : Bool) → (is_some displaced ≡ true → displaced ≡ old) → (listed ≡ true → old ≡ None) → (listed ≡ false → is_some displaced ≡ false → new ≡ old) → left ≡ (if listed then None else new) → after ≡ option_or displaced left → after ≡ old
+undone_at (Some value) old new left after listed same missing others left_is is = is ∙ same refl
+undone_at None old new left after true same missing others left_is is = is ∙ left_is ∙ sym (missing refl)
+undone_at None old new left after false same missing others left_is is = is ∙ left_is ∙ others refl refl
+
+left_at : (displaced old new left : Option (List ℕ)) (listed : Bool) → is_some displaced ≡ true → displaced ≡ old → (listed ≡ true → old ≡ None) → is_some new ≡ true → left ≡ (if listed then None else new) → is_some left ≡ true
+left_at displaced old new left true has same missing there is = let none : old ≡ None = missing refl in absurd (cc)
+left_at displaced old new left false has same missing there is = ap is_some is ∙ there
+
+-- the calls that take entries back
+pub taken_back : (missing : List Key) (displaced kept old new left after : Entries) → IsInOrder old → IsInOrder after → kept ≡ [] → TakesBack missing displaced old new
+    → ((key : Key) → entry_value left key ≡ (if not (has_entry kept key) && is_listed missing key then None else entry_value new key))
+    → (((key : Key) → has_entry displaced key ≡ true → has_entry left key ≡ true) → (key : Key) → entry_value after key ≡ option_or (entry_value displaced key) (entry_value left key))
+    → after ≡ old
+taken_back missing displaced kept old new left after s t none undo removed written =
+    same_entries after old t s (λ key.
+    undone_at (entry_value displaced key) (entry_value old key) (entry_value new key) (entry_value left key) (entry_value after key) (is_listed missing key) (undo.displaced_before key) (undo.missing_before key) (undo.others key) (left_is key)
+    (written (λ k has. left_at (entry_value displaced k) (entry_value old k) (entry_value new k) (entry_value left k) (is_listed missing k) has (undo.displaced_before k has) (undo.missing_before k) (undo.displaced_there k has) (left_is k)) key))
+  where
+    left_is : (key : Key) → entry_value left key ≡ (if is_listed missing key then None else entry_value new key)
+    left_is key = removed key ∙ ap (λ (entries : Entries). if not (has_entry entries key) && is_listed missing key then None else entry_value new key) none
+
+-- ---- rows of a journal that clear nothing
+
+any_both : {X : Type 0} (p : X → Bool) (xs ys : List X) → list_any p (xs ++ ys) ≡ (list_any p xs || list_any p ys)
+any_both p [] ys = refl
+any_both p (x ∷ xs) ys = ap (λ (t : Bool). p x || t) (any_both p xs ys) ∙ group (p x) (list_any p xs) (list_any p ys)
+  where
+    group : (a b c : Bool) → (a || (b || c)) ≡ ((a || b) || c)
+    group true b c = refl
+    group false b c = refl
+
+-- changes without a Clear clear no key
+sets_clear_none : (changes : List Change) (key : Key) → list_any is_clear changes ≡ false → are_clearing changes key ≡ false
+sets_clear_none [] key none = refl
+sets_clear_none (Set k value ∷ changes) key none = sets_clear_none changes key none
+sets_clear_none (Clear range ∷ changes) key none = absurd (cc)
+
+none_clears : (locked : Bool) (states : List StateTxn) → list_any (clears_some locked) states ≡ false → list_any is_clear (changes_of locked states) ≡ false
+none_clears locked [] none = refl
+none_clears locked (t ∷ states) none = by (is_applied locked t) none (none_clears locked states)
+  where
+    both : (a b : Bool) → (a || b) ≡ false → (b ≡ false → list_any is_clear (changes_of locked states) ≡ false) → (a || list_any is_clear (changes_of locked states)) ≡ false
+    both true b h rest = absurd (cc)
+    both false b h rest = rest h
+
+    by : (b : Bool) → ((b && list_any is_clear t.mutations) || list_any (clears_some locked) states) ≡ false → (list_any (clears_some locked) states ≡ false → list_any is_clear (changes_of locked states) ≡ false)
+        → list_any is_clear (flat_map (λ (t : StateTxn). t.mutations) (cond b (t ∷ filter (is_applied locked) states) (filter (is_applied locked) states))) ≡ false
+    by true h rest = any_both is_clear t.mutations (changes_of locked states) ∙ both (list_any is_clear t.mutations) (list_any (clears_some locked) states) h rest
+    by false h rest = rest h
+
+-- one row more
+pub put_row_over : (row : JournalRow) (before after old now : Entries) (locked : Bool) (states : List StateTxn)
+    → locked ≡ is_filled (option_or (entry_value before locked_key) (entry_value old locked_key)) → states ≡ row.states → list_any (clears_some locked) states ≡ false → after ≡ fold (after_state locked) before states
+    → IsPutOver before old now → IsPutOver after old (after_journal_row now row)
+put_row_over row before after old now locked states locked_is states_is none after_is over = λ key.
+    ap (λ (l : Bool). entry_value (fold (after_state l) now row.states) key) (sym lock)
+    ∙ ap (λ (list : List StateTxn). entry_value (fold (after_state locked) now list) key) (sym states_is)
+    ∙ ap (λ (entries : Entries). entry_value entries key) (states_let_pass states locked now)
+    ∙ subst (λ (t : Bool). entry_value (after_changes now (changes_of locked states)) key ≡ option_or (entry_value (after_changes before (changes_of locked states)) key) (if t then None else entry_value old key))
+    (sets_clear_none (changes_of locked states) key (none_clears locked states none)) (over_changes (changes_of locked states) key false before old now (over key))
+    ∙ ap (λ (entries : Entries). option_or (entry_value entries key) (entry_value old key)) (sym (after_is ∙ states_let_pass states locked before))
+  where
+    lock : locked ≡ is_locked now
+    lock = locked_is ∙ ap is_filled (sym (over locked_key))
+
+-- what is put over entries determines them
+pub one_over : (puts old one other : Entries) → IsInOrder one → IsInOrder other → IsPutOver puts old one → IsPutOver puts old other → one ≡ other
+one_over puts old one other s t is also = same_entries one other s t (λ key. is key ∙ sym (also key))
+
+-- ---- several rows
+
+pub rows_next : (rows : List JournalRow) (row : JournalRow) (i : ℕ) (now all : Entries) → i < length rows → row ≡ get_or rows i row → after_rows now (drop i rows) ≡ all → after_rows (after_journal_row now row) (drop (i + 1) rows) ≡ all
+rows_next rows row i now all within at is =
+    let split : drop i rows ≡ get_or rows i row ∷ drop (i + 1) rows = rw (add-one, drop-cons rows i row) in
+    ap (λ (r : JournalRow). after_rows (after_journal_row now r) (drop (i + 1) rows)) at ∙ ap (after_rows now) (sym split) ∙ is
+
+pub rows_kept_in_order : (rows : List JournalRow) (entries : Entries) → AreKeptInOrder entries → AreKeptInOrder (after_rows entries rows)
+rows_kept_in_order [] entries fine = fine
+rows_kept_in_order (row ∷ rows) entries fine = rows_kept_in_order rows (after_journal_row entries row) (after_row_in_order entries row fine.0, kept_after_row entries row fine.1)
+
+pub row_kept : (row : JournalRow) (entries : Entries) → AreKeptInOrder entries → AreKeptInOrder (after_journal_row entries row)
+row_kept row entries fine = (after_row_in_order entries row fine.0, kept_after_row entries row fine.1)
+
+-- ---- the rows that the replies tell, and the record's own row
+
+pub told_over : (entries : Entries) (learned : Learned) (puts : Entries) (rows : List JournalRow) → rows ≡ learned.told.items → IsPutOver puts entries (after_rows entries rows) → IsPutOver puts entries (after_told entries learned)
+told_over entries learned puts rows is over = subst (λ (list : List JournalRow). IsPutOver puts entries (after_rows entries list)) is over
+
+pub batch_fine : (entries : Entries) (learned : Learned) → AreKeptInOrder entries → AreKeptInOrder (after_batch entries learned)
+batch_fine entries learned fine = row_kept learned.own (after_told entries learned) (rows_kept_in_order learned.told.items entries fine)
+
+pub may_put : (entries : Entries) (learned : Learned) (told puts : Entries) → AreKeptInOrder entries → IsPutOver told entries (after_told entries learned)
+    → ((now : Entries) → IsPutOver told entries now → IsPutOver puts entries (after_journal_row now learned.own)) → MayBePut puts entries
+may_put entries learned told puts fine over own =
+    let after = batch_fine entries learned fine in
+    record { new = after_batch entries learned; over = own (after_told entries learned) over; order = after.0; kept = after.1 }
+
+pub lock_told : (entries : Entries) (learned : Learned) (puts : Entries) (locked : Bool) → locked ≡ is_filled (option_or (entry_value puts locked_key) (entry_value entries locked_key)) → IsPutOver puts entries (after_told entries learned) → locked ≡ is_locked (after_told entries learned)
+lock_told entries learned puts locked is over = is ∙ ap is_filled (sym (over locked_key))

@@ -1,0 +1,47 @@
+//! What a proxy learns from the replies to one of its records.
+
+ghost use Rattle.std.specs.Prelude.{◌≡◌, IfOk};
+ghost use Rattle.model.specs.Journal.{journal_row};
+ghost use Rattle.model.specs.Finishing.{told_rows};
+ghost use Rattle.proxy_state.specs.Learning.{IsAsking, columns_of, by_columns};
+
+use crate::begun::BegunRecord;
+use crate::columns::columns_of;
+use crate::own_row::own_row;
+use crate::telling::told_rows;
+use model::{Config, JournalRow, Reply, Verdict};
+use std::alloc::Global;
+use system_keys::{Items, OutOfMemory};
+
+/// What a proxy learns from the replies to one of its records.
+#[derive(Drop)]
+pub(crate) struct Learned {
+    /// The rows of the journal that the proxy has not seen, before the record.
+    pub(crate) told: Vec<JournalRow>,
+    /// The row of the record.
+    pub(crate) own: JournalRow,
+    /// The verdicts of each resolver on the record.
+    pub(crate) columns: Vec<Items<Verdict>>,
+}
+
+impl Learned {
+    /// What the replies tell. Fails only with `OutOfMemory`.
+    pub(crate) fn of_replies(
+        alloc: Global,
+        config: &Config,
+        begun: &BegunRecord,
+        replies: &[Option<Reply>],
+    ) -> Result<Learned, OutOfMemory>
+        ensures told { IfOk result (λ learned.
+            learned.told.items ≡ told_rows config.now.resolvers replies.now) }
+        ensures own { IfOk result (λ learned.
+            learned.own ≡ journal_row config.now (by_columns learned.columns.items) begun.now.rec) }
+        ensures columns { IfOk result (λ learned. learned.columns.items
+            ≡ columns_of config.now.resolvers begun.now.asked replies.now) }
+    {
+        let told = told_rows(alloc, config.resolvers(), replies)?;
+        let columns = columns_of(alloc, config.resolvers(), begun.asked.as_slice(), replies)?;
+        let own = own_row(alloc, config, &columns, &begun.rec)?;
+        Ok(Learned { told, own, columns })
+    }
+}

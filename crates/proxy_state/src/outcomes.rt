@@ -1,0 +1,163 @@
+//! The outcomes of a proxy's own batch, and its mutations with their tags.
+//!
+//! Release 7.1, `CommitProxyServer.actor.cpp`, determineCommittedTransactions and
+//! assignMutationsToStorageServers; what differs is marked *profile*.
+
+ghost use Rattle.std.specs.Prelude.{◌≡◌, ◌++◌, length, IfOk, OnOk};
+ghost use Rattle.model.specs.Outcomes.{outcome_by, is_refused, outcomes_from};
+ghost use Rattle.model.specs.World.{tagged_all, tagged_from};
+ghost use Rattle.proxy_state.specs.Learning.{by_columns, IsAsking};
+ghost use Rattle.proxy_state.specs.Finishing.{outcome_asked, outcomes_by, finished_by};
+
+use crate::begun::BegunRecord;
+use crate::columns::joined_by;
+use crate::metadata::Metadata;
+use model::{Config, Finished, Outcome, Tagged, Verdict};
+use mutation::Stamped;
+use std::alloc::Global;
+use system_keys::{Change, Items, OutOfMemory};
+
+/// The finished batch of the record, by the verdicts of the columns. `locked` is the lock before the
+/// batch, and `metadata` is that after it. Fails only with `OutOfMemory`.
+pub(crate) fn finished_by(
+    alloc: Global,
+    config: &Config,
+    columns: &[Items<Verdict>],
+    locked: bool,
+    metadata: &Metadata,
+    begun: &BegunRecord,
+) -> Result<Finished, OutOfMemory>
+    requires { IsAsking config.now begun.now }
+    ensures { IfOk result (λ finished.
+        finished ≡ finished_by config.now columns.now locked metadata.now begun.now.rec) }
+{
+    let outcomes = outcomes_of(alloc, config, columns, locked, begun)?;
+    let tagged = tagged_all(alloc, metadata, begun.rec.batch(), &outcomes)?;
+    Ok(Finished {
+        row: begun.rec.row(),
+        version: begun.rec.version(),
+        outcomes: Items::from(outcomes),
+        tagged: Items::from(tagged),
+    })
+}
+
+/// The outcome of each transaction of the record.
+fn outcomes_of(
+    alloc: Global,
+    config: &Config,
+    columns: &[Items<Verdict>],
+    locked: bool,
+    begun: &BegunRecord,
+) -> Result<Vec<Outcome>, OutOfMemory>
+    requires { IsAsking config.now begun.now }
+    ensures value { IfOk result (λ outcomes. outcomes.items ≡
+        outcomes_from config.now (by_columns columns.now) locked begun.now.rec 0 begun.now.rec.batch) }
+    ensures count { IfOk result (λ outcomes. length outcomes.items ≡ length begun.now.rec.batch) }
+{
+    let lists = begun.asked.as_slice();
+    let batch = begun.rec.batch();
+    outcomes_by(alloc, columns, locked, begun.rec.version(), batch, lists)
+}
+
+/// The outcome of each transaction; beside it stands the list of the resolvers that it asks.
+fn outcomes_by(
+    alloc: Global,
+    columns: &[Items<Verdict>],
+    locked: bool,
+    version: u64,
+    batch: &[Stamped],
+    lists: &[Items<usize>],
+) -> Result<Vec<Outcome>, OutOfMemory>
+    requires { length lists.now ≡ length batch.now }
+    ensures value { IfOk result (λ outcomes. outcomes.items
+        ≡ outcomes_by columns.now locked version 0 batch.now lists.now) }
+    ensures count { IfOk result (λ outcomes. length outcomes.items ≡ length batch.now) }
+{
+    let mut outcomes = Vec::with_capacity(alloc, batch.len())?;
+    for (number, transaction) in batch.iter().enumerate() {
+        let list = &lists[number];
+        outcomes.push(outcome_asked(columns, locked, version, number, transaction, list))?;
+    }
+    Ok(outcomes)
+}
+
+/// The outcome of the transaction, which asks the resolvers of the list.
+fn outcome_asked(
+    columns: &[Items<Verdict>],
+    locked: bool,
+    version: u64,
+    number: usize,
+    transaction: &Stamped,
+    list: &Items<usize>,
+) -> Outcome
+    ensures { result
+        ≡ outcome_asked columns.now locked version number transaction.now list.now }
+{
+    let verdict = joined_by(columns, list.as_slice(), number);
+    outcome_by(verdict, is_refused(locked, transaction), version, number)
+}
+
+/// Whether the lock refuses the transaction.
+fn is_refused(locked: bool, transaction: &Stamped) -> bool
+    ensures { result ≡ is_refused locked transaction.now }
+{
+    !transaction.lock_aware() && locked
+}
+
+/// The outcome of a transaction by its joined verdict, and by whether the lock refuses it.
+fn outcome_by(verdict: Verdict, refused: bool, version: u64, number: usize) -> Outcome
+    ensures { result ≡ outcome_by verdict refused version number }
+{
+    match verdict {
+        Verdict::Conflict => Outcome::Conflict,
+        Verdict::TooOld => Outcome::TooOld,
+        Verdict::Committed => {
+            if refused {
+                Outcome::Locked
+            } else {
+                Outcome::Committed { version, number }
+            }
+        }
+    }
+}
+
+/// The mutations of the committed transactions, each with its tags.
+fn tagged_all(
+    alloc: Global,
+    metadata: &Metadata,
+    batch: &[Stamped],
+    outcomes: &[Outcome],
+) -> Result<Vec<Tagged>, OutOfMemory>
+    requires { length outcomes.now ≡ length batch.now }
+    ensures { IfOk result (λ tagged.
+        tagged.items ≡ tagged_all metadata.now batch.now outcomes.now) }
+{
+    let mut tagged = Vec::new(alloc);
+    for (place, transaction) in batch.iter().enumerate() {
+        if let Outcome::Committed { version: _, number } = outcomes[place] {
+            add_tagged(metadata, number, transaction.changes(), &mut tagged)?;
+        }
+    }
+    Ok(tagged)
+}
+
+/// Adds the mutations of the transaction of this number, each with its tags.
+fn add_tagged(
+    metadata: &Metadata,
+    number: usize,
+    changes: &[Change],
+    tagged: &mut Vec<Tagged>,
+) -> Result<(), OutOfMemory>
+    ensures { OnOk result (tagged.new.items
+        ≡ tagged.old.items ++ tagged_from metadata.now number 0 changes.now) }
+{
+    for (place, change) in changes.iter().enumerate() {
+        tagged.push(Tagged {
+            number,
+            place,
+            change: change.copy()?,
+            tags: metadata.tags_of(change)?,
+        })?;
+    }
+    Ok(())
+}

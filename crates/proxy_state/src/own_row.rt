@@ -1,0 +1,93 @@
+//! The journal row of a proxy's own record.
+//!
+//! Release 7.1, `CommitProxyServer.actor.cpp`, applyMetadataToCommittedTransactions; what differs is
+//! marked *profile*.
+
+ghost use Rattle.std.specs.Prelude.{◌≡◌, filter, IfOk};
+ghost use Rattle.system_keys.specs.Changes.{is_state};
+ghost use Rattle.model.specs.Transactions.{is_state_transaction};
+ghost use Rattle.model.specs.Journal.{journal_row, states_from, state_of};
+ghost use Rattle.proxy_state.specs.Learning.{by_columns};
+
+use crate::columns::verdicts_by;
+use model::{Config, JournalRow, StateTxn, Verdict};
+use mutation::Stamped;
+use request_builder::Record;
+use std::alloc::Global;
+use system_keys::{Change, Items, OutOfMemory, is_state};
+
+/// The journal row of the record, by the verdicts of the columns. Fails only with `OutOfMemory`.
+#[tactic(auto, unfolding(model::specs::Journal::journal_row))]
+pub(crate) fn own_row(
+    alloc: Global,
+    config: &Config,
+    columns: &[Items<Verdict>],
+    rec: &Record,
+) -> Result<JournalRow, OutOfMemory>
+    ensures { IfOk result (λ row.
+        row ≡ journal_row config.now (by_columns columns.now) rec.now) }
+{
+    Ok(JournalRow {
+        version: rec.version(),
+        states: Items::from(own_states(alloc, config, columns, rec)?),
+    })
+}
+
+/// The state transactions of the record.
+fn own_states(
+    alloc: Global,
+    config: &Config,
+    columns: &[Items<Verdict>],
+    rec: &Record,
+) -> Result<Vec<StateTxn>, OutOfMemory>
+    ensures { IfOk result (λ states. states.items
+        ≡ states_from config.now (by_columns columns.now) rec.now 0 rec.now.batch) }
+{
+    let batch = rec.batch();
+    let mut states = Vec::new(alloc);
+    for (number, transaction) in batch.iter().enumerate() {
+        if is_state_transaction(transaction) {
+            states.push(own_state(alloc, config, columns, rec, number, transaction)?)?;
+        }
+    }
+    Ok(states)
+}
+
+/// A state transaction of the record, with this number.
+fn own_state(
+    alloc: Global,
+    config: &Config,
+    columns: &[Items<Verdict>],
+    _rec: &Record,
+    number: usize,
+    transaction: &Stamped,
+) -> Result<StateTxn, OutOfMemory>
+    ensures { IfOk result (λ state. state
+        ≡ state_of config.now (by_columns columns.now) _rec.now number transaction.now) }
+{
+    let verdicts = verdicts_by(alloc, config.resolvers(), columns, number)?;
+    Ok(StateTxn {
+        mutations: Items::from(state_mutations(alloc, transaction.changes())?),
+        lock_aware: transaction.lock_aware(),
+        verdicts: Items::from(verdicts),
+    })
+}
+
+fn is_state_transaction(transaction: &Stamped) -> bool
+    ensures { result ≡ is_state_transaction transaction.now }
+{
+    transaction.changes().iter().any(|change| is_state(change))
+}
+
+/// Copies of the changes that change the metadata, in order.
+fn state_mutations(alloc: Global, changes: &[Change]) -> Result<Vec<Change>, OutOfMemory>
+    ensures { IfOk result (λ mutations. mutations.items ≡ filter is_state changes.now) }
+{
+    let mut mutations = Vec::new(alloc);
+    for change in changes {
+        if is_state(change) {
+            mutations.push(change.copy()?)?;
+        }
+    }
+    Ok(mutations)
+}

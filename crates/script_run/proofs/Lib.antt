@@ -1,4 +1,0 @@
-pub mod AnswerLemmas
-pub mod FoldLemmas
-pub mod RunLemmas
-pub mod ValueLemmas

@@ -1,8 +1,0 @@
-use Rattle.std.proofs.Common.{◌≡◌, drop}
-use Rattle.serde_json.specs.View.{items_view}
-use Rattle.script_run.specs.Shapes.{each_shape}
-use Rattle.script_run.proofs.FoldLemmas.{read_behind}
-use Rattle.script_run.proofs.shaped.each.Given as goal
-
-abbrev pub invariant-loop-value : goal.invariant-loop-value
-invariant-loop-value g l = read_behind l.items.items (each_shape g.X.Shaped.shape (items_view (drop l.value-index l.values))) ≡ each_shape g.X.Shaped.shape (items_view l.values)

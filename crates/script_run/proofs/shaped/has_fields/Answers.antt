@@ -1,6 +1,0 @@
-use Rattle.std.proofs.Common.{refl}
-use Rattle.script_run.proofs.FoldLemmas.{count_members-members_view}
-use Rattle.script_run.proofs.shaped.has_fields.Goals as goal
-
-pub returns-in-Some : goal.returns-in-Some
-returns-in-Some c = rw (← c.in-Some.ensures) (rw (count_members-members_view c.in-Some.members.now.entries, c.len.ensures.len) refl)

@@ -1,0 +1,4 @@
+pub mod AnswerLemmas
+pub mod ListLemmas
+pub mod RunLemmas
+pub mod ValueLemmas

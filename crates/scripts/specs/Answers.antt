@@ -1,0 +1,34 @@
+-- What a script comes to: a text, and how the run ends (this project's profile).
+use Rattle.std.specs.Prelude.{◌≡◌, ℕ, List, [], string_bytes}
+use Rattle.std.specs.Prelude.{Option, Some, None, Result, Ok, Err}
+use Rattle.scripts.specs.declared.output.Output.{Output}
+use Rattle.scripts.specs.declared.script_fault.ScriptFault.{ScriptFault}
+use Rattle.scripts.specs.declared.status.RunStatus.{RunStatus}
+use Rattle.scripts.specs.declared.status.RunStatus.TheVariants.{Done, ScriptRefused}
+use Rattle.scripts.specs.Lines.{refused_line}
+use Rattle.scripts.specs.ScriptFaults.{fault_number, fault_name}
+
+-- a text to write, and the status that goes with it
+pub record Answer : Type 0 where
+  pub text : List ℕ
+  pub status : RunStatus
+
+-- OutOfMemory has no number, and no text
+abbrev pub refusal_text : Option ℕ → List ℕ → List ℕ
+refusal_text None name = []
+refusal_text (Some number) name = refused_line number name
+
+-- the answer to a script with this fault
+abbrev pub refused_answer : ScriptFault → Answer
+refused_answer fault =
+    record { text = refusal_text (fault_number fault) (fault_name fault); status = ScriptRefused }
+
+-- the answer to a script: what is printed of it, or its first fault
+abbrev pub answer_of : {X : Type 0} → (X → List ℕ) → Result X ScriptFault → Answer
+answer_of printed (Ok script) = record { text = printed script; status = Done }
+answer_of printed (Err fault) = refused_answer fault
+
+-- the output is this answer
+pub record IsOutput (answer : Answer) (output : Output) : Type 0 where
+  pub text : string_bytes output.text ≡ answer.text
+  pub status : output.status ≡ answer.status

@@ -1,0 +1,13 @@
+pub mod Answers
+pub mod BatchChecks
+pub mod BatchScripts
+pub mod BatchShapes
+pub mod ChangeShapes
+pub mod Checks
+pub mod Devices
+pub mod Lines
+pub mod Runs
+pub mod ScriptFaults
+pub mod Shapes
+pub mod Statuses
+pub mod Values

@@ -1,0 +1,36 @@
+//! Reading of batches.
+
+ghost use Rattle.serde_json.specs.View.{view};
+ghost use Rattle.scripts.specs.BatchScripts.{batch_of, batch_of_shape};
+ghost use Rattle.scripts.specs.BatchShapes.{batch_shape};
+ghost use Rattle.scripts.specs.ScriptFaults.{IsReadAs};
+
+use crate::batch_checks::admit_batch;
+use crate::script_fault::ScriptFault;
+use crate::shaped::Shaped;
+use crate::value_reading::read_value;
+use mutation::{Batch, Transaction};
+use serde_json::Value;
+use std::alloc::Global;
+use system_keys::Items;
+
+/// Returns the batch that the bytes are (this project's profile): a list of transactions.
+///
+/// Otherwise returns the first of: `NotJson` (`serde_json` reads no value), `BadShape` (the value
+/// does not have the form of a batch, a text of it is not the text of any bytes, or a snapshot of
+/// it is above the greatest number), the first fault of a transaction, in the order of the list,
+/// and that there are more than 1,024. May fail with `OutOfMemory` at any point.
+#[tactic(auto, unfolding(crate::specs::BatchScripts::batch_of))]
+pub fn read_batch(alloc: Global, bytes: &[u8]) -> Result<Batch, ScriptFault>
+    ensures { IsReadAs (λ found. found) result (batch_of bytes.now) }
+{
+    let value = read_value(alloc, bytes)?;
+    batch_of_value(alloc, &value)
+}
+
+fn batch_of_value(alloc: Global, value: &Value) -> Result<Batch, ScriptFault>
+    ensures { IsReadAs (λ found. found) result (batch_of_shape (batch_shape (view value.now))) }
+{
+    let given: Items<Transaction> = Items::shaped(alloc, value)?;
+    admit_batch(alloc, given.as_slice())
+}

@@ -1,0 +1,37 @@
+//! What scripts of every kind share: the JSON values that bytes are and their shapes, batches, the
+//! lines that are printed, and a run over a source and a sink of the caller.
+//!
+//! Source: this project's profile (scripts, lines and statuses).
+#![tactic(auto)]
+
+mod batch_checks;
+mod batch_reading;
+mod batch_shapes;
+#[cfg(test)]
+mod batch_tests;
+mod change_shapes;
+mod checks;
+mod devices;
+mod lines;
+mod output;
+mod raw_change;
+mod run;
+mod script_fault;
+mod shaped;
+mod status;
+#[cfg(test)]
+mod tests;
+mod value_reading;
+
+pub use batch_checks::admit_batch;
+pub use batch_reading::read_batch;
+pub use checks::{Checked, check_each};
+pub use devices::{Failed, Reader, Sink, Source, Writer};
+pub use lines::{print_asked, print_routing, push_tags};
+pub use output::{Output, refused};
+pub use raw_change::RawChange;
+pub use run::{ScriptKind, run_script};
+pub use script_fault::ScriptFault;
+pub use shaped::{Shaped, field, has_fields, pair};
+pub use status::RunStatus;
+pub use value_reading::read_value;

@@ -1,0 +1,52 @@
+//! A run of a script of any kind, over any source and sink.
+ghost use Rattle.std.specs.Prelude.{◌-◌, ◌^◌, ◌<◌, ℕ, List, IfOk};
+ghost use Rattle.scripts.specs.Answers.{Answer, IsOutput};
+ghost use Rattle.scripts.specs.Runs.{LeavesDevices, WritesTextOf};
+ghost use Rattle.scripts.specs.Statuses.{IsAnswered};
+
+use crate::devices::{Failed, ReadFault, Sink, Source, read_all, write_all};
+use crate::output::Output;
+use crate::status::RunStatus;
+use std::alloc::Global;
+use system_keys::OutOfMemory;
+
+/// A kind of script, with the answer to the bytes of one.
+pub trait ScriptKind {
+    ghost answer_to: { List ℕ → Answer };
+
+    /// The output for a script of this kind (this project's profile). Fails only with
+    /// `OutOfMemory`.
+    fn answer(alloc: Global, bytes: &[u8]) -> Result<Output, OutOfMemory>
+        ensures output { IfOk result (IsOutput (answer_to bytes.now)) }
+        ensures answered { IfOk result (λ output. IsAnswered output.status) };
+}
+
+/// Reads a script from the source to its end, and writes the text that it comes to. If a read
+/// fails, or the limit on read calls is passed, nothing is written.
+#[tactic(auto, using(crate::proofs::RunLemmas::begins_nothing, crate::proofs::RunLemmas::begins_text, crate::proofs::RunLemmas::writes_text))]
+pub fn run_script<K: ScriptKind, S: Source, T: Sink>(
+    alloc: Global,
+    source: &mut S,
+    sink: &mut T,
+) -> RunStatus
+    requires read_count { S.failed source.old < 2 ^ 64 - 1 }
+    requires write_count { T.failed sink.old < 2 ^ 64 - 1 }
+    ensures text { WritesTextOf K.answer_to (S.remaining source.old)
+        (T.written sink.old) (T.written sink.new) result }
+    ensures devices { LeavesDevices K.answer_to S.Source source.old source.new
+        T.Sink sink.old sink.new result }
+{
+    let bytes = match read_all(alloc, source) {
+        Ok(bytes) => bytes,
+        Err(ReadFault::OutOfMemory) => return RunStatus::OutOfMemory,
+        Err(ReadFault::Device) => return RunStatus::DeviceFailed,
+        Err(ReadFault::Limit) => return RunStatus::DeviceFailed,
+    };
+    let Ok(output) = K::answer(alloc, &bytes) else {
+        return RunStatus::OutOfMemory;
+    };
+    match write_all(sink, output.text.as_bytes()) {
+        Ok(()) => output.status,
+        Err(Failed) => RunStatus::DeviceFailed,
+    }
+}

@@ -1,0 +1,5 @@
+pub mod TurnsChecks
+pub mod TurnsLines
+pub mod TurnsScripts
+pub mod TurnsShapes
+pub mod TurnsText

@@ -1,0 +1,33 @@
+//! Reading of turns scripts.
+
+ghost use Rattle.serde_json.specs.View.{view};
+ghost use Rattle.scripts.specs.ScriptFaults.{IsReadAs};
+ghost use Rattle.turns_run.specs.TurnsScripts.{script_of, script_of_raw};
+ghost use Rattle.turns_run.specs.TurnsShapes.{script_shape};
+
+use crate::turns_script::{RawTurns, TurnsScript};
+use scripts::{Checked, ScriptFault, Shaped, read_value};
+use serde_json::Value;
+use std::alloc::Global;
+
+/// Returns the turns script that the bytes are (this project's profile).
+///
+/// Otherwise returns the first of: `NotJson` (`serde_json` reads no value), `BadShape` (the value
+/// does not have the form of a turns script, a text of it is not the text of any bytes, or a number
+/// of it is outside its limits), and the first fault of an event, in the order of the script: of a
+/// batch, that of the first transaction at fault, and then that there are more than 1,024; of a
+/// move, that of its range. May fail with `OutOfMemory` at any point.
+#[tactic(auto, unfolding(crate::specs::TurnsScripts::script_of))]
+pub fn read_turns(alloc: Global, bytes: &[u8]) -> Result<TurnsScript, ScriptFault>
+    ensures { IsReadAs (λ found. found) result (script_of bytes.now) }
+{
+    let value = read_value(alloc, bytes)?;
+    script_of_value(alloc, &value)
+}
+
+fn script_of_value(alloc: Global, value: &Value) -> Result<TurnsScript, ScriptFault>
+    ensures { IsReadAs (λ found. found) result (script_of_raw (script_shape (view value.now))) }
+{
+    let script = RawTurns::shaped(alloc, value)?;
+    TurnsScript::check(alloc, script)
+}
