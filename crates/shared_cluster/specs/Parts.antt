@@ -12,6 +12,7 @@ use Rattle.model.specs.declared.outcome.Finished.{Finished}
 use Rattle.model.specs.declared.reply.Reply.{Reply}
 use Rattle.model.specs.Turns.{IsNewResolver, IsNewProxy}
 use Rattle.proxy_state.specs.Beginning.{begin_fault, requests_for}
+use Rattle.proxy_state.specs.Finishing.{finish_fault}
 use Rattle.state_memory.specs.declared.answer.Answer.{Answer}
 use Rattle.state_memory.specs.declared.answer.Answer.TheVariants as offered
 use Rattle.state_memory.specs.declared.refusal.Refusal.{Refusal}
@@ -71,6 +72,11 @@ pub record IsOfferedAt
 -- the replies that the resolvers keep for a proxy at a version, one for each resolver
 abbrev pub kept_replies_at : List Memory → (p : ProxyNumber) (version : Version) → Replies
 kept_replies_at resolvers p version = map (λ (v : Memory). kept_reply v p version) resolvers
+
+-- proxy p is there, and does not refuse to finish its earliest record by these replies
+abbrev pub MayFinishAt : List Follower → (p : ProxyNumber) → Replies → Type 0
+MayFinishAt proxies p replies =
+    (v : Follower) × (slice_get proxies p ≡ Some v) × (finish_fault v replies ≡ None)
 
 -- proxy p finished its earliest record by these replies; the others are as before
 pub record IsFinishedAt

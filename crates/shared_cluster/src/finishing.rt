@@ -1,11 +1,11 @@
 //! A proxy finishes its earliest record.
 
-ghost use Rattle.std.specs.Prelude.{◌≡◌, length, slice_get, IfOk};
+ghost use Rattle.std.specs.Prelude.{◌≡◌, length, slice_get, IfOk, OnErr};
 ghost use Rattle.shared_cluster.specs.Parts.{kept_replies_at, missing_of};
-ghost use Rattle.shared_cluster.specs.Parts.{AreAllKept};
+ghost use Rattle.shared_cluster.specs.Parts.{AreAllKept, MayFinishAt, IsFinishedAt};
 
-use model::Config;
-use proxy_state::Replies;
+use model::{Config, Finished};
+use proxy_state::{Proxy, Replies};
 use state_memory::Resolver;
 use std::alloc::Global;
 use system_keys::OutOfMemory;
@@ -44,4 +44,21 @@ pub(crate) fn kept_replies(
         }
     }
     Ok(replies)
+}
+
+/// Lets the proxy finish its earliest record by the replies. The other proxies are left as they are.
+pub(crate) fn finish_at(
+    proxies: &mut Vec<Proxy>,
+    proxy: usize,
+    replies: Replies,
+) -> Result<Finished, OutOfMemory>
+    requires { MayFinishAt proxies.old.items proxy replies }
+    ensures finished { IfOk result (λ finished.
+        IsFinishedAt proxies.old.items proxy replies finished proxies.new.items) }
+    ensures err { OnErr result (proxies.new.items ≡ proxies.old.items) }
+{
+    match proxies[proxy].finish(replies) {
+        Ok(finished) => Ok(finished),
+        Err(_) => Err(OutOfMemory),
+    }
 }

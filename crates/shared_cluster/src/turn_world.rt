@@ -3,7 +3,8 @@
 ghost use Rattle.std.specs.Prelude.{◌≡◌, ◌+◌, ◌<◌, ◌≤◌, IfOk, OnOk, OnErr, MatchOption};
 ghost use Rattle.model.specs.Configs.{version_limit};
 ghost use Rattle.model.specs.Records.{last_version};
-ghost use Rattle.model.specs.World.{Sequence, MoveRange, Offer as OfferOf, initial_world};
+ghost use Rattle.model.specs.World.{Sequence, MoveRange, Offer as OfferOf, Finish};
+ghost use Rattle.model.specs.World.{initial_world};
 ghost use Rattle.model.specs.World.{next_record};
 ghost use Rattle.model.specs.Serial.{IsSerial};
 ghost use Rattle.model.specs.Turns.{after_event, IsResolver, IsProxy};
@@ -12,6 +13,7 @@ ghost use Rattle.shared_cluster.specs.Steps.{AnswersEvent};
 
 use crate::answer::Answer;
 use crate::event::Event;
+use crate::finishing::{finish_at, first_missing, kept_replies};
 use crate::offering::{offer_at, passed_on};
 use crate::refusal::Refusal;
 use crate::row::Row;
@@ -181,5 +183,31 @@ impl TurnWorld {
             Ok(OfferAnswer::Again(reply)) => Ok(Answer::Offered(OfferAnswer::Again(reply))),
             Err(refusal) => Err(passed_on(refusal)),
         }
+    }
+
+    /// The proxy finishes the earliest of its records that are begun and not finished.
+    fn finish(&mut self, proxy: usize) -> Result<Answer, Refusal>
+        ensures answer { AnswersEvent self.old (Finish proxy) result }
+        ensures ok { OnOk result (self.new ≡ after_event self.old (Finish proxy)) }
+        ensures err { OnErr result (self.new ≡ self.old) }
+    {
+        if self.config.proxies() <= proxy {
+            return Err(Refusal::NoSuchProxy);
+        }
+        let Some(rec) = self.proxies[proxy].awaited() else {
+            return Err(Refusal::OutOfTurn { expected: None });
+        };
+        let row = rec.row();
+        let version = rec.version();
+        if let Some(resolver) = first_missing(self.judged_counts.as_slice(), row) {
+            return Err(Refusal::MissingReply { resolver });
+        }
+        let alloc: Global = *self.rows.allocator();
+        let resolvers = self.resolvers.as_slice();
+        let replies = kept_replies(alloc, &self.config, resolvers, proxy, version)?;
+        let count = self.finished[proxy] + 1;
+        let finished = finish_at(&mut self.proxies, proxy, replies)?;
+        self.finished[proxy] = count;
+        Ok(Answer::Finished(finished))
     }
 }
