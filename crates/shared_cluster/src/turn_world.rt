@@ -94,6 +94,35 @@ impl TurnWorld {
         self.resolvers.get(resolver)
     }
 
+    /// Carries out one event, and returns its answer. A refused event changes nothing, and the event
+    /// fails with `OutOfMemory` only if it is not refused otherwise.
+    ///
+    /// The records of the cluster obey the rule of commit after each event.
+    pub fn step(&mut self, event: &Event) -> Result<Answer, Refusal>
+        ensures answer { AnswersEvent self.old (event_of event.now) result }
+        ensures ok { OnOk result (self.new ≡ after_event self.old (event_of event.now)) }
+        ensures err { OnErr result (self.new ≡ self.old) }
+        ensures serial { IsSerial self.new.config self.new.world.history }
+    {
+        let result = self.carry_out(event);
+        let _ = &self.config;
+        result
+    }
+
+    /// Carries out one event by its own call.
+    fn carry_out(&mut self, event: &Event) -> Result<Answer, Refusal>
+        ensures answer { AnswersEvent self.old (event_of event.now) result }
+        ensures ok { OnOk result (self.new ≡ after_event self.old (event_of event.now)) }
+        ensures err { OnErr result (self.new ≡ self.old) }
+    {
+        match event {
+            Event::Sequence { proxy, batch } => self.sequence(*proxy, batch),
+            Event::Move { range, dest } => self.move_range(range, *dest),
+            Event::Offer { row, resolver } => self.offer(*row, *resolver),
+            Event::Finish { proxy } => self.finish(*proxy),
+        }
+    }
+
     /// A batch of the proxy gets the next record, and the proxy begins it.
     fn sequence(&mut self, proxy: usize, batch: &Batch) -> Result<Answer, Refusal>
         ensures answer { AnswersEvent self.old (Sequence proxy batch.now) result }
