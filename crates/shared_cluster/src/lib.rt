@@ -11,6 +11,8 @@ mod row;
 mod sequencing;
 mod starting;
 mod stopped;
+#[cfg(test)]
+mod tests;
 mod turn_world;
 
 pub use answer::Answer;
