@@ -1,5 +1,5 @@
--- What an event does to a cluster, and what a run of events does.
-use Rattle.std.specs.Prelude.{◌≡◌, List, map, Option, Some, None, Result, Ok, Err}
+-- What an event returns in a cluster, and the refusals of a resolver that it can pass on.
+use Rattle.std.specs.Prelude.{◌≡◌, Option, Some, None, Result}
 use Rattle.system_keys.specs.AsSpecified.{IsAsSpecified}
 use Rattle.model.specs.World as world
 use Rattle.model.specs.World.{answers, world_after}
@@ -16,26 +16,6 @@ use Rattle.shared_cluster.specs.Events.{answer_of, fault_of}
 abbrev pub AnswersEvent : Cluster → world.Event → Result Answer Refusal → Type 0
 AnswersEvent before event result =
     IsAsSpecified fault_of answer_of result (answer_to_event before event)
-
--- the answer of the definition that a result is; out of memory is none
-abbrev pub told_refusal : Option world.Refusal → Option world.Answer
-told_refusal None = None
-told_refusal (Some refusal) = Some (world.Refused refusal)
-
-abbrev pub told_by : Result Answer Refusal → Option world.Answer
-told_by (Ok answer) = Some (answer_of answer)
-told_by (Err refusal) = told_refusal (fault_of refusal)
-
--- the cluster carried out these events: each result is the answer of the definition, and the world is
--- that after them
-pub record HasCarriedOut
-    (before after : Cluster) (events : List world.Event) (results : List (Result Answer Refusal)) :
-    Type 0 where
-  pub results_are :
-      map told_by results
-      ≡ map (λ (answer : world.Answer). Some answer) (answers before.config before.world events)
-  pub after_is :
-      after ≡ record before { world = world_after before.config before.world events }
 
 -- ---- refusals of a resolver
 
