@@ -5,6 +5,7 @@ pub mod AlikeLaws
 pub mod AskedLaws
 pub mod ChainLaws
 pub mod ChangeLaws
+pub mod ColumnLaws
 pub mod CommittedLaws
 pub mod Definitions
 pub mod EdgeCases
@@ -39,6 +40,7 @@ pub mod Places
 pub mod RequestLaws
 pub mod RouteLaws
 pub mod RoutingLaws
+pub mod RowLaws
 pub mod RunLaws
 pub mod SayingLaws
 pub mod SerialLaw

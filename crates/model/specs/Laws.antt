@@ -1,6 +1,7 @@
 -- The statements of the laws, by topic. The functions of src/*_laws.rt ensure them.
 pub mod Chain
 pub mod Changes
+pub mod Columns
 pub mod Finished
 pub mod Finishing
 pub mod Histories
@@ -14,6 +15,7 @@ pub mod Owners
 pub mod Requests
 pub mod ResolverMemory
 pub mod Routes
+pub mod Rows
 pub mod Runs
 pub mod Sources
 pub mod Turns

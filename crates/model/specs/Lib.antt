@@ -1,5 +1,6 @@
 pub mod Acknowledged
 pub mod Agreed
+pub mod ColumnVerdicts
 pub mod Committed
 pub mod Configs
 pub mod Edges

@@ -99,20 +99,25 @@ abbrev pub finished_version : World → (p : ProxyNumber) → Version
 finished_version w p =
     last_version (take (slice_index w.finished p) (records_of_proxy p w.history))
 
--- The record that the next batch gets, with all moves so far.
+-- The record that the next batch gets after these records, with all moves so far.
 -- *Profile*: its version is one step after the last.
-abbrev pub next_record : Config → World → (p : ProxyNumber) → List Given → Record
-next_record config w p batch =
-    let previous = last_version w.history in
+abbrev pub record_after :
+    Config → List Record → List Move → (p : ProxyNumber) → List Given → Record
+record_after config records moves p batch =
+    let previous = last_version records in
     record {
-      row = length w.history;
+      row = length records;
       previous = previous;
       version = previous + config.step;
-      own_previous = last_version (records_of_proxy p w.history);
+      own_previous = last_version (records_of_proxy p records);
       proxy = p;
-      moves = w.moves;
+      moves = moves;
       batch = stamped_from (previous + config.step) 0 batch;
     }
+
+-- the record that the next batch gets in a world
+abbrev pub next_record : Config → World → (p : ProxyNumber) → List Given → Record
+next_record config w p batch = record_after config w.history w.moves p batch
 
 -- A batch gets the next record. *Profile*: it is refused first if the cluster has no such proxy,
 -- and then if the version reaches the limit.
