@@ -2,11 +2,13 @@ pub mod AppliedLaws
 pub mod AskedParts
 pub mod BelowLaws
 pub mod ColumnLaws
+pub mod EntriesLeft
 pub mod Joins
 pub mod FinishedProxies
 pub mod KeptInOrder
 pub mod KeyValues
 pub mod KeptProxies
+pub mod KeySets
 pub mod ListedKeys
 pub mod MadeMoves
 pub mod MapEntries

@@ -133,7 +133,7 @@ listed_both : (xs ys : List Key) (key : Key) → is_listed (xs ++ ys) key ≡ (i
 listed_both [] ys key = refl
 listed_both (x ∷ xs) ys key = ap (λ (t : Bool). is_same_key key x || t) (listed_both xs ys key) ∙ sym (either_group (is_same_key key x) (is_listed xs key) (is_listed ys key))
 
-listed_cleared : (old : Entries) (changes : List Change) (key : Key) → is_listed (cleared_keys old changes) key ≡ (are_clearing changes key && has_entry old key)
+pub listed_cleared : (old : Entries) (changes : List Change) (key : Key) → is_listed (cleared_keys old changes) key ≡ (are_clearing changes key && has_entry old key)
 listed_cleared old [] key = refl
 listed_cleared old (change ∷ changes) key =
     listed_both (keys_cleared old change) (cleared_keys old changes) key

@@ -1,25 +1,23 @@
--- Entries that are put over others, and taken back; and rows of a journal that clear nothing.
-use Rattle.std.proofs.Common.{◌≡◌, refl, sym, ap, ◌∙◌, subst, ℕ, ◌+◌, ◌<◌, length, drop, get_or, add-one, List, [], ◌∷◌, ◌++◌, Bool, true, false, cond, if◌then◌else◌, not, ◌&&◌, ◌||◌, filter, fold, flat_map, Option, Some, None}
+-- Entries that are put over others, and taken back; and what rows of a journal change, one after another.
+use Rattle.std.proofs.Common.{◌≡◌, refl, sym, ap, ◌∙◌, subst, ℕ, ◌+◌, ◌<◌, length, drop, get_or, add-one, List, [], ◌∷◌, Bool, true, false, cond, if◌then◌else◌, not, ◌&&◌, ◌||◌, fold, Option, Some, None}
 use Rattle.std.specs.Option.{is_some, option_or}
-use Rattle.std.specs.List.{list_any}
 use Rattle.std.specs.BTreeMap.{insert_entry}
 use Rattle.system_keys.specs.declared.change.Change.{Change}
-use Rattle.system_keys.specs.declared.change.Change.TheVariants.{Set, Clear}
 use Rattle.system_keys.specs.Keys.{Key}
 use Rattle.model.specs.Transactions.{locked_key}
 use Rattle.model.specs.declared.journal.StateTxn.{StateTxn}
 use Rattle.model.specs.declared.journal.JournalRow.{JournalRow}
-use Rattle.model.specs.Metadata.{Entry, Entries, IsInOrder, entry_value, is_applied, is_filled, is_locked, after_changes, after_state, after_journal_row}
+use Rattle.model.specs.Metadata.{Entry, Entries, IsInOrder, entry_value, is_filled, is_locked, after_changes, after_state, after_journal_row}
 use Rattle.model.proofs.MetadataLaws.{states_let_pass, after_row_in_order}
 use Rattle.model.proofs.ChangeLaws.{kept_after_row}
 use Rattle.proxy_state.specs.declared.learned.Learned.{Learned}
 use Rattle.proxy_state.specs.Finishing.{after_rows, after_told, after_batch}
 use Rattle.proxy_state.proofs.KeptInOrder.{AreKeptInOrder}
 use Rattle.std.proofs.Math.Seq.{drop-cons}
-use Rattle.proxy_state.specs.Overwrites.{is_same_key, is_listed, has_entry, missing_keys, changes_of, IsPutOver, MayBePut, TakesBack, AreDisplaced, is_clear, clears_some}
+use Rattle.proxy_state.specs.Overwrites.{is_same_key, is_listed, has_entry, missing_keys, changes_of, cleared_keys, IsOverwritten, IsPutOver, TakesBack, AreDisplaced}
 use Rattle.proxy_state.proofs.KeyValues.{key_cmp, same_key, same_entries, value_put}
 use Rattle.proxy_state.proofs.ListedKeys.{listed_missing}
-use Rattle.proxy_state.proofs.OverwrittenEntries.{are_clearing, over_changes}
+use Rattle.proxy_state.proofs.OverwrittenEntries.{are_clearing, listed_cleared, over_changes}
 
 -- ---- the entries that are displaced
 
@@ -118,53 +116,34 @@ taken_back missing displaced kept old new left after s t none undo removed writt
     left_is : (key : Key) → entry_value left key ≡ (if is_listed missing key then None else entry_value new key)
     left_is key = removed key ∙ ap (λ (entries : Entries). if not (has_entry entries key) && is_listed missing key then None else entry_value new key) none
 
--- ---- rows of a journal that clear nothing
+-- ---- one row more
 
-any_both : {X : Type 0} (p : X → Bool) (xs ys : List X) → list_any p (xs ++ ys) ≡ (list_any p xs || list_any p ys)
-any_both p [] ys = refl
-any_both p (x ∷ xs) ys = ap (λ (t : Bool). p x || t) (any_both p xs ys) ∙ group (p x) (list_any p xs) (list_any p ys)
-  where
-    group : (a b c : Bool) → (a || (b || c)) ≡ ((a || b) || c)
-    group true b c = refl
-    group false b c = refl
+cleared_more : (cleared more : Bool) (was : Option (List ℕ)) → (if (more && is_some was) || cleared then None else was) ≡ (if cleared || more then None else was)
+cleared_more true true None = refl
+cleared_more true true (Some value) = refl
+cleared_more true false was = refl
+cleared_more false true None = refl
+cleared_more false true (Some value) = refl
+cleared_more false false was = refl
 
--- changes without a Clear clear no key
-sets_clear_none : (changes : List Change) (key : Key) → list_any is_clear changes ≡ false → are_clearing changes key ≡ false
-sets_clear_none [] key none = refl
-sets_clear_none (Set k value ∷ changes) key none = sets_clear_none changes key none
-sets_clear_none (Clear range ∷ changes) key none = absurd (cc)
-
-none_clears : (locked : Bool) (states : List StateTxn) → list_any (clears_some locked) states ≡ false → list_any is_clear (changes_of locked states) ≡ false
-none_clears locked [] none = refl
-none_clears locked (t ∷ states) none = by (is_applied locked t) none (none_clears locked states)
-  where
-    both : (a b : Bool) → (a || b) ≡ false → (b ≡ false → list_any is_clear (changes_of locked states) ≡ false) → (a || list_any is_clear (changes_of locked states)) ≡ false
-    both true b h rest = absurd (cc)
-    both false b h rest = rest h
-
-    by : (b : Bool) → ((b && list_any is_clear t.mutations) || list_any (clears_some locked) states) ≡ false → (list_any (clears_some locked) states ≡ false → list_any is_clear (changes_of locked states) ≡ false)
-        → list_any is_clear (flat_map (λ (t : StateTxn). t.mutations) (cond b (t ∷ filter (is_applied locked) states) (filter (is_applied locked) states))) ≡ false
-    by true h rest = any_both is_clear t.mutations (changes_of locked states) ∙ both (list_any is_clear t.mutations) (list_any (clears_some locked) states) h rest
-    by false h rest = rest h
-
--- one row more
-pub put_row_over : (row : JournalRow) (before after old now : Entries) (locked : Bool) (states : List StateTxn)
-    → locked ≡ is_filled (option_or (entry_value before locked_key) (entry_value old locked_key)) → states ≡ row.states → list_any (clears_some locked) states ≡ false → after ≡ fold (after_state locked) before states
-    → IsPutOver before old now → IsPutOver after old (after_journal_row now row)
-put_row_over row before after old now locked states locked_is states_is none after_is over = λ key.
+pub row_staged : (row : JournalRow) (before after old now : Entries) (cleared more all : List Key) (locked : Bool) (states : List StateTxn)
+    → locked ≡ is_locked now → states ≡ row.states → after ≡ fold (after_state locked) before states → more ≡ cleared_keys old (changes_of locked states)
+    → ((key : Key) → is_listed all key ≡ (is_listed more key || is_listed cleared key))
+    → IsOverwritten cleared before old now → IsOverwritten all after old (after_journal_row now row)
+row_staged row before after old now cleared more all locked states lock states_is after_is more_is all_is over = λ key.
     ap (λ (l : Bool). entry_value (fold (after_state l) now row.states) key) (sym lock)
     ∙ ap (λ (list : List StateTxn). entry_value (fold (after_state locked) now list) key) (sym states_is)
     ∙ ap (λ (entries : Entries). entry_value entries key) (states_let_pass states locked now)
-    ∙ subst (λ (t : Bool). entry_value (after_changes now (changes_of locked states)) key ≡ option_or (entry_value (after_changes before (changes_of locked states)) key) (if t then None else entry_value old key))
-    (sets_clear_none (changes_of locked states) key (none_clears locked states none)) (over_changes (changes_of locked states) key false before old now (over key))
-    ∙ ap (λ (entries : Entries). option_or (entry_value entries key) (entry_value old key)) (sym (after_is ∙ states_let_pass states locked before))
+    ∙ over_changes changes key (is_listed cleared key) before old now (over key)
+    ∙ ap (option_or (entry_value (after_changes before changes) key)) (sym (cleared_more (is_listed cleared key) (are_clearing changes key) (entry_value old key)))
+    ∙ ap (λ (t : Bool). option_or (entry_value (after_changes before changes) key) (if t then None else entry_value old key)) (sym (listed key))
+    ∙ ap (λ (entries : Entries). option_or (entry_value entries key) (if is_listed all key then None else entry_value old key)) (sym (after_is ∙ states_let_pass states locked before))
   where
-    lock : locked ≡ is_locked now
-    lock = locked_is ∙ ap is_filled (sym (over locked_key))
+    changes : List Change
+    changes = changes_of locked states
 
--- what is put over entries determines them
-pub one_over : (puts old one other : Entries) → IsInOrder one → IsInOrder other → IsPutOver puts old one → IsPutOver puts old other → one ≡ other
-one_over puts old one other s t is also = same_entries one other s t (λ key. is key ∙ sym (also key))
+    listed : (key : Key) → is_listed all key ≡ ((are_clearing changes key && has_entry old key) || is_listed cleared key)
+    listed key = all_is key ∙ ap (λ (t : Bool). t || is_listed cleared key) (ap (λ (keys : List Key). is_listed keys key) more_is ∙ listed_cleared old changes key)
 
 -- ---- several rows
 
@@ -182,17 +161,12 @@ row_kept row entries fine = (after_row_in_order entries row fine.0, kept_after_r
 
 -- ---- the rows that the replies tell, and the record's own row
 
-pub told_over : (entries : Entries) (learned : Learned) (puts : Entries) (rows : List JournalRow) → rows ≡ learned.told.items → IsPutOver puts entries (after_rows entries rows) → IsPutOver puts entries (after_told entries learned)
-told_over entries learned puts rows is over = subst (λ (list : List JournalRow). IsPutOver puts entries (after_rows entries list)) is over
-
 pub batch_fine : (entries : Entries) (learned : Learned) → AreKeptInOrder entries → AreKeptInOrder (after_batch entries learned)
 batch_fine entries learned fine = row_kept learned.own (after_told entries learned) (rows_kept_in_order learned.told.items entries fine)
 
-pub may_put : (entries : Entries) (learned : Learned) (told puts : Entries) → AreKeptInOrder entries → IsPutOver told entries (after_told entries learned)
-    → ((now : Entries) → IsPutOver told entries now → IsPutOver puts entries (after_journal_row now learned.own)) → MayBePut puts entries
-may_put entries learned told puts fine over own =
-    let after = batch_fine entries learned fine in
-    record { new = after_batch entries learned; over = own (after_told entries learned) over; order = after.0; kept = after.1 }
+pub told_staged : (entries : Entries) (learned : Learned) (cleared : List Key) (puts : Entries) (rows : List JournalRow) → rows ≡ learned.told.items → IsOverwritten cleared puts entries (after_rows entries rows) → IsOverwritten cleared puts entries (after_told entries learned)
+told_staged entries learned cleared puts rows is over = subst (λ (list : List JournalRow). IsOverwritten cleared puts entries (after_rows entries list)) is over
 
-pub lock_told : (entries : Entries) (learned : Learned) (puts : Entries) (locked : Bool) → locked ≡ is_filled (option_or (entry_value puts locked_key) (entry_value entries locked_key)) → IsPutOver puts entries (after_told entries learned) → locked ≡ is_locked (after_told entries learned)
-lock_told entries learned puts locked is over = is ∙ ap is_filled (sym (over locked_key))
+-- the lock after rows, by what they change
+pub lock_staged : (cleared : List Key) (puts old now : Entries) (locked : Bool) → locked ≡ is_filled (option_or (entry_value puts locked_key) (if is_listed cleared locked_key then None else entry_value old locked_key)) → IsOverwritten cleared puts old now → locked ≡ is_locked now
+lock_staged cleared puts old now locked is over = is ∙ ap is_filled (sym (over locked_key))

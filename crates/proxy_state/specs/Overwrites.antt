@@ -1,5 +1,5 @@
 -- Entries that are written over others: what one row of a journal removes, and what it puts.
-use Rattle.std.specs.Prelude.{◌≡◌, List, [], Bool, true, false, ◌&&◌, None, if◌then◌else◌, filter, not}
+use Rattle.std.specs.Prelude.{◌≡◌, List, [], Bool, true, false, None, if◌then◌else◌, filter, not}
 use Rattle.std.specs.Option.{is_some, option_or}
 use Rattle.std.specs.List.{flat_map, list_any}
 use Rattle.std.specs.Map.{keys_of}
@@ -56,13 +56,6 @@ abbrev pub IsPutOver : (puts old new : Entries) → Type 0
 IsPutOver puts old new =
     (key : Key) → entry_value new key ≡ option_or (entry_value puts key) (entry_value old key)
 
--- some entries with these put over them are the entries of a metadata
-pub record MayBePut (puts old : Entries) : Type 0 where
-  pub new : Entries
-  pub over : IsPutOver puts old new
-  pub order : IsInOrder new
-  pub kept : AreKept new
-
 -- What takes back entries that were put: keys that had none, and the entries displaced at the
 -- others.
 pub record TakesBack (missing : List Key) (displaced old new : Entries) : Type 0 where
@@ -90,11 +83,6 @@ pub record AreDisplaced (entries puts displaced : Entries) : Type 0 where
       (key : Key) → has_entry puts key ≡ true → has_entry entries key ≡ true
       → has_entry displaced key ≡ true
 
--- the change is a Clear
-abbrev pub is_clear : Change → Bool
-is_clear (Set key value) = false
-is_clear (Clear range) = true
-
--- the transaction is applied, and has a Clear
-abbrev pub clears_some : (locked : Bool) → StateTxn → Bool
-clears_some locked t = is_applied locked t && list_any is_clear t.mutations
+-- the entries without those at some keys
+abbrev pub entries_without : (keys : List Key) → Entries → Entries
+entries_without keys entries = filter (λ (entry : Entry). not (is_listed keys entry.0)) entries

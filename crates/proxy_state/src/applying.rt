@@ -5,7 +5,7 @@ ghost use Rattle.std.specs.List.{list_all, list_any};
 ghost use Rattle.model.specs.Verdicts.{is_committed};
 ghost use Rattle.model.specs.Metadata.{is_applied};
 ghost use Rattle.proxy_state.specs.MapEntries.{bytes_of_keys};
-ghost use Rattle.proxy_state.specs.Overwrites.{changes_of, cleared_keys, is_clear, clears_some};
+ghost use Rattle.proxy_state.specs.Overwrites.{changes_of, cleared_keys};
 
 use crate::entry_map::EntryMap;
 use model::{StateTxn, Verdict};
@@ -26,36 +26,6 @@ pub(crate) fn any_applied(locked: bool, transactions: &[StateTxn]) -> bool
     transactions
         .iter()
         .any(|transaction| is_applied(locked, transaction))
-}
-
-/// Whether any of the transactions that are applied has a Clear.
-pub(crate) fn any_clears(locked: bool, transactions: &[StateTxn]) -> bool
-    ensures { result ≡ list_any (clears_some locked) transactions.now }
-{
-    transactions
-        .iter()
-        .any(|transaction| clears_some(locked, transaction))
-}
-
-fn clears_some(locked: bool, transaction: &StateTxn) -> bool
-    ensures { result ≡ clears_some locked transaction.now }
-{
-    is_applied(locked, transaction) && has_clear(transaction.mutations.as_slice())
-}
-
-fn has_clear(changes: &[Change]) -> bool
-    ensures { result ≡ list_any is_clear changes.now }
-{
-    changes.iter().any(|change| is_clear(change))
-}
-
-fn is_clear(change: &Change) -> bool
-    ensures { result ≡ is_clear change.now }
-{
-    match change {
-        Change::Set { key: _, value: _ } => false,
-        Change::Clear { range: _ } => true,
-    }
 }
 
 /// The change that the transactions make, if they are one that is applied and has a single change.

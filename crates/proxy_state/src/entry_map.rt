@@ -1,7 +1,7 @@
 //! The entries that the metadata keeps, in the order of their keys.
 
 ghost use Rattle.std.specs.Prelude.{◌≡◌, ◌++◌, ◌&&◌, [], true, false, None, Some, IfOk, OnOk, OnErr};
-ghost use Rattle.std.specs.Prelude.{option_map, filter, map, not, if◌then◌else◌};
+ghost use Rattle.std.specs.Prelude.{option_map, filter, not, if◌then◌else◌};
 ghost use Rattle.std.specs.Option.{option_or};
 ghost use Rattle.std.specs.Ordering.{nat_cmp};
 ghost use Rattle.std.specs.BTreeMap.{insert_entry};
@@ -10,12 +10,13 @@ ghost use Rattle.std.specs.Map.{keys_of};
 ghost use Rattle.system_keys.specs.Keys.{Key, holds};
 ghost use Rattle.system_keys.specs.Families.{key_servers_family};
 ghost use Rattle.model.specs.Metadata.{Entries, IsInOrder, entry_value};
-ghost use Rattle.model.specs.Metadata.{serving_entry, key_servers_entries};
-ghost use Rattle.model.specs.Metadata.{behind_prefix, is_entry_inside};
 ghost use Rattle.proxy_state.specs.MapEntries.{entries_of, bytes_of_keys};
+ghost use Rattle.proxy_state.specs.MapEntries.{is_serving_up_to, is_serving_inside};
 ghost use Rattle.proxy_state.specs.Overwrites.{is_same_key, is_listed, has_entry, missing_keys};
 ghost use Rattle.proxy_state.specs.Overwrites.{IsOverwritten, IsPutOver, TakesBack, AreDisplaced};
+ghost use Rattle.proxy_state.specs.Overwrites.{entries_without};
 
+use crate::key_set::KeySet;
 use std::alloc::Global;
 use std::collections::BTreeMap;
 use std::collections::btree_map::{Iter, Range};
@@ -141,6 +142,15 @@ impl EntryMap {
         }
     }
 
+    /// Removes the entries at the keys of the set. Does not allocate.
+    pub(crate) fn remove_all(&mut self, keys: &KeySet)
+        ensures { IsInOrder self.old → self.new ≡ entries_without keys.now self.old }
+    {
+        for key in keys.iter() {
+            self.remove_key(key.as_slice());
+        }
+    }
+
     /// Removes the entry at the key, if there is one. Does not allocate.
     fn remove_key(&mut self, key: &[u8])
         ensures values { (other : Key) → entry_value self.new other
@@ -227,6 +237,20 @@ impl EntryMap {
         self.write(undo.displaced);
     }
 
+    /// The keys of the set at which the map has no entry. Fails only with `OutOfMemory`.
+    pub(crate) fn keys_lacked(&self, keys: &KeySet) -> Result<KeySet, OutOfMemory>
+        ensures { IfOk result (λ lacked. (key : Key) → is_listed lacked key
+            ≡ (not (has_entry self.now key) && is_listed keys.now key)) }
+    {
+        let mut lacked = KeySet::new(self.alloc);
+        for key in keys.iter() {
+            if self.get(key.as_slice()).is_none() {
+                lacked.insert(key.as_slice())?;
+            }
+        }
+        Ok(lacked)
+    }
+
     /// The keys of the other map that this one lacks, in order. Fails only with `OutOfMemory`.
     fn missing_keys(&self, puts: &EntryMap) -> Result<Vec<Vec<u8>>, OutOfMemory>
         ensures keys { IfOk result (λ keys. bytes_of_keys keys.items
@@ -280,29 +304,29 @@ impl EntryMap {
         let _ = self.values.insert(key, value);
     }
 
-    /// The value of the keyServers entry that serves a key: the greatest one at or before it
-    /// (release 7.1). Fails only with `OutOfMemory`.
-    pub(crate) fn serving_value<'a>(&'a self, key: &[u8]) -> Result<Option<&'a [u8]>, OutOfMemory>
-        ensures { IfOk result (λ value. option_map (λ value. value.now) value
-            ≡ option_map (λ entry. entry.1) (serving_entry (key_servers_entries self.now) key.now)) }
+    /// The keyServers entries at or before the key, in the order of their keys. Fails only with
+    /// `OutOfMemory`.
+    pub(crate) fn serving_up_to<'a>(
+        &'a self,
+        key: &[u8],
+    ) -> Result<Range<'a, Vec<u8>, Bytes>, OutOfMemory>
+        ensures { IfOk result (λ found. entries_of found
+            ≡ filter (is_serving_up_to key.now) self.now) }
     {
         let least = key_servers_key(self.alloc, b"")?;
         let greatest = key_servers_key(self.alloc, key)?;
         let bounds = (Bound::Included(&least), Bound::Included(&greatest));
-        match self.values.range(bounds).next_back() {
-            Some((_key, value)) => Ok(Some(value.as_slice())),
-            None => Ok(None),
-        }
+        Ok(self.values.range(bounds))
     }
 
     /// The keyServers entries after the begin of the range and before its end, in the order of
-    /// their keys (release 7.1). Fails only with `OutOfMemory`.
+    /// their keys. Fails only with `OutOfMemory`.
     pub(crate) fn serving_inside<'a>(
         &'a self,
         range: &KeyRange,
     ) -> Result<Range<'a, Vec<u8>, Bytes>, OutOfMemory>
-        ensures { IfOk result (λ found. map behind_prefix (entries_of found)
-            ≡ filter (is_entry_inside range.now) (key_servers_entries self.now)) }
+        ensures { IfOk result (λ found. entries_of found
+            ≡ filter (is_serving_inside range.now) self.now) }
     {
         let begin = key_servers_key(self.alloc, range.begin())?;
         let end = key_servers_key(self.alloc, range.end())?;

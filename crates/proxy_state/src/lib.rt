@@ -11,10 +11,12 @@ mod applying;
 mod begun;
 mod columns;
 mod entry_map;
+mod entry_view;
 #[cfg(test)]
 mod finish_tests;
 mod finishing;
 mod joining;
+mod key_set;
 mod learned;
 mod learning;
 mod metadata;
@@ -29,6 +31,7 @@ mod replies;
 #[cfg(test)]
 mod reply_tests;
 mod routes;
+mod staged;
 mod tagging;
 mod telling;
 #[cfg(test)]

@@ -1,28 +1,29 @@
 //! The metadata that every commit proxy keeps the same.
 
-ghost use Rattle.std.specs.Prelude.{◌≡◌, [], true, false, IsOk, IfOk, OnOk, OnErr, IfSome};
-ghost use Rattle.std.specs.Prelude.{option_map, fold};
-ghost use Rattle.std.specs.List.{flat_map, list_any};
-ghost use Rattle.std.specs.Option.{option_to_list, option_or};
-ghost use Rattle.std.specs.BTreeSet.{insert_key};
+ghost use Rattle.std.specs.Prelude.{◌≡◌, ◌&&◌, [], false, IsOk, IfOk, OnOk, OnErr, None};
+ghost use Rattle.std.specs.Prelude.{option_map, fold, not, if◌then◌else◌};
+ghost use Rattle.std.specs.List.{list_any};
+ghost use Rattle.std.specs.Option.{option_or};
 ghost use Rattle.system_keys.specs.declared.change.Change.TheVariants.{Set, Clear};
 ghost use Rattle.system_keys.specs.Keys.{Key};
 ghost use Rattle.system_keys.specs.Families.{is_kept, metadata_version_family};
 ghost use Rattle.model.specs.Metadata.{IsInOrder, AreKept, entry_value, is_locked, after_change};
 ghost use Rattle.model.specs.Metadata.{after_changes, is_applied, after_state, after_journal_row};
-ghost use Rattle.model.specs.Metadata.{key_servers_entries, serving_entry, entry_tags, tag_cmp, tags, tags_of_key};
-ghost use Rattle.model.specs.Metadata.{Entries, is_filled, routing};
+ghost use Rattle.model.specs.Metadata.{Entries, is_filled, routing, tags, tags_of_key};
 ghost use Rattle.model.specs.Transactions.{locked_key};
-ghost use Rattle.proxy_state.specs.Overwrites.{IsPutOver, MayBePut, MayTakeBack, TakesBack};
+ghost use Rattle.proxy_state.specs.Overwrites.{IsOverwritten, IsPutOver, MayTakeBack, TakesBack};
+ghost use Rattle.proxy_state.specs.Overwrites.{entries_without, has_entry, is_listed};
 ghost use Rattle.proxy_state.specs.Finishing.{after_rows};
 
-use crate::applying::{any_applied, any_clears, cleared_keys, is_applied, only_change};
+use crate::applying::{any_applied, cleared_keys, is_applied, only_change};
 use crate::entry_map::{EntryMap, Undo};
+use crate::entry_view::EntryView;
+use crate::key_set::KeySet;
 use crate::routes::routes;
-use crate::tagging::{add_tags, add_tags_inside, listed};
+use crate::staged::Staged;
+use crate::tagging::{tags_of, tags_of_key};
 use model::{JournalRow, Routing, StateTxn};
 use std::alloc::Global;
-use std::collections::BTreeSet;
 use std::marker::Model;
 use system_keys::{
     Bytes, Change, Items, KeyRange, LOCKED_KEY, METADATA_VERSION_KEY, OutOfMemory, RowKind, Tag,
@@ -123,53 +124,45 @@ impl Metadata {
         Ok(())
     }
 
-    /// What the rows put, if they clear nothing: the entries that, put over these, give the metadata
-    /// after the rows. Returns `None` if a transaction that is applied has a Clear. Fails only with
-    /// `OutOfMemory`.
-    pub(crate) fn puts_of_rows(&self, rows: &[JournalRow]) -> Result<Option<Metadata>, OutOfMemory>
-        ensures { IfOk result (λ found. IfSome found (λ puts.
-            IsPutOver puts self.now (after_rows self.now rows.now))) }
+    /// What the rows change, applied in order. Fails only with `OutOfMemory`.
+    pub(crate) fn stage_rows(&self, rows: &[JournalRow]) -> Result<Staged, OutOfMemory>
+        ensures { IfOk result (λ staged.
+            IsOverwritten staged.cleared staged.puts self.now (after_rows self.now rows.now)) }
     {
-        let mut puts = Metadata::new(self.entries.alloc());
+        let mut staged = Staged::new(self.entries.alloc());
         for row in rows {
-            if !self.add_puts(row, &mut puts)? {
-                return Ok(None);
-            }
+            self.stage_row(row, &mut staged)?;
         }
-        Ok(Some(puts))
+        Ok(staged)
     }
 
-    /// Adds what the row puts after others were put, if it clears nothing. Returns whether it does
-    /// not. Fails only with `OutOfMemory`.
-    pub(crate) fn add_puts(
-        &self,
-        row: &JournalRow,
-        puts: &mut Metadata,
-    ) -> Result<bool, OutOfMemory>
-        ensures { IfOk result (λ all. all ≡ true → (now : Entries)
-            → IsPutOver puts.old self.now now
-            → IsPutOver puts.new self.now (after_journal_row now row.now)) }
+    /// Adds what the row changes after the changes so far. Fails only with `OutOfMemory`.
+    pub(crate) fn stage_row(&self, row: &JournalRow, staged: &mut Staged) -> Result<(), OutOfMemory>
+        ensures { OnOk result ((now : Entries)
+            → IsOverwritten staged.old.cleared staged.old.puts self.now now
+            → IsOverwritten staged.new.cleared staged.new.puts self.now
+            (after_journal_row now row.now)) }
     {
         let states = row.states.as_slice();
-        let locked = self.is_locked_under(puts);
-        if any_clears(locked, states) {
-            return Ok(false);
-        }
-        puts.apply_states(locked, states)?;
-        Ok(true)
+        let locked = self.is_locked_after(staged);
+        let cleared = cleared_keys(&self.entries, locked, states)?;
+        staged.cleared.insert_all(&cleared)?;
+        staged.puts.apply_states(locked, states)?;
+        Ok(())
     }
 
-    /// Whether the database is locked once these entries are put over those of the metadata. Does
-    /// not allocate.
-    pub(crate) fn is_locked_under(&self, puts: &Metadata) -> bool
-        ensures value { result ≡ is_filled
-            (option_or (entry_value puts.now locked_key) (entry_value self.now locked_key)) }
+    /// Whether the database is locked after these changes of the metadata. Does not allocate.
+    pub(crate) fn is_locked_after(&self, staged: &Staged) -> bool
+        ensures value { result ≡ is_filled (option_or (entry_value staged.now.puts locked_key)
+            (if is_listed staged.now.cleared locked_key
+            then None else entry_value self.now locked_key)) }
         ensures order { IsInOrder self.now }
         ensures kept { AreKept self.now }
     {
         let own = self.row(LOCKED_KEY);
-        match puts.row(LOCKED_KEY) {
+        match staged.puts.row(LOCKED_KEY) {
             Some(value) => !value.is_empty(),
+            None if staged.cleared.contains(LOCKED_KEY) => false,
             None => match own {
                 Some(value) => !value.is_empty(),
                 None => false,
@@ -177,13 +170,20 @@ impl Metadata {
         }
     }
 
+    /// The keys of the set at which the metadata has no entry. Fails only with `OutOfMemory`.
+    pub(crate) fn keys_lacked(&self, keys: &KeySet) -> Result<KeySet, OutOfMemory>
+        ensures { IfOk result (λ lacked. (key : Key) → is_listed lacked key
+            ≡ (not (has_entry self.now key) && is_listed keys.now key)) }
+    {
+        self.entries.keys_lacked(keys)
+    }
+
     /// Puts the entries over those of the metadata, and returns what takes them back. Fails only
     /// with `OutOfMemory`; the metadata is then unchanged.
     pub(crate) fn put_over(&mut self, puts: Metadata) -> Result<Undo, OutOfMemory>
-        requires { MayBePut puts self.old }
-        ensures ok { OnOk result ((new : Entries) → IsInOrder new → IsPutOver puts self.old new
-            → self.new ≡ new) }
+        ensures ok { OnOk result (IsPutOver puts self.old self.new) }
         ensures undo { IfOk result (λ undo. TakesBack undo.0 undo.1 self.old self.new) }
+        ensures order { IsInOrder self.new }
         ensures err { OnErr result (self.new ≡ self.old) }
     {
         let undo = self.entries.put_all(puts.entries)?;
@@ -197,6 +197,21 @@ impl Metadata {
             → self.new ≡ old }
     {
         self.entries.take_back(undo);
+    }
+
+    /// Removes the entries at the keys of the set. Does not allocate.
+    pub(crate) fn remove_all(&mut self, keys: &KeySet)
+        ensures { self.new ≡ entries_without keys.now self.old }
+    {
+        self.entries.remove_all(keys);
+    }
+
+    /// The entries, except for those at the keys of the set. Does not allocate.
+    pub(crate) fn without<'a>(&'a self, keys: &'a KeySet) -> EntryView<'a>
+        ensures left { result ≡ entries_without keys.now self.now }
+        ensures whole { keys.now ≡ [] → result ≡ self.now }
+    {
+        EntryView::new(&self.entries, keys)
     }
 
     /// The metadata after the rows of the journal, applied in order without copying the metadata.
@@ -263,10 +278,8 @@ impl Metadata {
     pub fn tags_of(&self, change: &Change) -> Result<Items<Tag>, OutOfMemory>
         ensures { IfOk result (λ found. found ≡ tags self.now change.now) }
     {
-        match change {
-            Change::Set { key, value: _ } => self.tags_of_key(key.as_slice()),
-            Change::Clear { range } => self.tags_of_range(range),
-        }
+        let none = KeySet::new(self.entries.alloc());
+        tags_of(&self.without(&none), change)
     }
 
     /// The tags of a key, which may be any bytes: those of a Set of it.
@@ -275,31 +288,8 @@ impl Metadata {
     pub fn tags_of_key(&self, key: &[u8]) -> Result<Items<Tag>, OutOfMemory>
         ensures { IfOk result (λ found. found ≡ tags_of_key self.now key.now) }
     {
-        let mut tags = BTreeSet::new(self.entries.alloc());
-        self.add_tags_of_key(key, &mut tags)?;
-        listed(self.entries.alloc(), &tags)
-    }
-
-    fn tags_of_range(&self, range: &KeyRange) -> Result<Items<Tag>, OutOfMemory>
-        ensures { IfOk result (λ found. found ≡ tags self.now (Clear range.now)) }
-    {
-        let mut tags = BTreeSet::new(self.entries.alloc());
-        self.add_tags_of_key(range.begin(), &mut tags)?;
-        add_tags_inside(&self.entries, range, &mut tags)?;
-        listed(self.entries.alloc(), &tags)
-    }
-
-    /// Adds the tags of the entry that serves the key.
-    #[tactic(auto, unfolding(model::specs::Metadata::entry_tags))]
-    fn add_tags_of_key(&self, key: &[u8], tags: &mut BTreeSet<Tag>) -> Result<(), OutOfMemory>
-        ensures { OnOk result (tags.new.keys ≡ fold (insert_key tag_cmp) tags.old.keys
-            (flat_map (entry_tags self.now)
-            (option_to_list (serving_entry (key_servers_entries self.now) key.now)))) }
-    {
-        match self.entries.serving_value(key)? {
-            Some(value) => add_tags(&self.entries, value, tags),
-            None => Ok(()),
-        }
+        let none = KeySet::new(self.entries.alloc());
+        tags_of_key(&self.without(&none), key)
     }
 
     /// The routing of the whole key space at this version: the lock, the version of the metadata,

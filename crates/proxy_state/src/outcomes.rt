@@ -11,28 +11,29 @@ ghost use Rattle.proxy_state.specs.Finishing.{outcome_asked, outcomes_by, finish
 
 use crate::begun::BegunRecord;
 use crate::columns::joined_by;
-use crate::metadata::Metadata;
+use crate::entry_view::EntryView;
+use crate::tagging::tags_of;
 use model::{Config, Finished, Outcome, Tagged, Verdict};
 use mutation::Stamped;
 use std::alloc::Global;
 use system_keys::{Change, Items, OutOfMemory};
 
 /// The finished batch of the record, by the verdicts of the columns. `locked` is the lock before the
-/// batch, and `metadata` is that after it. Fails only with `OutOfMemory`.
+/// batch, and `entries` are those of the metadata after it. Fails only with `OutOfMemory`.
 pub(crate) fn finished_by(
     alloc: Global,
     config: &Config,
     columns: &[Items<Verdict>],
     locked: bool,
-    metadata: &Metadata,
+    entries: &EntryView,
     begun: &BegunRecord,
 ) -> Result<Finished, OutOfMemory>
     requires { IsAsking config.now begun.now }
     ensures { IfOk result (λ finished.
-        finished ≡ finished_by config.now columns.now locked metadata.now begun.now.rec) }
+        finished ≡ finished_by config.now columns.now locked entries.now begun.now.rec) }
 {
     let outcomes = outcomes_of(alloc, config, columns, locked, begun)?;
-    let tagged = tagged_all(alloc, metadata, begun.rec.batch(), &outcomes)?;
+    let tagged = tagged_all(alloc, entries, begun.rec.batch(), &outcomes)?;
     Ok(Finished {
         row: begun.rec.row(),
         version: begun.rec.version(),
@@ -124,18 +125,18 @@ fn outcome_by(verdict: Verdict, refused: bool, version: u64, number: usize) -> O
 /// The mutations of the committed transactions, each with its tags.
 fn tagged_all(
     alloc: Global,
-    metadata: &Metadata,
+    entries: &EntryView,
     batch: &[Stamped],
     outcomes: &[Outcome],
 ) -> Result<Vec<Tagged>, OutOfMemory>
     requires { length outcomes.now ≡ length batch.now }
     ensures { IfOk result (λ tagged.
-        tagged.items ≡ tagged_all metadata.now batch.now outcomes.now) }
+        tagged.items ≡ tagged_all entries.now batch.now outcomes.now) }
 {
     let mut tagged = Vec::new(alloc);
     for (place, transaction) in batch.iter().enumerate() {
         if let Outcome::Committed { version: _, number } = outcomes[place] {
-            add_tagged(metadata, number, transaction.changes(), &mut tagged)?;
+            add_tagged(entries, number, transaction.changes(), &mut tagged)?;
         }
     }
     Ok(tagged)
@@ -143,20 +144,20 @@ fn tagged_all(
 
 /// Adds the mutations of the transaction of this number, each with its tags.
 fn add_tagged(
-    metadata: &Metadata,
+    entries: &EntryView,
     number: usize,
     changes: &[Change],
     tagged: &mut Vec<Tagged>,
 ) -> Result<(), OutOfMemory>
     ensures { OnOk result (tagged.new.items
-        ≡ tagged.old.items ++ tagged_from metadata.now number 0 changes.now) }
+        ≡ tagged.old.items ++ tagged_from entries.now number 0 changes.now) }
 {
     for (place, change) in changes.iter().enumerate() {
         tagged.push(Tagged {
             number,
             place,
             change: change.copy()?,
-            tags: metadata.tags_of(change)?,
+            tags: tags_of(entries, change)?,
         })?;
     }
     Ok(())

@@ -1,28 +1,75 @@
-//! The tags of the servers that keyServers values name.
+//! The tags of a change: those of the servers that the keyServers entries which it touches name.
 
 ghost use Rattle.std.specs.Prelude.{◌≡◌, ◌++◌, IsOk, IfOk, OnOk, filter, fold};
 ghost use Rattle.std.specs.List.{flat_map};
 ghost use Rattle.std.specs.Option.{option_to_list};
 ghost use Rattle.std.specs.BTreeSet.{insert_key};
+ghost use Rattle.system_keys.specs.declared.change.Change.TheVariants.{Clear};
 ghost use Rattle.system_keys.specs.declared.refusal.RowFault.{RowFault};
 ghost use Rattle.system_keys.specs.Families.{server_tag_family};
 ghost use Rattle.system_keys.specs.Rows.{servers_at};
 ghost use Rattle.model.specs.Metadata.{key_servers_entries, is_entry_inside, entry_tags};
-ghost use Rattle.model.specs.Metadata.{server_tags, servers_of, tag_cmp};
+ghost use Rattle.model.specs.Metadata.{server_tags, servers_of, serving_entry, tag_cmp};
+ghost use Rattle.model.specs.Metadata.{tags, tags_of_key};
 
-use crate::entry_map::EntryMap;
+use crate::entry_view::EntryView;
 use std::alloc::Global;
 use std::collections::BTreeSet;
 use system_keys::{
-    Items, KeyRange, OutOfMemory, RowFault, SERVER_TAG_PREFIX, ServerId, Tag, decode_key_servers,
-    decode_tag,
+    Change, Items, KeyRange, OutOfMemory, RowFault, SERVER_TAG_PREFIX, ServerId, Tag,
+    decode_key_servers, decode_tag,
 };
+
+/// The tags of a change, as [`crate::Metadata::tags_of`] says. Fails only with `OutOfMemory`.
+pub(crate) fn tags_of(entries: &EntryView, change: &Change) -> Result<Items<Tag>, OutOfMemory>
+    ensures { IfOk result (λ found. found ≡ tags entries.now change.now) }
+{
+    match change {
+        Change::Set { key, value: _ } => tags_of_key(entries, key.as_slice()),
+        Change::Clear { range } => tags_of_range(entries, range),
+    }
+}
+
+/// The tags of a key. Fails only with `OutOfMemory`.
+pub(crate) fn tags_of_key(entries: &EntryView, key: &[u8]) -> Result<Items<Tag>, OutOfMemory>
+    ensures { IfOk result (λ found. found ≡ tags_of_key entries.now key.now) }
+{
+    let mut tags = BTreeSet::new(entries.alloc());
+    add_tags_of_key(entries, key, &mut tags)?;
+    listed(entries.alloc(), &tags)
+}
+
+fn tags_of_range(entries: &EntryView, range: &KeyRange) -> Result<Items<Tag>, OutOfMemory>
+    ensures { IfOk result (λ found. found ≡ tags entries.now (Clear range.now)) }
+{
+    let mut tags = BTreeSet::new(entries.alloc());
+    add_tags_of_key(entries, range.begin(), &mut tags)?;
+    add_tags_inside(entries, range, &mut tags)?;
+    listed(entries.alloc(), &tags)
+}
+
+/// Adds the tags of the entry that serves the key.
+#[tactic(auto, unfolding(model::specs::Metadata::entry_tags))]
+fn add_tags_of_key(
+    entries: &EntryView,
+    key: &[u8],
+    tags: &mut BTreeSet<Tag>,
+) -> Result<(), OutOfMemory>
+    ensures { OnOk result (tags.new.keys ≡ fold (insert_key tag_cmp) tags.old.keys
+        (flat_map (entry_tags entries.now)
+        (option_to_list (serving_entry (key_servers_entries entries.now) key.now)))) }
+{
+    match entries.serving_value(key)? {
+        Some(value) => add_tags(entries, value, tags),
+        None => Ok(()),
+    }
+}
 
 /// Adds the tags of each keyServers entry after the begin of the range and before its end (release
 /// 7.1). Fails only with `OutOfMemory`.
 #[tactic(auto, unfolding(model::specs::Metadata::entry_tags))]
-pub(crate) fn add_tags_inside(
-    entries: &EntryMap,
+fn add_tags_inside(
+    entries: &EntryView,
     range: &KeyRange,
     tags: &mut BTreeSet<Tag>,
 ) -> Result<(), OutOfMemory>
@@ -30,8 +77,10 @@ pub(crate) fn add_tags_inside(
         (flat_map (entry_tags entries.now)
         (filter (is_entry_inside range.now) (key_servers_entries entries.now)))) }
 {
-    for (_, value) in entries.serving_inside(range)? {
-        add_tags(entries, value.as_slice(), tags)?;
+    for (key, value) in entries.entries.serving_inside(range)? {
+        if !entries.hidden.contains(key.as_slice()) {
+            add_tags(entries, value.as_slice(), tags)?;
+        }
     }
     Ok(())
 }
@@ -42,7 +91,7 @@ pub(crate) fn add_tags_inside(
 ///
 /// A value that does not decode does not allocate. Fails only with `OutOfMemory`.
 pub(crate) fn add_tags(
-    entries: &EntryMap,
+    entries: &EntryView,
     value: &[u8],
     tags: &mut BTreeSet<Tag>,
 ) -> Result<(), OutOfMemory>
@@ -63,7 +112,7 @@ pub(crate) fn add_tags(
 /// Adds the tags of the servers. Fails only with `OutOfMemory`.
 #[tactic(auto, using(crate::proofs::Tags::next_tags))]
 fn add_server_tags(
-    entries: &EntryMap,
+    entries: &EntryView,
     servers: &[ServerId],
     tags: &mut BTreeSet<Tag>,
 ) -> Result<(), OutOfMemory>
@@ -88,7 +137,7 @@ fn add_tag(tags: &mut BTreeSet<Tag>, tag: Option<Tag>) -> Result<(), OutOfMemory
 
 /// The tag of a server, by its serverTag entry. Does not allocate.
 #[tactic(auto, unfolding(model::specs::Metadata::server_tags))]
-fn tag_of(entries: &EntryMap, server: &ServerId) -> Option<Tag>
+fn tag_of(entries: &EntryView, server: &ServerId) -> Option<Tag>
     ensures { option_to_list result ≡ server_tags entries.now server.now }
 {
     let value = entries.get(&tag_key(server))?;

@@ -5,4 +5,4 @@ use Rattle.proxy_state.specs.OwnRoutes.{own_routes}
 use Rattle.proxy_state.proofs.routes.routes.Given as goal
 
 abbrev pub invariant-loop-key : goal.invariant-loop-key
-invariant-loop-key l = l.routes.items ++ own_routes l.entries (entries_of l.key-iterator) ≡ own_routes l.entries l.entries
+invariant-loop-key l = l.routes.items ++ own_routes l.view (entries_of l.key-iterator) ≡ own_routes l.view l.entries

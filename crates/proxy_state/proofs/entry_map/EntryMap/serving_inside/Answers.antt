@@ -1,7 +1,7 @@
 -- A range begins below its end; and the entries of the map between its ends are the keyServers entries inside.
-use Rattle.std.proofs.Common.{◌∙◌, ap, map, filter}
-use Rattle.model.specs.Metadata.{Entries, behind_prefix, is_entry_inside, key_servers_entries}
-use Rattle.proxy_state.specs.MapEntries.{entries_of}
+use Rattle.std.proofs.Common.{◌∙◌, ap, filter}
+use Rattle.model.specs.Metadata.{Entries}
+use Rattle.proxy_state.specs.MapEntries.{entries_of, is_serving_inside}
 use Rattle.proxy_state.proofs.ServingEntries.{between_inside, ends_forward}
 use Rattle.proxy_state.proofs.entry_map.EntryMap.serving_inside.Goals as goal
 
@@ -10,6 +10,6 @@ range-requires c = ends_forward c.in_ok-begin.begin c.in_ok-end.end c.args.range
 
 pub returns : goal.returns
 returns c =
-    ap (λ es. map behind_prefix (entries_of es)) (c.range.ensures.between tt)
+    ap entries_of (c.range.ensures.between tt)
     ∙ between_inside c.self.inside.values.entries c.in_ok-begin.begin c.in_ok-end.end c.args.range.now (rw (← c.begin.ensures.value) c.in_ok-begin.ensures) (rw (← c.end.ensures.value) c.in_ok-end.ensures)
-    ∙ ap (λ (entries : Entries). filter (is_entry_inside c.args.range.now) (key_servers_entries entries)) c.self.view_is
+    ∙ ap (λ (entries : Entries). filter (is_serving_inside c.args.range.now) entries) c.self.view_is

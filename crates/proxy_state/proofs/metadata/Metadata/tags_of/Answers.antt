@@ -1,7 +1,8 @@
-use Rattle.std.proofs.Common.{rules}
-use Rattle.model.specs.Metadata.{tags}
+-- No entry is hidden.
+use Rattle.std.proofs.Common.{◌∙◌, ap}
+use Rattle.std.proofs.lemmas.Result.{IfOk-weaker}
+use Rattle.model.specs.Metadata.{Entries, tags}
 use Rattle.proxy_state.proofs.metadata.Metadata.tags_of.Goals as goal
 
-pub returns-in-Set : goal.returns-in-Set
-unfolding tags
-returns-in-Set c = search rules
+pub returns : goal.returns
+returns c = IfOk-weaker c.tags_of.result _ _ (λ found is. is ∙ ap (λ (entries : Entries). tags entries c.args.change.now) (c.without.ensures.whole c.new-none.ensures)) c.tags_of.ensures

@@ -1,13 +1,8 @@
--- The tags of the entry that serves the key, added to none.
-use Rattle.std.proofs.Common.{◌∙◌, flat_map, option_to_list}
+-- No entry is hidden.
+use Rattle.std.proofs.Common.{◌∙◌, ap}
 use Rattle.std.proofs.lemmas.Result.{IfOk-weaker}
-use Rattle.model.specs.Metadata.{tags, entry_tags, serving_entry, key_servers_entries}
-use Rattle.proxy_state.proofs.Tags.{rising_from}
+use Rattle.model.specs.Metadata.{Entries, tags_of_key}
 use Rattle.proxy_state.proofs.metadata.Metadata.tags_of_key.Goals as goal
 
 pub returns : goal.returns
-unfolding tags
-returns c =
-    IfOk-weaker c.listed.result _ _
-    (λ list is. is ∙ rising_from c.new-tags.result.keys c.add_tags_of_key.new.tags.keys (flat_map (entry_tags c.args.self.now) (option_to_list (serving_entry (key_servers_entries c.args.self.now) c.args.key.now))) c.new-tags.ensures.empty c.in_ok-add_tags_of_key.ensures)
-    c.listed.ensures
+returns c = IfOk-weaker c.tags_of_key.result _ _ (λ found is. is ∙ ap (λ (entries : Entries). tags_of_key entries c.args.key.now) (c.without.ensures.whole c.new-none.ensures)) c.tags_of_key.ensures
