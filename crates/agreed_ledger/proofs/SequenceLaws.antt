@@ -15,7 +15,8 @@ use Rattle.model.specs.Stamps.{Given, stamped_from}
 use Rattle.model.proofs.ChainLaws.{next_follows_moves}
 use Rattle.model.proofs.HistoryLaws.{moves_follow_move, moves_follow_record, last_version-push, records_of_proxy-append}
 use Rattle.model.proofs.MemoryGrows.{set_found}
-use Rattle.agreed_ledger.specs.Sequencing.{KeepsVersions, next_record}
+use Rattle.model.specs.World.{record_after}
+use Rattle.agreed_ledger.specs.Sequencing.{KeepsVersions}
 
 pub move_made : (config : Config) (records : List Record) (moves reserved after : List Move) (move : Move) → after ≡ reserved ++ move ∷ [] → reserved ≡ moves
     → move.date ≡ last_version records + 1 → move.dest < config.resolvers → MovesFollow config records moves → MovesFollow config records after
@@ -27,7 +28,7 @@ move_made config records moves reserved after move pushed same date destination 
 
 module _ (config : Config) (h : List Record) (moves : List Move) (p : ℕ) (batch : List Given) where
   abbrev next : Record
-  next = next_record config h moves p batch
+  next = record_after config h moves p batch
 
   pub record_given : (rec : Record) (after : List Record) → rec ≡ next → after ≡ h ++ rec ∷ [] → MovesFollow config h moves → p < config.proxies
       → last_version h + config.step < version_limit → MovesFollow config after moves

@@ -6,7 +6,8 @@ use Rattle.model.specs.Numbers.{ProxyNumber, ResolverNumber, RowNumber, Version}
 use Rattle.model.specs.Configs.{Config, IsConfig, version_limit}
 use Rattle.model.specs.declared.moves.Move.{Move}
 use Rattle.model.specs.Records.{Record, IsHistory, last_version, records_of_proxy}
-use Rattle.model.specs.Stamps.{Given, stamped_from}
+use Rattle.model.specs.Stamps.{Given}
+use Rattle.model.specs.World.{record_after}
 use Rattle.agreed_ledger.specs.Cells.{Cells}
 use Rattle.agreed_ledger.specs.declared.refusal.Refusal.{Refusal}
 use Rattle.agreed_ledger.specs.declared.refusal.Refusal.TheVariants.{NoSuchResolver, NoSuchProxy}
@@ -39,21 +40,6 @@ pub record IsTicket (config : Config) (t : TicketView) : Type 0 where
   pub history : IsHistory config t.records
   pub last : length t.records ≡ t.row + 1
 
--- the record that a batch of the proxy gets after these records and moves
-abbrev pub next_record :
-    Config → List Record → List Move → ProxyNumber → (batch : List Given) → Record
-next_record config records moves p batch =
-    let previous = last_version records in
-    record {
-      row = length records;
-      previous = previous;
-      version = previous + config.step;
-      own_previous = last_version (records_of_proxy p records);
-      proxy = p;
-      moves = moves;
-      batch = stamped_from (previous + config.step) 0 batch;
-    }
-
 -- the first fault of a batch of the proxy; a cell that is taken is none
 abbrev pub sequence_fault : Cells → SequencedView → ProxyNumber → Option Refusal
 sequence_fault cells s p =
@@ -75,7 +61,8 @@ pub record HasSequenced
     (config : Config) (before : SequencedView) (p : ProxyNumber) (batch : List Given)
     (after : SequencedView) (ticket : TicketView) : Type 0 where
   pub records :
-      after.records ≡ before.records ++ next_record config before.records before.moves p batch ∷ []
+      after.records
+      ≡ before.records ++ record_after config before.records before.moves p batch ∷ []
   pub moves : after.moves ≡ before.moves
   pub row : ticket.row ≡ length before.records
   pub told : ticket.records ≡ after.records

@@ -2,12 +2,12 @@
 
 ghost use Rattle.std.specs.Prelude.{◌≡◌, ◌+◌, ◌<◌, [], IfOk, IfErr, OnOk, None};
 ghost use Rattle.model.specs.Records.{MovesFollow, last_version};
+ghost use Rattle.model.specs.World.{record_after};
 ghost use Rattle.agreed_ledger.specs.Refusals.{refusal_fault};
 ghost use Rattle.agreed_ledger.specs.Sequencing.{
   HasMoved,
   HasSequenced,
   move_fault,
-  next_record,
   sequence_fault,
 };
 
@@ -124,7 +124,7 @@ impl<N: Naming> Sequenced<N> {
         requires proxy { proxy < N.cells.config.proxies }
         requires version { version ≡ last_version self.now.records + N.cells.config.step }
         ensures { IfOk result (λ rec. rec
-            ≡ next_record N.cells.config self.now.records self.now.moves proxy batch.now) }
+            ≡ record_after N.cells.config self.now.records self.now.moves proxy batch.now) }
     {
         let alloc: Global = *self.moves.allocator();
         Record::new(

@@ -3,7 +3,8 @@ use Rattle.std.specs.Prelude.{slice_set}
 use Rattle.facts.specs.Stretches.{Stretch}
 use Rattle.model.specs.Configs.{Config, version_limit}
 use Rattle.model.specs.Records.{Record, last_version}
-use Rattle.agreed_ledger.specs.Sequencing.{KeepsVersions, SequencedView, next_record}
+use Rattle.model.specs.World.{record_after}
+use Rattle.agreed_ledger.specs.Sequencing.{KeepsVersions, SequencedView}
 use Rattle.agreed_ledger.proofs.SequenceLaws.{record_given, versions_kept}
 use Rattle.agreed_ledger.proofs.sequenced.Sequenced.sequence.Goals as goal
 
@@ -12,7 +13,7 @@ of-requires-clause-history g c =
     let config = g.N.Naming.cells.config in
     let h = c.self.inside.records.known in
     let moves = c.self.inside.moves.items in
-    let is : c.in-Ok.rec ≡ next_record config h moves c.args.proxy c.args.batch = c.in-Ok.ensures ∙ ap (λ (s : SequencedView). next_record config s.records s.moves c.args.proxy c.args.batch) (sym c.self.view_is) in
+    let is : c.in-Ok.rec ≡ record_after config h moves c.args.proxy c.args.batch = c.in-Ok.ensures ∙ ap (λ (s : SequencedView). record_after config s.records s.moves c.args.proxy c.args.batch) (sym c.self.view_is) in
     let there : c.args.proxy < config.proxies = omega (arith, c.if-proxies-proxy.false, c.proxies.ensures.value, ap (λ (n : Config). n.proxies) c.config.ensures.value) in
     let step : c.step-step.result ≡ config.step = c.step-step.ensures.value ∙ ap (λ (n : Config). n.step) c.config-2.ensures.value in
     let below : last_version h + config.step < version_limit = omega (arith, c.if-step-self.false, step, c.self.invariant.2.version_is) in
@@ -24,7 +25,7 @@ invariant_of-self-2 g c =
     let config = g.N.Naming.cells.config in
     let h = c.self.inside.records.known in
     let moves = c.self.inside.moves.items in
-    let is : c.in-Ok.rec ≡ next_record config h moves c.args.proxy c.args.batch = c.in-Ok.ensures ∙ ap (λ (s : SequencedView). next_record config s.records s.moves c.args.proxy c.args.batch) (sym c.self.view_is) in
+    let is : c.in-Ok.rec ≡ record_after config h moves c.args.proxy c.args.batch = c.in-Ok.ensures ∙ ap (λ (s : SequencedView). record_after config s.records s.moves c.args.proxy c.args.batch) (sym c.self.view_is) in
     let version = c.self.inside.version in
     let own = c.self.inside.own_versions.items in
     let p = c.args.proxy in
