@@ -1,5 +1,6 @@
--- The command line takes no mode but `fold`.
-use Rattle.std.proofs.Common.{◌||◌, ◌≡◌, ◌∙◌, Bool, true, false, List, Option, Some, None, codes, map, refl, sym, subst, ap}
+-- The command line takes no modes but `fold` and `turns`.
+use Rattle.std.proofs.Common.{◌||◌, ◌⊎◌, ◌≡◌, ◌∙◌, Bool, true, false, List, Option, Some, None, codes, map, refl, sym, subst, inl, inr}
+use Rattle.std.specs.Prelude.{IsSome}
 use Rattle.std.specs.List.{list_any}
 use Rattle.std.proofs.lemmas.Slice.Eq.{bytes_eq-Decides}
 use Rattle.std.specs.Str.{bytes_eq}
@@ -9,21 +10,31 @@ use Rattle.clap.specs.declared.builder.value_parser.ValueParser.TheVariants.{Nam
 use Rattle.clap.proofs.WalkLemmas.{list_any-map}
 use Rattle.command_line.specs.CommandLine.{ModeNames, mode_given}
 use Rattle.command_line.specs.Modes.{mode_named}
-use Rattle.command_line.specs.declared.mode.Mode.TheVariants.{Fold}
+
+either : (a b : Bool) → (a || b) ≡ true → (a ≡ true) ⊎ (b ≡ true)
+either true b e = inl refl
+either false b e = inr e
 
 or_false : (b : Bool) → (b || false) ≡ true → b ≡ true
 or_false true e = refl
 or_false false e = e
 
--- a word that is among the names is `fold`
-pub only_fold : (names : ModeNames) (word : Text) → Accepts false (Names names.list) word → codes "fold" ≡ word
-only_fold names word taken =
+-- a word that is among the names is `fold` or `turns`
+pub fold_or_turns : (names : ModeNames) (word : Text) → Accepts false (Names names.list) word → (codes "fold" ≡ word) ⊎ (codes "turns" ≡ word)
+fold_or_turns names word taken =
     let among : list_any (λ t. same_text false t word) (map (λ n. n.now) names.list.now) ≡ true =
     sym (list_any-map (λ t. same_text false t word) (λ n. n.now) names.list.now) ∙ taken in
-    let one : (bytes_eq (codes "fold") word || false) ≡ true = subst (λ (ts : List Text). list_any (λ t. same_text false t word) ts ≡ true) names.texts among in
-    (bytes_eq-Decides (codes "fold") word).0 (or_false _ one)
+    let two : (bytes_eq (codes "fold") word || (bytes_eq (codes "turns") word || false)) ≡ true =
+    subst (λ (ts : List Text). list_any (λ t. same_text false t word) ts ≡ true) names.texts among in
+    elim (either _ _ two) [
+      | inl fold ↦ inl ((bytes_eq-Decides (codes "fold") word).0 fold)
+      | inr rest ↦ inr ((bytes_eq-Decides (codes "turns") word).0 (or_false _ rest))
+    ]
 
--- the mode of a word that can be `fold` alone
-pub only_mode : (given : Option Text) → ((word : Text) → given ≡ Some word → codes "fold" ≡ word) → mode_given given ≡ Some Fold
-only_mode None only = refl
-only_mode (Some word) only = ap mode_named (sym (only word refl))
+-- a word that can be `fold` or `turns` alone gives a mode, and so does none
+pub some_mode : (given : Option Text) → ((word : Text) → given ≡ Some word → (codes "fold" ≡ word) ⊎ (codes "turns" ≡ word)) → IsSome (mode_given given)
+some_mode None among = refl
+some_mode (Some word) among = elim (among word refl) [
+  | inl fold ↦ subst (λ (name : Text). IsSome (mode_named name)) fold refl
+  | inr turns ↦ subst (λ (name : Text). IsSome (mode_named name)) turns refl
+]

@@ -7,10 +7,12 @@ ghost use Rattle.command_line.specs.Modes.{mode_named};
 pub enum Mode {
     /// Folds the journal rows of a script into metadata.
     Fold,
+    /// Carries out the events of a script in a cluster without threads.
+    Turns,
 }
 
 /// The names of the modes, as the command line takes them.
-pub static NAMES: [&str; 1] = ["fold"];
+pub static NAMES: [&str; 2] = ["fold", "turns"];
 
 impl Mode {
     /// The mode of this name.
@@ -19,6 +21,7 @@ impl Mode {
     {
         match name {
             "fold" => Some(Mode::Fold),
+            "turns" => Some(Mode::Turns),
             _ => None,
         }
     }

@@ -1,5 +1,5 @@
 //! The command line, as `clap` reads it.
-ghost use Rattle.std.specs.Prelude.{◌≡◌, IfOk, Some, codes, map};
+ghost use Rattle.std.specs.Prelude.{◌≡◌, IfOk, IsSome, codes, map};
 ghost use Rattle.clap.specs.Words.{first_value, found_of};
 ghost use Rattle.command_line.specs.CommandLine.{IsCommandLine, ModeNames, ReadsMode, mode_given};
 
@@ -12,7 +12,7 @@ use std::convert::AsStr;
 /// Fails with the kind `OutOfMemory` if an allocation fails.
 pub fn read_mode<'a, W: AsStr>(alloc: Global, words: &'a [W]) -> Result<Option<Mode>, Error>
     ensures read { ReadsMode (map W.text words.entry.now) result }
-    ensures offered { IfOk result (λ mode. mode ≡ Some Mode.Fold) }
+    ensures offered { IfOk result IsSome }
 {
     let command = command(alloc)?;
     let matches = command.try_get_matches_from(words)?;
@@ -21,7 +21,11 @@ pub fn read_mode<'a, W: AsStr>(alloc: Global, words: &'a [W]) -> Result<Option<M
 
 // What the program does, as the help says it.
 const ABOUT: &str =
-    "Reads a JSON script on standard input and prints the resulting routing: proxy_run < script.json";
+    "Reads a JSON script on standard input and prints its result: proxy_run [MODE] < script.json";
+
+// What the modes read and print, as the help says it.
+const MODES: &str =
+    "fold: rows of a journal, folded to a routing; turns: events of a cluster, carried out in order [default: fold]";
 
 // The command line `proxy_run [MODE]`.
 fn command<'a>(alloc: Global) -> Result<Command<'a>, AllocError>
@@ -29,7 +33,7 @@ fn command<'a>(alloc: Global) -> Result<Command<'a>, AllocError>
 {
     let mode = Arg::new(alloc, "mode")
         .value_name("MODE")
-        .help("What to do with the script [default: fold]")
+        .help(MODES)
         .value_parser(NAMES.as_slice());
     Command::new(alloc, "proxy_run")
         .about(ABOUT)

@@ -12,20 +12,26 @@ const SCRIPT: &[u8] = br#"{"resolvers":1,"rows":[],"ask":["a"]}"#;
 
 const TEXT: &str = "version 0\nlocked no\nmetadata_version none\ntags \"a\" none\n";
 
-const TURNS: &str = "error: invalid value 'turns' for '[MODE]'
-  [possible values: fold]
+const TURNS: &[u8] = br#"{"proxies":1,"resolvers":1,"window":1,"step":1,"ask":[],"events":[
+{"sequence":{"proxy":0,"batch":[]}}]}"#;
+
+const TURNS_TEXT: &str =
+    "sequence row 0 version 1\nproxy 0\nversion 0\nlocked no\nmetadata_version none\n";
+
+const THREADS: &str = "error: invalid value 'threads' for '[MODE]'
+  [possible values: fold, turns]
 
 For more information, try '--help'.
 hint: the script is read on standard input: proxy_run < script.json
 ";
 
 const HELP: &str =
-    "Reads a JSON script on standard input and prints the resulting routing: proxy_run < script.json
+    "Reads a JSON script on standard input and prints its result: proxy_run [MODE] < script.json
 
 Usage: proxy_run [MODE]
 
 Arguments:
-  [MODE]  What to do with the script [default: fold] [possible values: fold]
+  [MODE]  fold: rows of a journal, folded to a routing; turns: events of a cluster, carried out in order [default: fold] [possible values: fold, turns]
 
 Options:
   -h, --help  Print help
@@ -97,22 +103,24 @@ fn two_hyphens_alone_are_passed_over(rt: HostRuntime) {
     answers(&rt, &["--"], SCRIPT, TEXT, 0);
     answers(&rt, &["--", "fold"], SCRIPT, TEXT, 0);
     answers(&rt, &["fold", "--"], SCRIPT, TEXT, 0);
-    refuses(&rt, &["--", "turns"], TURNS);
+    answers(&rt, &["--", "turns"], TURNS, TURNS_TEXT, 0);
+    refuses(&rt, &["--", "threads"], THREADS);
+}
+
+#[test]
+fn the_word_turns_carries_out_events(rt: HostRuntime) {
+    answers(&rt, &["turns"], TURNS, TURNS_TEXT, 0);
+}
+
+#[test]
+fn a_mode_refuses_the_script_of_the_other(rt: HostRuntime) {
+    answers(&rt, &["turns"], SCRIPT, "refused 71 BadShape\n", 1);
+    answers(&rt, FOLD, TURNS, "refused 71 BadShape\n", 1);
 }
 
 #[test]
 fn other_modes_are_refused(rt: HostRuntime) {
-    refuses(&rt, &["turns"], TURNS);
-    refuses(
-        &rt,
-        &["threads"],
-        "error: invalid value 'threads' for '[MODE]'
-  [possible values: fold]
-
-For more information, try '--help'.
-hint: the script is read on standard input: proxy_run < script.json
-",
-    );
+    refuses(&rt, &["threads"], THREADS);
 }
 
 #[test]
@@ -121,7 +129,7 @@ fn a_path_is_no_mode(rt: HostRuntime) {
         &rt,
         &["examples/two_servers.json"],
         "error: invalid value 'examples/two_servers.json' for '[MODE]'
-  [possible values: fold]
+  [possible values: fold, turns]
 
 For more information, try '--help'.
 hint: the script is read on standard input: proxy_run < script.json
@@ -170,7 +178,7 @@ hint: the script is read on standard input: proxy_run < script.json
         &rt,
         &[""],
         "error: a value is required for '[MODE]' but none was supplied
-  [possible values: fold]
+  [possible values: fold, turns]
 
 For more information, try '--help'.
 hint: the script is read on standard input: proxy_run < script.json

@@ -1,8 +1,10 @@
 -- What the bytes of a fold script come to: a text, and how the run ends (this project's profile).
 use Rattle.std.specs.Prelude.{ℕ, List, ◌++◌, Option, Some, None}
 use Rattle.std.specs.List.{last_or}
+use Rattle.system_keys.specs.Keys.{Key}
+use Rattle.model.specs.Numbers.{Version}
 use Rattle.model.specs.declared.journal.JournalRow.{JournalRow}
-use Rattle.model.specs.Metadata.{metadata, routing}
+use Rattle.model.specs.Metadata.{Entries, metadata, routing}
 use Rattle.scripts.specs.Answers.{Answer, answer_of}
 use Rattle.scripts.specs.Lines.{routing_text, asked_text}
 use Rattle.scripts.specs.Runs.{WritesTextOf}
@@ -18,11 +20,14 @@ version_of (Some row) = row.version
 abbrev pub last_version : List JournalRow → ℕ
 last_version rows = version_of (last_or None rows)
 
--- the routing of the folded rows at their last version, and the tags of the asked keys
+-- metadata at a version: its routing, and the tags of the asked keys
+abbrev pub metadata_text : Version → Entries → List Key → List ℕ
+metadata_text version rows ask = routing_text (routing version rows) ++ asked_text rows ask
+
+-- the folded rows at their last version
 abbrev pub folded_text : FoldScript → List ℕ
 folded_text script =
-    routing_text (routing (last_version script.rows) (metadata script.rows))
-    ++ asked_text (metadata script.rows) script.ask
+    metadata_text (last_version script.rows) (metadata script.rows) script.ask
 
 -- the text and the status of the script that the bytes are, or of its first fault
 unfoldable pub fold_text : List ℕ → Answer

@@ -5,7 +5,7 @@ ghost use Rattle.model.specs.Metadata.{metadata};
 ghost use Rattle.scripts.specs.Answers.{IsOutput, answer_of};
 ghost use Rattle.scripts.specs.Lines.{asked_text};
 ghost use Rattle.scripts.specs.Statuses.{IsAnswered};
-ghost use Rattle.fold_run.specs.FoldText.{fold_text, folded_text, last_version};
+ghost use Rattle.fold_run.specs.FoldText.{fold_text, folded_text, last_version, metadata_text};
 
 use crate::fold_reading::read_script;
 use crate::fold_script::FoldScript;
@@ -46,9 +46,25 @@ fn print_folded(alloc: Global, text: &mut String, script: &FoldScript) -> Result
 {
     let rows = script.rows.as_slice();
     let metadata = Metadata::new(alloc).fold_rows(rows)?;
-    let routing = metadata.routing(last_version(rows))?;
+    let keys = script.ask.as_slice();
+    print_metadata(alloc, text, last_version(rows), &metadata, keys)
+}
+
+/// Prints metadata at a version: its routing, and the tags of the asked keys. Fails only with
+/// `OutOfMemory`.
+pub fn print_metadata(
+    alloc: Global,
+    text: &mut String,
+    version: u64,
+    metadata: &Metadata,
+    keys: &[Bytes],
+) -> Result<(), OutOfMemory>
+    ensures { OnOk result (string_bytes text.new
+        ≡ string_bytes text.old ++ metadata_text version metadata.now keys.now) }
+{
+    let routing = metadata.routing(version)?;
     print_routing(alloc, text, &routing)?;
-    print_all_asked(alloc, text, &metadata, script.ask.as_slice())
+    print_all_asked(alloc, text, metadata, keys)
 }
 
 fn print_all_asked(

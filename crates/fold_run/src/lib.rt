@@ -16,6 +16,7 @@ mod run;
 #[cfg(test)]
 mod tests;
 
+pub use answer::print_metadata;
 pub use fold_reading::read_script;
 pub use fold_script::FoldScript;
 pub use run::run_fold;

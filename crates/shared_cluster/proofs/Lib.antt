@@ -1,3 +1,4 @@
+pub mod EventRuns
 pub mod FinishedRecords
 pub mod MovedRanges
 pub mod NewParts

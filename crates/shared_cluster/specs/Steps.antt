@@ -1,5 +1,7 @@
--- What an event returns in a cluster, and the refusals of a resolver that it can pass on.
-use Rattle.std.specs.Prelude.{◌≡◌, Option, Some, None, Result}
+-- What an event returns in a cluster, what a run of events does, and the refusals of a resolver that an
+-- event can pass on.
+use Rattle.std.specs.Prelude.{◌≡◌, ◌<◌, ℕ, List, map, take, length, slice_get, Option, Some, None}
+use Rattle.std.specs.Prelude.{Result, Ok, Err, IsOk}
 use Rattle.system_keys.specs.AsSpecified.{IsAsSpecified}
 use Rattle.model.specs.World as world
 use Rattle.model.specs.World.{answers, world_after}
@@ -7,6 +9,7 @@ use Rattle.model.specs.Turns.{Cluster, answer_to_event}
 use Rattle.shared_cluster.specs.declared.answer.Answer.{Answer}
 use Rattle.shared_cluster.specs.declared.refusal.Refusal.{Refusal}
 use Rattle.shared_cluster.specs.declared.refusal.Refusal.TheVariants as refusals
+use Rattle.shared_cluster.specs.declared.stopped.Stopped.{Stopped}
 use Rattle.state_memory.specs.declared.refusal.Refusal.{Refusal as Offered}
 use Rattle.state_memory.specs.declared.refusal.Refusal.TheVariants as offered
 use Rattle.shared_cluster.specs.Events.{answer_of, fault_of}
@@ -16,6 +19,42 @@ use Rattle.shared_cluster.specs.Events.{answer_of, fault_of}
 abbrev pub AnswersEvent : Cluster → world.Event → Result Answer Refusal → Type 0
 AnswersEvent before event result =
     IsAsSpecified fault_of answer_of result (answer_to_event before event)
+
+-- ---- a run of events
+
+-- the definition's answer that a result is; out of memory is none
+abbrev pub told_refusal : Option world.Refusal → Option world.Answer
+told_refusal None = None
+told_refusal (Some refusal) = Some (world.Refused refusal)
+
+abbrev pub told_by : Result Answer Refusal → Option world.Answer
+told_by (Ok answer) = Some (answer_of answer)
+told_by (Err refusal) = told_refusal (fault_of refusal)
+
+-- the cluster carried out all these events: each result is the definition's answer, and the world is
+-- that after them
+pub record HasCarriedOut
+    (before after : Cluster) (events : List world.Event) (results : List (Result Answer Refusal)) :
+    Type 0 where
+  pub results_are :
+      map told_by results
+      ≡ map (λ (answer : world.Answer). Some answer) (answers before.config before.world events)
+  pub after_is :
+      after ≡ record before { world = world_after before.config before.world events }
+
+-- the definition does not refuse the event with this number
+abbrev pub IsNotRefused : Cluster → (number : ℕ) → List world.Event → Type 0
+IsNotRefused now number events =
+    (event : world.Event) × (slice_get events number ≡ Some event) × IsOk (answer_to_event now event)
+
+-- the cluster stopped: it carried out the first of these events and no other, and it stopped before
+-- the first one, or before one that the definition does not refuse
+pub record HasStopped
+    (before after : Cluster) (events : List world.Event) (stopped : Stopped) : Type 0 where
+  pub count : length stopped.answers.items ≡ stopped.carried_out
+  pub carried_out :
+      HasCarriedOut before after (take stopped.carried_out events) stopped.answers.items
+  pub next : 0 < stopped.carried_out → IsNotRefused after stopped.carried_out events
 
 -- ---- refusals of a resolver
 

@@ -10,6 +10,7 @@ mod refusal;
 mod row;
 mod sequencing;
 mod starting;
+mod stopped;
 #[cfg(test)]
 mod tests;
 mod turn_world;
@@ -20,4 +21,5 @@ pub use model::{Config, Finished, Move, Reply};
 pub use proxy_state::Proxy;
 pub use refusal::Refusal;
 pub use state_memory::{Answer as OfferAnswer, Resolver};
+pub use stopped::Stopped;
 pub use turn_world::TurnWorld;

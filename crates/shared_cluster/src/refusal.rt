@@ -43,7 +43,18 @@ pub enum Refusal {
 }
 
 impl Refusal {
-    ghost use Rattle.shared_cluster.specs.Events.{refusal_number, refusal_name};
+    ghost use Rattle.std.specs.Prelude.{is_none};
+    ghost use Rattle.shared_cluster.specs.Events.{fault_of, refusal_number, refusal_name};
+
+    /// Whether an allocation failed, which is no refusal of the definition.
+    pub(crate) fn is_out_of_memory(&self) -> bool
+        ensures { result ≡ is_none (fault_of self.now) }
+    {
+        match self {
+            Refusal::OutOfMemory => true,
+            _ => false,
+        }
+    }
 
     /// The number that is printed, or `None` for `OutOfMemory`.
     pub fn number(&self) -> Option<u32>

@@ -1,15 +1,19 @@
 //! A cluster without threads.
 
-ghost use Rattle.std.specs.Prelude.{◌≡◌, ◌+◌, ◌<◌, ◌≤◌, IfOk, OnOk, OnErr, MatchOption};
+ghost use Rattle.std.specs.Prelude.{◌≡◌, [], ◌∷◌, ◌++◌, ◌+◌, ◌<◌, ◌≤◌, map, vec_len};
+ghost use Rattle.std.specs.Vec.{vec_capacity};
+ghost use Rattle.std.specs.Prelude.{Result, IsOk, IfOk, OnOk, OnErr, MatchOption, MatchResult};
 ghost use Rattle.model.specs.Configs.{version_limit};
 ghost use Rattle.model.specs.Records.{last_version};
 ghost use Rattle.model.specs.World.{Sequence, MoveRange, Offer as OfferOf, Finish};
 ghost use Rattle.model.specs.World.{initial_world};
 ghost use Rattle.model.specs.World.{next_record};
 ghost use Rattle.model.specs.Serial.{IsSerial};
-ghost use Rattle.model.specs.Turns.{after_event, IsResolver, IsProxy};
+ghost use Rattle.model.specs.Turns.{after_event, answer_to_event, IsResolver, IsProxy};
 ghost use Rattle.shared_cluster.specs.Events.{event_of};
-ghost use Rattle.shared_cluster.specs.Steps.{AnswersEvent};
+ghost use Rattle.shared_cluster.specs.Steps.{AnswersEvent, HasCarriedOut, HasStopped};
+ghost use Rattle.shared_cluster.specs.declared.answer.Answer.{Answer as TheAnswer};
+ghost use Rattle.shared_cluster.specs.declared.refusal.Refusal.{Refusal as TheRefusal};
 
 use crate::answer::Answer;
 use crate::event::Event;
@@ -19,6 +23,7 @@ use crate::refusal::Refusal;
 use crate::row::Row;
 use crate::sequencing::{begin_at, copied_moves};
 use crate::starting::{new_proxies, new_resolvers, zeros};
+use crate::stopped::Stopped;
 use model::{Config, Move};
 use mutation::Batch;
 use proxy_state::Proxy;
@@ -107,6 +112,85 @@ impl TurnWorld {
         let result = self.carry_out(event);
         let _ = &self.config;
         result
+    }
+
+    /// Carries out the events in order, and returns their results. A refused event changes nothing,
+    /// and the run goes on with the next one. It stops early only if an allocation fails: before the
+    /// first event, or before one that is not refused. Then the cluster is as the events before left
+    /// it.
+    ///
+    /// Read a proxy by [`TurnWorld::proxy`]: its journal is that of the history up to its version,
+    /// and its metadata is the fold of this journal. The records of the cluster obey the rule of
+    /// commit, also after a run that stopped.
+    pub fn run(
+        &mut self,
+        alloc: Global,
+        events: &[Event],
+    ) -> Result<Vec<Result<Answer, Refusal>>, Stopped>
+        ensures results { MatchResult result
+            (λ answers. HasCarriedOut self.old self.new (map event_of events.now) answers.items)
+            (λ stopped. HasStopped self.old self.new (map event_of events.now) stopped) }
+        ensures serial { IsSerial self.new.config self.new.world.history }
+    {
+        let result = self.carry_out_all(alloc, events);
+        let _ = &self.config;
+        result
+    }
+
+    /// Carries out the events in order, until an allocation fails.
+    fn carry_out_all(
+        &mut self,
+        alloc: Global,
+        events: &[Event],
+    ) -> Result<Vec<Result<Answer, Refusal>>, Stopped>
+        ensures { MatchResult result
+            (λ answers. HasCarriedOut self.old self.new (map event_of events.now) answers.items)
+            (λ stopped. HasStopped self.old self.new (map event_of events.now) stopped) }
+    {
+        let Ok(mut answers) = Vec::with_capacity(alloc, events.len()) else {
+            return Err(Stopped {
+                carried_out: 0,
+                answers: Vec::new(alloc),
+            });
+        };
+        for (carried_out, event) in events.iter().enumerate() {
+            let Ok(()) = self.append_answer(event, &mut answers) else {
+                return Err(Stopped {
+                    carried_out,
+                    answers,
+                });
+            };
+        }
+        Ok(answers)
+    }
+
+    /// Carries out one event, and appends its result to the answers, which must have room for it.
+    /// If an allocation fails, the cluster and the answers are unchanged, and the event is not one
+    /// that is refused.
+    fn append_answer(
+        &mut self,
+        event: &Event,
+        answers: &mut Vec<Result<Answer, Refusal>>,
+    ) -> Result<(), OutOfMemory>
+        requires { vec_len answers.old < vec_capacity answers.old }
+        ensures ok { OnOk result ((told : Result TheAnswer TheRefusal)
+            × (answers.new.items ≡ answers.old.items ++ told ∷ [])
+            × HasCarriedOut self.old self.new (event_of event.now ∷ []) (told ∷ [])) }
+        ensures err { OnErr result ((self.new ≡ self.old)
+            × (answers.new.items ≡ answers.old.items)
+            × IsOk (answer_to_event self.old (event_of event.now))) }
+        ensures room { vec_capacity answers.new ≡ vec_capacity answers.old }
+    {
+        match self.step(event) {
+            Ok(answer) => answers.push_reserved(Ok(answer)),
+            Err(refusal) => {
+                if refusal.is_out_of_memory() {
+                    return Err(OutOfMemory);
+                }
+                answers.push_reserved(Err(refusal));
+            }
+        }
+        Ok(())
     }
 
     /// Carries out one event by its own call.

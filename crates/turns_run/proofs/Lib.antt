@@ -1,1 +1,4 @@
+pub mod AnswerLemmas
 pub mod ConfigLemmas
+pub mod TextLemmas
+pub mod WorldLemmas

@@ -9,8 +9,8 @@ use Rattle.mutation.specs.Transactions.{given_from, range_from}
 use Rattle.scripts.specs.BatchChecks.{checked_batch}
 use Rattle.scripts.specs.Checks.{◌>>=◌, each_checked, of_key}
 use Rattle.scripts.specs.declared.script_fault.ScriptFault.{ScriptFault}
-use Rattle.turns_run.specs.declared.turns_script.Event.{Event}
-use Rattle.turns_run.specs.declared.turns_script.Event.TheVariants as events
+use Rattle.shared_cluster.specs.declared.event.Event.{Event}
+use Rattle.shared_cluster.specs.declared.event.Event.TheVariants as events
 use Rattle.turns_run.specs.declared.turns_script.RawEvent.{RawEvent}
 use Rattle.turns_run.specs.declared.turns_script.RawEvent.TheVariants as raw
 use Rattle.turns_run.specs.declared.turns_script.RawTurns.{RawTurns}

@@ -1,7 +1,7 @@
 -- The lines that are printed for the events of a turns script, by the answers to them (this
 -- project's profile).
 use Rattle.std.specs.Prelude.{ℕ, suc, List, [], ◌∷◌, ◌++◌, map, flat_map, filter, nat_eq, codes}
-use Rattle.std.specs.Prelude.{Option, Some, None}
+use Rattle.std.specs.Prelude.{Option, Some, None, Result}
 use Rattle.std.specs.Fmt.{decimal}
 use Rattle.model.specs.Numbers.{Version, ProxyNumber, ResolverNumber, RowNumber}
 use Rattle.model.specs.Numbers.{TransactionNumber}
@@ -13,16 +13,24 @@ use Rattle.model.specs.declared.reply.Reply.{Reply}
 use Rattle.model.specs.declared.unseen.UnseenRow.{UnseenRow}
 use Rattle.model.specs.declared.verdict.Verdict.{Verdict}
 use Rattle.model.specs.declared.verdict.Verdict.TheVariants as verdicts
-use Rattle.model.specs.World.{Event, Sequence, MoveRange, Offer, Finish, Answer, Refusal}
+use Rattle.model.specs.World.{Event, Sequence, MoveRange, Offer, Finish, Answer}
 use Rattle.model.specs.World.{Sequenced, Moved, Judged, Again, Completed, Refused}
 use Rattle.model.specs.World as world
 use Rattle.scripts.specs.Lines.{line, spaced, list_text, tags_text}
+use Rattle.shared_cluster.specs.Events.{refusal_number, refusal_name}
+use Rattle.shared_cluster.specs.Steps.{told_by}
+use Rattle.shared_cluster.specs.declared.answer.Answer.{Answer as TurnAnswer}
+use Rattle.shared_cluster.specs.declared.refusal.Refusal.{Refusal}
+use Rattle.shared_cluster.specs.declared.refusal.Refusal.TheVariants as refusals
 
 -- ---- a batch gets its record, a range moves
 
+abbrev pub sequence_text : RowNumber → Version → List ℕ
+sequence_text row version =
+    codes "sequence row " ++ decimal row ++ spaced (codes "version " ++ decimal version)
+
 abbrev pub sequence_line : RowNumber → Version → List ℕ
-sequence_line row version =
-    line (codes "sequence row " ++ decimal row ++ spaced (codes "version " ++ decimal version))
+sequence_line row version = line (sequence_text row version)
 
 abbrev pub move_line : Version → List ℕ
 move_line date = line (codes "move date " ++ decimal date)
@@ -51,9 +59,12 @@ offer_line word reply =
 
 -- ---- a proxy finishes a record
 
+abbrev pub finish_text : ProxyNumber → Version → List ℕ
+finish_text p version =
+    codes "finish proxy " ++ decimal p ++ spaced (codes "version " ++ decimal version)
+
 abbrev pub finish_line : ProxyNumber → Version → List ℕ
-finish_line p version =
-    line (codes "finish proxy " ++ decimal p ++ spaced (codes "version " ++ decimal version))
+finish_line p version = line (finish_text p version)
 
 -- the outcome that the client learns; the numbers are those of release 7.1 (`error_definitions.h`)
 abbrev pub outcome_text : Outcome → List ℕ
@@ -93,28 +104,6 @@ finished_text p finished =
 
 -- ---- a refused event
 
-abbrev pub refusal_number : Refusal → ℕ
-refusal_number world.NoSuchResolver = 20
-refusal_number (world.Early version) = 30
-refusal_number (world.GivenUp acknowledged) = 31
-refusal_number world.NoSuchProxy = 32
-refusal_number world.WrongResolver = 33
-refusal_number world.NoSuchRow = 35
-refusal_number (world.OutOfTurn expected) = 42
-refusal_number (world.MissingReply resolver) = 43
-refusal_number world.VersionsEnd = 51
-
-abbrev pub refusal_name : Refusal → List ℕ
-refusal_name world.NoSuchResolver = codes "NoSuchResolver"
-refusal_name (world.Early version) = codes "Early"
-refusal_name (world.GivenUp acknowledged) = codes "GivenUp"
-refusal_name world.NoSuchProxy = codes "NoSuchProxy"
-refusal_name world.WrongResolver = codes "WrongResolver"
-refusal_name world.NoSuchRow = codes "NoSuchRow"
-refusal_name (world.OutOfTurn expected) = codes "OutOfTurn"
-refusal_name (world.MissingReply resolver) = codes "MissingReply"
-refusal_name world.VersionsEnd = codes "VersionsEnd"
-
 -- a number, or `none`
 abbrev pub number_or_none : Option ℕ → List ℕ
 number_or_none None = codes "none"
@@ -122,21 +111,37 @@ number_or_none (Some n) = decimal n
 
 -- the value of the refusal, where it has one, behind a space
 abbrev pub refusal_value : Refusal → List ℕ
-refusal_value world.NoSuchResolver = []
-refusal_value (world.Early version) = spaced (decimal version)
-refusal_value (world.GivenUp acknowledged) = spaced (decimal acknowledged)
-refusal_value world.NoSuchProxy = []
-refusal_value world.WrongResolver = []
-refusal_value world.NoSuchRow = []
-refusal_value (world.OutOfTurn expected) = spaced (number_or_none expected)
-refusal_value (world.MissingReply resolver) = spaced (decimal resolver)
-refusal_value world.VersionsEnd = []
+refusal_value refusals.NoSuchResolver = []
+refusal_value (refusals.Early version) = spaced (decimal version)
+refusal_value (refusals.GivenUp acknowledged) = spaced (decimal acknowledged)
+refusal_value refusals.NoSuchProxy = []
+refusal_value refusals.WrongResolver = []
+refusal_value refusals.NoSuchRow = []
+refusal_value (refusals.OutOfTurn expected) = spaced (number_or_none expected)
+refusal_value (refusals.MissingReply resolver) = spaced (decimal resolver)
+refusal_value refusals.VersionsEnd = []
+refusal_value refusals.OutOfMemory = []
+
+-- the number and the name of a refusal
+abbrev pub refused_text : Option ℕ → List ℕ → List ℕ
+refused_text number name = codes "refused " ++ number_or_none number ++ spaced name
 
 -- a refusal: its number, its name, and its value
 abbrev pub refusal_line : Refusal → List ℕ
 refusal_line refusal =
-    line (codes "refused " ++ decimal (refusal_number refusal) ++ spaced (refusal_name refusal)
-    ++ refusal_value refusal)
+    line (refused_text (refusal_number refusal) (refusal_name refusal) ++ refusal_value refusal)
+
+-- the refusal of the model as the one that has its number and its name
+abbrev pub refusal_of : world.Refusal → Refusal
+refusal_of world.NoSuchResolver = refusals.NoSuchResolver
+refusal_of (world.Early version) = refusals.Early version
+refusal_of (world.GivenUp acknowledged) = refusals.GivenUp acknowledged
+refusal_of world.NoSuchProxy = refusals.NoSuchProxy
+refusal_of world.WrongResolver = refusals.WrongResolver
+refusal_of world.NoSuchRow = refusals.NoSuchRow
+refusal_of (world.OutOfTurn expected) = refusals.OutOfTurn expected
+refusal_of (world.MissingReply resolver) = refusals.MissingReply resolver
+refusal_of world.VersionsEnd = refusals.VersionsEnd
 
 -- ---- all events
 
@@ -154,7 +159,7 @@ event_text event (Moved date) = move_line date
 event_text event (Judged reply) = offer_line (codes "judged") reply
 event_text event (Again reply) = offer_line (codes "again") reply
 event_text event (Completed finished) = completed_text event finished
-event_text event (Refused refusal) = refusal_line refusal
+event_text event (Refused refusal) = refusal_line (refusal_of refusal)
 
 -- the lines of all events, each with its answer
 abbrev pub events_text : List Event → List Answer → List ℕ
@@ -162,3 +167,15 @@ events_text [] answers = []
 events_text (event ∷ events) [] = []
 events_text (event ∷ events) (answer ∷ answers) =
     event_text event answer ++ events_text events answers
+
+-- the lines of an event that returned this; nothing if an allocation failed
+abbrev pub told_text : Event → Option Answer → List ℕ
+told_text event None = []
+told_text event (Some answer) = event_text event answer
+
+-- the lines of all events, each with what it returned
+abbrev pub results_text : List Event → List (Result TurnAnswer Refusal) → List ℕ
+results_text events [] = []
+results_text [] (result ∷ results) = []
+results_text (event ∷ events) (result ∷ results) =
+    told_text event (told_by result) ++ results_text events results

@@ -1,27 +1,22 @@
 -- What the bytes of a turns script come to: a text, and how the run ends (this project's profile).
-use Rattle.std.specs.Prelude.{ℕ, List, ◌++◌, map, flat_map, codes}
+use Rattle.std.specs.Prelude.{ℕ, List, ◌++◌, map, flat_map, codes, Option}
 use Rattle.std.specs.Fmt.{decimal}
 use Rattle.model.specs.Configs.{Config}
 use Rattle.model.specs.Numbers.{ProxyNumber}
 use Rattle.model.specs.Shares.{each_below}
 use Rattle.model.specs.World.{World, answers, initial_world, world_after}
-use Rattle.model.specs.World.{proxy_metadata, proxy_routing}
+use Rattle.model.specs.World.{finished_version, proxy_metadata}
 use Rattle.model.specs.World as world
 use Rattle.system_keys.specs.Keys.{Key}
 use Rattle.scripts.specs.Answers.{Answer, answer_of}
-use Rattle.scripts.specs.Lines.{line, routing_text, asked_text}
-use Rattle.turns_run.specs.declared.turns_script.Event.{Event}
-use Rattle.turns_run.specs.declared.turns_script.Event.TheVariants as events
+use Rattle.scripts.specs.Lines.{line}
+use Rattle.scripts.specs.Runs.{WritesTextOf}
+use Rattle.scripts.specs.declared.status.RunStatus.{RunStatus}
+use Rattle.fold_run.specs.FoldText.{metadata_text}
+use Rattle.shared_cluster.specs.Events.{event_of}
 use Rattle.turns_run.specs.declared.turns_script.TurnsScript.{TurnsScript}
 use Rattle.turns_run.specs.TurnsLines.{events_text}
 use Rattle.turns_run.specs.TurnsScripts.{script_of}
-
--- the event, in the model's words
-abbrev pub event_of : Event → world.Event
-event_of (events.Sequence proxy batch) = world.Sequence proxy batch
-event_of (events.Move range dest) = world.MoveRange range dest
-event_of (events.Offer row resolver) = world.Offer row resolver
-event_of (events.Finish proxy) = world.Finish proxy
 
 -- the events of the script, in the model's words
 abbrev pub events_of : TurnsScript → List world.Event
@@ -30,11 +25,10 @@ events_of script = map event_of script.events
 abbrev pub proxy_line : ProxyNumber → List ℕ
 proxy_line p = line (codes "proxy " ++ decimal p)
 
--- a proxy of the world: its number, its routing, and the tags of the asked keys
+-- a proxy of the world: its number, its routing at its version, and the tags of the asked keys
 abbrev pub proxy_text : Config → World → List Key → ProxyNumber → List ℕ
 proxy_text config w ask p =
-    proxy_line p ++ routing_text (proxy_routing config w p)
-    ++ asked_text (proxy_metadata config w p) ask
+    proxy_line p ++ metadata_text (finished_version w p) (proxy_metadata config w p) ask
 
 -- each proxy of the world, in order
 abbrev pub proxies_text : Config → World → List Key → List ℕ
@@ -51,3 +45,7 @@ played_text script =
 -- the text and the status of the script that the bytes are, or of its first fault
 unfoldable pub turns_text : List ℕ → Answer
 turns_text bytes = answer_of played_text (script_of bytes)
+
+-- the run writes the text that `turns_text` gives the input, or a beginning of it
+abbrev pub Plays : Option (List ℕ) → Option (List ℕ) → Option (List ℕ) → RunStatus → Type 0
+Plays = WritesTextOf turns_text

@@ -1,17 +1,23 @@
-//! Scripts of events for a cluster without threads: a script is read and checked, and
-//! lines of the answers to its events are printed.
+//! Runs of turns scripts: a script of events is read and checked, its events are carried out in a
+//! cluster without threads, and the lines of their answers and of its proxies are written.
 //!
 //! Source: this project's profile (scripts, lines and statuses).
 #![tactic(auto)]
 
+mod answer;
+mod run;
+#[cfg(test)]
+mod run_tests;
 #[cfg(test)]
 mod tests;
 mod turns_checks;
+mod turns_events;
 mod turns_lines;
+mod turns_proxies;
 mod turns_reading;
 mod turns_script;
 mod turns_shapes;
 
-pub use turns_lines::{print_move, print_offer, print_transactions};
+pub use run::run_turns;
 pub use turns_reading::read_turns;
-pub use turns_script::{Event, TurnsScript};
+pub use turns_script::TurnsScript;

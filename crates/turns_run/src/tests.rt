@@ -2,8 +2,9 @@
 //! after `OutOfMemory`, so that the tests also pass if any one allocation fails.
 
 use crate::turns_reading::read_turns;
-use crate::turns_script::{Event, TurnsScript};
+use crate::turns_script::TurnsScript;
 use scripts::ScriptFault;
+use shared_cluster::Event;
 use std::alloc::Global;
 use std::process::Abort;
 use std::test::Fail;
@@ -29,7 +30,7 @@ macro_rules! written {
 }
 
 /// A move between a write and a read of its range, offered and finished.
-const MOVED: &[u8] = br#"{"proxies":1,"resolvers":2,"window":100,"step":10,"ask":["n"],"events":[
+pub(crate) const MOVED: &[u8] = br#"{"proxies":1,"resolvers":2,"window":100,"step":10,"ask":["n"],"events":[
 {"sequence":{"proxy":0,"batch":[]}},
 {"sequence":{"proxy":0,"batch":[{"snapshot":0,"reads":[],
 "writes":[["n","n\\x00"]],"mutations":[{"set":["n","1"]}],"lock_aware":false}]}},

@@ -3,9 +3,10 @@
 ghost use Rattle.scripts.specs.ScriptFaults.{IsReadAs};
 ghost use Rattle.turns_run.specs.TurnsChecks.{checked_event, checked_range, checked_script};
 
-use crate::turns_script::{Event, RawEvent, RawTurns, TurnsScript};
+use crate::turns_script::{RawEvent, RawTurns, TurnsScript};
 use mutation::GivenRange;
 use scripts::{Checked, ScriptFault, admit_batch, check_each};
+use shared_cluster::Event;
 use std::alloc::Global;
 use system_keys::KeyRange;
 

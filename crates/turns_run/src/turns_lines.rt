@@ -4,12 +4,32 @@ ghost use Rattle.std.specs.Prelude.{◌≡◌, ◌++◌, OnOk, string_bytes, map
 ghost use Rattle.scripts.specs.Lines.{list_text, spaced};
 ghost use Rattle.turns_run.specs.TurnsLines.{move_line, mutation_line, mutations_of, offer_line};
 ghost use Rattle.turns_run.specs.TurnsLines.{offered_text, outcome_text, transaction_line};
-ghost use Rattle.turns_run.specs.TurnsLines.{transactions_text, unseen_version, verdict_name};
+ghost use Rattle.turns_run.specs.TurnsLines.{sequence_line, sequence_text, transactions_text};
+ghost use Rattle.turns_run.specs.TurnsLines.{unseen_version, verdict_name};
 
 use model::{Outcome, Reply, Tagged, UnseenRow, Verdict};
 use scripts::push_tags;
 use std::fmt::Write;
 use system_keys::OutOfMemory;
+
+/// Prints that a batch has the record at a row, and its version. Fails only with `OutOfMemory`.
+pub fn print_sequence(text: &mut String, row: usize, version: u64) -> Result<(), OutOfMemory>
+    ensures { OnOk result (string_bytes text.new
+        ≡ string_bytes text.old ++ sequence_line row version) }
+{
+    push_sequence(text, row, version)?;
+    text.push_str("\n")?;
+    Ok(())
+}
+
+fn push_sequence(text: &mut String, row: usize, version: u64) -> Result<(), OutOfMemory>
+    ensures { OnOk result (string_bytes text.new
+        ≡ string_bytes text.old ++ sequence_text row version) }
+{
+    write!(text, "sequence row {row} ")?;
+    write!(text, "version {version}")?;
+    Ok(())
+}
 
 /// Prints that a range moved. Fails only with `OutOfMemory`.
 pub fn print_move(text: &mut String, date: u64) -> Result<(), OutOfMemory>

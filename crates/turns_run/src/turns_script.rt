@@ -1,8 +1,9 @@
 //! Turns scripts: the events of a cluster without threads, and keys whose tags are asked.
 
 use model::Config;
-use mutation::{Batch, GivenRange, Transaction};
-use system_keys::{Bytes, Items, KeyRange};
+use mutation::{GivenRange, Transaction};
+use shared_cluster::Event;
+use system_keys::{Bytes, Items};
 
 /// A turns script: the numbers of a cluster, its events, and the keys whose tags are asked (this
 /// project's profile).
@@ -14,37 +15,6 @@ pub struct TurnsScript {
     pub events: Items<Event>,
     /// The keys whose tags are printed of each proxy: any bytes.
     pub ask: Items<Bytes>,
-}
-
-/// An event of a cluster without threads.
-#[derive(Debug, Drop)]
-pub enum Event {
-    /// A batch of the proxy gets the next record, and its proxy begins it.
-    Sequence {
-        /// The number of the proxy.
-        proxy: usize,
-        /// The batch.
-        batch: Batch,
-    },
-    /// The range moves to a resolver, from the version after the last one given out.
-    Move {
-        /// The keys that move.
-        range: KeyRange,
-        /// The number of the resolver that they move to.
-        dest: usize,
-    },
-    /// The resolver gets the request for the record at this row.
-    Offer {
-        /// The row of the record.
-        row: usize,
-        /// The number of the resolver.
-        resolver: usize,
-    },
-    /// The proxy finishes its earliest record that is begun and not finished.
-    Finish {
-        /// The number of the proxy.
-        proxy: usize,
-    },
 }
 
 /// A turns script as it is written, before its keys, values and ranges are checked.

@@ -1,16 +1,18 @@
-use Rattle.std.proofs.Common.{ap, subst, refl, inl, ◌∷◌, ◌≡◌, ◌∙◌, codes, map, []}
+use Rattle.std.proofs.Common.{ap, subst, sym, refl, inl, ◌∷◌, ◌≡◌, ◌∙◌, codes, map, []}
 use Rattle.std.proofs.lemmas.Result.{err_from_is_err_and}
 use Rattle.clap.specs.Words.{App, fault_of, first_of, found_of, is_simple, is_simple_and_free, matches_of}
 use Rattle.clap.specs.Kinds.{HasKind}
 use Rattle.clap.proofs.WalkLemmas.{first_value-rows}
 use Rattle.command_line.specs.CommandLine.{ModeNames, mode_given}
-use Rattle.command_line.proofs.OfferedModes.{only_fold, only_mode}
+use Rattle.command_line.proofs.OfferedModes.{fold_or_turns, some_mode}
+use Rattle.std.specs.Prelude.{IsSome, Option}
+use Rattle.command_line.specs.declared.mode.Mode.{Mode}
 use Rattle.command_line.proofs.mode_reading.read_mode.Goals as goal
 
 -- names for a command line that no command was made of
 abbrev some_names : ModeNames
 some_names = record {
-  list = record { ref_ptr = (0, 0); now = record { ref_ptr = (0, 0); now = codes "fold" } ∷ [] };
+  list = record { ref_ptr = (0, 0); now = record { ref_ptr = (0, 0); now = codes "fold" } ∷ record { ref_ptr = (0, 0); now = codes "turns" } ∷ [] };
   texts = refl;
 }
 
@@ -43,4 +45,5 @@ returns-clause-read g c =
 pub returns-clause-offered : goal.returns-clause-offered
 returns-clause-offered g c =
     let line = c.in_ok-command.ensures in
-    c.mode_in.ensures ∙ only_mode _ (λ word is. only_fold line.0 word (line.1.passes c.in_ok-matches.matches word c.in_ok-matches.ensures.parsed is))
+    subst (λ (mode : Option Mode). IsSome mode) (sym c.mode_in.ensures)
+    (some_mode _ (λ word is. fold_or_turns line.0 word (line.1.passes c.in_ok-matches.matches word c.in_ok-matches.ensures.parsed is)))

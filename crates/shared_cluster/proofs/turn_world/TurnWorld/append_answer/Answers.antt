@@ -1,0 +1,18 @@
+-- The event is answered, or refused.
+use Rattle.std.proofs.Common.{◌≡◌, refl, rules, ◌∙◌, ap, List, [], ◌∷◌, ◌++◌, sym, false, is_none}
+use Rattle.std.specs.Prelude.{Result, Ok, Err}
+use Rattle.shared_cluster.specs.Steps.{HasCarriedOut}
+use Rattle.shared_cluster.specs.Events.{event_of, fault_of}
+use Rattle.shared_cluster.specs.declared.answer.Answer.{Answer as TheAnswer}
+use Rattle.shared_cluster.specs.declared.refusal.Refusal.{Refusal as TheRefusal}
+use Rattle.shared_cluster.specs.declared.refusal.Refusal.TheVariants as refusals
+use Rattle.shared_cluster.proofs.EventRuns.{answered_one, refused_one}
+use Rattle.shared_cluster.proofs.turn_world.TurnWorld.append_answer.Goals as goal
+
+pub returns-in-Ok-clause-ok : goal.returns-in-Ok-clause-ok
+returns-in-Ok-clause-ok c = (Ok c.in-Ok.answer, search rules, answered_one c.args.self.now c.step.new.self (event_of c.args.event.now) c.in-Ok.answer c.in-Ok.ensures.answer c.in-Ok.ensures.ok)
+
+pub returns-else-is_out_of_memory-clause-ok : goal.returns-else-is_out_of_memory-clause-ok
+returns-else-is_out_of_memory-clause-ok c =
+    let other : false ≡ is_none (fault_of c.in-Err.refusal) = sym c.if-is_out_of_memory.false ∙ c.is_out_of_memory.ensures in
+    (Err c.in-Err.refusal, search rules, refused_one c.args.self.now c.step.new.self (event_of c.args.event.now) c.in-Err.refusal other c.in-Err.ensures.answer c.in-Err.ensures.err)

@@ -1,0 +1,32 @@
+//! A run of a turns script, over any source and sink.
+ghost use Rattle.std.specs.Prelude.{◌-◌, ◌^◌, ◌<◌};
+ghost use Rattle.scripts.specs.Runs.{LeavesDevices};
+ghost use Rattle.turns_run.specs.TurnsText.{Plays, turns_text};
+
+use crate::answer::answer;
+use scripts::{Output, RunStatus, ScriptKind, Sink, Source, run_script};
+use std::alloc::Global;
+use system_keys::OutOfMemory;
+
+/// The kind of turns scripts.
+pub struct TurnsKind;
+
+impl ScriptKind for TurnsKind {
+    ghost answer_to = { turns_text };
+
+    fn answer(alloc: Global, bytes: &[u8]) -> Result<Output, OutOfMemory> {
+        answer(alloc, bytes)
+    }
+}
+
+/// Reads a turns script from the source to its end, and writes the text that it comes to. If a read
+/// fails, or the limit on read calls is passed, nothing is written.
+pub fn run_turns<S: Source, T: Sink>(alloc: Global, source: &mut S, sink: &mut T) -> RunStatus
+    requires read_count { S.failed source.old < 2 ^ 64 - 1 }
+    requires write_count { T.failed sink.old < 2 ^ 64 - 1 }
+    ensures turns { Plays (S.remaining source.old) (T.written sink.old) (T.written sink.new) result }
+    ensures devices { LeavesDevices turns_text S.Source source.old source.new
+        T.Sink sink.old sink.new result }
+{
+    run_script::<TurnsKind, S, T>(alloc, source, sink)
+}
