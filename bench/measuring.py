@@ -1,0 +1,29 @@
+"""Runs of a program on a script: how long each takes, and how much memory."""
+import os
+import statistics
+import sys
+import time
+
+
+def once(words, path, output, status=0):
+    """Wall seconds and peak kilobytes of one run, which must end with this status."""
+    begun = time.monotonic()
+    child = os.fork()
+    if child == 0:
+        os.dup2(os.open(path, os.O_RDONLY), 0)
+        os.dup2(os.open(output, os.O_WRONLY | os.O_CREAT | os.O_TRUNC), 1)
+        os.execvp(words[0], words)
+    _, ended, usage = os.wait4(child, 0)
+    if os.waitstatus_to_exitcode(ended) != status:
+        sys.exit("%s ended with status %d" % (words[0], os.waitstatus_to_exitcode(ended)))
+    return time.monotonic() - begun, usage.ru_maxrss
+
+
+def measured(name, words, path, output, status=0):
+    """The median of the wall seconds of five runs, which is printed with bytes a second and the peak of memory."""
+    runs = [once(words, path, output, status) for _ in range(5)]
+    seconds = statistics.median(seconds for seconds, _ in runs)
+    peak = max(peak for _, peak in runs)
+    size = os.path.getsize(path)
+    print("%-10s %10d bytes %8.3f s %12.0f bytes/s %8.1f MB peak" % (name, size, seconds, size / seconds, peak / 1024))
+    return seconds
