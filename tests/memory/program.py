@@ -5,6 +5,7 @@ beginning of the example's output, and nothing where a read was refused. No othe
 """
 import concurrent.futures
 import errno
+import functools
 import os
 import resource
 import signal
@@ -271,6 +272,14 @@ OF_EACH_EXAMPLE = (refuse_growths, refuse_reads, refuse_writes, shorten_calls, t
 OF_THE_PROGRAM = (refuse_in_words, want_space, try_endless_inputs, try_words)
 
 
+def tried(program, shim, mark, trial_and_arguments):
+    """How many runs one trial took, and what went wrong in them."""
+    trial_of, *arguments = trial_and_arguments
+    trial = Trial(program, shim, mark)
+    trial_of(trial, *arguments)
+    return trial.runs, trial.faults
+
+
 def try_program(program, root, shim, folder):
     """How many runs were tried, and what went wrong."""
     stored = list(examples(root))
@@ -278,12 +287,7 @@ def try_program(program, root, shim, folder):
     trials += [(reach_read_limit, example) for example in (stored[0], stored[-1])]
     trials += [(trial_of,) for trial_of in OF_THE_PROGRAM] + [(try_devices, root, folder)]
 
-    def tried(number):
-        trial_of, *more = trials[number]
-        trial = Trial(program, shim, os.path.join(folder, "mark %d" % number))
-        trial_of(trial, *more)
-        return trial
-
-    with concurrent.futures.ThreadPoolExecutor(os.cpu_count()) as at_once:
-        told = list(at_once.map(tried, range(len(trials))))
-    return sum(trial.runs for trial in told), [fault for trial in told for fault in trial.faults]
+    marks = [os.path.join(folder, "mark %d" % number) for number in range(len(trials))]
+    with concurrent.futures.ProcessPoolExecutor(os.cpu_count()) as at_once:
+        told = list(at_once.map(functools.partial(tried, program, shim), marks, trials))
+    return sum(runs for runs, _ in told), [fault for _, faults in told for fault in faults]

@@ -27,9 +27,14 @@ def printed_wide():
     return lines(events, "refused 42 OutOfTurn none", shown(0, 0, *asked), shown(1, 0, *asked))
 
 
-def place(event, number, name, index):
-    """The way to an element of a list of a transaction."""
-    return ("events", event, "sequence", "batch", number, name, index)
+def with_large_batch(batch=LARGE):
+    """The wide script with this batch in the middle."""
+    return changed(wide(), ("events", 2, "sequence", "batch"), batch)
+
+
+def place(event, number, *more):
+    """The way to a transaction, or to a place in it."""
+    return ("events", event, "sequence", "batch", number, *more)
 
 
 MOVES = [("events", event, "move", "range") for event in (1, 3)]
@@ -95,7 +100,7 @@ def all_turned(value):
 
 def large_batches():
     """A batch that is too large comes after the faults inside it and before those of the next event."""
-    yield "a batch too large", write(changed(wide(), ("events", 2, "sequence", "batch"), LARGE)), BATCH_TOO_LARGE
+    yield "a batch too large", write(with_large_batch()), BATCH_TOO_LARGE
     for path in CHECKED:
         for name, value, answer in some_faults_at(path):
             for event in (0, 2, 4):
@@ -105,21 +110,21 @@ def large_batches():
                 first = answer if path[1] <= event else BATCH_TOO_LARGE
                 yield "event %d too large, %s at %s" % (event, name, in_words(path)), write(script), first
     for name, value, answer in some_faults_at(place(2, 0, "mutations", 0)):
-        batch = [*LARGE[1:], transaction(0, [], [], [value])]
-        yield "a batch too large, %s in its last transaction" % name, write(changed(wide(), ("events", 2, "sequence", "batch"), batch)), answer
+        script = with_large_batch([*LARGE[1:], transaction(0, [], [], [value])])
+        yield "a batch too large, %s in its last transaction" % name, write(script), answer
 
 
 # faults of form: a way to a place of the wide script, and what stands there
 SHAPELESS = {
-    "no text in the first key": (place(0, 0, "reads", 0) + (0,), "\\x6d"),
-    "no text in the last value": (place(4, 2, "mutations", 2) + ("set", 1), "\\xFF"),
+    "no text in the first key": (place(0, 0, "reads", 0, 0), "\\x6d"),
+    "no text in the last value": (place(4, 2, "mutations", 2, "set", 1), "\\xFF"),
     "no text in a range that moves": (MOVES[1] + (0,), "a b"),
     "a null for the first read": (place(0, 0, "reads", 0), None),
     "a null for the last mutation": (place(4, 2, "mutations", 2), None),
-    "a negative snapshot in the first transaction": (place(0, 0, "snapshot", 0)[:-1], -1),
-    "a negative snapshot in the last transaction": (place(4, 2, "snapshot", 0)[:-1], -1),
-    "no bool in the first transaction": (place(0, 0, "lock_aware", 0)[:-1], 0),
-    "one more field in the last transaction": (place(4, 2, "x", 0)[:-1], 1),
+    "a negative snapshot in the first transaction": (place(0, 0, "snapshot"), -1),
+    "a negative snapshot in the last transaction": (place(4, 2, "snapshot"), -1),
+    "no bool in the first transaction": (place(0, 0, "lock_aware"), 0),
+    "one more field in the last transaction": (place(4, 2, "x"), 1),
     "a proxy too great": (("events", 0, "sequence", "proxy"), 2**63),
     "no row": (("events", 5, "offer", "row"), None),
     "a resolver in words": (("events", 3, "move", "resolver"), "0"),
@@ -145,7 +150,7 @@ def form_and_content():
                 script = changed(changed(wide(), path, value), way, new)
                 yield "%s, and %s at %s" % (shapeless, name, in_words(path)), write(script), BAD_SHAPE
                 yield "%s, and %s at %s, turned" % (shapeless, name, in_words(path)), write(turned(script)), BAD_SHAPE
-        script = changed(changed(wide(), ("events", 2, "sequence", "batch"), LARGE), way, new)
+        script = changed(with_large_batch(), way, new)
         yield "%s, and a batch too large" % shapeless, write(script), BAD_SHAPE
 
 
@@ -153,7 +158,7 @@ def json_and_others():
     """What is no JSON is answered wherever it stands, before all other faults and after them."""
     wrong = {"%s at %s" % (name, in_words(path)): write(changed(wide(), path, value)) for path, name, value in FAULTY}
     wrong |= {name: write(changed(wide(), way, new)) for name, (way, new) in SHAPELESS.items()}
-    wrong["a batch too large"] = write(changed(wide(), ("events", 2, "sequence", "batch"), LARGE))
+    wrong["a batch too large"] = write(with_large_batch())
     for number, (name, text) in enumerate(wrong.items()):
         for other, (before, behind) in NO_JSON.items():
             yield "%s, and %s" % (name, other), before + text + behind, NOT_JSON

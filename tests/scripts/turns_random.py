@@ -112,7 +112,7 @@ class Drawn:
     def script(self):
         events = [self.first_batch()] if self.rng.random() < 0.7 else []
         draws = [self.sequence] * 5 + [self.move] * 2 + [self.offer] * 12 + [self.any_offer] * 2 + [self.finish] * 5 + [self.stranger]
-        events += [self.rng.choice(draws)() for _ in range(self.rng.choice([5, 15, 30, 45]))]
+        events += [self.rng.choice(draws)() for _ in range(self.rng.choice([5, 5, 15, 15, 30, 30, 45, 45, 120]))]
         if self.rng.random() < 0.5:
             events += [self.offer() for _ in range(self.resolvers * len(self.owners))] + [self.finish() for _ in self.owners]
         ask = [text(self.rng.choice([*POINTS, *KEYS])) for _ in range(self.rng.choice([0, 1, 3]))]
@@ -142,7 +142,8 @@ def plant_content(rng, script):
     wholes = list(lists_of_content(script))
     if not wholes:
         return None, None
-    whole, faults = rng.choice(wholes)
+    mutations = [it for it in wholes if it[1] is MUTATION_FAULTS]
+    whole, faults = rng.choice(mutations if mutations and rng.random() < 0.5 else wholes)
     kind = rng.choice(sorted({answer for _, answer in faults.values()}))
     value, answer = copy.deepcopy(rng.choice([fault for fault in faults.values() if fault[1] == kind]))
     if isinstance(whole, dict):

@@ -7,12 +7,12 @@ import sys
 from typing import NamedTuple
 
 from reference import (
-    LOCKED, NAMES, Refused, apply, check_change, fields, fold, is_locked, is_server_tag, items, KEY_SERVERS, listed,
-    METADATA_VERSION, quoted, read_bool, read_bytes, read_json, read_number, read_pair, servers_of, SERVER_TAG, tags_of, want,
+    KEY_SERVERS, LOCKED, METADATA_VERSION, NAMES, Refused, check_change, fields, fold, is_locked, is_server_tag, items, listed, quoted,
+    read_bool, read_bytes, read_json, read_number, read_pair, tags_of, want,
 )
 
-NAMES.update({15: "BadStamp", 16: "BatchTooLarge"})
 REFUSALS = {
+    **NAMES, 15: "BadStamp", 16: "BatchTooLarge",
     20: "NoSuchResolver", 30: "Early", 31: "GivenUp", 32: "NoSuchProxy", 33: "WrongResolver", 35: "NoSuchRow",
     42: "OutOfTurn", 43: "MissingReply", 51: "VersionsEnd",
 }
@@ -383,7 +383,7 @@ def answer(script):
         for event in events:
             check_event(event)
     except Refused as refused:
-        return "refused %d %s\n" % (refused.args[0], NAMES[refused.args[0]])
+        return refusal(refused.args[0])[0] + "\n"
     cluster, lines = Cluster(*numbers), []
     for kind, *words in events:
         lines += getattr(cluster, kind)(*words)

@@ -278,4 +278,24 @@ def last_numbers():
     )
 
 
-CASES = (small_ones, stamps, moved_ranges, verdicts, locks, told_rows, tags, refused_events, last_numbers)
+def many_events():
+    """A batch of one proxy for each key, and one of the other proxy that is told of them all: more text than one write takes."""
+    count = 400
+    keys = ["%060d" % number for number in range(count)]
+    events = [
+        [sequence(0, transaction(0, [], [], [put_servers(key, SERVER_1)], True)), offer(row, 0), finish(0)] for row, key in enumerate(keys)
+    ]
+    answers = [
+        ["sequence row %d version %d" % (row, row + 1), offered(row, 0, "committed"),
+         *finished(0, row + 1, "txn 0 committed %d 0" % (row + 1), "mutation 0 0 tags none")] for row in range(count)
+    ]
+    routes = ['route "%s" none' % key for key in keys] + ['tags "%s" none' % key for key in keys]
+    versions = " ".join(str(row + 1) for row in range(count))
+    yield case(
+        "%d batches" % count, turns(*events, sequence(1), offer(count, 0), finish(1), ask=keys, resolvers=1, window=10, step=1),
+        *answers, "sequence row %d version %d" % (count, count + 1), offered(count, 0, "none", versions), finished(1, count + 1),
+        shown(0, count, *routes), shown(1, count + 1, *routes),
+    )
+
+
+CASES = (small_ones, stamps, moved_ranges, verdicts, locks, told_rows, tags, refused_events, last_numbers, many_events)
