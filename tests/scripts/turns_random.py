@@ -176,9 +176,9 @@ def first_fault(script, planted):
 def wrong_script(rng):
     """A script with one to three kinds of fault, and what it must be answered, or nothing where there is no place for them."""
     script = right_script(rng)
-    kinds = rng.sample(["content", "content", "content", "form", "text"], rng.choice([1, 1, 2, 3]))
-    planted = [plant_content(rng, script) for _ in range(kinds.count("content"))]
     large = rng.random() < 0.1
+    kinds = rng.sample(["content", "content", "content", "form", "text"], rng.choice([0, 1, 2] if large else [1, 1, 2, 3]))
+    planted = [plant_content(rng, script) for _ in range(kinds.count("content"))]
     if large:
         plant_large_batch(rng, script)
     answer = first_fault(script, planted)
