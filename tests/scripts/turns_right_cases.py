@@ -99,6 +99,58 @@ def verdicts():
     )
 
 
+def refused_writes():
+    """What a transaction that is refused wrote counts for nothing; too old comes before conflict."""
+    yield case(
+        "the write of a batch before that was in conflict",
+        turns(
+            sequence(0, written("b")), sequence(0, transaction(9, [one_key("b")], [one_key("d")])), sequence(0, read("d", 9)),
+            offers(0, 1, 2, resolvers=1), [finish(0)] * 3, resolvers=1, proxies=1,
+        ),
+        sequenced(3), offered(0, 0, "committed"), offered(1, 0, "conflict"), offered(2, 0, "committed"),
+        finished(0, 10, "txn 0 committed 10 0"), finished(0, 20, "txn 0 conflict 1020"), finished(0, 30, "txn 0 committed 30 0"),
+        shown(0, 30),
+    )
+    yield case(
+        "a read outside the window behind a write of its batch, and one inside",
+        turns(sequence(0, written("a"), read("a", 39), read("a", 40)), offers(0), finish(0), step=140, proxies=1),
+        sequenced(1, 140), offered(0, 0, "committed too_old conflict"), offered(0, 1),
+        finished(0, 140, "txn 0 committed 140 0", "txn 1 too_old 1007", "txn 2 conflict 1020"), shown(0, 140),
+    )
+    state = transaction(5, [one_key("n")], [], [put(METADATA_VERSION, "v")], True)
+    yield case(
+        "a state transaction that the last resolver alone refuses",
+        turns(
+            move("m", "t", 1), sequence(0, written("n")), sequence(1, state), sequence(0), offers(0, 1, 2), finish(0), finish(1), finish(0),
+        ),
+        "move date 1", sequenced(3), offered(0, 0), offered(0, 1, "committed"), offered(1, 0, "committed", "10"),
+        offered(1, 1, "conflict", "10"), offered_to_both(2, "none", "20"), finished(0, 10, "txn 0 committed 10 0"),
+        finished(1, 20, "txn 0 conflict 1020"), finished(0, 30), shown(0, 30), shown(1, 20),
+    )
+
+
+# mutations, each with whether it makes a state transaction
+STATES = [
+    (put("\\xff", "v"), True), (put("\\xff\\x01\\xff", "v"), True), (put("\\xff\\x02", "v"), False), (put("\\xff\\x02a", "v"), False),
+    (put("\\xff\\x03", "v"), True), (put("\\xfe\\xff", "v"), False), (put("a", "v"), False), (put("", ""), False),
+    (stamp("\\xff/x", "\\x00" * 14), True), (stamp("\\xff\\x02/x", "\\x00" * 14), False), (stamp("k", "\\x00" * 14), False),
+    (clear("a", "\\xff"), False), (clear("a", "\\xff\\x00"), True), (clear("a", "\\xff\\x02"), True), (clear("\\xff", "\\xff\\x02"), True),
+    (clear("\\xff\\x02", "\\xff\\x03"), False), (clear("\\xff\\x02a", "\\xff\\x02b"), False), (clear("\\xff\\x02a", "\\xff\\x03"), False),
+    (clear("\\xff\\x02", "\\xff\\x03\\x00"), True), (clear("\\xff\\x01\\xff", "\\xff\\x03"), True), (clear("\\xff\\x02", "\\xff\\x04"), True),
+    (clear("", "a"), False), (clear("a", "\\xfe\\xff"), False), (clear("", "\\xff\\xff"), True),
+]
+
+
+def state_transactions():
+    """A state transaction goes to every resolver, and another one without ranges to none."""
+    for mutation, is_state in STATES:
+        yield case(
+            "%s" % mutation, turns(sequence(0, transaction(0, [], [], [mutation])), offers(0), finish(0), proxies=1),
+            sequenced(1), offered_to_both(0, "committed" if is_state else "none"),
+            finished(0, 10, "txn 0 committed 10 0", "mutation 0 0 tags none"), shown(0, 10),
+        )
+
+
 def locked(snapshot):
     """A lock by one proxy, a tag set by another with this snapshot, and an empty batch that is told of both."""
     tag = transaction(snapshot, [], [], [put_tag(SERVER_1, "\\x00\\x00\\x01")])
@@ -238,6 +290,10 @@ def refused_events():
         shown(0, last), shown(1, 0),
     )
     yield case(
+        "the first resolver of those that have not judged", turns(sequence(0), finish(0), offer(0, 0), finish(0), resolvers=3, proxies=1),
+        sequenced(1), "refused 43 MissingReply 0", offered(0, 0), "refused 43 MissingReply 1", shown(0, 0),
+    )
+    yield case(
         "early offers name the version of the resolver", turns(
             sequence(0), sequence(0), sequence(0), offer(1, 0), offer(0, 0), offer(2, 0), offer(1, 0), offer(2, 1), finish(0),
         ),
@@ -298,4 +354,7 @@ def many_events():
     )
 
 
-CASES = (small_ones, stamps, moved_ranges, verdicts, locks, told_rows, tags, refused_events, last_numbers, many_events)
+CASES = (
+    small_ones, stamps, moved_ranges, verdicts, refused_writes, state_transactions, locks, told_rows, tags, refused_events, last_numbers,
+    many_events,
+)
