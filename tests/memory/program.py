@@ -3,13 +3,16 @@
 The status is 3 for a device, and 4 for a growth, or that of the example where the growth did not matter. What was written is a
 beginning of the example's output, and nothing where a read was refused. No other line is written.
 """
+import concurrent.futures
 import errno
+import functools
 import os
 import resource
 import signal
 import subprocess
 import threading
 import time
+from typing import NamedTuple
 
 SCRIPT_REFUSED, COMMAND_LINE_REFUSED, DEVICE_FAILED, OUT_OF_MEMORY = 1, 2, 3, 4
 
@@ -21,22 +24,33 @@ READ_SIZE = 4_096
 BESIDE = 2**26
 
 
+class Example(NamedTuple):
+    """A stored example, and the words that run the program on it."""
+
+    name: str
+    words: list
+    script: bytes
+    output: bytes
+    status: int
+
+
 def examples(root):
-    """The stored examples: name, script, output and status."""
-    folder = os.path.join(root, "examples")
-    for name in sorted(os.listdir(folder)):
-        if name.endswith(".json"):
-            with open(os.path.join(folder, name), "rb") as script, open(os.path.join(folder, name[:-5] + ".out"), "rb") as out:
-                output = out.read()
-                yield name, script.read(), output, SCRIPT_REFUSED if output.startswith(b"refused ") else 0
+    """The stored examples: those of `fold`, and in a folder those of `turns`."""
+    for folder, words in (("examples", []), (os.path.join("examples", "turns"), ["turns"])):
+        for name in sorted(os.listdir(os.path.join(root, folder))):
+            if name.endswith(".json"):
+                path = os.path.join(root, folder, name)
+                with open(path, "rb") as script, open(path[:-5] + ".out", "rb") as out:
+                    output = out.read()
+                    refused = output.startswith(b"refused ") and output.count(b"\n") == 1
+                    yield Example(name, words, script.read(), output, SCRIPT_REFUSED if refused else 0)
 
 
 class Trial:
-    """Runs of one program with the preloaded library, and what went wrong in them."""
+    """Runs of one program with the preloaded library, one after another, and what went wrong in them."""
 
-    def __init__(self, program, shim, folder):
-        self.program, self.shim = program, shim
-        self.mark = os.path.join(folder, "mark")
+    def __init__(self, program, shim, mark):
+        self.program, self.shim, self.mark = program, shim, mark
         self.runs, self.faults = 0, []
 
     def run(self, script, words=(), **variables):
@@ -56,11 +70,10 @@ class Trial:
 
 def refuse_each(trial, example, variable, judge, **more):
     """Refuses the calls of one kind in turn until there is no further one; the judge says what is right."""
-    name, script, _, _ = example
-    number = 0
+    name, number = example.name, 0
     while True:
         number += 1
-        ended, refused = trial.run(script, **{variable: number}, **more)
+        ended, refused = trial.run(example.script, example.words, **{variable: number}, **more)
         if not refused:
             trial.expect(number > 1, "%s: there is no call for %s" % (name, variable))
             return number - 1
@@ -70,15 +83,13 @@ def refuse_each(trial, example, variable, judge, **more):
 
 def refuse_growths(trial, example):
     """Each growth once, and each with all that follow."""
-    _, _, output, status = example
-
     def judge(_, ended):
-        whole = (ended.returncode, ended.stdout) == (status, output)
-        return whole or (ended.returncode == OUT_OF_MEMORY and output.startswith(ended.stdout))
+        whole = (ended.returncode, ended.stdout) == (example.status, example.output)
+        return whole or (ended.returncode == OUT_OF_MEMORY and example.output.startswith(ended.stdout))
 
     count = refuse_each(trial, example, "REFUSE_GROWTH", judge)
     again = refuse_each(trial, example, "REFUSE_GROWTH", judge, REFUSE_ON=1)
-    trial.expect(count == again, "%s: %d growths, and %d the second time" % (example[0], count, again))
+    trial.expect(count == again, "%s: %d growths, and %d the second time" % (example.name, count, again))
 
 
 def refuse_reads(trial, example):
@@ -89,13 +100,13 @@ def refuse_reads(trial, example):
     for error in (errno.EIO, errno.EINTR, errno.EAGAIN):
         refuse_each(trial, example, "REFUSE_READ", judge, REFUSE_ERROR=error)
     count = refuse_each(trial, example, "REFUSE_READ", judge, SHORT_READ=7)
-    needed = -(-len(example[1]) // 7) + 1
-    trial.expect(count == needed, "%s: %d reads of 7 bytes, and not %d" % (example[0], count, needed))
+    needed = -(-len(example.script) // 7) + 1
+    trial.expect(count == needed, "%s: %d reads of 7 bytes, and not %d" % (example.name, count, needed))
 
 
 def refuse_writes(trial, example):
     """Each write, also where they are short: what was written is exactly what the writes before took."""
-    _, _, output, _ = example
+    output = example.output
 
     def judge_of(size):
         return lambda number, ended: (ended.returncode, ended.stdout) == (DEVICE_FAILED, output[: (number - 1) * size])
@@ -108,19 +119,19 @@ def refuse_writes(trial, example):
 
 def shorten_calls(trial, example):
     """Short reads and short writes change nothing."""
-    name, script, output, status = example
+    name, words, script, output, status = example
     for variable in ("SHORT_READ", "SHORT_WRITE"):
         for size in (1, 2, 3, 7, 64):
-            ended, _ = trial.run(script, **{variable: size})
+            ended, _ = trial.run(script, words, **{variable: size})
             fine = (ended.returncode, ended.stdout, ended.stderr) == (status, output, b"")
             trial.expect(fine, "%s: ends wrong where %s is %d: %r" % (name, variable, size, ended))
 
 
 def reach_read_limit(trial, example):
     """White space behind a script, read byte by byte: the last count of bytes that may be read, and one more."""
-    name, script, output, status = example
+    name, words, script, output, status = example
     for count, wanted in ((READ_LIMIT - 1, (status, output, b"")), (READ_LIMIT, (DEVICE_FAILED, b"", b""))):
-        ended, _ = trial.run(script.ljust(count), SHORT_READ=1)
+        ended, _ = trial.run(script.ljust(count), words, SHORT_READ=1)
         got = ended.returncode, ended.stdout, ended.stderr
         trial.expect(got == wanted, "%s: ends wrong after %d bytes, read one by one: %r" % (name, count, ended))
 
@@ -198,16 +209,16 @@ def try_devices(trial, root, folder):
 def try_words(trial):
     """Refused words are answered before a device is touched, and their status stays where their text cannot be written."""
     for redirections in ("<&-", "< /", "> /dev/full", ">&-", "<&- >&-"):
-        status, out, err = run_shell(trial, redirections, "turns")
-        trial.expect((status, out) == (COMMAND_LINE_REFUSED, b"") and err, "ends wrong with turns %s" % redirections)
+        status, out, err = run_shell(trial, redirections, "threads")
+        trial.expect((status, out) == (COMMAND_LINE_REFUSED, b"") and err, "ends wrong with threads %s" % redirections)
     for redirections in ("2>&-", "2> /dev/full", "<&- >&- 2>&-"):
-        got = run_shell(trial, redirections, "turns")
-        trial.expect(got == (COMMAND_LINE_REFUSED, b"", b""), "ends wrong with turns %s: %r" % (redirections, got))
+        got = run_shell(trial, redirections, "threads")
+        trial.expect(got == (COMMAND_LINE_REFUSED, b"", b""), "ends wrong with threads %s: %r" % (redirections, got))
 
 
 def refuse_in_words(trial):
     """Each growth while words are refused: the status is 2 or 4, and nothing stands on standard output."""
-    for words in (["turns"], ["fold", "fold"], ["--help"], [b"\xff"]):
+    for words in (["threads"], ["fold", "turns"], ["--help"], [b"\xff"]):
         number, refused = 0, True
         while refused:
             number += 1
@@ -218,9 +229,9 @@ def refuse_in_words(trial):
             number += not refused
 
 
-def run_in_parts(trial, parts, between):
+def run_in_parts(trial, words, parts, between):
     """A run whose script comes in parts, with a call between them: its output and status."""
-    with subprocess.Popen([trial.program], stdin=subprocess.PIPE, stdout=subprocess.PIPE, bufsize=0) as process:
+    with subprocess.Popen([trial.program, *words], stdin=subprocess.PIPE, stdout=subprocess.PIPE, bufsize=0) as process:
         try:
             for part in parts:
                 process.stdin.write(part)
@@ -233,44 +244,50 @@ def run_in_parts(trial, parts, between):
 
 def stop_and_go(trial, example):
     """A run that is stopped and goes on while it waits for its script."""
-    name, script, output, status = example
+    name, words, script, output, status = example
 
     def interrupt(process):
         time.sleep(0.05)
         process.send_signal(signal.SIGSTOP)
         process.send_signal(signal.SIGCONT)
 
-    got = run_in_parts(trial, (script[:10], script[10:]), interrupt)
+    got = run_in_parts(trial, words, (script[:10], script[10:]), interrupt)
     trial.expect(got == (output, status), "%s: ends wrong when stopped: %r" % (name, got))
 
 
 def try_pipes(trial, example):
     """A script that comes byte by byte, and an output that nobody reads."""
-    name, script, output, status = example
-    got = run_in_parts(trial, (bytes([byte]) for byte in script), lambda _: None)
+    name, words, script, output, status = example
+    got = run_in_parts(trial, words, (bytes([byte]) for byte in script), lambda _: None)
     trial.expect(got == (output, status), "%s: ends wrong byte by byte: %r" % (name, got))
     reader, writer = os.pipe()
     os.close(reader)
-    ended = subprocess.run([trial.program], input=script, stdout=writer, stderr=subprocess.PIPE, timeout=120)
+    ended = subprocess.run([trial.program, *words], input=script, stdout=writer, stderr=subprocess.PIPE, timeout=120)
     os.close(writer)
     got = ended.returncode, ended.stderr
     trial.expect(got == (DEVICE_FAILED, b""), "%s: ends wrong where nobody reads: %r" % (name, got))
 
 
+OF_EACH_EXAMPLE = (refuse_growths, refuse_reads, refuse_writes, shorten_calls, try_pipes, stop_and_go)
+OF_THE_PROGRAM = (refuse_in_words, want_space, try_endless_inputs, try_words)
+
+
+def tried(program, shim, mark, trial_and_arguments):
+    """How many runs one trial took, and what went wrong in them."""
+    trial_of, *arguments = trial_and_arguments
+    trial = Trial(program, shim, mark)
+    trial_of(trial, *arguments)
+    return trial.runs, trial.faults
+
+
 def try_program(program, root, shim, folder):
     """How many runs were tried, and what went wrong."""
-    trial = Trial(program, shim, folder)
-    for example in examples(root):
-        refuse_growths(trial, example)
-        refuse_reads(trial, example)
-        refuse_writes(trial, example)
-        shorten_calls(trial, example)
-        try_pipes(trial, example)
-        stop_and_go(trial, example)
-    reach_read_limit(trial, example)
-    refuse_in_words(trial)
-    want_space(trial)
-    try_endless_inputs(trial)
-    try_devices(trial, root, folder)
-    try_words(trial)
-    return trial.runs, trial.faults
+    stored = list(examples(root))
+    trials = [(trial_of, example) for example in stored for trial_of in OF_EACH_EXAMPLE]
+    trials += [(reach_read_limit, example) for example in (stored[0], stored[-1])]
+    trials += [(trial_of,) for trial_of in OF_THE_PROGRAM] + [(try_devices, root, folder)]
+
+    marks = [os.path.join(folder, "mark %d" % number) for number in range(len(trials))]
+    with concurrent.futures.ProcessPoolExecutor(os.cpu_count()) as at_once:
+        told = list(at_once.map(functools.partial(tried, program, shim), marks, trials))
+    return sum(runs for runs, _ in told), [fault for _, faults in told for fault in faults]

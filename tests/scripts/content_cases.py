@@ -1,7 +1,8 @@
 """Scripts of the right form whose keys, values, ranges or rows are at fault, or stand just within their limits."""
+from forms import FOLD
 from script import (
-    ANSWER, BAD_ROW, EMPTY_RANGE, KEY_OUTSIDE, KEY_SERVERS, KEY_TOO_LONG, LOCKED, METADATA_VERSION, SERVER_1, SERVER_2, SERVER_3,
-    SERVER_TAG, VALUE_TOO_LONG, changed, write,
+    BAD_ROW, EMPTY_RANGE, KEY_OUTSIDE, KEY_SERVERS, KEY_TOO_LONG, LOCKED, METADATA_VERSION, SERVER_1, SERVER_2, SERVER_3, SERVER_TAG,
+    VALUE_TOO_LONG, write,
 )
 
 LAST_KEY = "\\xff\\xfe" + "\\xff" * 9998
@@ -63,6 +64,29 @@ SOME = [
     "an end past the key space", "equal ends", "sources that do not rise", "a tag of two bytes",
 ]
 
+LONG_VALUE, LONG_BEGIN, LONG_END = "v" * 100001, "k" * 10001, "k" * 10002
+OUTSIDE, LONG_OUTSIDE = "\\xff\\xffa", "\\xff\\xff" + "k" * 10000
+# changes with two faults each: the lesser number is answered
+TWO_FAULTS = [
+    ({"set": [LONG_BEGIN, LONG_VALUE]}, KEY_TOO_LONG),
+    ({"set": [LONG_OUTSIDE, "1"]}, KEY_TOO_LONG),
+    ({"set": [LONG_OUTSIDE, LONG_VALUE]}, KEY_TOO_LONG),
+    ({"set": [OUTSIDE, LONG_VALUE]}, VALUE_TOO_LONG),
+    ({"set": [KEY_SERVERS + "k" * 9988, "\\x00"]}, KEY_TOO_LONG),
+    ({"set": [KEY_SERVERS + "k" * 9988, LONG_VALUE]}, KEY_TOO_LONG),
+    ({"set": [KEY_SERVERS + "m", LONG_VALUE]}, VALUE_TOO_LONG),
+    ({"set": [SERVER_TAG + SERVER_1, LONG_VALUE]}, VALUE_TOO_LONG),
+    ({"clear": [LONG_BEGIN, LONG_END]}, KEY_TOO_LONG),
+    ({"clear": [LONG_BEGIN, "a"]}, KEY_TOO_LONG),
+    ({"clear": ["z", LONG_END]}, KEY_TOO_LONG),
+    ({"clear": [LONG_OUTSIDE, "a"]}, KEY_TOO_LONG),
+    ({"clear": [OUTSIDE, LONG_END]}, KEY_TOO_LONG),
+    ({"clear": ["a", LONG_OUTSIDE]}, KEY_TOO_LONG),
+    ({"clear": [OUTSIDE, "a"]}, KEY_OUTSIDE),
+    ({"clear": [OUTSIDE, OUTSIDE]}, KEY_OUTSIDE),
+    ({"clear": ["\\xff\\xff", "\\xff\\xfe"]}, KEY_OUTSIDE),
+]
+
 # changes without a fault, close to the limits, that change nothing which is printed
 FINE = {
     "a key of 10,000 bytes": {"set": ["k" * 10000, "1"]},
@@ -96,7 +120,7 @@ FINE = {
 
 def with_change(change):
     """The good script with another last change of its first row."""
-    return write(changed(("rows", 0, "states", 0, "mutations", 2), change))
+    return write(FOLD.changed(("rows", 0, "states", 0, "mutations", 2), change))
 
 
 def one_fault():
@@ -106,17 +130,17 @@ def one_fault():
 
 def no_fault():
     for name, change in FINE.items():
-        yield name, with_change(change), ANSWER
-    without = ANSWER.replace('route "" 0:1\n', "").replace('tags "a" 0:1', 'tags "a" none')
+        yield name, with_change(change), FOLD.answer
+    without = FOLD.answer.replace('route "" 0:1\n', "").replace('tags "a" 0:1', 'tags "a" none')
     yield "a range to the end of the key space", with_change({"clear": ["zz", "\\xff\\xff"]}), without
     yield "all keys", with_change({"clear": ["", "\\xff\\xff"]}), without
     far = KEY_SERVERS + "k" * 9987
     more = 'route "" 0:1\nroute "%s" none\n' % ("k" * 9987)
-    yield "a keyServers key of 10,000 bytes", with_change({"set": [far, "\\x00\\x00"]}), ANSWER.replace('route "" 0:1\n', more)
+    yield "a keyServers key of 10,000 bytes", with_change({"set": [far, "\\x00\\x00"]}), FOLD.answer.replace('route "" 0:1\n', more)
     rows = 'route "" 0:1\nroute "m" 0:1\n'
-    yield "destinations alone", with_change(set_at_row("\\x00\\x01" + SERVER_1)), ANSWER.replace('route "" 0:1\n', rows)
-    yield "equal lists", with_change(set_at_row(("\\x01" + SERVER_1) * 2)), ANSWER.replace('route "" 0:1\n', rows)
-    yield "a later source", with_change(set_at_row("\\x01" + SERVER_2 + "\\x01" + SERVER_1)), ANSWER.replace('route "" 0:1\n', rows)
+    yield "destinations alone", with_change(set_at_row("\\x00\\x01" + SERVER_1)), FOLD.answer.replace('route "" 0:1\n', rows)
+    yield "equal lists", with_change(set_at_row(("\\x01" + SERVER_1) * 2)), FOLD.answer.replace('route "" 0:1\n', rows)
+    yield "a later source", with_change(set_at_row("\\x01" + SERVER_2 + "\\x01" + SERVER_1)), FOLD.answer.replace('route "" 0:1\n', rows)
 
 
 def servers(count):
@@ -125,7 +149,7 @@ def servers(count):
 
 def many_servers():
     """255 servers in a list, and values cut or made longer at each of their bytes."""
-    rows = ANSWER.replace('route "" 0:1\n', 'route "" 0:1\nroute "m" 0:1\n')
+    rows = FOLD.answer.replace('route "" 0:1\n', 'route "" 0:1\nroute "m" 0:1\n')
     yield "255 sources", with_change(set_at_row("\\xff" + servers(255) + "\\x00")), rows
     yield "255 destinations", with_change(set_at_row("\\x00\\xff" + servers(255))), rows
     yield "255 of both", with_change(set_at_row(("\\xff" + servers(255)) * 2)), rows
@@ -155,36 +179,14 @@ def ids_that_do_not_rise():
         for low, high in (("\\x00", "\\x01"), ("0", "1"), ("\\x7f", "\\x80"), ("\\xfe", "\\xff"), ("\\x00", "\\xff")):
             first, second = ("".join([*SERVER_1[:place], byte, *SERVER_1[place + 1 :]]) for byte in (low, high))
             falling = second + first
-            rising = ANSWER.replace('route "" 0:1\n', 'route "" 0:1\nroute "m" %s\n' % ("0:1" if SERVER_1 in (first, second) else "none"))
+            rising = FOLD.answer.replace('route "" 0:1\n', 'route "" 0:1\nroute "m" %s\n' % ("0:1" if SERVER_1 in (first, second) else "none"))
             yield "sources that fall at byte %d" % place, with_change(set_at_row("\\x02" + falling + "\\x00")), BAD_ROW
             yield "destinations that fall at byte %d" % place, with_change(set_at_row("\\x00\\x02" + falling)), BAD_ROW
             yield "sources that rise at byte %d" % place, with_change(set_at_row("\\x02" + first + second + "\\x00")), rising
 
 
 def two_limits_of_one_change():
-    """Two faults of one change: the lesser number is answered."""
-    long_value, long_begin, long_end = "v" * 100001, "k" * 10001, "k" * 10002
-    outside, long_outside = "\\xff\\xffa", "\\xff\\xff" + "k" * 10000
-    changes = [
-        ({"set": [long_begin, long_value]}, KEY_TOO_LONG),
-        ({"set": [long_outside, "1"]}, KEY_TOO_LONG),
-        ({"set": [long_outside, long_value]}, KEY_TOO_LONG),
-        ({"set": [outside, long_value]}, VALUE_TOO_LONG),
-        ({"set": [KEY_SERVERS + "k" * 9988, "\\x00"]}, KEY_TOO_LONG),
-        ({"set": [KEY_SERVERS + "k" * 9988, long_value]}, KEY_TOO_LONG),
-        ({"set": [KEY_SERVERS + "m", long_value]}, VALUE_TOO_LONG),
-        ({"set": [SERVER_TAG + SERVER_1, long_value]}, VALUE_TOO_LONG),
-        ({"clear": [long_begin, long_end]}, KEY_TOO_LONG),
-        ({"clear": [long_begin, "a"]}, KEY_TOO_LONG),
-        ({"clear": ["z", long_end]}, KEY_TOO_LONG),
-        ({"clear": [long_outside, "a"]}, KEY_TOO_LONG),
-        ({"clear": [outside, long_end]}, KEY_TOO_LONG),
-        ({"clear": ["a", long_outside]}, KEY_TOO_LONG),
-        ({"clear": [outside, "a"]}, KEY_OUTSIDE),
-        ({"clear": [outside, outside]}, KEY_OUTSIDE),
-        ({"clear": ["\\xff\\xff", "\\xff\\xfe"]}, KEY_OUTSIDE),
-    ]
-    for number, (change, answer) in enumerate(changes):
+    for number, (change, answer) in enumerate(TWO_FAULTS):
         yield "two faults of one change, the %d. pair" % number, with_change(change), answer
 
 

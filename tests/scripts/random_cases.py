@@ -7,7 +7,6 @@ of the fault that counts, and the reference must say so too.
 import copy
 import random
 
-import reference
 from content_cases import FAULTS
 from script import BAD_SHAPE, NOT_JSON, at, kind_at, places
 
@@ -211,10 +210,10 @@ def wrong_script(rng):
 
 
 def random_scripts(seeds):
-    """Each case: its kind, its seed, its bytes, and what must be answered."""
+    """Each case: its mode, its kind, its seed, its bytes, and what must be answered, or nothing where the reference says it."""
     for seed in seeds:
         rng = random.Random(seed)
         script = spell(rng, right_script(rng)).encode()
-        yield "random_right", "seed %d" % seed, script, reference.answer(script)
+        yield "fold", "random_right", "seed %d" % seed, script, None
         script, answer = wrong_script(rng)
-        yield "random_wrong", "seed %d" % seed, script.encode(), answer
+        yield "fold", "random_wrong", "seed %d" % seed, script.encode(), answer

@@ -1,4 +1,4 @@
-"""The script from which the cases start, the places in it, and how a script is written as JSON."""
+"""How a script is written as JSON, the places in it, and what one that is refused is answered."""
 import json
 
 NOT_JSON = "refused 70 NotJson\n"
@@ -8,47 +8,12 @@ VALUE_TOO_LONG = "refused 11 ValueTooLong\n"
 KEY_OUTSIDE = "refused 12 KeyOutside\n"
 EMPTY_RANGE = "refused 13 EmptyRange\n"
 BAD_ROW = "refused 14 BadRow\n"
+BAD_STAMP = "refused 15 BadStamp\n"
+BATCH_TOO_LARGE = "refused 16 BatchTooLarge\n"
 
 SERVER_1, SERVER_2, SERVER_3 = "server0000000001", "server0000000002", "server0000000003"
 KEY_SERVERS, SERVER_TAG = "\\xff/keyServers/", "\\xff/serverTag/"
 METADATA_VERSION, LOCKED = "\\xff/metadataVersion", "\\xff/dbLocked"
-
-
-def good():
-    """A script without a fault, with a Set, a Clear and a kept row of each family."""
-    return {
-        "resolvers": 2,
-        "rows": [
-            {
-                "version": 10,
-                "states": [
-                    {
-                        "mutations": [
-                            {"set": [SERVER_TAG + SERVER_1, "\\x00\\x00\\x01"]},
-                            {"set": [KEY_SERVERS, "\\x01" + SERVER_1 + "\\x00"]},
-                            {"clear": ["a", "b"]},
-                        ],
-                        "lock_aware": True,
-                        "verdicts": ["committed", "committed"],
-                    }
-                ],
-            },
-            {
-                "version": 20,
-                "states": [
-                    {
-                        "mutations": [{"set": [METADATA_VERSION, "v"]}],
-                        "lock_aware": False,
-                        "verdicts": ["committed", "too_old"],
-                    }
-                ],
-            },
-        ],
-        "ask": ["a"],
-    }
-
-
-ANSWER = 'version 20\nlocked no\nmetadata_version none\nroute "" 0:1\ntags "a" 0:1\n'
 
 
 class Written(str):
@@ -85,18 +50,17 @@ def places(value, path=()):
         yield from places(inner, path + (step,))
 
 
+KINDS = {
+    "resolvers": "number", "version": "number", "lock_aware": "bool", "verdicts": "verdict", "proxies": "number", "window": "number",
+    "step": "number", "proxy": "number", "resolver": "number", "row": "number", "snapshot": "number",
+}
+
+
 def kind_at(path, value):
-    """What the form wants at a place: a list, an object, a number, a bool, a verdict, or bytes."""
+    """What a script must have at a place: a list, an object, a number, a bool, a verdict, or bytes."""
     if isinstance(value, (dict, list)):
         return type(value).__name__
-    name = [step for step in path if isinstance(step, str)][-1]
-    kinds = {"resolvers": "number", "version": "number", "lock_aware": "bool", "verdicts": "verdict"}
-    return kinds.get(name, "bytes")
-
-
-def places_of_kind(kind):
-    """The places of the good script of one kind, each with its value."""
-    return [(path, value) for path, value in places(good()) if kind_at(path, value) == kind]
+    return KINDS.get([step for step in path if isinstance(step, str)][-1], "bytes")
 
 
 def at(value, path):
@@ -106,11 +70,10 @@ def at(value, path):
     return value
 
 
-def changed(path, new, script=None):
-    """The good script, or this one, with another value at this place."""
+def changed(script, path, new):
+    """The script with another value at this place."""
     if not path:
         return new
-    script = good() if script is None else script
     at(script, path[:-1])[path[-1]] = new
     return script
 

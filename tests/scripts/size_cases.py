@@ -1,16 +1,17 @@
 """Large scripts: of sizes about those of one read, and with more lines of output than one write takes."""
-from script import ANSWER, BAD_SHAPE, KEY_SERVERS, METADATA_VERSION, NOT_JSON, SERVER_TAG, changed, good, write
+from forms import FOLD
+from script import BAD_SHAPE, KEY_SERVERS, METADATA_VERSION, NOT_JSON, SERVER_TAG, write
 
 # how many bytes a read of the program takes at once, and how many a pipe
 TAKEN_AT_ONCE = (4_096, 65_536)
 
 
-def sizes_about_reads():
+def sizes_about_reads(form):
     """Scripts of these sizes, made long by white space at either end or by a value."""
-    whole = write(good())
+    whole = write(form.good())
     for size in sorted({size for once in TAKEN_AT_ONCE for size in (once - 1, once, once + 1, 2 * once - 1, 2 * once, 2 * once + 1, 20 * once)}):
-        yield "%d bytes, white space behind" % size, whole.ljust(size), ANSWER
-        yield "%d bytes, white space before" % size, whole.rjust(size), ANSWER
+        yield "%d bytes, white space behind" % size, whole.ljust(size), form.answer
+        yield "%d bytes, white space before" % size, whole.rjust(size), form.answer
         yield "%d bytes, and one behind" % size, whole.ljust(size) + "x", NOT_JSON
         yield "%d bytes without the last" % size, whole.rjust(size + 1)[:-1], NOT_JSON
 
@@ -22,7 +23,7 @@ def values_about_reads():
         state = {"mutations": [{"set": [METADATA_VERSION, value]}], "lock_aware": True, "verdicts": ["committed"]}
         script = write({"resolvers": 1, "rows": [{"version": 7, "states": [state]}], "ask": []})
         yield "escapes behind %d letters" % more, script, 'version 7\nlocked no\nmetadata_version "%s"\n' % value
-        yield "escapes behind %d letters, cut" % more, write(changed(("ask", 0), value + "\\x")), BAD_SHAPE
+        yield "escapes behind %d letters, cut" % more, write(FOLD.changed(("ask", 0), value + "\\x")), BAD_SHAPE
 
 
 def server(number):
@@ -49,4 +50,5 @@ def many_rows():
     yield "%d transactions of one row" % count, write(script), "\n".join(lines) + "\n"
 
 
-CASES = (sizes_about_reads, values_about_reads, many_rows)
+OF_EACH_FORM = (sizes_about_reads,)
+CASES = (values_about_reads, many_rows)

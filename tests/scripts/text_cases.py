@@ -1,5 +1,5 @@
 """Scripts with texts that spell no bytes, with each byte spelled each way, and with each JSON escape."""
-from script import ANSWER, BAD_SHAPE, METADATA_VERSION, NOT_JSON, Written, changed, good, named, places_of_kind, write
+from script import BAD_SHAPE, NOT_JSON, Written, named, write
 
 # texts that spell no bytes, each by its fault
 BAD_TEXTS = {
@@ -46,59 +46,48 @@ BAD_TEXTS = {
 AROUND = (("", ""), ("k", "\\x00"), ("\\xff", "k"))
 
 
-def bad_texts():
-    for path, _ in places_of_kind("bytes"):
+def bad_texts(form):
+    for path, _ in form.places("bytes"):
         for name, bad in BAD_TEXTS.items():
             for before, after in AROUND:
                 whole = before + bad + after
                 spelled = "%s %r, %s" % (named(path), whole, name)
-                yield spelled, write(changed(path, whole)), BAD_SHAPE
-
-
-def with_value(text):
-    """A script that prints one text of bytes back, as a value, and asks for it as a key."""
-    change = {"set": [METADATA_VERSION, text]}
-    state = {"mutations": [change], "lock_aware": True, "verdicts": ["committed"]}
-    return write({"resolvers": 1, "rows": [{"version": 3, "states": [state]}], "ask": [text]})
-
-
-def printed(spelled):
-    return 'version 3\nlocked no\nmetadata_version "%s"\ntags "%s" none\n' % (spelled, spelled)
+                yield spelled, write(form.changed(path, whole)), BAD_SHAPE
 
 
 def is_plain(byte):
     return 0x21 <= byte <= 0x7E and byte not in (0x22, 0x5C)
 
 
-def each_byte():
+def each_byte(form):
     """Each byte by its one spelling, and by the other way, which spells nothing."""
     for byte in range(256):
         escape = "\\x%02x" % byte
         right, wrong = (chr(byte), escape) if is_plain(byte) else (escape, chr(byte))
         for before, after in AROUND[:2]:
             whole = before + right + after
-            yield "byte %02x as %r" % (byte, whole), with_value(whole), printed(whole)
-            yield "byte %02x as %r" % (byte, before + wrong + after), with_value(before + wrong + after), BAD_SHAPE
+            yield "byte %02x as %r" % (byte, whole), form.with_value(whole), form.printed(whole)
+            yield "byte %02x as %r" % (byte, before + wrong + after), form.with_value(before + wrong + after), BAD_SHAPE
         if "%x" % byte != "%X" % byte:
-            yield "byte %02x in upper case" % byte, with_value("\\x%02X" % byte), BAD_SHAPE
+            yield "byte %02x in upper case" % byte, form.with_value("\\x%02X" % byte), BAD_SHAPE
 
 
-def all_bytes_in_one():
+def all_bytes_in_one(form):
     whole = "".join(chr(byte) if is_plain(byte) else "\\x%02x" % byte for byte in range(256))
-    yield "all bytes", with_value(whole), printed(whole)
-    yield "all bytes twice", with_value(whole + whole), printed(whole + whole)
+    yield "all bytes", form.with_value(whole), form.printed(whole)
+    yield "all bytes twice", form.with_value(whole + whole), form.printed(whole + whole)
 
 
-def raw_characters():
+def raw_characters(form):
     """Each character as it stands in a JSON string: below the space JSON knows none of them."""
     for code in [*range(0x20), 0x22, 0x5C, 0x7F, 0x80, 0xE9, 0x2028, 0xFEFF, 0xFFFE, 0x1F600]:
         answer = NOT_JSON if code < 0x20 or code in (0x22, 0x5C) else BAD_SHAPE
-        for path, _ in places_of_kind("bytes"):
-            yield "%s is the raw character %x" % (named(path), code), write(changed(path, Written('"%c"' % code))), answer
-        yield "a name with the raw character %x" % code, write(good()).replace('"ask"', '"ask%c"' % code), answer
+        for path, _ in form.places("bytes"):
+            yield "%s is the raw character %x" % (named(path), code), write(form.changed(path, Written('"%c"' % code))), answer
+        yield "a name with the raw character %x" % code, write(form.good()).replace('"ask"', '"ask%c"' % code), answer
 
 
-def json_escapes():
+def json_escapes(form):
     """A text may be spelled by any escapes of JSON, and is read as what they stand for."""
     for spelled, means in (
         ("\\u0061", "a"),
@@ -109,13 +98,13 @@ def json_escapes():
         ("\\u005C\\u0078\\u0030\\u0030", "\\x00"),
         ("\\\\x0\\u0061", "\\x0a"),
     ):
-        yield "a value spelled %s" % spelled, with_value(Written('"%s"' % spelled)), printed(means)
+        yield "a value spelled %s" % spelled, form.with_value(Written('"%s"' % spelled)), form.printed(means)
     for escape in ("\\b", "\\f", "\\n", "\\r", "\\t", '\\"', "\\\\", "\\u0000", "\\u00e9", "\\ud83d\\ude00", "\\udbff\\udfff"):
-        yield "a value spelled %s" % escape, with_value(Written('"%s"' % escape)), BAD_SHAPE
+        yield "a value spelled %s" % escape, form.with_value(Written('"%s"' % escape)), BAD_SHAPE
     for escape in NO_ESCAPES:
-        for path, _ in places_of_kind("bytes"):
-            yield "%s spelled %s" % (named(path), escape), write(changed(path, Written('"%s"' % escape))), NOT_JSON
-        yield "a name with %s" % escape, write(good()).replace('"ask"', '"ask%s"' % escape), NOT_JSON
+        for path, _ in form.places("bytes"):
+            yield "%s spelled %s" % (named(path), escape), write(form.changed(path, Written('"%s"' % escape))), NOT_JSON
+        yield "a name with %s" % escape, write(form.good()).replace('"ask"', '"ask%s"' % escape), NOT_JSON
 
 
 # what is no escape of a JSON string
@@ -145,25 +134,25 @@ NO_UTF8 = {
 }
 
 
-def no_utf8():
+def no_utf8(form):
     """Bytes that are no UTF-8 in each text, in a name, and between the tokens."""
     for name, bad in NO_UTF8.items():
-        for path, _ in places_of_kind("bytes"):
-            whole = write(changed(path, "HERE")).encode()
+        for path, _ in form.places("bytes"):
+            whole = write(form.changed(path, "HERE")).encode()
             yield "%s in %s" % (name, named(path)), whole.replace(b"HERE", bad), NOT_JSON
-        whole = write(good()).encode()
+        whole = write(form.good()).encode()
         for place in (0, 1, whole.index(b"[") + 1, len(whole) - 1, len(whole)):
             yield "%s at %d" % (name, place), whole[:place] + bad + whole[place:], NOT_JSON
         yield "%s in the name of a field" % name, whole.replace(b'"ask"', b'"as' + bad + b'"'), NOT_JSON
 
 
-def right_utf8():
+def right_utf8(form):
     """Characters past ASCII in a string are JSON, and spell no bytes."""
     for character in ("\u0080", "\u07ff", "\u0800", "\ud7ff", "\ue000", "\uffff", "\U00010000", "\U0010ffff"):
-        for path, _ in places_of_kind("bytes"):
-            whole = write(changed(path, Written('"%s"' % character)))
+        for path, _ in form.places("bytes"):
+            whole = write(form.changed(path, Written('"%s"' % character)))
             yield "%s is the character %x" % (named(path), ord(character)), whole, BAD_SHAPE
-    yield "white space of JSON around a script", " \t\r\n" + write(good()) + "\n\r\t ", ANSWER
+    yield "white space of JSON around a script", " \t\r\n" + write(form.good()) + "\n\r\t ", form.answer
 
 
-CASES = (bad_texts, each_byte, all_bytes_in_one, raw_characters, json_escapes, no_utf8, right_utf8)
+OF_EACH_FORM = (bad_texts, each_byte, all_bytes_in_one, raw_characters, json_escapes, no_utf8, right_utf8)

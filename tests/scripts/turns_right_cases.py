@@ -1,0 +1,360 @@
+"""Right turns scripts, each with the lines that it must be answered, worked out by hand."""
+from script import BAD_STAMP, KEY_SERVERS, LOCKED, METADATA_VERSION, SERVER_1, SERVER_2, SERVER_3, write
+from turns_words import (
+    LOCK, case, clear, finish, finished, move, offer, offered, offered_to_both, offers, one_key, put, put_servers, put_tag,
+    sequence, sequenced, shown, stamp, transaction, turns,
+)
+
+SERVER_4 = "server0000000004"
+
+
+def read(key, snapshot=0):
+    return transaction(snapshot, [one_key(key)])
+
+
+def written(key, snapshot=0):
+    return transaction(snapshot, [], [one_key(key)])
+
+
+def stamps():
+    """The stamp is the version in eight bytes and the number of the transaction in two."""
+    stamped = transaction(0, [], [], [stamp(METADATA_VERSION, "\\x00" * 14)])
+    yield case(
+        "a stamp of the metadata version", turns(sequence(0, stamped), offers(0), finish(0)),
+        sequenced(1), offered_to_both(0, "committed"), finished(0, 10, "txn 0 committed 10 0", "mutation 0 0 tags none"),
+        shown(0, 10, metadata_version='"\\x00\\x00\\x00\\x00\\x00\\x00\\x00\\x0a\\x00\\x00"'), shown(1, 0),
+    )
+    late = transaction(0, [], [], [stamp(METADATA_VERSION, "\\x00" * 10 + "\\x01\\x00\\x00\\x00")])
+    yield "a stamp past the end of its value", write(turns(sequence(0, late), offers(0), finish(0))), BAD_STAMP
+    second = transaction(0, [], [], [stamp(METADATA_VERSION, "ab0123456789c\\x02\\x00\\x00\\x00")], True)
+    yield case(
+        "a stamp within a value, by the second transaction", turns(sequence(0, transaction(), second), offers(0), finish(0), step=258),
+        sequenced(1, 258), offered_to_both(0, "committed"),
+        finished(0, 258, "txn 0 committed 258 0", "txn 1 committed 258 1", "mutation 1 0 tags none"),
+        shown(0, 258, metadata_version='"ab\\x00\\x00\\x00\\x00\\x00\\x00\\x01\\x02\\x00\\x01c"'), shown(1, 0),
+    )
+
+
+def moved_ranges():
+    """A read goes back through the owners to its snapshot, and a write goes to the last owner."""
+    reads = [read("n", snapshot) for snapshot in (20, 21, 30)]
+    yield case(
+        "reads before and after the date of a move",
+        turns(sequence(0), sequence(0), move("m", "t", 1), sequence(0), sequence(0, *reads), offers(0, 1, 2, 3), [finish(0)] * 4),
+        sequenced(2), "move date 21", sequenced(4)[2:], offered_to_both(0), offered_to_both(1), offered_to_both(2),
+        offered(3, 0, "committed committed"), offered(3, 1, "committed committed committed"),
+        finished(0, 10), finished(0, 20), finished(0, 30),
+        finished(0, 40, "txn 0 committed 40 0", "txn 1 committed 40 1", "txn 2 committed 40 2"), shown(0, 40), shown(1, 0),
+    )
+    yield case(
+        "a conflict that one resolver alone sees",
+        turns(
+            move("m", "t", 1), sequence(0, written("n")), sequence(0, transaction(5, [one_key("n")], [one_key("b")])),
+            sequence(0, read("b", 10)), offers(0, 1, 2), [finish(0)] * 3,
+        ),
+        "move date 1", sequenced(3), offered(0, 0), offered(0, 1, "committed"), offered(1, 0, "committed"), offered(1, 1, "conflict"),
+        offered(2, 0, "conflict"), offered(2, 1), finished(0, 10, "txn 0 committed 10 0"), finished(0, 20, "txn 0 conflict 1020"),
+        finished(0, 30, "txn 0 conflict 1020"), shown(0, 30), shown(1, 0),
+    )
+    yield case(
+        "moves to and fro, and a range over the borders of all",
+        turns(
+            move("b", "d", 1), move("c", "e", 2), move("d", "f", 0), sequence(0, transaction(0, [], [["a", "z"]])),
+            sequence(0, transaction(10, [["c", "d"]])), offers(0, 1, resolvers=3), finish(0), finish(0), resolvers=3, proxies=1,
+        ),
+        ["move date 1"] * 3, sequenced(2), [offered(0, resolver, "committed") for resolver in range(3)],
+        offered(1, 0), offered(1, 1), offered(1, 2, "committed"),
+        finished(0, 10, "txn 0 committed 10 0"), finished(0, 20, "txn 0 committed 20 0"), shown(0, 20),
+    )
+
+
+def verdicts():
+    """Too old before the window, and in conflict with what is committed after the snapshot or earlier in the batch."""
+    yield case(
+        "the first snapshot inside the window, the last outside, and a write without reads",
+        turns(sequence(0, read("a", 40), read("a", 39), written("b")), offers(0), finish(0), step=140),
+        sequenced(1, 140), offered(0, 0, "committed too_old committed"), offered(0, 1),
+        finished(0, 140, "txn 0 committed 140 0", "txn 1 too_old 1007", "txn 2 committed 140 2"), shown(0, 140), shown(1, 0),
+    )
+    yield case(
+        "a read behind a write of its batch, and before one",
+        turns(sequence(0, written("a"), read("a")), sequence(0, read("b", 10), written("b", 10)), offers(0, 1), finish(0), finish(0)),
+        sequenced(2), offered(0, 0, "committed conflict"), offered(0, 1), offered(1, 0, "committed committed"), offered(1, 1),
+        finished(0, 10, "txn 0 committed 10 0", "txn 1 conflict 1020"),
+        finished(0, 20, "txn 0 committed 20 0", "txn 1 committed 20 1"), shown(0, 20), shown(1, 0),
+    )
+    yield case(
+        "reads at the version of a write and before it, and the write of one that is in conflict",
+        turns(
+            sequence(0, transaction(0, [], [["a", "c"]])),
+            sequence(0, read("b", 10), read("b", 9), read("c", 9), transaction(9, [one_key("b")], [one_key("d")]), read("d", 9),
+                     transaction(9, [one_key("e")], [one_key("e")])),
+            offers(0, 1, resolvers=1), finish(0), finish(0), resolvers=1, proxies=1,
+        ),
+        sequenced(2), offered(0, 0, "committed"), offered(1, 0, "committed conflict committed conflict committed committed"),
+        finished(0, 10, "txn 0 committed 10 0"),
+        finished(0, 20, "txn 0 committed 20 0", "txn 1 conflict 1020", "txn 2 committed 20 2", "txn 3 conflict 1020",
+                 "txn 4 committed 20 4", "txn 5 committed 20 5"),
+        shown(0, 20),
+    )
+
+
+def refused_writes():
+    """What a transaction that is refused wrote counts for nothing; too old comes before conflict."""
+    yield case(
+        "the write of a batch before that was in conflict",
+        turns(
+            sequence(0, written("b")), sequence(0, transaction(9, [one_key("b")], [one_key("d")])), sequence(0, read("d", 9)),
+            offers(0, 1, 2, resolvers=1), [finish(0)] * 3, resolvers=1, proxies=1,
+        ),
+        sequenced(3), offered(0, 0, "committed"), offered(1, 0, "conflict"), offered(2, 0, "committed"),
+        finished(0, 10, "txn 0 committed 10 0"), finished(0, 20, "txn 0 conflict 1020"), finished(0, 30, "txn 0 committed 30 0"),
+        shown(0, 30),
+    )
+    yield case(
+        "a read outside the window behind a write of its batch, and one inside",
+        turns(sequence(0, written("a"), read("a", 39), read("a", 40)), offers(0), finish(0), step=140, proxies=1),
+        sequenced(1, 140), offered(0, 0, "committed too_old conflict"), offered(0, 1),
+        finished(0, 140, "txn 0 committed 140 0", "txn 1 too_old 1007", "txn 2 conflict 1020"), shown(0, 140),
+    )
+    state = transaction(5, [one_key("n")], [], [put(METADATA_VERSION, "v")], True)
+    yield case(
+        "a state transaction that the last resolver alone refuses",
+        turns(
+            move("m", "t", 1), sequence(0, written("n")), sequence(1, state), sequence(0), offers(0, 1, 2), finish(0), finish(1), finish(0),
+        ),
+        "move date 1", sequenced(3), offered(0, 0), offered(0, 1, "committed"), offered(1, 0, "committed", "10"),
+        offered(1, 1, "conflict", "10"), offered_to_both(2, "none", "20"), finished(0, 10, "txn 0 committed 10 0"),
+        finished(1, 20, "txn 0 conflict 1020"), finished(0, 30), shown(0, 30), shown(1, 20),
+    )
+
+
+# mutations, each with whether it makes a state transaction
+STATES = [
+    (put("\\xff", "v"), True), (put("\\xff\\x01\\xff", "v"), True), (put("\\xff\\x02", "v"), False), (put("\\xff\\x02a", "v"), False),
+    (put("\\xff\\x03", "v"), True), (put("\\xfe\\xff", "v"), False), (put("a", "v"), False), (put("", ""), False),
+    (stamp("\\xff/x", "\\x00" * 14), True), (stamp("\\xff\\x02/x", "\\x00" * 14), False), (stamp("k", "\\x00" * 14), False),
+    (clear("a", "\\xff"), False), (clear("a", "\\xff\\x00"), True), (clear("a", "\\xff\\x02"), True), (clear("\\xff", "\\xff\\x02"), True),
+    (clear("\\xff\\x02", "\\xff\\x03"), False), (clear("\\xff\\x02a", "\\xff\\x02b"), False), (clear("\\xff\\x02a", "\\xff\\x03"), False),
+    (clear("\\xff\\x02", "\\xff\\x03\\x00"), True), (clear("\\xff\\x01\\xff", "\\xff\\x03"), True), (clear("\\xff\\x02", "\\xff\\x04"), True),
+    (clear("", "a"), False), (clear("a", "\\xfe\\xff"), False), (clear("", "\\xff\\xff"), True),
+]
+
+
+def state_transactions():
+    """A state transaction goes to every resolver, and another one without ranges to none."""
+    for mutation, is_state in STATES:
+        yield case(
+            "%s" % mutation, turns(sequence(0, transaction(0, [], [], [mutation])), offers(0), finish(0), proxies=1),
+            sequenced(1), offered_to_both(0, "committed" if is_state else "none"),
+            finished(0, 10, "txn 0 committed 10 0", "mutation 0 0 tags none"), shown(0, 10),
+        )
+
+
+def locked(snapshot):
+    """A lock by one proxy, a tag set by another with this snapshot, and an empty batch that is told of both."""
+    tag = transaction(snapshot, [], [], [put_tag(SERVER_1, "\\x00\\x00\\x01")])
+    return turns(
+        sequence(0, LOCK, transaction(0, [], [one_key("a")], [put("a", "1")])), sequence(1, tag), sequence(0), offers(0, 1, 2),
+        finish(0), finish(1), finish(0),
+    )
+
+
+def locks():
+    """The lock is read once for each batch, and what meets it is neither committed nor applied by anyone."""
+    first = finished(0, 10, "txn 0 committed 10 0", "mutation 0 0 tags none", "txn 1 committed 10 1", "mutation 1 0 tags none")
+    offered_first = [offered(0, 0, "committed committed"), offered(0, 1, "committed")]
+    yield case(
+        "a lock and a plain write of another proxy",
+        turns(
+            sequence(0, LOCK, transaction(0, [], [one_key("a")], [put("a", "1")])),
+            sequence(1, transaction(0, [], [one_key("b")], [put("b", "1")])), offers(0, 1), finish(0), finish(1),
+        ),
+        sequenced(2), offered_first, offered(1, 0, "committed", "10"), offered(1, 1, "none", "10"), first,
+        finished(1, 20, "txn 0 locked 1038"), shown(0, 10, locked="yes"), shown(1, 20, locked="yes"),
+    )
+    yield case(
+        "a state transaction that meets the lock", locked(10),
+        sequenced(3), offered_first, offered_to_both(1, "committed", "10"), offered_to_both(2, "none", "20"), first,
+        finished(1, 20, "txn 0 locked 1038"), finished(0, 30), shown(0, 30, locked="yes"), shown(1, 20, locked="yes"),
+    )
+    yield case(
+        "a state transaction that has not seen the lock", locked(9),
+        sequenced(3), offered_first, offered(1, 0, "conflict", "10"), offered(1, 1, "committed", "10"), offered_to_both(2, "none", "20"),
+        first, finished(1, 20, "txn 0 conflict 1020"), finished(0, 30), shown(0, 30, locked="yes"), shown(1, 20, locked="yes"),
+    )
+
+
+def told_rows():
+    """A proxy is told what it has not seen, and ends with the same rows."""
+    batches = [sequence(0, transaction(0, [], [], [put_servers(key, SERVER_1)])) for key in "abcde"]
+    routes = ['route "%s" none' % key for key in "abcde"]
+    own = [
+        finished(0, 10 * number, "txn 0 committed %d 0" % (10 * number), "mutation 0 0 tags none") for number in range(1, 6)
+    ]
+    yield case(
+        "five batches of one proxy, told to the other at once",
+        turns(batches, offers(*range(5)), [finish(0)] * 5, sequence(1), offers(5), finish(1)),
+        sequenced(5), *[offered_to_both(row, "committed") for row in range(5)], *own, sequenced(6)[5:],
+        offered_to_both(5, "none", "10 20 30 40 50"), finished(1, 60), shown(0, 50, *routes), shown(1, 60, *routes),
+    )
+    yield case(
+        "a request again, one before its turn, and one whose reply was acknowledged",
+        turns(
+            sequence(0), sequence(1), sequence(1), offer(0, 0), offer(0, 0), offer(2, 0), offer(0, 1), finish(0), sequence(0),
+            offer(1, 0), offer(2, 0), offer(3, 0), offer(0, 0),
+        ),
+        sequenced(3), offered(0, 0), offered(0, 0, how="again"), "refused 30 Early 10", offered(0, 1), finished(0, 10),
+        sequenced(4)[3:], offered(1, 0, "none", "10"), offered(2, 0), offered(3, 0, "none", "20 30"), "refused 31 GivenUp 10",
+        shown(0, 10), shown(1, 0),
+    )
+    yield case(
+        "two records of one proxy begun before the first is finished",
+        turns(
+            *[sequence(proxy, transaction(0, [], [], [put(METADATA_VERSION, value)], True)) for proxy, value in ((0, "a"), (1, "b"), (0, "c"))],
+            offers(0, 1, 2), offer(0, 0), finish(0), finish(0),
+        ),
+        sequenced(3), offered_to_both(0, "committed"), offered_to_both(1, "committed", "10"), offered_to_both(2, "committed", "20"),
+        offered(0, 0, "committed", how="again"), finished(0, 10, "txn 0 committed 10 0", "mutation 0 0 tags none"),
+        finished(0, 30, "txn 0 committed 30 0", "mutation 0 0 tags none"), shown(0, 30, metadata_version='"c"'), shown(1, 0),
+    )
+
+
+def four_servers():
+    """A batch that gives four servers their tags and keys, with two servers at one key."""
+    tags = [put_tag(server, "\\x00\\x00\\x0%d" % number) for number, server in enumerate((SERVER_1, SERVER_2, SERVER_3, SERVER_4), 1)]
+    rows = [put_servers("", SERVER_1), put_servers("b", SERVER_2), put_servers("f", SERVER_1, SERVER_3), put_servers("q", SERVER_4)]
+    return transaction(0, [], [], tags + rows)
+
+
+# what a proxy routes after it
+FOUR_ROUTES = ['route "" 0:1', 'route "b" 0:2', 'route "f" 0:1 0:3', 'route "q" 0:4']
+FOUR_FINISHED = finished(0, 10, "txn 0 committed 10 0", *["mutation 0 %d tags 0:4" % place for place in range(8)])
+
+
+def tags():
+    """Tags come from the metadata after the whole batch; a Clear has those of all keys of its range."""
+    yield case(
+        "a Clear over four servers, and a Set and a Clear of all rows",
+        turns(
+            sequence(0, four_servers()), sequence(0, transaction(0, [], [], [clear("a", "\\xff")])),
+            sequence(0, transaction(0, [], [], [put("a", "1"), clear(KEY_SERVERS, "\\xff/keyServers0")], True)),
+            offers(0, 1, 2), [finish(0)] * 3,
+        ),
+        sequenced(3), offered_to_both(0, "committed"), offered_to_both(1, "none"), offered_to_both(2, "committed"), FOUR_FINISHED,
+        finished(0, 20, "txn 0 committed 20 0", "mutation 0 0 tags 0:1 0:2 0:3 0:4"),
+        finished(0, 30, "txn 0 committed 30 0", "mutation 0 0 tags none", "mutation 0 1 tags none"), shown(0, 30), shown(1, 0),
+    )
+    yield case(
+        "a Clear of all keys", turns(
+            sequence(0, four_servers()), sequence(0, transaction(0, [], [], [clear("", "\\xff\\xff")], True)), offers(0, 1),
+            finish(0), finish(0),
+        ),
+        sequenced(2), offered_to_both(0, "committed"), offered_to_both(1, "committed"), FOUR_FINISHED,
+        finished(0, 20, "txn 0 committed 20 0", "mutation 0 0 tags none"), shown(0, 20), shown(1, 0),
+    )
+    asked = [("", "0:1"), ("a", "0:1"), ("b", "0:2"), ("e", "0:2"), ("f", "0:1 0:3"), ("q", "0:4"), ("\\xff\\xff\\xff", "0:4")]
+    sets = transaction(0, [], [], [put(key, "1") for key, _ in asked[:6]] + [clear("a", "b"), clear("b", "b\\x00"), clear("c", "q")])
+    listed = [found for _, found in asked[:6]] + ["0:1", "0:2", "0:1 0:2 0:3"]
+    yield case(
+        "a mutation at each border", turns(
+            sequence(0, four_servers()), sequence(0, sets), offers(0, 1), finish(0), finish(0), ask=[key for key, _ in asked], proxies=1,
+        ),
+        sequenced(2), offered_to_both(0, "committed"), offered_to_both(1, "none"), FOUR_FINISHED,
+        finished(0, 20, "txn 0 committed 20 0", *["mutation 0 %d tags %s" % pair for pair in enumerate(listed)]),
+        shown(0, 20, *FOUR_ROUTES, *['tags "%s" %s' % pair for pair in asked]),
+    )
+
+
+def refused_events():
+    """A refused event has its line and changes nothing, and the events behind it are carried out."""
+    yield case(
+        "each refusal", turns(
+            move("a", "b", 2), finish(0), sequence(0), offer(0, 0), finish(0), offer(9, 0), offer(0, 2), offer(9, 2), sequence(2),
+            finish(2), offer(0, 1), finish(0), finish(0),
+        ),
+        "refused 20 NoSuchResolver", "refused 42 OutOfTurn none", sequenced(1), offered(0, 0), "refused 43 MissingReply 1",
+        "refused 35 NoSuchRow", "refused 33 WrongResolver", "refused 35 NoSuchRow", "refused 32 NoSuchProxy", "refused 32 NoSuchProxy",
+        offered(0, 1), finished(0, 10), "refused 42 OutOfTurn none", shown(0, 10), shown(1, 0),
+    )
+    half = 4611686018427387904
+    yield case(
+        "a step after which no version is left", turns(sequence(0), sequence(0), sequence(2), move("a", "b", 0), step=half),
+        "sequence row 0 version %d" % half, "refused 51 VersionsEnd", "refused 32 NoSuchProxy", "move date %d" % (half + 1),
+        shown(0, 0), shown(1, 0),
+    )
+    last = 2**63 - 1
+    yield case(
+        "the greatest version", turns(sequence(0), move("a", "b", 1), sequence(1), offers(0), finish(0), step=last),
+        "sequence row 0 version %d" % last, "move date %d" % (last + 1), "refused 51 VersionsEnd", offered_to_both(0), finished(0, last),
+        shown(0, last), shown(1, 0),
+    )
+    yield case(
+        "the first resolver of those that have not judged", turns(sequence(0), finish(0), offer(0, 0), finish(0), resolvers=3, proxies=1),
+        sequenced(1), "refused 43 MissingReply 0", offered(0, 0), "refused 43 MissingReply 1", shown(0, 0),
+    )
+    yield case(
+        "early offers name the version of the resolver", turns(
+            sequence(0), sequence(0), sequence(0), offer(1, 0), offer(0, 0), offer(2, 0), offer(1, 0), offer(2, 1), finish(0),
+        ),
+        sequenced(3), "refused 30 Early 0", offered(0, 0), "refused 30 Early 10", offered(1, 0), "refused 30 Early 0",
+        "refused 43 MissingReply 1", shown(0, 0), shown(1, 0),
+    )
+
+
+def small_ones():
+    """Scripts with little in them."""
+    yield case("no events", turns(), shown(0, 0), shown(1, 0))
+    yield case("one proxy and one resolver", turns(ask=["a"], proxies=1, resolvers=1), shown(0, 0, 'tags "a" none'))
+    yield case("a move alone", turns(move("a", "b", 0), proxies=1), "move date 1", shown(0, 0))
+    yield case("64 proxies and 64 resolvers", turns(proxies=64, resolvers=64), *[shown(proxy, 0) for proxy in range(64)])
+    yield case(
+        "an empty transaction is committed, and asks nobody", turns(sequence(0, transaction()), offers(0), finish(0), proxies=1),
+        sequenced(1), offered_to_both(0), finished(0, 10, "txn 0 committed 10 0"), shown(0, 10),
+    )
+    unlock = transaction(0, [], [], [clear(LOCKED, LOCKED + "\\x00")], True)
+    yield case(
+        "a lock that is gone", turns(sequence(0, LOCK), sequence(0, unlock), offers(0, 1), finish(0), finish(0), proxies=1),
+        sequenced(2), offered_to_both(0, "committed"), offered_to_both(1, "committed"),
+        finished(0, 10, "txn 0 committed 10 0", "mutation 0 0 tags none"),
+        finished(0, 20, "txn 0 committed 20 0", "mutation 0 0 tags none"), shown(0, 20),
+    )
+
+
+def last_numbers():
+    """The greatest numbers of a script, where the cluster has no such proxy, resolver or row."""
+    last = 2**63 - 1
+    yield case(
+        "the greatest numbers", turns(
+            sequence(last), move("a", "b", last), offer(last, last), finish(last), sequence(0, transaction(last, [one_key("a")])),
+            offer(0, last), offers(0), finish(0), proxies=1, window=10**9,
+        ),
+        "refused 32 NoSuchProxy", "refused 20 NoSuchResolver", "refused 35 NoSuchRow", "refused 32 NoSuchProxy", sequenced(1),
+        "refused 33 WrongResolver", offered(0, 0, "committed"), offered(0, 1), finished(0, 10, "txn 0 committed 10 0"), shown(0, 10),
+    )
+
+
+def many_events():
+    """A batch of one proxy for each key, and one of the other proxy that is told of them all: more text than one write takes."""
+    count = 400
+    keys = ["%060d" % number for number in range(count)]
+    events = [
+        [sequence(0, transaction(0, [], [], [put_servers(key, SERVER_1)], True)), offer(row, 0), finish(0)] for row, key in enumerate(keys)
+    ]
+    answers = [
+        ["sequence row %d version %d" % (row, row + 1), offered(row, 0, "committed"),
+         *finished(0, row + 1, "txn 0 committed %d 0" % (row + 1), "mutation 0 0 tags none")] for row in range(count)
+    ]
+    routes = ['route "%s" none' % key for key in keys] + ['tags "%s" none' % key for key in keys]
+    versions = " ".join(str(row + 1) for row in range(count))
+    yield case(
+        "%d batches" % count, turns(*events, sequence(1), offer(count, 0), finish(1), ask=keys, resolvers=1, window=10, step=1),
+        *answers, "sequence row %d version %d" % (count, count + 1), offered(count, 0, "none", versions), finished(1, count + 1),
+        shown(0, count, *routes), shown(1, count + 1, *routes),
+    )
+
+
+CASES = (
+    small_ones, stamps, moved_ranges, verdicts, refused_writes, state_transactions, locks, told_rows, tags, refused_events, last_numbers,
+    many_events,
+)
