@@ -1,11 +1,7 @@
 -- The event is answered, or refused.
-use Rattle.std.proofs.Common.{◌≡◌, refl, rules, ◌∙◌, ap, List, [], ◌∷◌, ◌++◌, sym, false, is_none}
-use Rattle.std.specs.Prelude.{Result, Ok, Err}
-use Rattle.shared_cluster.specs.Steps.{HasCarriedOut}
+use Rattle.std.proofs.Common.{◌≡◌, rules, ◌∙◌, sym, false, is_none}
+use Rattle.std.specs.Prelude.{Ok, Err}
 use Rattle.shared_cluster.specs.Events.{event_of, fault_of}
-use Rattle.shared_cluster.specs.declared.answer.Answer.{Answer as TheAnswer}
-use Rattle.shared_cluster.specs.declared.refusal.Refusal.{Refusal as TheRefusal}
-use Rattle.shared_cluster.specs.declared.refusal.Refusal.TheVariants as refusals
 use Rattle.shared_cluster.proofs.EventRuns.{answered_one, refused_one}
 use Rattle.shared_cluster.proofs.turn_world.TurnWorld.append_answer.Goals as goal
 

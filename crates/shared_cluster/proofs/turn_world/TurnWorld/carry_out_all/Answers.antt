@@ -1,6 +1,5 @@
 -- No event is carried out yet; and then one more.
-use Rattle.std.proofs.Common.{◌≡◌, refl, rules, arith, ap, ◌∙◌, subst, sym, ℕ, ◌+◌, [], ◌∷◌, ◌++◌, List, length, length-append, map, take}
-use Rattle.model.specs.Turns.{Cluster}
+use Rattle.std.proofs.Common.{◌≡◌, refl, arith, ap, ◌∙◌, subst, sym, ◌+◌, [], ◌∷◌, length, length-append, map}
 use Rattle.shared_cluster.specs.Events.{event_of}
 use Rattle.shared_cluster.specs.Steps.{HasCarriedOut}
 use Rattle.shared_cluster.proofs.EventRuns.{none_carried_out, one_more, stopped_at_first, stopped_at}
