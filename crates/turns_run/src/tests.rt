@@ -30,7 +30,8 @@ macro_rules! written {
 }
 
 /// A move between a write and a read of its range, offered and finished.
-pub(crate) const MOVED: &[u8] = br#"{"proxies":1,"resolvers":2,"window":100,"step":10,"ask":["n"],"events":[
+pub(crate) const MOVED: &[u8] =
+    br#"{"proxies":1,"resolvers":2,"window":100,"step":10,"ask":["n"],"events":[
 {"sequence":{"proxy":0,"batch":[]}},
 {"sequence":{"proxy":0,"batch":[{"snapshot":0,"reads":[],
 "writes":[["n","n\\x00"]],"mutations":[{"set":["n","1"]}],"lock_aware":false}]}},

@@ -78,7 +78,11 @@ fn print_finished(text: &mut String, proxy: usize, finished: &Finished) -> Resul
 {
     push_finish(text, proxy, finished.version)?;
     text.push_str("\n")?;
-    print_transactions(text, finished.tagged.as_slice(), finished.outcomes.as_slice())
+    print_transactions(
+        text,
+        finished.tagged.as_slice(),
+        finished.outcomes.as_slice(),
+    )
 }
 
 fn push_finish(text: &mut String, proxy: usize, version: u64) -> Result<(), OutOfMemory>
@@ -118,7 +122,9 @@ fn push_refusal_value(text: &mut String, refusal: &Refusal) -> Result<(), OutOfM
     match refusal {
         Refusal::Early { version } => write!(text, " {version}")?,
         Refusal::GivenUp { acknowledged } => write!(text, " {acknowledged}")?,
-        Refusal::OutOfTurn { expected: Some(row) } => write!(text, " {row}")?,
+        Refusal::OutOfTurn {
+            expected: Some(row),
+        } => write!(text, " {row}")?,
         Refusal::OutOfTurn { expected: None } => text.push_str(" none")?,
         Refusal::MissingReply { resolver } => write!(text, " {resolver}")?,
         Refusal::NoSuchResolver
