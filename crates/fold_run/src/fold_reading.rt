@@ -1,5 +1,6 @@
 //! Reading of fold scripts.
 
+ghost use Rattle.std.specs.Prelude.{◌≡◌, IfSome, Ok};
 ghost use Rattle.serde_json.specs.View.{view};
 ghost use Rattle.scripts.specs.ScriptFaults.{IsReadAs};
 ghost use Rattle.scripts.specs.Shapes.{or_bad_shape};
@@ -8,7 +9,7 @@ ghost use Rattle.fold_run.specs.FoldScripts.{script_of, script_of_raw};
 
 use crate::fold_limits::is_within_limits;
 use crate::fold_script::{FoldScript, RawScript};
-use scripts::{Checked, ScriptFault, Shaped, read_value};
+use scripts::{Checked, ScriptFault, Shaped, read_tokens, read_value};
 use serde_json::Value;
 use std::alloc::Global;
 
@@ -22,8 +23,26 @@ use std::alloc::Global;
 pub fn read_script(alloc: Global, bytes: &[u8]) -> Result<FoldScript, ScriptFault>
     ensures { IsReadAs (λ found. found) result (script_of bytes.now) }
 {
+    if let Some(script) = stream_script(alloc, bytes) {
+        return Ok(script);
+    }
     let value = read_value(alloc, bytes)?;
     script_of_value(alloc, &value)
+}
+
+// The fold script that the bytes are, read as its tokens come. `None` decides nothing.
+#[tactic(auto, unfolding(crate::specs::FoldScripts::script_of))]
+pub(crate) fn stream_script(alloc: Global, bytes: &[u8]) -> Option<FoldScript>
+    ensures { IfSome result (λ script. script_of bytes.now ≡ Ok script) }
+{
+    let script: RawScript = read_tokens(alloc, bytes)?;
+    if !is_within_limits(&script) {
+        return None;
+    }
+    match FoldScript::check(alloc, script) {
+        Ok(script) => Some(script),
+        Err(_) => None,
+    }
 }
 
 fn script_of_value(alloc: Global, value: &Value) -> Result<FoldScript, ScriptFault>

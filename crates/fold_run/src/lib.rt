@@ -10,9 +10,12 @@ mod fold_limits;
 mod fold_reading;
 mod fold_script;
 mod fold_shapes;
+mod fold_streams;
 #[cfg(test)]
 mod fold_tests;
 mod run;
+#[cfg(test)]
+mod stream_tests;
 #[cfg(test)]
 mod tests;
 

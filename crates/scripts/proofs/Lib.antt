@@ -1,4 +1,7 @@
 pub mod AnswerLemmas
 pub mod ListLemmas
 pub mod RunLemmas
+pub mod StreamLemmas
+pub mod StreamListLemmas
+pub mod StreamObjectLemmas
 pub mod ValueLemmas

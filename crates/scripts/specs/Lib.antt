@@ -10,4 +10,5 @@ pub mod Runs
 pub mod ScriptFaults
 pub mod Shapes
 pub mod Statuses
+pub mod Streams
 pub mod Values

@@ -1,5 +1,6 @@
 //! Reading of batches.
 
+ghost use Rattle.std.specs.Prelude.{◌≡◌, IfSome, Ok};
 ghost use Rattle.serde_json.specs.View.{view};
 ghost use Rattle.scripts.specs.BatchScripts.{batch_of, batch_of_shape};
 ghost use Rattle.scripts.specs.BatchShapes.{batch_shape};
@@ -8,6 +9,7 @@ ghost use Rattle.scripts.specs.ScriptFaults.{IsReadAs};
 use crate::batch_checks::admit_batch;
 use crate::script_fault::ScriptFault;
 use crate::shaped::Shaped;
+use crate::streams::read_tokens;
 use crate::value_reading::read_value;
 use mutation::{Batch, Transaction};
 use serde_json::Value;
@@ -24,8 +26,23 @@ use system_keys::Items;
 pub fn read_batch(alloc: Global, bytes: &[u8]) -> Result<Batch, ScriptFault>
     ensures { IsReadAs (λ found. found) result (batch_of bytes.now) }
 {
+    if let Some(batch) = stream_batch(alloc, bytes) {
+        return Ok(batch);
+    }
     let value = read_value(alloc, bytes)?;
     batch_of_value(alloc, &value)
+}
+
+// The batch that the bytes are, read as its tokens come. `None` decides nothing.
+#[tactic(auto, unfolding(crate::specs::BatchScripts::batch_of))]
+pub(crate) fn stream_batch(alloc: Global, bytes: &[u8]) -> Option<Batch>
+    ensures { IfSome result (λ batch. batch_of bytes.now ≡ Ok batch) }
+{
+    let given: Items<Transaction> = read_tokens(alloc, bytes)?;
+    match admit_batch(alloc, given.as_slice()) {
+        Ok(batch) => Some(batch),
+        Err(_) => None,
+    }
 }
 
 fn batch_of_value(alloc: Global, value: &Value) -> Result<Batch, ScriptFault>

@@ -8,8 +8,12 @@ mod batch_checks;
 mod batch_reading;
 mod batch_shapes;
 #[cfg(test)]
+mod batch_stream_tests;
+mod batch_streams;
+#[cfg(test)]
 mod batch_tests;
 mod change_shapes;
+mod change_streams;
 mod checks;
 mod devices;
 mod lines;
@@ -19,6 +23,10 @@ mod run;
 mod script_fault;
 mod shaped;
 mod status;
+mod stream_objects;
+mod stream_shapes;
+mod stream_tokens;
+mod streams;
 #[cfg(test)]
 mod tests;
 mod value_reading;
@@ -34,4 +42,6 @@ pub use run::{ScriptKind, run_script};
 pub use script_fault::ScriptFault;
 pub use shaped::{Shaped, field, has_fields, pair};
 pub use status::RunStatus;
+pub use stream_objects::{Fields, take_into, take_object};
+pub use streams::{Streamed, read_tokens};
 pub use value_reading::read_value;

@@ -1,0 +1,144 @@
+//! That the stream serves: no clause says that it ever reads a script. What it reads is right by
+//! its contract. Each script is read once more after `None`, so that the tests also pass if any one
+//! allocation fails.
+
+use crate::fold_reading::{read_script, stream_script};
+use crate::tests::again::{letters, twice, written};
+use scripts::ScriptFault;
+use std::process::Abort;
+use std::test::Fail;
+
+fn is_streamed(rt: &impl AllocGlobal, script: &[u8]) -> bool {
+    stream_script(rt.alloc(), script).is_some() || stream_script(rt.alloc(), script).is_some()
+}
+
+fn streams(rt: &(impl Abort + AllocGlobal), script: &str) {
+    assert!(rt; is_streamed(rt, script.as_bytes()), "{script}");
+}
+
+/// The stream does not read the script, and the tree does.
+fn leaves_to_the_tree(rt: &(impl Abort + AllocGlobal), script: &str) {
+    let bytes = script.as_bytes();
+    assert!(rt; !is_streamed(rt, bytes), "{script}");
+    let read = twice!(read_script(rt.alloc(), bytes), ScriptFault::OutOfMemory);
+    assert!(rt; read.is_ok(), "{script}");
+}
+
+/// Neither reads the script.
+fn refuses(rt: &(impl Abort + AllocGlobal), script: &str) {
+    let bytes = script.as_bytes();
+    assert!(rt; !is_streamed(rt, bytes), "{script}");
+    let read = twice!(read_script(rt.alloc(), bytes), ScriptFault::OutOfMemory);
+    assert!(rt; read.is_err(), "{script}");
+}
+
+#[test]
+fn the_examples_are_streamed(rt: HostRuntime) {
+    for script in [
+        r#"{"resolvers":1,"rows":[
+{"version":10,"states":[
+{"lock_aware":true,"verdicts":["committed"],"mutations":[{"set":["\\xff/dbLocked","L"]}]},
+{"lock_aware":false,"verdicts":["committed"],"mutations":[
+{"set":["\\xff/serverTag/server0000000001","\\x00\\x00\\x01"]},
+{"set":["\\xff/keyServers/","\\x01server0000000001\\x00"]}]}]},
+{"version":20,"states":[
+{"lock_aware":false,"verdicts":["committed"],"mutations":[{"set":["\\xff/metadataVersion","v"]}]}]}],
+"ask":["a"]}"#,
+        r#"{"resolvers":2,"rows":[{"version":10,"states":[{"lock_aware":false,
+"verdicts":["committed","conflict"],"mutations":[
+{"set":["\\xff/keyServers/","\\x01server0000000001\\x00"]}]}]}],"ask":["a"]}
+"#,
+        r#"{"resolvers":2,"rows":[{"version":10,"states":[{"lock_aware":true,
+"verdicts":["committed","committed"],"mutations":[
+{"set":["\\xff/serverTag/server0000000001","\\x00\\x00\\x01"]},
+{"set":["\\xff/serverTag/server0000000002","\\x00\\x00\\x02"]},
+{"set":["\\xff/keyServers/","\\x01server0000000001\\x00"]},
+{"set":["\\xff/keyServers/m","\\x01server0000000002\\x00"]}]}]}],
+"ask":["a","m","z"]}
+"#,
+    ] {
+        streams(&rt, script);
+    }
+}
+
+#[test]
+fn fields_are_streamed_in_any_order(rt: HostRuntime) {
+    for script in [
+        r#"{"resolvers":1,"rows":[],"ask":[]}"#,
+        r#"{"resolvers":1,"ask":[],"rows":[]}"#,
+        r#"{"rows":[],"resolvers":1,"ask":[]}"#,
+        r#"{"rows":[],"ask":[],"resolvers":1}"#,
+        r#"{"ask":[],"resolvers":1,"rows":[]}"#,
+        r#"{"ask":[],"rows":[],"resolvers":1}"#,
+        r#"{"resolvers":1,"ask":[],"rows":[{"states":[],"version":1}]}"#,
+        r#"{"resolvers":1,"ask":[],"rows":[{"version":1,"states":[
+        {"mutations":[],"lock_aware":true,"verdicts":["too_old"]},
+        {"mutations":[],"verdicts":["too_old"],"lock_aware":true},
+        {"lock_aware":true,"mutations":[],"verdicts":["too_old"]},
+        {"lock_aware":true,"verdicts":["too_old"],"mutations":[]},
+        {"verdicts":["too_old"],"mutations":[],"lock_aware":true},
+        {"verdicts":["too_old"],"lock_aware":true,"mutations":[]}]}]}"#,
+    ] {
+        streams(&rt, script);
+    }
+}
+
+#[test]
+fn each_form_is_streamed(rt: HostRuntime) -> Result<(), Fail> {
+    for script in [
+        " \t\r\n{ \"resolvers\" : 64 , \"rows\" : [ ] , \"ask\" : [ ] } \n",
+        r#"{"\u0061sk":["\u0061","","\\x00\\xff","\/"],"resolvers":1,"rows":[]}"#,
+        r#"{"resolvers":1,"ask":[],"rows":[{"version":9223372036854775807,"states":[]}]}"#,
+        r#"{"resolvers":3,"ask":[],"rows":[{"version":1,"states":[{"lock_aware":true,
+        "verdicts":["conflict","too_old","committed"],
+        "mutations":[{"clear":["a","b"]},{"set":["a",""]}]}]}]}"#,
+    ] {
+        streams(&rt, script);
+    }
+    let key = letters(rt.alloc(), 100_000)?;
+    let script = written!(rt.alloc(); "{{\"resolvers\":1,\"rows\":[],\"ask\":[\"{key}\"]}}");
+    streams(&rt, script.as_str());
+    Ok(())
+}
+
+#[test]
+fn a_repeated_field_is_left_to_the_tree(rt: HostRuntime) {
+    for script in [
+        r#"{"resolvers":1,"resolvers":1,"rows":[],"ask":[]}"#,
+        r#"{"resolvers":1,"rows":[],"ask":[],"rows":[]}"#,
+        r#"{"ask":["a"],"resolvers":1,"rows":[],"ask":["b"]}"#,
+        r#"{"resolvers":1,"ask":[],"rows":[{"version":1,"states":[],"version":2}]}"#,
+        r#"{"resolvers":1,"ask":[],"rows":[{"version":1,"states":[{"lock_aware":true,
+        "verdicts":["committed"],"mutations":[],"lock_aware":false}]}]}"#,
+        r#"{"resolvers":1,"ask":[],"rows":[{"version":1,"states":[{"lock_aware":true,
+        "verdicts":["committed"],"mutations":[{"set":["a","b"],"set":["c","d"]}]}]}]}"#,
+    ] {
+        leaves_to_the_tree(&rt, script);
+    }
+}
+
+#[test]
+fn no_refused_script_is_streamed(rt: HostRuntime) {
+    for script in [
+        "",
+        "{}",
+        r#"{"resolvers":1,"rows":[],"ask":[]"#,
+        r#"{"resolvers":1,"rows":[],"ask":[]} 1"#,
+        r#"{"resolvers":1,"rows":[],"ask":[],"more":0}"#,
+        r#"{"resolvers":1,"rows":[]}"#,
+        r#"{"resolvers":0,"rows":[],"ask":[]}"#,
+        r#"{"resolvers":1.0,"rows":[],"ask":[]}"#,
+        r#"{"resolvers":-1,"rows":[],"ask":[]}"#,
+        r#"{"resolvers":1,"rows":[],"ask":[" "]}"#,
+        r#"{"resolvers":1,"ask":[],"rows":[{"version":0,"states":[]}]}"#,
+        r#"{"resolvers":1,"ask":[],"rows":[{"version":9223372036854775808,"states":[]}]}"#,
+        r#"{"resolvers":1,"ask":[],"rows":[{"version":1,"states":[{"lock_aware":true,
+        "verdicts":["committed"],"mutations":[{"clear":["b","a"]}]}]}]}"#,
+        r#"{"resolvers":1,"ask":[],"rows":[{"version":1,"states":[{"lock_aware":true,
+        "verdicts":["committed"],"mutations":[{"set":["a","b","c"]}]}]}]}"#,
+        r#"{"resolvers":1,"ask":[],"rows":[{"version":1,"states":[{"lock_aware":true,
+        "verdicts":["Committed"],"mutations":[]}]}]}"#,
+    ] {
+        refuses(&rt, script);
+    }
+}

@@ -1,0 +1,46 @@
+//! Changes and mutations, as their tokens come.
+
+use crate::raw_change::RawChange;
+use crate::stream_objects::take_named_pair;
+use crate::streams::Streamed;
+use json::Reader as TokenReader;
+use mutation::Mutation;
+use std::alloc::Global;
+
+impl Streamed for RawChange {
+    fn from_tokens(alloc: Global, reader: &mut TokenReader<'_>, depth: usize) -> Option<RawChange> {
+        let (name, (first, second)) = take_named_pair(alloc, reader, depth)?;
+        match name {
+            "set" => Some(RawChange::Set {
+                key: first,
+                value: second,
+            }),
+            "clear" => Some(RawChange::Clear {
+                begin: first,
+                end: second,
+            }),
+            _ => None,
+        }
+    }
+}
+
+impl Streamed for Mutation {
+    fn from_tokens(alloc: Global, reader: &mut TokenReader<'_>, depth: usize) -> Option<Mutation> {
+        let (name, (first, second)) = take_named_pair(alloc, reader, depth)?;
+        match name {
+            "set" => Some(Mutation::Set {
+                key: first,
+                value: second,
+            }),
+            "clear" => Some(Mutation::Clear {
+                begin: first,
+                end: second,
+            }),
+            "set_stamped" => Some(Mutation::SetStamped {
+                key: first,
+                value: second,
+            }),
+            _ => None,
+        }
+    }
+}

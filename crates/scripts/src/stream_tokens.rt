@@ -1,0 +1,59 @@
+//! The tokens of a text, one after another.
+
+ghost use Rattle.std.specs.Prelude.{◌≡◌, ◌∷◌, IfSome, IsTrue, None, Some};
+ghost use Rattle.json.specs.Json.{read_key};
+ghost use Rattle.json.specs.Token as tokens;
+ghost use Rattle.serde_json.specs.Data.{unsigned};
+ghost use Rattle.serde_json.specs.Read.{number_of};
+
+use fast_float::Numeral;
+use json::{Reader as TokenReader, Token};
+
+pub(crate) fn begin_array(reader: &mut TokenReader<'_>) -> bool
+    ensures { IsTrue result → reader.old ≡ tokens.begin_array ∷ reader.new }
+{
+    matches!(reader.next(), Some(Token::BeginArray))
+}
+
+pub(crate) fn begin_object(reader: &mut TokenReader<'_>) -> bool
+    ensures { IsTrue result → reader.old ≡ tokens.begin_object ∷ reader.new }
+{
+    matches!(reader.next(), Some(Token::BeginObject))
+}
+
+pub(crate) fn end_object(reader: &mut TokenReader<'_>) -> bool
+    ensures { IsTrue result → read_key reader.old ≡ Some (None, reader.new) }
+{
+    matches!(reader.next_key(), Ok(None))
+}
+
+// The text without its escapes.
+pub(crate) fn take_text<'a>(reader: &mut TokenReader<'a>) -> Option<&'a str>
+    ensures { IfSome result (λ text. reader.old ≡ tokens.string text.now ∷ reader.new) }
+{
+    match reader.next()? {
+        Token::String(text) => Some(text),
+        _ => None,
+    }
+}
+
+// The digits of a number, or whatever else it is made of.
+pub(crate) fn take_digits<'a>(reader: &mut TokenReader<'a>) -> Option<&'a str>
+    ensures { IfSome result (λ digits. reader.old ≡ tokens.number digits.now ∷ reader.new) }
+{
+    match reader.next()? {
+        Token::Number(digits) => Some(digits),
+        _ => None,
+    }
+}
+
+// The whole number that the text of a number writes without a sign, a point or an exponent.
+pub(crate) fn whole_number(text: &str) -> Option<u64>
+    ensures { IfSome result (λ n. number_of text.now ≡ Some (unsigned n)) }
+{
+    let text = text.as_bytes();
+    if text.is_empty() || text[0] == b'-' {
+        return None;
+    }
+    Numeral::scan(text).to_u64()
+}
