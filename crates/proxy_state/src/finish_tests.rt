@@ -23,35 +23,35 @@ macro_rules! twice {
     };
 }
 
-const COMMITTED: Verdict = Verdict::Committed;
+pub(crate) const COMMITTED: Verdict = Verdict::Committed;
 
 const CONFLICT: Verdict = Verdict::Conflict;
 
 const LOCK: &[u8] = b"\xff/dbLocked";
 
-const TAG_ROW: &[u8] = b"\xff/serverTag/server0000000001";
+pub(crate) const TAG_ROW: &[u8] = b"\xff/serverTag/server0000000001";
 
-const ROW_OF_ALL: &[u8] = b"\xff/keyServers/";
+pub(crate) const ROW_OF_ALL: &[u8] = b"\xff/keyServers/";
 
-const SERVER: &[u8] = b"\x01server0000000001\x00";
+pub(crate) const SERVER: &[u8] = b"\x01server0000000001\x00";
 
 const TAG_1: Tag = Tag { locality: 0, id: 1 };
 
 // ---- what the tests are made of
 
-fn bytes(alloc: Global, text: &[u8]) -> Result<Vec<u8>, AllocError> {
+pub(crate) fn bytes(alloc: Global, text: &[u8]) -> Result<Vec<u8>, AllocError> {
     twice!(Vec::from_slice(alloc, text), _)
 }
 
 /// An empty list with room for so many.
-fn room<T: Drop>(alloc: Global, count: usize) -> Result<Vec<T>, AllocError> {
+pub(crate) fn room<T: Drop>(alloc: Global, count: usize) -> Result<Vec<T>, AllocError> {
     twice!(Vec::with_capacity(alloc, count), _)
 }
 
 /// A proxy whose map of owners holds no moves, of a cluster whose versions are 10 apart.
 #[derive(Drop)]
-struct Tested {
-    proxy: Proxy,
+pub(crate) struct Tested {
+    pub(crate) proxy: Proxy,
 }
 
 impl Model for Tested {
@@ -67,14 +67,14 @@ impl Model for Tested {
 
 impl Tested {
     /// Proxy 0 of two, with two resolvers. It has begun nothing.
-    fn new(alloc: Global) -> Result<Tested, Fail> {
+    pub(crate) fn new(alloc: Global) -> Result<Tested, Fail> {
         let config = Config::new(2, 2, 100, 10)?;
         let proxy = twice!(Proxy::new(alloc, 0, &config), OutOfMemory)?;
         Ok(Tested { proxy })
     }
 
     /// Begins the record of the batch in this row of this proxy, at the version after `previous`.
-    fn begin(
+    pub(crate) fn begin(
         &mut self,
         alloc: Global,
         row: usize,
@@ -111,7 +111,7 @@ impl Tested {
 
 /// A Set of a key, and whether its transaction is lock aware.
 #[derive(Clone, Copy)]
-struct Put {
+pub(crate) struct Put {
     key: &'static [u8],
     value: &'static [u8],
     lock_aware: bool,
@@ -179,17 +179,17 @@ fn batch_of(alloc: Global, puts: &[Put]) -> Result<Batch, Fail> {
 }
 
 /// A state transaction that a resolver replies: its verdict, and what it puts.
-type Told = (Verdict, Put);
+pub(crate) type Told = (Verdict, Put);
 
 /// A reply by its resolver, proxy, row, version, verdicts and unseen rows.
 #[derive(Clone, Copy)]
-struct Line<'a> {
-    resolver: usize,
-    proxy: usize,
-    row: usize,
-    version: u64,
-    verdicts: &'a [Verdict],
-    unseen: &'a [(u64, &'a [Told])],
+pub(crate) struct Line<'a> {
+    pub(crate) resolver: usize,
+    pub(crate) proxy: usize,
+    pub(crate) row: usize,
+    pub(crate) version: u64,
+    pub(crate) verdicts: &'a [Verdict],
+    pub(crate) unseen: &'a [(u64, &'a [Told])],
 }
 
 fn content(alloc: Global, one: Put) -> Result<Carried, Fail> {
@@ -240,11 +240,11 @@ fn reply_by(alloc: Global, carries: bool, line: Line<'_>) -> Result<Reply, Fail>
 }
 
 /// The reply, in which resolver 0 alone has the content of state transactions.
-fn reply(alloc: Global, line: Line<'_>) -> Result<Reply, Fail> {
+pub(crate) fn reply(alloc: Global, line: Line<'_>) -> Result<Reply, Fail> {
     reply_by(alloc, line.resolver == 0, line)
 }
 
-fn no_replies(alloc: Global) -> Result<Replies, Fail> {
+pub(crate) fn no_replies(alloc: Global) -> Result<Replies, Fail> {
     let config = Config::new(2, 2, 100, 10)?;
     Ok(twice!(Replies::new(alloc, &config), OutOfMemory)?)
 }
@@ -264,7 +264,7 @@ fn both(alloc: Global, first: Line<'_>, second: Line<'_>) -> Result<Replies, Fai
 }
 
 /// The reply of a resolver to row 0, at version 10, of proxy 0.
-const fn to_row_0<'a>(resolver: usize, verdicts: &'a [Verdict]) -> Line<'a> {
+pub(crate) const fn to_row_0<'a>(resolver: usize, verdicts: &'a [Verdict]) -> Line<'a> {
     Line {
         resolver,
         proxy: 0,

@@ -9,6 +9,8 @@
 
 mod applying;
 mod begun;
+#[cfg(test)]
+mod clear_tests;
 mod columns;
 mod entry_map;
 mod entry_view;
