@@ -62,25 +62,26 @@ fn carry_out(world: &mut TurnWorld, event: &Event) -> Told {
     }
 }
 
-fn cluster(alloc: Global, proxies: usize, step: u64) -> Result<TurnWorld, Fail> {
+pub(crate) fn cluster(alloc: Global, proxies: usize, step: u64) -> Result<TurnWorld, Fail> {
     let config = Config::new(proxies, 2, 100, step)?;
     Ok(twice!(TurnWorld::new(alloc, &config), OutOfMemory)?)
 }
 
 // ---- events
 
-fn bytes(alloc: Global, text: &[u8]) -> Result<Vec<u8>, AllocError> {
+pub(crate) fn bytes(alloc: Global, text: &[u8]) -> Result<Vec<u8>, AllocError> {
     twice!(Vec::from_slice(alloc, text), _)
 }
 
-/// A transaction: its snapshot, the key that it reads, the key that it writes and sets, and whether
-/// it is lock aware. An empty key is none.
+/// A transaction: its snapshot, the key that it reads, the key that it writes, the key that it sets
+/// and to what, and whether it is lock aware. An empty key is none.
 #[derive(Clone, Copy)]
-struct Given {
-    snapshot: u64,
-    read: &'static [u8],
-    write: &'static [u8],
-    lock_aware: bool,
+pub(crate) struct Given {
+    pub(crate) snapshot: u64,
+    pub(crate) read: &'static [u8],
+    pub(crate) write: &'static [u8],
+    pub(crate) set: (&'static [u8], &'static [u8]),
+    pub(crate) lock_aware: bool,
 }
 
 /// The range of one key, or none if the key is empty.
@@ -101,10 +102,11 @@ fn ranges(alloc: Global, key: &[u8]) -> Result<Items<GivenRange>, Fail> {
 
 fn admitted(alloc: Global, one: Given) -> Result<Admitted, Fail> {
     let mut mutations = twice!(Vec::with_capacity(alloc, 1), _)?;
-    if !one.write.is_empty() {
+    let (key, value) = one.set;
+    if !key.is_empty() {
         mutations.push(Mutation::Set {
-            key: Bytes::from(bytes(alloc, one.write)?),
-            value: Bytes::from(bytes(alloc, b"1")?),
+            key: Bytes::from(bytes(alloc, key)?),
+            value: Bytes::from(bytes(alloc, value)?),
         })?;
     }
     let given = Transaction {
@@ -118,7 +120,7 @@ fn admitted(alloc: Global, one: Given) -> Result<Admitted, Fail> {
 }
 
 /// A batch of these transactions for a proxy.
-fn sequence(alloc: Global, proxy: usize, transactions: &[Given]) -> Result<Event, Fail> {
+pub(crate) fn sequence(alloc: Global, proxy: usize, transactions: &[Given]) -> Result<Event, Fail> {
     let mut batch = twice!(Vec::with_capacity(alloc, transactions.len()), _)?;
     for one in transactions {
         batch.push(admitted(alloc, *one)?)?;
@@ -127,7 +129,8 @@ fn sequence(alloc: Global, proxy: usize, transactions: &[Given]) -> Result<Event
     Ok(Event::Sequence { proxy, batch })
 }
 
-fn moves(alloc: Global, dest: usize) -> Result<Event, Fail> {
+/// A move of `[m, t)` to the resolver.
+pub(crate) fn moves(alloc: Global, dest: usize) -> Result<Event, Fail> {
     let range = KeyRange::new(bytes(alloc, b"m")?, bytes(alloc, b"t")?)?;
     Ok(Event::Move { range, dest })
 }
@@ -153,25 +156,32 @@ const COMMITTED: Option<Verdict> = Some(Verdict::Committed);
 
 const CONFLICT: Option<Verdict> = Some(Verdict::Conflict);
 
-const WRITES_N: Given = Given {
+/// A transaction with nothing in it.
+pub(crate) const NOTHING: Given = Given {
     snapshot: 0,
     read: b"",
-    write: b"n",
+    write: b"",
+    set: (b"", b""),
     lock_aware: false,
+};
+
+const WRITES_N: Given = Given {
+    write: b"n",
+    set: (b"n", b"1"),
+    ..NOTHING
 };
 
 const READS_N: Given = Given {
     snapshot: 10,
     read: b"n",
-    write: b"",
-    lock_aware: false,
+    ..NOTHING
 };
 
-const LOCKS: Given = Given {
-    snapshot: 0,
-    read: b"",
+pub(crate) const LOCKS: Given = Given {
     write: b"\xff/dbLocked",
+    set: (b"\xff/dbLocked", b"L"),
     lock_aware: true,
+    ..NOTHING
 };
 
 // ---- stories
