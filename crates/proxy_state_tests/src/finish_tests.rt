@@ -1,0 +1,796 @@
+//! Tests of a proxy that begins and finishes records, against answers worked out by hand. Each call
+//! that allocates is made again after a failed allocation, so that the tests also pass if any one
+//! fails.
+
+ghost use Rattle.std.specs.Prelude.{◌≡◌, ◌≤◌, ◌<◌};
+
+use model::{Carried, Config, Reply, UnseenRow, UnseenState};
+use mutation::{Admitted, Batch, Mutation, Transaction, admit};
+use proxy_state::{Finished, Outcome, Proxy, Refusal, Replies, Verdict};
+use request_builder::{Record, Requests};
+use std::alloc::{AllocError, Global};
+use std::marker::Model;
+use std::test::Fail;
+use system_keys::{Bytes, Change, Items, OutOfMemory, Tag};
+
+/// The call, made once more after a failed allocation.
+macro_rules! twice {
+    ($call:expr, $memory:pat) => {
+        match $call {
+            Err($memory) => $call,
+            answer => answer,
+        }
+    };
+}
+
+pub(crate) const COMMITTED: Verdict = Verdict::Committed;
+
+const CONFLICT: Verdict = Verdict::Conflict;
+
+const LOCK: &[u8] = b"\xff/dbLocked";
+
+pub(crate) const TAG_ROW: &[u8] = b"\xff/serverTag/server0000000001";
+
+pub(crate) const ROW_OF_ALL: &[u8] = b"\xff/keyServers/";
+
+pub(crate) const SERVER: &[u8] = b"\x01server0000000001\x00";
+
+const TAG_1: Tag = Tag { locality: 0, id: 1 };
+
+// ---- what the tests are made of
+
+pub(crate) fn bytes(alloc: Global, text: &[u8]) -> Result<Vec<u8>, AllocError> {
+    twice!(Vec::from_slice(alloc, text), _)
+}
+
+/// An empty list with room for so many.
+pub(crate) fn room<T: Drop>(alloc: Global, count: usize) -> Result<Vec<T>, AllocError> {
+    twice!(Vec::with_capacity(alloc, count), _)
+}
+
+/// A proxy whose map of owners holds no moves, of a cluster whose versions are 10 apart.
+#[derive(Drop)]
+pub(crate) struct Tested {
+    pub(crate) proxy: Proxy,
+}
+
+impl Model for Tested {
+    ghost use Rattle.std.specs.Prelude.{◌≡◌, []};
+    ghost use Rattle.model.specs.Finishing.{Follower, HoldsMoves};
+
+    ghost Value = { Follower };
+
+    ghost view = { λ t. t.proxy };
+
+    ghost invariant = { λ t. HoldsMoves t.proxy [] × (t.proxy.config.step ≡ 10) };
+}
+
+impl Tested {
+    /// Proxy 0 of two, with two resolvers. It has begun nothing.
+    pub(crate) fn new(alloc: Global) -> Result<Tested, Fail> {
+        let config = Config::new(2, 2, 100, 10)?;
+        let proxy = twice!(Proxy::new(alloc, 0, &config), OutOfMemory)?;
+        Ok(Tested { proxy })
+    }
+
+    /// Begins the record of the batch in this row of this proxy, at the version after `previous`.
+    pub(crate) fn begin(
+        &mut self,
+        alloc: Global,
+        row: usize,
+        previous: u64,
+        own_previous: u64,
+        number: usize,
+        batch: &Batch,
+    ) -> Result<Requests, Refusal>
+        requires own { own_previous ≤ previous }
+        requires small { previous < 1000 }
+    {
+        let version = previous + 10;
+        let moves = Items::from(Vec::new(alloc));
+        let rec = Record::new(
+            alloc,
+            row,
+            previous,
+            version,
+            own_previous,
+            number,
+            moves,
+            batch,
+        )?;
+        self.proxy.begin(&rec)
+    }
+
+    fn finish(&mut self, replies: Replies) -> Result<Finished, (Refusal, Replies)> {
+        match self.proxy.finish(replies) {
+            Err((Refusal::OutOfMemory, replies)) => self.proxy.finish(replies),
+            answer => answer,
+        }
+    }
+}
+
+/// A Set of a key, and whether its transaction is lock aware.
+#[derive(Clone, Copy)]
+pub(crate) struct Put {
+    key: &'static [u8],
+    value: &'static [u8],
+    lock_aware: bool,
+}
+
+const LOCKS: Put = Put {
+    key: LOCK,
+    value: b"L",
+    lock_aware: true,
+};
+
+const TAGS: Put = Put {
+    key: TAG_ROW,
+    value: b"\x00\x00\x01",
+    lock_aware: true,
+};
+
+const SERVES: Put = Put {
+    key: ROW_OF_ALL,
+    value: SERVER,
+    lock_aware: true,
+};
+
+const WRITES: Put = Put {
+    key: b"a",
+    value: b"1",
+    lock_aware: true,
+};
+
+const WRITES_UNAWARE: Put = Put {
+    key: b"a",
+    value: b"1",
+    lock_aware: false,
+};
+
+const SERVES_UNAWARE: Put = Put {
+    key: ROW_OF_ALL,
+    value: SERVER,
+    lock_aware: false,
+};
+
+fn admitted(alloc: Global, one: Put) -> Result<Admitted, Fail> {
+    let mut mutations = room(alloc, 1)?;
+    mutations.push(Mutation::Set {
+        key: Bytes::from(bytes(alloc, one.key)?),
+        value: Bytes::from(bytes(alloc, one.value)?),
+    })?;
+    let given = Transaction {
+        snapshot: 0,
+        reads: Items::from(Vec::new(alloc)),
+        writes: Items::from(Vec::new(alloc)),
+        mutations: Items::from(mutations),
+        lock_aware: one.lock_aware,
+    };
+    Ok(twice!(admit(alloc, &given), mutation::Refusal::OutOfMemory)?)
+}
+
+/// A batch with a transaction for each of these Sets.
+fn batch_of(alloc: Global, puts: &[Put]) -> Result<Batch, Fail> {
+    let mut transactions = room(alloc, puts.len())?;
+    for one in puts {
+        transactions.push(admitted(alloc, *one)?)?;
+    }
+    Ok(Batch::new(transactions).map_err(|refused| refused.0)?)
+}
+
+/// A state transaction that a resolver replies: its verdict, and what it puts.
+pub(crate) type Told = (Verdict, Put);
+
+/// A reply by its resolver, proxy, row, version, verdicts and unseen rows.
+#[derive(Clone, Copy)]
+pub(crate) struct Line<'a> {
+    pub(crate) resolver: usize,
+    pub(crate) proxy: usize,
+    pub(crate) row: usize,
+    pub(crate) version: u64,
+    pub(crate) verdicts: &'a [Verdict],
+    pub(crate) unseen: &'a [(u64, &'a [Told])],
+}
+
+fn content(alloc: Global, one: Put) -> Result<Carried, Fail> {
+    let mut mutations = room(alloc, 1)?;
+    mutations.push(Change::Set {
+        key: Bytes::from(bytes(alloc, one.key)?),
+        value: Bytes::from(bytes(alloc, one.value)?),
+    })?;
+    Ok(Carried {
+        mutations: Items::from(mutations),
+        lock_aware: one.lock_aware,
+    })
+}
+
+fn unseen_row(
+    alloc: Global,
+    carries: bool,
+    version: u64,
+    told: &[Told],
+) -> Result<UnseenRow, Fail> {
+    let mut states = room(alloc, told.len())?;
+    for (verdict, one) in told {
+        let carried = if carries {
+            Some(content(alloc, *one)?)
+        } else {
+            None
+        };
+        let verdict = *verdict;
+        states.push(UnseenState { verdict, carried })?;
+    }
+    let states = Items::from(states);
+    Ok(UnseenRow { version, states })
+}
+
+fn reply_by(alloc: Global, carries: bool, line: Line<'_>) -> Result<Reply, Fail> {
+    let mut unseen = room(alloc, line.unseen.len())?;
+    for (version, told) in line.unseen {
+        unseen.push(unseen_row(alloc, carries, *version, *told)?)?;
+    }
+    Ok(Reply {
+        resolver: line.resolver,
+        proxy: line.proxy,
+        row: line.row,
+        version: line.version,
+        verdicts: Items::from(twice!(Vec::from_slice(alloc, line.verdicts), _)?),
+        unseen: Items::from(unseen),
+    })
+}
+
+/// The reply, in which resolver 0 alone has the content of state transactions.
+pub(crate) fn reply(alloc: Global, line: Line<'_>) -> Result<Reply, Fail> {
+    reply_by(alloc, line.resolver == 0, line)
+}
+
+pub(crate) fn no_replies(alloc: Global) -> Result<Replies, Fail> {
+    let config = Config::new(2, 2, 100, 10)?;
+    Ok(twice!(Replies::new(alloc, &config), OutOfMemory)?)
+}
+
+fn replies_of(first: Reply, second: Reply, mut replies: Replies) -> Result<Replies, Fail> {
+    replies.put(first).map_err(|refused| refused.0)?;
+    replies.put(second).map_err(|refused| refused.0)?;
+    Ok(replies)
+}
+
+fn both(alloc: Global, first: Line<'_>, second: Line<'_>) -> Result<Replies, Fail> {
+    replies_of(
+        reply(alloc, first)?,
+        reply(alloc, second)?,
+        no_replies(alloc)?,
+    )
+}
+
+/// The reply of a resolver to row 0, at version 10, of proxy 0.
+pub(crate) const fn to_row_0<'a>(resolver: usize, verdicts: &'a [Verdict]) -> Line<'a> {
+    Line {
+        resolver,
+        proxy: 0,
+        row: 0,
+        version: 10,
+        verdicts,
+        unseen: &[],
+    }
+}
+
+fn begun(alloc: Global, puts: &[Put]) -> Result<Tested, Fail> {
+    let mut tested = Tested::new(alloc)?;
+    let batch = batch_of(alloc, puts)?;
+    let _ = twice!(
+        tested.begin(alloc, 0, 0, 0, 0, &batch),
+        Refusal::OutOfMemory
+    )?;
+    Ok(tested)
+}
+
+/// Why the replies are refused, if they are and come back.
+fn refusal(answer: Result<Finished, (Refusal, Replies)>) -> Option<Refusal> {
+    match answer {
+        Ok(_) => None,
+        Err((refusal, _replies)) => Some(refusal),
+    }
+}
+
+fn versions(proxy: &Proxy) -> [u64; 3] {
+    let mut versions = [0, 0, 0];
+    for (place, row) in proxy.journal().iter().enumerate() {
+        if place < 3 {
+            versions[place] = row.version;
+        }
+    }
+    versions
+}
+
+// ---- records that are refused
+
+#[test]
+fn a_proxy_begins_its_own_next_record_alone(rt: HostRuntime) -> Result<(), Fail> {
+    let alloc = rt.alloc();
+    let mut tested = begun(alloc, &[WRITES])?;
+    let batch = batch_of(alloc, &[WRITES])?;
+    let other = twice!(
+        tested.begin(alloc, 1, 10, 0, 1, &batch),
+        Refusal::OutOfMemory
+    );
+    assert_eq!(rt; other.err(), Some(Refusal::NotMine));
+    let early = twice!(
+        tested.begin(alloc, 2, 20, 20, 0, &batch),
+        Refusal::OutOfMemory
+    );
+    assert_eq!(rt; early.err(), Some(Refusal::OutOfOrder { expected: 10 }));
+    assert_eq!(rt; tested.proxy.last_begun(), 10);
+    assert_eq!(rt; tested.proxy.version(), 0);
+    Ok(())
+}
+
+#[test]
+fn requests_name_the_version_finished(rt: HostRuntime) -> Result<(), Fail> {
+    let alloc = rt.alloc();
+    let mut tested = begun(alloc, &[WRITES])?;
+    let batch = batch_of(alloc, &[SERVES])?;
+    let built = twice!(
+        tested.begin(alloc, 2, 20, 10, 0, &batch),
+        Refusal::OutOfMemory
+    )?;
+    assert_eq!(rt; built.requests.as_slice().len(), 2);
+    for request in built.requests.as_slice() {
+        assert_eq!(rt; request.last_received(), 0);
+        assert_eq!(rt; request.version(), 30);
+    }
+    for asked in built.asked.as_slice() {
+        assert_eq!(rt; asked.as_slice(), [0, 1].as_slice());
+    }
+    Ok(())
+}
+
+// ---- replies that are refused
+
+#[test]
+fn a_proxy_that_has_begun_nothing_finishes_nothing(rt: HostRuntime) -> Result<(), Fail> {
+    let mut tested = Tested::new(rt.alloc())?;
+    let answer = tested.finish(no_replies(rt.alloc())?);
+    assert_eq!(rt;
+        refusal(answer),
+        Some(Refusal::OutOfTurn { expected: None })
+    );
+    Ok(())
+}
+
+#[test]
+fn the_least_resolver_that_is_missing_is_named(rt: HostRuntime) -> Result<(), Fail> {
+    let alloc = rt.alloc();
+    let mut tested = begun(alloc, &[SERVES])?;
+    let answer = tested.finish(no_replies(alloc)?);
+    assert_eq!(rt;
+        refusal(answer),
+        Some(Refusal::MissingReply { resolver: 0 })
+    );
+    let mut replies = no_replies(alloc)?;
+    let wrong = Line {
+        version: 20,
+        ..to_row_0(0, &[COMMITTED])
+    };
+    replies
+        .put(reply(alloc, wrong)?)
+        .map_err(|refused| refused.0)?;
+    let answer = tested.finish(replies);
+    assert_eq!(rt;
+        refusal(answer),
+        Some(Refusal::MissingReply { resolver: 1 })
+    );
+    Ok(())
+}
+
+#[test]
+fn replies_that_are_refused_come_back(rt: HostRuntime) -> Result<(), Fail> {
+    let alloc = rt.alloc();
+    let mut tested = begun(alloc, &[SERVES])?;
+    let wrong = Line {
+        version: 20,
+        ..to_row_0(1, &[COMMITTED])
+    };
+    let answer = tested.finish(both(alloc, to_row_0(0, &[COMMITTED]), wrong)?);
+    let Err((refusal, mut replies)) = answer else {
+        return Err(Fail::from("finished"));
+    };
+    assert_eq!(rt; refusal, Refusal::RepliesDisagree { version: 10 });
+    let Err((refusal, second)) = replies.put(reply(alloc, to_row_0(1, &[COMMITTED]))?) else {
+        return Err(Fail::from("put"));
+    };
+    assert_eq!(rt; refusal, Refusal::DoubleReply { resolver: 1 });
+    assert_eq!(rt; second.version, 10);
+    assert_eq!(rt; tested.proxy.version(), 0);
+    assert_eq!(rt; tested.proxy.journal().len(), 0);
+    assert_eq!(rt;
+        tested.proxy.metadata_at(10).err(),
+        Some(Refusal::NotReached { version: 0 })
+    );
+    Ok(())
+}
+
+// ---- records that are finished
+
+/// Both replies to row 0, with one verdict each.
+fn replies_to_row_0(alloc: Global) -> Result<Replies, Fail> {
+    both(alloc, to_row_0(0, &[COMMITTED]), to_row_0(1, &[COMMITTED]))
+}
+
+/// The replies to row 2, which tell row 1; resolver 1 has another verdict than resolver 0.
+fn replies_to_row_2(alloc: Global) -> Result<Replies, Fail> {
+    let unseen: &[(u64, &[Told])] = &[(20, &[(COMMITTED, TAGS)])];
+    let of_0 = Line {
+        row: 2,
+        version: 30,
+        unseen,
+        ..to_row_0(0, &[COMMITTED])
+    };
+    let of_1 = Line {
+        row: 2,
+        version: 30,
+        unseen,
+        ..to_row_0(1, &[CONFLICT])
+    };
+    both(alloc, of_0, of_1)
+}
+
+/// A proxy that began rows 0 and 2, and then finished row 0.
+fn finished_once(alloc: Global) -> Result<Tested, Fail> {
+    let mut tested = begun(alloc, &[SERVES])?;
+    let batch = batch_of(alloc, &[WRITES, LOCKS])?;
+    let _ = twice!(
+        tested.begin(alloc, 2, 20, 10, 0, &batch),
+        Refusal::OutOfMemory
+    )?;
+    let _ = tested
+        .finish(replies_to_row_0(alloc)?)
+        .map_err(|refused| refused.0)?;
+    Ok(tested)
+}
+
+/// Whether the batch of row 2 committed its first transaction alone, whose Set has tag 1.
+fn is_row_2(finished: &Finished) -> bool {
+    let committed = Outcome::Committed {
+        version: 30,
+        number: 0,
+    };
+    finished.version == 30
+        && finished.outcomes.as_slice() == [committed, Outcome::Conflict].as_slice()
+        && has_tag_1(finished, 1)
+}
+
+/// The outcome of the transaction of this number, if there is one.
+fn outcome_at(finished: &Finished, number: usize) -> Option<Outcome> {
+    finished.outcomes.as_slice().get(number).copied()
+}
+
+/// Whether there are so many mutations, and the first has tag 1 alone.
+fn has_tag_1(finished: &Finished, count: usize) -> bool {
+    let tagged = finished.tagged.as_slice();
+    match tagged.first() {
+        Some(one) => tagged.len() == count && one.tags.as_slice() == [TAG_1].as_slice(),
+        None => false,
+    }
+}
+
+#[test]
+fn a_proxy_learns_the_rows_of_others(rt: HostRuntime) -> Result<(), Fail> {
+    let alloc = rt.alloc();
+    let mut tested = finished_once(alloc)?;
+    assert_eq!(rt; versions(&tested.proxy), [10, 0, 0]);
+    let replies = replies_to_row_2(alloc)?;
+    let finished = tested.finish(replies).map_err(|refused| refused.0)?;
+    assert!(rt; is_row_2(&finished));
+    assert_eq!(rt; versions(&tested.proxy), [10, 20, 30]);
+    assert_eq!(rt; tested.proxy.version(), 30);
+    Ok(())
+}
+
+/// Whether the metadata at the version has the tag row.
+fn has_tag_row_at(proxy: &Proxy, version: u64) -> Result<bool, Fail> {
+    let metadata = twice!(proxy.metadata_at(version), Refusal::OutOfMemory)?;
+    Ok(metadata.row(TAG_ROW).is_some())
+}
+
+#[test]
+fn the_metadata_at_a_version_is_of_the_rows_up_to_it(rt: HostRuntime) -> Result<(), Fail> {
+    let alloc = rt.alloc();
+    let mut tested = finished_once(alloc)?;
+    let replies = replies_to_row_2(alloc)?;
+    let _ = tested.finish(replies).map_err(|refused| refused.0)?;
+    assert!(rt; !has_tag_row_at(&tested.proxy, 10)?);
+    assert!(rt; has_tag_row_at(&tested.proxy, 20)?);
+    Ok(())
+}
+
+#[test]
+fn tags_are_those_after_the_whole_batch(rt: HostRuntime) -> Result<(), Fail> {
+    let alloc = rt.alloc();
+    let mut tested = begun(alloc, &[WRITES, TAGS, SERVES])?;
+    let verdicts = &[COMMITTED, COMMITTED];
+    let of_0 = to_row_0(0, &[COMMITTED, COMMITTED]);
+    let replies = both(alloc, of_0, to_row_0(1, verdicts))?;
+    let finished = tested.finish(replies).map_err(|refused| refused.0)?;
+    assert!(rt; has_tag_1(&finished, 3));
+    Ok(())
+}
+
+#[test]
+fn the_lock_is_read_before_the_batch(rt: HostRuntime) -> Result<(), Fail> {
+    let alloc = rt.alloc();
+    let mut tested = begun(alloc, &[LOCKS, SERVES_UNAWARE])?;
+    let verdicts = &[COMMITTED, COMMITTED];
+    let replies = both(alloc, to_row_0(0, verdicts), to_row_0(1, verdicts))?;
+    let finished = tested.finish(replies).map_err(|refused| refused.0)?;
+    let second = outcome_at(&finished, 1);
+    assert_eq!(rt;
+        second,
+        Some(Outcome::Committed {
+            version: 10,
+            number: 1
+        })
+    );
+    assert!(rt; tested.proxy.metadata().is_locked());
+    assert!(rt; tested.proxy.metadata().row(ROW_OF_ALL).is_some());
+    Ok(())
+}
+
+/// Row 0 is of proxy 1 with these transactions, and then this proxy finishes its row 1.
+fn after_row_of_another(
+    alloc: Global,
+    of_0: &[Told],
+    of_1: &[Told],
+) -> Result<(Tested, Finished), Fail> {
+    let mut tested = Tested::new(alloc)?;
+    let batch = batch_of(alloc, &[SERVES_UNAWARE])?;
+    let _ = twice!(
+        tested.begin(alloc, 1, 10, 0, 0, &batch),
+        Refusal::OutOfMemory
+    )?;
+    let unseen_0: &[(u64, &[Told])] = &[(10, of_0)];
+    let unseen_1: &[(u64, &[Told])] = &[(10, of_1)];
+    let first = Line {
+        row: 1,
+        version: 20,
+        unseen: unseen_0,
+        ..to_row_0(0, &[COMMITTED])
+    };
+    let second = Line {
+        row: 1,
+        version: 20,
+        unseen: unseen_1,
+        ..to_row_0(1, &[COMMITTED])
+    };
+    let replies = both(alloc, first, second)?;
+    let finished = tested.finish(replies).map_err(|refused| refused.0)?;
+    Ok((tested, finished))
+}
+
+#[test]
+fn what_one_resolver_alone_committed_is_not_applied(rt: HostRuntime) -> Result<(), Fail> {
+    let of_0: &[Told] = &[(COMMITTED, LOCKS)];
+    let (tested, finished) = after_row_of_another(rt.alloc(), of_0, &[(CONFLICT, LOCKS)])?;
+    assert!(rt; !tested.proxy.metadata().is_locked());
+    let first = outcome_at(&finished, 0);
+    assert_eq!(rt;
+        first,
+        Some(Outcome::Committed {
+            version: 20,
+            number: 0
+        })
+    );
+    Ok(())
+}
+
+#[test]
+fn the_lock_of_another_proxy_is_kept(rt: HostRuntime) -> Result<(), Fail> {
+    let told: &[Told] = &[(COMMITTED, LOCKS)];
+    let (tested, finished) = after_row_of_another(rt.alloc(), told, told)?;
+    assert!(rt; tested.proxy.metadata().is_locked());
+    assert!(rt; tested.proxy.metadata().row(ROW_OF_ALL).is_none());
+    assert_eq!(rt; outcome_at(&finished, 0), Some(Outcome::Locked));
+    assert_eq!(rt; finished.tagged.as_slice().len(), 0);
+    Ok(())
+}
+
+#[test]
+fn a_foreign_transaction_that_is_not_lock_aware_waits_for_no_lock(
+    rt: HostRuntime,
+) -> Result<(), Fail> {
+    let alloc = rt.alloc();
+    let mut tested = begun(alloc, &[LOCKS])?;
+    let replies = both(alloc, to_row_0(0, &[COMMITTED]), to_row_0(1, &[COMMITTED]))?;
+    let _ = tested.finish(replies).map_err(|refused| refused.0)?;
+    let batch = batch_of(alloc, &[WRITES_UNAWARE])?;
+    let _ = twice!(
+        tested.begin(alloc, 2, 20, 10, 0, &batch),
+        Refusal::OutOfMemory
+    )?;
+    let told: &[Told] = &[(COMMITTED, SERVES_UNAWARE), (COMMITTED, TAGS)];
+    let unseen: &[(u64, &[Told])] = &[(20, told)];
+    let of_0 = Line {
+        row: 2,
+        version: 30,
+        unseen,
+        ..to_row_0(0, &[])
+    };
+    let of_1 = Line {
+        row: 2,
+        version: 30,
+        unseen,
+        ..to_row_0(1, &[])
+    };
+    let finished = tested
+        .finish(both(alloc, of_0, of_1)?)
+        .map_err(|refused| refused.0)?;
+    assert!(rt; tested.proxy.metadata().row(ROW_OF_ALL).is_none());
+    assert!(rt; tested.proxy.metadata().row(TAG_ROW).is_some());
+    assert_eq!(rt; outcome_at(&finished, 0), Some(Outcome::Locked));
+    Ok(())
+}
+
+// ---- replies that disagree
+
+/// The version at which the replies to row 3, at version 40, disagree.
+fn disagreement(alloc: Global, first: Line<'_>, second: Line<'_>) -> Result<Option<u64>, Fail> {
+    disagreement_by(alloc, reply(alloc, first)?, reply(alloc, second)?)
+}
+
+fn disagreement_by(alloc: Global, first: Reply, second: Reply) -> Result<Option<u64>, Fail> {
+    let mut tested = Tested::new(alloc)?;
+    let batch = batch_of(alloc, &[SERVES])?;
+    let _ = twice!(
+        tested.begin(alloc, 3, 30, 0, 0, &batch),
+        Refusal::OutOfMemory
+    )?;
+    match tested.finish(replies_of(first, second, no_replies(alloc)?)?) {
+        Ok(_) => Ok(None),
+        Err((Refusal::RepliesDisagree { version }, _)) => Ok(Some(version)),
+        Err((refusal, _)) => Err(Fail::from(refusal)),
+    }
+}
+
+const ONE: &[Told] = &[(Verdict::Committed, TAGS)];
+
+/// The rows that are unseen.
+const ROWS: &[(u64, &[Told])] = &[(10, ONE), (20, ONE), (30, ONE)];
+
+const ONE_VERDICT: &[Verdict] = &[Verdict::Committed];
+
+/// The reply of a resolver to row 3, with rows 0 to 2.
+const fn to_row_3<'a>(resolver: usize) -> Line<'a> {
+    Line {
+        resolver,
+        proxy: 0,
+        row: 3,
+        version: 40,
+        verdicts: ONE_VERDICT,
+        unseen: ROWS,
+    }
+}
+
+#[test]
+fn replies_agree(rt: HostRuntime) -> Result<(), Fail> {
+    assert_eq!(rt; disagreement(rt.alloc(), to_row_3(0), to_row_3(1))?, None);
+    Ok(())
+}
+
+#[test]
+fn a_reply_to_another_record_disagrees(rt: HostRuntime) -> Result<(), Fail> {
+    let alloc = rt.alloc();
+    let row = Line {
+        row: 2,
+        ..to_row_3(1)
+    };
+    assert_eq!(rt; disagreement(alloc, to_row_3(0), row)?, Some(40));
+    let version = Line {
+        version: 50,
+        ..to_row_3(1)
+    };
+    assert_eq!(rt; disagreement(alloc, to_row_3(0), version)?, Some(40));
+    let proxy = Line {
+        proxy: 1,
+        ..to_row_3(0)
+    };
+    assert_eq!(rt; disagreement(alloc, proxy, to_row_3(1))?, Some(40));
+    Ok(())
+}
+
+#[test]
+fn a_wrong_number_of_verdicts_disagrees_before_the_rows(rt: HostRuntime) -> Result<(), Fail> {
+    let alloc = rt.alloc();
+    let none = Line {
+        verdicts: &[],
+        unseen: &[],
+        ..to_row_3(1)
+    };
+    assert_eq!(rt; disagreement(alloc, to_row_3(0), none)?, Some(40));
+    let two = Line {
+        verdicts: &[COMMITTED, COMMITTED],
+        ..to_row_3(0)
+    };
+    assert_eq!(rt; disagreement(alloc, two, to_row_3(1))?, Some(40));
+    Ok(())
+}
+
+/// The version at which the replies disagree if resolver 1 tells these rows.
+fn told_by_1(alloc: Global, unseen: &[(u64, &[Told])]) -> Result<Option<u64>, Fail> {
+    disagreement(
+        alloc,
+        to_row_3(0),
+        Line {
+            unseen,
+            ..to_row_3(1)
+        },
+    )
+}
+
+#[test]
+fn a_row_that_is_missing_disagrees_at_its_version(rt: HostRuntime) -> Result<(), Fail> {
+    let alloc = rt.alloc();
+    assert_eq!(rt; told_by_1(alloc, &[(20, ONE), (30, ONE)])?, Some(10));
+    assert_eq!(rt; told_by_1(alloc, &[(10, ONE), (30, ONE)])?, Some(20));
+    assert_eq!(rt; told_by_1(alloc, &[(10, ONE), (20, ONE)])?, Some(30));
+    assert_eq!(rt; told_by_1(alloc, &[])?, Some(10));
+    Ok(())
+}
+
+#[test]
+fn a_row_that_both_lack_disagrees_at_its_version(rt: HostRuntime) -> Result<(), Fail> {
+    let unseen: &[(u64, &[Told])] = &[(10, ONE), (20, ONE)];
+    let first = Line {
+        unseen,
+        ..to_row_3(0)
+    };
+    let found = disagreement(
+        rt.alloc(),
+        first,
+        Line {
+            unseen,
+            ..to_row_3(1)
+        },
+    )?;
+    assert_eq!(rt; found, Some(30));
+    Ok(())
+}
+
+#[test]
+fn a_row_too_many_disagrees_at_its_version(rt: HostRuntime) -> Result<(), Fail> {
+    let alloc = rt.alloc();
+    let rows: &[(u64, &[Told])] = &[(10, ONE), (20, ONE), (30, ONE), (40, ONE)];
+    assert_eq!(rt; told_by_1(alloc, rows)?, Some(40));
+    let first = Line {
+        unseen: rows,
+        ..to_row_3(0)
+    };
+    assert_eq!(rt; disagreement(alloc, first, to_row_3(1))?, Some(40));
+    Ok(())
+}
+
+#[test]
+fn a_version_between_disagrees_at_the_one_that_should_stand(rt: HostRuntime) -> Result<(), Fail> {
+    let found = told_by_1(rt.alloc(), &[(10, ONE), (15, ONE), (30, ONE)])?;
+    assert_eq!(rt; found, Some(20));
+    Ok(())
+}
+
+#[test]
+fn another_number_of_state_transactions_disagrees(rt: HostRuntime) -> Result<(), Fail> {
+    let two: &[Told] = &[(COMMITTED, TAGS), (COMMITTED, SERVES)];
+    let found = told_by_1(rt.alloc(), &[(10, ONE), (20, two), (30, ONE)])?;
+    assert_eq!(rt; found, Some(20));
+    Ok(())
+}
+
+#[test]
+fn content_in_the_wrong_reply_disagrees(rt: HostRuntime) -> Result<(), Fail> {
+    let alloc = rt.alloc();
+    let first = reply_by(alloc, false, to_row_3(0))?;
+    let second = reply(alloc, to_row_3(1))?;
+    assert_eq!(rt; disagreement_by(alloc, first, second)?, Some(10));
+    let first = reply(alloc, to_row_3(0))?;
+    let second = reply_by(alloc, true, to_row_3(1))?;
+    assert_eq!(rt; disagreement_by(alloc, first, second)?, Some(10));
+    Ok(())
+}
