@@ -12,8 +12,6 @@ mod asking;
 mod marks;
 mod owner_map;
 mod refusal;
-#[cfg(test)]
-mod tests;
 
 pub use marks::{mark, marked};
 pub use owner_map::OwnerMap;

@@ -31,8 +31,6 @@ mod resolver_laws;
 mod routing;
 mod row_laws;
 mod run_laws;
-#[cfg(test)]
-mod tests;
 mod turn_laws;
 mod unseen;
 mod verdict;

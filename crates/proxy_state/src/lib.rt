@@ -9,13 +9,9 @@
 
 mod applying;
 mod begun;
-#[cfg(test)]
-mod clear_tests;
 mod columns;
 mod entry_map;
 mod entry_view;
-#[cfg(test)]
-mod finish_tests;
 mod finishing;
 mod joining;
 mod key_set;
@@ -26,18 +22,12 @@ mod moving;
 mod outcomes;
 mod own_row;
 mod proxy;
-#[cfg(test)]
-mod proxy_tests;
 mod refusal;
 mod replies;
-#[cfg(test)]
-mod reply_tests;
 mod routes;
 mod staged;
 mod tagging;
 mod telling;
-#[cfg(test)]
-mod tests;
 
 pub use joining::join;
 pub use metadata::Metadata;

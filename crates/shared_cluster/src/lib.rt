@@ -6,19 +6,11 @@ mod answer;
 mod event;
 mod finishing;
 mod offering;
-#[cfg(test)]
-mod plain_world;
-#[cfg(test)]
-mod random_tests;
 mod refusal;
 mod row;
-#[cfg(test)]
-mod run_tests;
 mod sequencing;
 mod starting;
 mod stopped;
-#[cfg(test)]
-mod tests;
 mod turn_world;
 
 pub use answer::Answer;

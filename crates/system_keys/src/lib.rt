@@ -20,8 +20,6 @@ mod server;
 mod state;
 mod tag;
 mod teams;
-#[cfg(test)]
-mod tests;
 mod text;
 
 pub use bytes::Bytes;

@@ -1,7 +1,7 @@
 //! Tests of the replies that a proxy collects, and of the numbers and names of refusals.
 
-use crate::{Refusal, Replies};
 use model::{Config, Reply};
+use proxy_state::{Refusal, Replies};
 use std::alloc::Global;
 use std::test::Fail;
 use system_keys::{Items, OutOfMemory};

@@ -1,7 +1,7 @@
 //! Tests: a copy is an equal value. Each call that takes memory is made again where it was refused
 //! memory, so that the tests also pass where any one allocation fails.
 
-use crate::{
+use model::{
     Carried, Config, Finished, JournalRow, Move, Outcome, Part, Refusal, Reply, Route, Routing,
     StateMark, StateTxn, Tagged, UnseenRow, UnseenState, Verdict,
 };

@@ -4,9 +4,9 @@
 use crate::finish_tests::{
     COMMITTED, Line, ROW_OF_ALL, SERVER, TAG_ROW, Tested, bytes, no_replies, reply, room, to_row_0,
 };
-use crate::{Finished, Proxy, Refusal, Replies};
 use model::{Carried, Reply, UnseenRow, UnseenState};
 use mutation::{Batch, Mutation, Transaction, admit};
+use proxy_state::{Finished, Proxy, Refusal, Replies};
 use std::alloc::Global;
 use std::test::Fail;
 use system_keys::{Bytes, Change, Items, KeyRange, Tag};

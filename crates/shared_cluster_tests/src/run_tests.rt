@@ -6,9 +6,9 @@ ghost use Rattle.std.specs.Prelude.{◌≡◌, IfSome};
 ghost use Rattle.model.specs.World.{proxy_metadata};
 
 use crate::tests::{Given, LOCKS, NOTHING, cluster, moves, sequence};
-use crate::{Answer, Event, OfferAnswer, Refusal, TurnWorld};
 use model::{Finished, Outcome, Reply, Verdict};
 use proxy_state::Metadata;
+use shared_cluster::{Answer, Event, OfferAnswer, Refusal, TurnWorld};
 use std::alloc::Global;
 use std::fmt::Write;
 use std::process::Abort;

@@ -1,8 +1,8 @@
 //! Tests of a new proxy. Each call that allocates is made again after a failed allocation, so that
 //! the tests also pass if any one fails.
 
-use crate::{Metadata, Proxy, Refusal};
 use model::Config;
+use proxy_state::{Metadata, Proxy, Refusal};
 use std::alloc::Global;
 use std::test::Fail;
 use system_keys::OutOfMemory;

@@ -1,8 +1,8 @@
 //! A second world for the tests, which shares nothing with the first: it keeps every record,
 //! compares all pairs, and has a few keys, each known by its number.
 
-use crate::Refusal;
 use model::{Outcome, Verdict};
+use shared_cluster::Refusal;
 use std::alloc::{AllocError, Global};
 
 /// How many letters, from `a` on, are keys.

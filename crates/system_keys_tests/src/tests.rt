@@ -2,14 +2,14 @@
 //! was refused memory, and what was copied is then as before, so that the tests also pass where any
 //! one allocation fails.
 
-use crate::{
+use std::alloc::{AllocError, Global};
+use std::fmt::Display;
+use std::test::Fail;
+use system_keys::{
     Bytes, Change, KeyRange, OutOfMemory, Refusal, RowFault, RowKind, ServerId, Tag, Teams,
     TeamsFault, classify, decode_key_servers, decode_tag, encode_key_servers, encode_tag, is_state,
     print_bytes, read_bytes,
 };
-use std::alloc::{AllocError, Global};
-use std::fmt::Display;
-use std::test::Fail;
 
 /// The call, made once more where it was refused memory.
 macro_rules! twice {

@@ -4,9 +4,9 @@
 
 ghost use Rattle.std.specs.Prelude.{◌≡◌, ◌≤◌, ◌<◌};
 
-use crate::{Finished, Outcome, Proxy, Refusal, Replies, Verdict};
 use model::{Carried, Config, Reply, UnseenRow, UnseenState};
 use mutation::{Admitted, Batch, Mutation, Transaction, admit};
+use proxy_state::{Finished, Outcome, Proxy, Refusal, Replies, Verdict};
 use request_builder::{Record, Requests};
 use std::alloc::{AllocError, Global};
 use std::marker::Model;

@@ -1,7 +1,7 @@
 //! Tests against answers worked out by hand. Each call that allocates is made a second time if it
 //! fails, so that the tests also pass if any one allocation fails.
 
-use crate::{JournalRow, Metadata, Route, Routing, StateTxn, Verdict, join};
+use proxy_state::{JournalRow, Metadata, Route, Routing, StateTxn, Verdict, join};
 use std::alloc::{AllocError, Global};
 use std::test::Fail;
 use system_keys::{Bytes, Change, Items, KeyRange, OutOfMemory, Tag};

@@ -2,7 +2,9 @@
 //! was refused memory, and what it was made on is then as before, so that the tests also pass where
 //! any one allocation fails.
 
-use super::*;
+use mutation::{
+    Admitted, AdmittedMutation, Batch, GivenRange, Mutation, Refusal, Stamped, Transaction, admit,
+};
 use std::alloc::{AllocError, Global};
 use std::fmt::Display;
 use std::process::Abort;

@@ -1,9 +1,9 @@
 //! Tests of the cluster without threads, against answers worked out by hand. Each call that
 //! allocates is made again after a failed allocation, so that the tests also pass if any one fails.
 
-use crate::{Answer, Config, Event, OfferAnswer, Refusal, TurnWorld};
 use model::{Outcome, Reply, Verdict};
 use mutation::{Admitted, Batch, GivenRange, Mutation, Transaction, admit};
+use shared_cluster::{Answer, Config, Event, OfferAnswer, Refusal, TurnWorld};
 use std::alloc::{AllocError, Global};
 use std::process::Abort;
 use std::test::Fail;

@@ -2,7 +2,7 @@
 //! Each call that allocates is made again after a failed allocation, so that the tests also pass if
 //! any one fails.
 
-use crate::{OwnerMap, Refusal};
+use dated_owners::{OwnerMap, Refusal};
 use std::alloc::{AllocError, Global};
 use std::test::Fail;
 use system_keys::{Items, KeyRange, OutOfMemory};

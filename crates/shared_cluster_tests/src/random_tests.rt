@@ -4,9 +4,11 @@ use crate::plain_world::{
     Drawn, Entry, Keys, LETTERS, LOCK, PROXIES, PlainWorld, Put, RESOLVERS, SERVERS, TAGS, Wanted,
 };
 use crate::tests::bytes;
-use crate::{Answer, Config, Event, Finished, OfferAnswer, Proxy, Refusal, Reply, TurnWorld};
 use model::{Outcome, Tagged, UnseenRow};
 use mutation::{Admitted, Batch, GivenRange, Mutation, Transaction, admit};
+use shared_cluster::{
+    Answer, Config, Event, Finished, OfferAnswer, Proxy, Refusal, Reply, TurnWorld,
+};
 use std::alloc::Global;
 use std::test::Fail;
 use system_keys::{Bytes, Items, KeyRange, OutOfMemory};
