@@ -17,6 +17,8 @@ mod refusal;
 mod sequenced;
 mod sequencer;
 #[cfg(test)]
+mod stretch_tests;
+#[cfg(test)]
 mod tests;
 mod ticket;
 

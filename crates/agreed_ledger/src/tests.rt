@@ -32,7 +32,7 @@ fn two_of_each(step: u64) -> Result<Config, Fail> {
 }
 
 /// A ledger, made once more after a failed allocation.
-fn blank(alloc: Global, rows: usize, step: u64) -> Result<BlankLedger, Fail> {
+pub(crate) fn blank(alloc: Global, rows: usize, step: u64) -> Result<BlankLedger, Fail> {
     let config = two_of_each(step)?;
     match Ledger::new(alloc, rows, config) {
         Err(Refusal::OutOfMemory) => Ok(Ledger::new(alloc, rows, config)?),
@@ -41,7 +41,7 @@ fn blank(alloc: Global, rows: usize, step: u64) -> Result<BlankLedger, Fail> {
 }
 
 /// Sequences an empty batch, once more after a failed allocation.
-fn sequence<N: Naming, R: Wait>(
+pub(crate) fn sequence<N: Naming, R: Wait>(
     rt: &R,
     alloc: Global,
     sequencer: &Sequencer<'_, N>,
