@@ -3,10 +3,6 @@
 #![tactic(auto)]
 
 #[cfg(test)]
-mod plain_world;
-#[cfg(test)]
-mod random_tests;
-#[cfg(test)]
 mod run_tests;
 #[cfg(test)]
 mod tests;

@@ -69,7 +69,7 @@ pub(crate) fn cluster(alloc: Global, proxies: usize, step: u64) -> Result<TurnWo
 
 // ---- events
 
-pub(crate) fn bytes(alloc: Global, text: &[u8]) -> Result<Vec<u8>, AllocError> {
+fn bytes(alloc: Global, text: &[u8]) -> Result<Vec<u8>, AllocError> {
     twice!(Vec::from_slice(alloc, text), _)
 }
 
