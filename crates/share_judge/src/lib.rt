@@ -9,6 +9,8 @@
 #![tactic(auto)]
 
 mod judging;
+#[cfg(test)]
+mod tests;
 mod verdicts;
 mod write;
 mod write_history;

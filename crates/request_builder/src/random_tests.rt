@@ -3,8 +3,8 @@
 use crate::tests::{
     LOCK_ROW, MOVES, Moved, batch_of, built, bytes, has_lock, is_to, range, room, set, unmoved,
 };
+use crate::{Part, Requests, StateMark};
 use mutation::{Admitted, Batch, GivenRange, Transaction, admit};
-use request_builder::{Part, Requests, StateMark};
 use std::alloc::Global;
 use std::test::Fail;
 use system_keys::{Bytes, Items, KeyRange};

@@ -2,9 +2,7 @@
 //! was refused memory, and what it was made on is then as before, so that the tests also pass where
 //! any one allocation fails.
 
-use mutation::{
-    Admitted, AdmittedMutation, Batch, GivenRange, Mutation, Refusal, Stamped, Transaction, admit,
-};
+use super::*;
 use std::alloc::{AllocError, Global};
 use std::fmt::Display;
 use std::process::Abort;

@@ -5,9 +5,9 @@
 ghost use Rattle.std.specs.Prelude.{◌≡◌, IfOk};
 ghost use Rattle.model.specs.Verdicts.{judged_at, verdicts_after};
 
+use crate::{Verdict, WriteHistory};
 use model::Part;
 use request_builder::Share;
-use share_judge::{Verdict, WriteHistory};
 use std::alloc::{AllocError, Global};
 use std::test::Fail;
 use system_keys::{Items, KeyRange, OutOfMemory};

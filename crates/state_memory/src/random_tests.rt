@@ -1,7 +1,7 @@
 //! Random requests, against the list of all requests that were judged, of which nothing is forgotten.
 
 use crate::tests::{Body, Line, is_state, is_to, new_resolver, offer, room, row_at};
-use state_memory::{Answer, Refusal, Reply, Resolver, UnseenRow, Verdict};
+use crate::{Answer, Refusal, Reply, Resolver, UnseenRow, Verdict};
 use std::alloc::Global;
 use std::test::Fail;
 

@@ -2,11 +2,11 @@
 //! that allocates is made again after a failed allocation, so that the tests also pass if any one
 //! fails.
 
-use dated_owners::OwnerMap;
-use mutation::{Admitted, Batch, GivenRange, Mutation, Transaction, admit};
-use request_builder::{
+use crate::{
     Carried, Move, Part, Record, Request, RequestHeader, Requests, Share, StateMark, build,
 };
+use dated_owners::OwnerMap;
+use mutation::{Admitted, Batch, GivenRange, Mutation, Transaction, admit};
 use std::alloc::{AllocError, Global};
 use std::test::Fail;
 use system_keys::{Bytes, Change, Items, KeyRange, OutOfMemory};

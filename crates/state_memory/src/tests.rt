@@ -5,11 +5,11 @@ ghost use Rattle.std.specs.Prelude.{◌≡◌, [], ◌∷◌, Ok, IfOk, IfSome};
 ghost use Rattle.model.specs.Offers.{answer_to};
 ghost use Rattle.state_memory.specs.Answers.{answer_of};
 
-use model::Part;
-use request_builder::{RequestHeader, Share};
-use state_memory::{
+use crate::{
     Answer, Carried, Refusal, Reply, Request, Resolver, StateMark, UnseenRow, UnseenState, Verdict,
 };
+use model::Part;
+use request_builder::{RequestHeader, Share};
 use std::alloc::{AllocError, Global};
 use std::test::Fail;
 use system_keys::{Bytes, Change, Items, KeyRange, OutOfMemory};
