@@ -2,31 +2,68 @@
 import os
 import statistics
 import sys
+import tempfile
 import time
 
-RUNS = 5
+ROOT = os.path.dirname(os.path.dirname(os.path.abspath(__file__)))
+PROGRAM = os.path.join(ROOT, "crates", "proxy_run", "out", "proxy_run")
+PYTHON = ["python3", "-c", "import json,sys; json.load(sys.stdin.buffer)"]
+RUNS = 9
+# The peak of a script that is read as its tokens come, as a part of that of one that is read through a tree.
+MOST_OF_TREE = 0.6
 
 
-def once(words, path, output, status=0):
-    """Wall seconds, user seconds and peak kilobytes of one run, which must end with this status."""
+def once(words, path, output):
+    """Wall seconds, user seconds and peak kilobytes of one run."""
     begun = time.monotonic()
     child = os.fork()
     if child == 0:
         os.dup2(os.open(path, os.O_RDONLY), 0)
         os.dup2(os.open(output, os.O_WRONLY | os.O_CREAT | os.O_TRUNC), 1)
         os.execvp(words[0], words)
-    _, ended, usage = os.wait4(child, 0)
-    if os.waitstatus_to_exitcode(ended) != status:
-        sys.exit("%s ended with status %d" % (words[0], os.waitstatus_to_exitcode(ended)))
+    _, status, usage = os.wait4(child, 0)
+    if status != 0:
+        sys.exit("%s ended with status %d" % (words[0], os.waitstatus_to_exitcode(status)))
     return time.monotonic() - begun, usage.ru_utime, usage.ru_maxrss
 
 
-def measured(name, words, path, output, status=0):
-    """The median of wall seconds and the greatest peak, in bytes, of some runs, which are printed."""
-    runs = [once(words, path, output, status) for _ in range(RUNS)]
+def measured(name, words, path, output):
+    """The medians of wall and user seconds of some runs and their greatest peak in bytes, which are printed."""
+    runs = [once(words, path, output) for _ in range(RUNS)]
     seconds = statistics.median(wall for wall, _, _ in runs)
     user = statistics.median(user for _, user, _ in runs)
     peak = max(peak for _, _, peak in runs) * 1024
     size = os.path.getsize(path)
-    print("%-10s %10d bytes %8.3f s %8.3f s user %12.0f bytes/s %8.1f MB peak" % (name, size, seconds, user, size / seconds, peak / 1e6))
-    return seconds, peak
+    print("%-12s %10d bytes %8.3f s %8.3f s user %12.0f bytes/s %8.1f MB peak"
+          % (name, size, seconds, user, size / seconds, peak / 1e6))
+    return seconds, user, peak
+
+
+def first_field_twice(script):
+    """The script with its first field repeated: it means the same, and only the tree of JSON values reads it."""
+    end = script.index(",") + 1
+    return script[:end] + script[1:end] + script[end:]
+
+
+def compared(mode, megabytes, script_of_size):
+    """Measures the program on scripts of these sizes, the same scripts read through a tree, and Python's reading."""
+    if not os.path.exists(PROGRAM):
+        sys.exit("build the program first: cd crates/proxy_run && rt run < ../../examples/two_servers.json")
+    before = None
+    with tempfile.TemporaryDirectory() as folder:
+        path, output, tree_path = (os.path.join(folder, name) for name in ("script", "output", "tree"))
+        for size in megabytes:
+            script = script_of_size(int(size * 1e6))
+            with open(path, "w") as file:
+                file.write(script)
+            with open(tree_path, "w") as file:
+                file.write(first_field_twice(script))
+            seconds, user, peak = measured(mode, [PROGRAM, mode], path, output)
+            _, tree_user, tree_peak = measured("by a tree", [PROGRAM, mode], tree_path, output)
+            python, _, _ = measured("python3", PYTHON, path, output)
+            growth = "" if before is None else ", %.1f times the size before" % (seconds / before)
+            print("             user %.2f and peak %.2f of the tree's, %.2f of Python's time%s"
+                  % (user / tree_user, peak / tree_peak, seconds / python, growth))
+            if os.path.getsize(path) >= 1_000_000 and peak > MOST_OF_TREE * tree_peak:
+                sys.exit("the script was not read as its tokens come")
+            before = seconds

@@ -18,31 +18,19 @@ use Rattle.model.specs.Records.{Record}
 use Rattle.model.specs.Shares.{share, each_below}
 use Rattle.model.specs.Journal.{reply_state_of, reply_row_of, HaveVerdictCount}
 use Rattle.model.specs.Finishing.{Replies, reply_from, unseen_of_reply, IsReplyTo, LeadTo, AgreeOnRows, content_of, verdict_in_row, row_from, told_state, told_states_from, told_row, told_rows_from, told_rows, is_reply_to, carries_as, row_fits, version_at, place_fits_by, place_fits, misfits, are_replies_to, disagreements}
-use Rattle.model.proofs.Members.{Has, Has-from_Contains, Contains-from_Has}
-use Rattle.model.proofs.ToldLaws.{told_exact, length-each_below, slice_get-each_below}
+use Rattle.model.proofs.Members.{Has, Has-from_Contains}
+use Rattle.model.proofs.ToldLaws.{length-each_below, slice_get-each_below}
 use Rattle.model.proofs.ChainLaws.{filter_no}
+use Rattle.model.proofs.RowLaws.{rows_exact}
 
 -- ---- one list of rows
-
-no_row_first : (resolvers : ℕ) (y : JournalRow) (ys : List JournalRow) → 0 < resolvers → ((r : ℕ) → r < resolvers → map (reply_row_of r) [] ≡ map (reply_row_of r) (y ∷ ys)) → ⊥
-no_row_first resolvers y ys some each = let told = each 0 some in absurd (cc)
-
-same_rows : (resolvers : ℕ) (xs ys : List JournalRow) → 0 < resolvers → ((row : JournalRow) → Has xs row → HaveVerdictCount resolvers row) → ((row : JournalRow) → Has ys row → HaveVerdictCount resolvers row) → ((r : ℕ) → r < resolvers → map (reply_row_of r) xs ≡ map (reply_row_of r) ys) → xs ≡ ys
-same_rows resolvers [] [] some in_xs in_ys each = refl
-same_rows resolvers [] (y ∷ ys) some in_xs in_ys each = absurd (no_row_first resolvers y ys some each)
-same_rows resolvers (x ∷ xs) [] some in_xs in_ys each = absurd (no_row_first resolvers x xs some (λ r below. sym (each r below)))
-same_rows resolvers (x ∷ xs) (y ∷ ys) some in_xs in_ys each =
-    λ i. told_exact resolvers x y some (in_xs x (inl refl)) (in_ys y (inl refl)) (λ r below. let told = each r below in cc) i
-    ∷ same_rows resolvers xs ys some (λ row has. in_xs row (inr has)) (λ row has. in_ys row (inr has)) (λ r below. let told = each r below in cc) i
 
 same_reply : (a b : Reply) (found : Option Reply) → found ≡ Some a → found ≡ Some b → a ≡ b
 same_reply a b found is_a is_b = cc
 
 pub one_list : (config : Config) (version : ℕ) (rec : Record) (replies : Replies) (rows other : List JournalRow) → 1 ≤ config.resolvers → AgreeOnRows config version rec replies rows → AgreeOnRows config version rec replies other → rows ≡ other
 one_list config version rec replies rows other some one two =
-    same_rows config.resolvers rows other some
-    (λ row has. one.verdicts row (Contains-from_Has rows row has))
-    (λ row has. two.verdicts row (Contains-from_Has other row has))
+    rows_exact config.resolvers rows other some one.verdicts two.verdicts
     (λ r below.
     let first = one.replied r below in
     let second = two.replied r below in

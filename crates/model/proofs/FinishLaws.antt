@@ -1,31 +1,31 @@
 -- What a proxy learns from replies that the resolvers give by a source of verdicts, and the same in a world.
-use Rattle.std.proofs.Common.{◌≡◌, refl, sym, ap, ◌∙◌, subst, ℕ, zero, suc, ◌+◌, ◌*◌, ◌<◌, ◌≤◌, ◌⊎◌, inl, inr, List, [], ◌∷◌, ◌++◌, length, take, drop, filter, Bool, true, false, if◌then◌else◌, nat_eq, slice_get, slice_index, slice_set, Option, Some, length-append, arith}
+use Rattle.std.proofs.Common.{◌≡◌, refl, sym, ap, ◌∙◌, subst, ℕ, suc, ◌+◌, ◌*◌, ◌<◌, ◌≤◌, ◌⊎◌, inl, inr, List, [], ◌∷◌, ◌++◌, length, take, drop, filter, Bool, true, false, if◌then◌else◌, nat_eq, slice_get, slice_index, slice_set, Some, length-append, arith}
 use Rattle.std.proofs.Math.Nat.{add-mul}
 use Rattle.std.proofs.Math.Seq.{drop-append_seam}
-use Rattle.std.proofs.lemmas.List.{length-map, length-take-le}
+use Rattle.std.proofs.lemmas.List.{length-take-le}
 use Rattle.std.proofs.lemmas.Option.{slice_get_within}
 use Rattle.model.specs.Configs.{Config, IsConfig}
 use Rattle.model.specs.declared.journal.JournalRow.{JournalRow}
-use Rattle.model.specs.declared.reply.Reply.{Reply}
 use Rattle.model.specs.declared.outcome.Finished.{Finished}
 use Rattle.model.specs.Transactions.{Transaction}
 use Rattle.model.specs.Records.{Record, IsHistory, last_version, records_of_proxy}
 use Rattle.model.specs.Shares.{share, share_back_to, asks}
 use Rattle.model.specs.Verdicts.{share_verdicts}
-use Rattle.model.specs.Journal.{VerdictSource, AgreeOn, history_verdicts, verdict_at, journal_row, journal, is_after, HaveVerdictCount}
+use Rattle.model.specs.Journal.{VerdictSource, history_verdicts, verdict_at, journal_row, journal, is_after}
 use Rattle.model.specs.World.{World, Finish, Completed, Handled, up_to_version, rows_up_to, reply_of, reply_with, finished_after, finished_batch, handle_event, finished_version, proxy_journal}
-use Rattle.model.specs.Finishing.{Replies, reply_from, verdicts_of_reply, replied_verdicts, AgreeOnRows, AreRepliesBy, LeadTo, version_at, Follower, HasFinished}
+use Rattle.model.specs.Finishing.{Replies, reply_from, replied_verdicts, AgreeOnRows, AreRepliesBy, LeadTo, version_at, Follower, HasFinished}
 use Rattle.model.specs.Laws.Finishing.{unseen_rows, journal_up_to, MayFinish, IsBefore, IsAfter}
-use Rattle.model.proofs.Members.{Has, Has-from_Contains}
 use Rattle.model.proofs.ShareLaws.{share_verdicts_are, verdict_at_asker, journal_row_alike}
 use Rattle.model.proofs.Places.{row_at}
-use Rattle.model.proofs.ToldLaws.{unseen_is_told, row_verdicts, split_at_version}
+use Rattle.model.proofs.ToldLaws.{unseen_is_told, split_at_version}
 use Rattle.model.proofs.AlikeLaws.{finished_after_alike}
 use Rattle.model.proofs.SayingLaws.{history_take, journal_append, journal_push}
 use Rattle.model.proofs.ChainLaws.{slice_get-drop, versions_at, own_up_to_previous, rows_up_to_record, rows_up_to_none}
 use Rattle.model.proofs.JudgingLaws.{length-share_verdicts}
 use Rattle.model.proofs.RunLaws.{own_place, turn_is, up_to_own, up_to_before, finish_is, journal_grown}
 use Rattle.model.proofs.AgreeingReplies.{one_list, lead_from}
+use Rattle.model.proofs.RowLaws.{journal_counted, row_record, all_verdicts}
+use Rattle.model.proofs.ColumnLaws.{replies_say}
 
 -- ---- the version of a proxy's record before
 
@@ -79,24 +79,6 @@ unseen_are_last : (config : Config) (h : List Record) (version : ℕ) → IsHist
 unseen_are_last config h version history =
     sym (ap (drop (rows_up_to version h)) (sym (split_at_version config h version history)) ∙ drop-append_seam (up_to_version version h) (filter (is_after version) h))
 
-journal_at : (config : Config) (verdict_by : VerdictSource) (h : List Record) (k : ℕ) (row : JournalRow) → slice_get (journal config verdict_by h) k ≡ Some row → (rec : Record) × (slice_get h k ≡ Some rec) × (row.version ≡ rec.version)
-unfolding journal journal_row
-journal_at config verdict_by [] k row at = absurd (cc)
-journal_at config verdict_by (rec ∷ h) zero row at =
-    let same : row ≡ journal_row config verdict_by rec = cc in
-    (rec, refl, ap (λ (r : JournalRow). r.version) same)
-journal_at config verdict_by (rec ∷ h) (suc k) row at = journal_at config verdict_by h k row at
-
-journal_verdicts : (config : Config) (verdict_by : VerdictSource) (h : List Record) (row : JournalRow) → Has (journal config verdict_by h) row → HaveVerdictCount config.resolvers row
-unfolding journal
-journal_verdicts config verdict_by [] row has = absurd has
-journal_verdicts config verdict_by (rec ∷ h) row (inl same) = subst (HaveVerdictCount config.resolvers) same (row_verdicts config verdict_by rec)
-journal_verdicts config verdict_by (rec ∷ h) row (inr later) = journal_verdicts config verdict_by h row later
-
-journal_length : (config : Config) (verdict_by : VerdictSource) (h : List Record) → length (journal config verdict_by h) ≡ length h
-unfolding journal
-journal_length config verdict_by h = length-map h (journal_row config verdict_by)
-
 rows_lead : (config : Config) (verdict_by : VerdictSource) (h : List Record) (i : ℕ) (rec : Record) → 1 ≤ config.step → IsHistory config h → slice_get h i ≡ Some rec → LeadTo config.step rec.own_previous rec.previous (journal config verdict_by (filter (is_after rec.own_previous) (take i h)))
 rows_lead config verdict_by h i rec stepping history at = lead_from config.step rec.own_previous rec.previous (journal config verdict_by (filter (is_after rec.own_previous) (take i h))) each last
   where
@@ -114,12 +96,12 @@ rows_lead config verdict_by h i rec stepping history at = lead_from config.step 
 
     each : (k : ℕ) (row : JournalRow) → slice_get (journal config verdict_by (filter (is_after rec.own_previous) (take i h))) k ≡ Some row → row.version ≡ version_at config.step rec.own_previous k
     each k row there =
-        let found = journal_at config verdict_by (filter (is_after rec.own_previous) (take i h)) k row there in
+        let found = row_record config verdict_by (filter (is_after rec.own_previous) (take i h)) k row there in
         let place : slice_get (take i h) (seen + k) ≡ Some found.0 = slice_get-drop (take i h) seen k (seen + k) found.0 refl (ap (λ (rs : List Record). slice_get rs k) (sym unseen_is) ∙ found.1) in
         let version : found.0.version ≡ suc (seen + k) * config.step = (versions_at config (take i h) (seen + k) found.0 before place).1 in
         let parts : (seen + suc k) * config.step ≡ seen * config.step + suc k * config.step = add-mul seen (suc k) config.step in
         let sum : suc (seen + k) ≡ seen + suc k = omega arith in
-        found.2 ∙ version ∙ ap (λ (n : ℕ). n * config.step) sum ∙ parts ∙ ap (λ (n : ℕ). n + suc k * config.step) (sym own)
+        found.3 ∙ version ∙ ap (λ (n : ℕ). n * config.step) sum ∙ parts ∙ ap (λ (n : ℕ). n + suc k * config.step) (sym own)
 
     all : seen + length (filter (is_after rec.own_previous) (take i h)) ≡ i
     all =
@@ -131,7 +113,7 @@ rows_lead config verdict_by h i rec stepping history at = lead_from config.step 
     last : rec.own_previous + length (journal config verdict_by (filter (is_after rec.own_previous) (take i h))) * config.step ≡ rec.previous
     last =
         let count : ℕ = length (filter (is_after rec.own_previous) (take i h)) in
-        ap (λ (n : ℕ). rec.own_previous + n * config.step) (journal_length config verdict_by (filter (is_after rec.own_previous) (take i h)))
+        ap (λ (n : ℕ). rec.own_previous + n * config.step) (journal_counted config verdict_by (filter (is_after rec.own_previous) (take i h)))
         ∙ ap (λ (n : ℕ). n + count * config.step) own
         ∙ sym (add-mul seen count config.step)
         ∙ ap (λ (n : ℕ). n * config.step) all
@@ -147,20 +129,11 @@ true_agree config verdict_by h rec replies stepping history at replied =
             record { resolver = refl; proxy = refl; row = refl; version = refl; verdicts = size },
             unseen_is_told config verdict_by r (take rec.row h) rec below,
           );
-      verdicts = λ row there. journal_verdicts config verdict_by (filter (is_after rec.own_previous) (take rec.row h)) row (Has-from_Contains (unseen_rows config verdict_by h rec) row there);
+      verdicts = λ row there. all_verdicts config verdict_by (filter (is_after rec.own_previous) (take rec.row h)) row there;
       lead = rows_lead config verdict_by h rec.row rec stepping history at;
     }
 
 -- ---- and the record finished by them is that by the source
-
-replied_alike : (config : Config) (verdict_by : VerdictSource) (before : List Record) (rec : Record) (replies : Replies) → AreRepliesBy config verdict_by before rec replies → AgreeOn config (replied_verdicts config rec replies) verdict_by rec
-unfolding replied_verdicts
-replied_alike config verdict_by before rec replies replied =
-    record {
-      same = λ r n t below there asking.
-          let (verdicts, found, size, same) = replied r below in
-          ap (λ (reply : Option Reply). verdict_at (share config rec r) (verdicts_of_reply reply) n) found ∙ same n t there asking;
-    }
 
 -- the journal up to the proxy's record before, and the unseen rows, are those of the records before
 rows_before : (config : Config) (verdict_by : VerdictSource) (h : List Record) (rec : Record) → 1 ≤ config.step → IsHistory config h → slice_get h rec.row ≡ Some rec → journal_up_to config verdict_by h rec.own_previous ++ unseen_rows config verdict_by h rec ≡ journal config verdict_by (take rec.row h)
@@ -173,7 +146,7 @@ pub true_finish : (config : Config) (verdict_by : VerdictSource) (h : List Recor
     → finished_after config (replied_verdicts config rec replies) (journal_up_to config verdict_by h rec.own_previous ++ rows) rec ≡ finished_batch config verdict_by (take rec.row h) rec
 true_finish config verdict_by h rec replies rows limits history at replied agree =
     let same : rows ≡ unseen_rows config verdict_by h rec = one_list config rec.own_previous rec replies rows (unseen_rows config verdict_by h rec) limits.resolvers.0 agree (true_agree config verdict_by h rec replies limits.step.0 history at replied) in
-    finished_after_alike config (replied_verdicts config rec replies) verdict_by (journal_up_to config verdict_by h rec.own_previous ++ rows) rec (replied_alike config verdict_by (take rec.row h) rec replies replied)
+    finished_after_alike config (replied_verdicts config rec replies) verdict_by (journal_up_to config verdict_by h rec.own_previous ++ rows) rec (replies_say config verdict_by (take rec.row h) rec replies replied)
     ∙ ap (λ (rs : List JournalRow). finished_after config verdict_by (journal_up_to config verdict_by h rec.own_previous ++ rs) rec) same
     ∙ ap (λ (before : List JournalRow). finished_after config verdict_by before rec) (rows_before config verdict_by h rec limits.step.0 history at)
 
@@ -181,7 +154,7 @@ pub true_journal : (config : Config) (verdict_by : VerdictSource) (h : List Reco
     → journal_up_to config verdict_by h rec.own_previous ++ rows ++ journal_row config (replied_verdicts config rec replies) rec ∷ [] ≡ journal_up_to config verdict_by h rec.version
 true_journal config verdict_by h rec replies rows limits history at replied agree =
     let same : rows ≡ unseen_rows config verdict_by h rec = one_list config rec.own_previous rec replies rows (unseen_rows config verdict_by h rec) limits.resolvers.0 agree (true_agree config verdict_by h rec replies limits.step.0 history at replied) in
-    let own : journal_row config (replied_verdicts config rec replies) rec ≡ journal_row config verdict_by rec = journal_row_alike config (replied_verdicts config rec replies) verdict_by rec (replied_alike config verdict_by (take rec.row h) rec replies replied) in
+    let own : journal_row config (replied_verdicts config rec replies) rec ≡ journal_row config verdict_by rec = journal_row_alike config (replied_verdicts config rec replies) verdict_by rec (replies_say config verdict_by (take rec.row h) rec replies replied) in
     (λ i. journal_up_to config verdict_by h rec.own_previous ++ same i ++ own i ∷ [])
     ∙ ap (λ (rs : List JournalRow). rs ++ journal_row config verdict_by rec ∷ []) (sym (journal_append config verdict_by (up_to_version rec.own_previous h) (filter (is_after rec.own_previous) (take rec.row h))))
     ∙ sym (journal_push config verdict_by (up_to_version rec.own_previous h ++ filter (is_after rec.own_previous) (take rec.row h)) rec)
@@ -268,6 +241,6 @@ world_journal config w p rec replies rows limits may agree =
     let same : rows ≡ unseen_rows config (history_verdicts config w.history) w.history rec =
     one_list config rec.own_previous rec replies rows (unseen_rows config (history_verdicts config w.history) w.history rec) limits.resolvers.0 (agree_since config w p rec replies rows may agree)
     (true_agree config (history_verdicts config w.history) w.history rec replies limits.step.0 may.sound.sequencer.history (in_history config w p rec replies may) may.replied) in
-    let own : journal_row config (replied_verdicts config rec replies) rec ≡ journal_row config (history_verdicts config w.history) rec = journal_row_alike config (replied_verdicts config rec replies) (history_verdicts config w.history) rec (replied_alike config (history_verdicts config w.history) (take rec.row w.history) rec replies may.replied) in
+    let own : journal_row config (replied_verdicts config rec replies) rec ≡ journal_row config (history_verdicts config w.history) rec = journal_row_alike config (replied_verdicts config rec replies) (history_verdicts config w.history) rec (replies_say config (history_verdicts config w.history) (take rec.row w.history) rec replies may.replied) in
     journal_grown config w p rec limits may.sound may.there may.turn may.judged
     ∙ (λ i. proxy_journal config w p ++ sym same i ++ sym own i ∷ [])

@@ -34,6 +34,13 @@ impl Streamed for u64 {
     }
 }
 
+impl Streamed for usize {
+    fn from_tokens(alloc: Global, reader: &mut TokenReader<'_>, depth: usize) -> Option<usize> {
+        let number = u64::from_tokens(alloc, reader, depth)?;
+        Some(number as usize)
+    }
+}
+
 impl Streamed for Bytes {
     #[tactic(auto, using(crate::proofs::StreamLemmas::takes_text))]
     fn from_tokens(alloc: Global, reader: &mut TokenReader<'_>, _depth: usize) -> Option<Bytes> {

@@ -190,13 +190,13 @@ kept_first kept byte (Some bytes) = ap Some (append_assoc kept (byte ∷ []) byt
 pub kept_next : (kept text : List ℕ) (byte : ℕ) (rest : List ℕ) (told : Option (List ℕ)) → first_of text ≡ Some (byte, rest) → behind_kept kept (bytes_of text) ≡ told → behind_kept (kept ++ byte ∷ []) (bytes_of rest) ≡ told
 kept_next kept text byte rest told first e = kept_first kept byte (bytes_of rest) ∙ ap (behind_kept kept) (sym (bytes_of-next text byte rest first)) ∙ e
 
-none_told : (told : Option (List ℕ)) → IsSome told → None ≡ told → ⊥
-none_told None some e = absurd (cc)
-none_told (Some bytes) some e = absurd (cc)
+pub kept_stop : (kept text : List ℕ) (told : Option (List ℕ)) → 0 < length text → first_of text ≡ None → behind_kept kept (bytes_of text) ≡ told → told ≡ None
+kept_stop kept [] told more none e = absurd (omega arith)
+kept_stop kept (a ∷ tail) told more none e = sym e ∙ ap (behind_kept kept) (bytes_of-stop a tail none)
 
-pub kept_done : (kept text : List ℕ) (told : Option (List ℕ)) → first_of text ≡ None → IsSome told → behind_kept kept (bytes_of text) ≡ told → told ≡ Some kept
-kept_done kept [] told none some e = sym e ∙ ap (behind_kept kept) bytes_of-none ∙ ap Some (append-nil kept)
-kept_done kept (a ∷ tail) told none some e = absurd (none_told told some (sym (ap (behind_kept kept) (bytes_of-stop a tail none)) ∙ e))
+pub kept_done : (kept text : List ℕ) (told : Option (List ℕ)) → length text ≡ 0 → behind_kept kept (bytes_of text) ≡ told → told ≡ Some kept
+kept_done kept [] told done e = sym e ∙ ap (behind_kept kept) bytes_of-none ∙ ap Some (append-nil kept)
+kept_done kept (a ∷ tail) told done e = absurd (omega arith)
 
 pub kept_none : (read : Option (List ℕ)) → behind_kept [] read ≡ read
 kept_none None = refl

@@ -84,9 +84,13 @@ pub fn read_bytes(alloc: Global, text: &str) -> Result<Vec<u8>, RowFault>
     ensures value { IsAsSpecified row_fault (λ bytes. bytes.items) result (bytes_read text.now) }
     ensures spelled { IfOk result (λ bytes. text_of bytes.items ≡ text.now) }
 {
-    match spelled_length(text.as_bytes()) {
-        Some(length) => Ok(spelled(alloc, text.as_bytes(), length)?),
-        None => Err(RowFault::BadText),
+    match decode(alloc, text.as_bytes()) {
+        Ok(Some(bytes)) => Ok(bytes),
+        Ok(None) => Err(RowFault::BadText),
+        Err(OutOfMemory) => match spelled_length(text.as_bytes()) {
+            Some(_) => Err(RowFault::OutOfMemory),
+            None => Err(RowFault::BadText),
+        },
     }
 }
 
@@ -104,19 +108,34 @@ fn spelled_length(text: &[u8]) -> Option<usize>
     Some(length)
 }
 
-/// The bytes of a text that stands for this many.
-fn spelled(alloc: Global, text: &[u8], length: usize) -> Result<Vec<u8>, OutOfMemory>
-    requires { IsSome (bytes_of text.now) }
-    ensures value { IfOk result (λ bytes. bytes_of text.now ≡ Some bytes.items) }
-    ensures spelled { IfOk result (λ bytes. text_of bytes.items ≡ text.now) }
+/// The bytes that the text stands for, decoded in one pass.
+fn decode(alloc: Global, text: &[u8]) -> Result<Option<Vec<u8>>, OutOfMemory>
+    ensures { IfOk result
+        (λ found. option_map (λ bytes. bytes.items) found ≡ bytes_of text.now) }
 {
-    let mut bytes = Vec::with_capacity(alloc, length)?;
+    let mut bytes = Vec::with_capacity(alloc, expected_length(text))?;
     let mut rest = text;
     while let Some((byte, behind)) = next_byte(rest) {
         bytes.push(byte)?;
         rest = behind;
     }
-    Ok(bytes)
+    if rest.is_empty() {
+        Ok(Some(bytes))
+    } else {
+        Ok(None)
+    }
+}
+
+/// How many bytes the text stands for, if each backslash begins an escape. It only says how much
+/// room to make, so nothing rests on it.
+fn expected_length(text: &[u8]) -> usize {
+    let mut escapes = 0usize;
+    for character in text {
+        if *character == b'\\' {
+            escapes = escapes.wrapping_add(1);
+        }
+    }
+    text.len().saturating_sub(escapes.saturating_mul(3))
 }
 
 /// The first byte that the text stands for, and the rest of the text.

@@ -5,9 +5,12 @@
 #![tactic(auto)]
 
 mod answer;
+mod event_streams;
 mod run;
 #[cfg(test)]
 mod run_tests;
+#[cfg(test)]
+mod stream_tests;
 #[cfg(test)]
 mod tests;
 mod turns_checks;
@@ -17,6 +20,7 @@ mod turns_proxies;
 mod turns_reading;
 mod turns_script;
 mod turns_shapes;
+mod turns_streams;
 
 pub use run::run_turns;
 pub use turns_reading::read_turns;

@@ -1,33 +1,16 @@
 //! Tests of reading turns scripts against worked texts. Each call that allocates is made once more
 //! after `OutOfMemory`, so that the tests also pass if any one allocation fails.
 
+pub(crate) mod again;
+
 use crate::turns_reading::read_turns;
 use crate::turns_script::TurnsScript;
+use again::{twice, written};
 use scripts::ScriptFault;
 use shared_cluster::Event;
 use std::alloc::Global;
 use std::process::Abort;
 use std::test::Fail;
-
-/// The call, made once more after `OutOfMemory`.
-macro_rules! twice {
-    ($call:expr, $memory:pat) => {
-        match $call {
-            Err($memory) => $call,
-            answer => answer,
-        }
-    };
-}
-
-/// The text, made once more if an allocation failed.
-macro_rules! written {
-    ($alloc:expr; $($words:tt)*) => {
-        match format!(in $alloc; $($words)*) {
-            Err(_) => format!(in $alloc; $($words)*)?,
-            Ok(text) => text,
-        }
-    };
-}
 
 /// A move between a write and a read of its range, offered and finished.
 pub(crate) const MOVED: &[u8] =

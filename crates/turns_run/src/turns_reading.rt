@@ -1,12 +1,13 @@
 //! Reading of turns scripts.
 
+ghost use Rattle.std.specs.Prelude.{◌≡◌, IfSome, Ok};
 ghost use Rattle.serde_json.specs.View.{view};
 ghost use Rattle.scripts.specs.ScriptFaults.{IsReadAs};
 ghost use Rattle.turns_run.specs.TurnsScripts.{script_of, script_of_raw};
 ghost use Rattle.turns_run.specs.TurnsShapes.{script_shape};
 
 use crate::turns_script::{RawTurns, TurnsScript};
-use scripts::{Checked, ScriptFault, Shaped, read_value};
+use scripts::{Checked, ScriptFault, Shaped, read_tokens, read_value};
 use serde_json::Value;
 use std::alloc::Global;
 
@@ -21,8 +22,23 @@ use std::alloc::Global;
 pub fn read_turns(alloc: Global, bytes: &[u8]) -> Result<TurnsScript, ScriptFault>
     ensures { IsReadAs (λ found. found) result (script_of bytes.now) }
 {
+    if let Some(script) = stream_turns(alloc, bytes) {
+        return Ok(script);
+    }
     let value = read_value(alloc, bytes)?;
     script_of_value(alloc, &value)
+}
+
+// The turns script that the bytes are, read as its tokens come. `None` decides nothing.
+#[tactic(auto, unfolding(crate::specs::TurnsScripts::script_of))]
+pub(crate) fn stream_turns(alloc: Global, bytes: &[u8]) -> Option<TurnsScript>
+    ensures { IfSome result (λ script. script_of bytes.now ≡ Ok script) }
+{
+    let script: RawTurns = read_tokens(alloc, bytes)?;
+    match TurnsScript::check(alloc, script) {
+        Ok(script) => Some(script),
+        Err(_) => None,
+    }
 }
 
 fn script_of_value(alloc: Global, value: &Value) -> Result<TurnsScript, ScriptFault>

@@ -1,7 +1,7 @@
 use Rattle.std.proofs.Common.{◌≡◌, length}
 use Rattle.system_keys.specs.Text.{bytes_of}
 use Rattle.system_keys.proofs.TextLaws.{behind_kept}
-use Rattle.system_keys.proofs.text.spelled.Given as goal
+use Rattle.system_keys.proofs.text.decode.Given as goal
 
 abbrev pub invariant-loop-byte : goal.invariant-loop-byte
 invariant-loop-byte l = behind_kept l.bytes.items (bytes_of l.rest) ≡ bytes_of l.text

@@ -1,0 +1,36 @@
+use Rattle.std.proofs.Common.{codes, refl, arith}
+use Rattle.scripts.specs.Shapes.{number_shape}
+use Rattle.scripts.proofs.StreamObjectLemmas.{slot_put, slot_other, count_new, if_some_weaker}
+use Rattle.turns_run.proofs.event_streams.OfferFieldsFields.take_field.Goals as goal
+
+pub returns-in-row : goal.returns-in-row
+returns-in-row c =
+    let f = c.args.self.now in
+    let new = c.take_into.new.slot in
+    let k = codes "row" in
+    rw c.in-row.is (if_some_weaker c.take_into.result (λ _ read. (
+      read.0,
+      read.1,
+      λ ms held.
+          let more = count_new number_shape k read.0 f.row new ms read.2 held.0 in (
+            slot_put number_shape k read.0 f.row new ms read.2,
+            slot_other number_shape (codes "resolver") k f.resolver read.0 ms refl held.1,
+            omega (arith, more.0, more.1, more.2, held.2),
+          ),
+    )) c.take_into.ensures)
+
+pub returns-in-resolver : goal.returns-in-resolver
+returns-in-resolver c =
+    let f = c.args.self.now in
+    let new = c.take_into-in-resolver.new.slot in
+    let k = codes "resolver" in
+    rw c.in-resolver.is (if_some_weaker c.take_into-in-resolver.result (λ _ read. (
+      read.0,
+      read.1,
+      λ ms held.
+          let more = count_new number_shape k read.0 f.resolver new ms read.2 held.1 in (
+            slot_other number_shape (codes "row") k f.row read.0 ms refl held.0,
+            slot_put number_shape k read.0 f.resolver new ms read.2,
+            omega (arith, more.0, more.1, more.2, held.2),
+          ),
+    )) c.take_into-in-resolver.ensures)
