@@ -1,6 +1,8 @@
-"""Runs of a program on a script: how long they take, and how much memory."""
+"""Runs of a program on a script: how long they take, and how much memory. Needs GNU time (Debian's package time)."""
 import os
+import resource
 import statistics
+import subprocess
 import sys
 import tempfile
 import time
@@ -15,16 +17,13 @@ MOST_OF_TREE = 0.6
 
 def once(words, path, output):
     """Wall seconds, user seconds and peak kilobytes of one run."""
-    begun = time.monotonic()
-    child = os.fork()
-    if child == 0:
-        os.dup2(os.open(path, os.O_RDONLY), 0)
-        os.dup2(os.open(output, os.O_WRONLY | os.O_CREAT | os.O_TRUNC), 1)
-        os.execvp(words[0], words)
-    _, status, usage = os.wait4(child, 0)
-    if status != 0:
-        sys.exit("%s ended with status %d" % (words[0], os.waitstatus_to_exitcode(status)))
-    return time.monotonic() - begun, usage.ru_utime, usage.ru_maxrss
+    # (a child of this process counts the memory of Python too until it runs the program, so GNU time starts it)
+    with open(path, "rb") as given, open(output, "wb") as taken, tempfile.NamedTemporaryFile("r") as peak:
+        before, begun = resource.getrusage(resource.RUSAGE_CHILDREN), time.monotonic()
+        subprocess.run(["/usr/bin/time", "-f", "%M", "-o", peak.name, *words], stdin=given, stdout=taken, check=True)
+        seconds = time.monotonic() - begun
+        user = resource.getrusage(resource.RUSAGE_CHILDREN).ru_utime - before.ru_utime
+        return seconds, user, int(peak.read())
 
 
 def measured(name, words, path, output):

@@ -2,8 +2,10 @@
 //! fails for want of memory is compared with the proxy before it, and made again.
 
 use crate::finish_tests::{
-    COMMITTED, Line, ROW_OF_ALL, SERVER, TAG_ROW, Tested, bytes, no_replies, reply, room, to_row_0,
+    COMMITTED, ROW_OF_ALL, SERVER, TAG_ROW, Tested, admitted_as, batch_from, bytes,
+    replies_to_row_0, room,
 };
+use crate::replies_made::{Line, no_replies, replies_of, reply, to_row_0};
 use model::{Carried, Reply, UnseenRow, UnseenState};
 use mutation::{Batch, Mutation, Transaction, admit};
 use proxy_state::{Finished, Proxy, Refusal, Replies};
@@ -74,13 +76,10 @@ fn batch(alloc: Global, steps: &[Step]) -> Result<Batch, Fail> {
 }
 
 fn batch_with(alloc: Global, given: &Transaction) -> Result<Batch, Fail> {
-    let admitted = match admit(alloc, given) {
-        Err(mutation::Refusal::OutOfMemory) => admit(alloc, given)?,
-        answer => answer?,
-    };
+    let admitted = admitted_as(alloc, given)?;
     let mut transactions = room(alloc, 1)?;
     transactions.push(admitted)?;
-    Ok(Batch::new(transactions).map_err(|refused| refused.0)?)
+    batch_from(transactions)
 }
 
 fn change(alloc: Global, step: Step) -> Result<Change, Fail> {
@@ -123,19 +122,23 @@ fn reply_to_row_2(alloc: Global, resolver: usize, step: Step) -> Result<Reply, F
         version: 30,
         ..to_row_0(resolver, &[COMMITTED])
     };
-    let mut rows = room(alloc, 1)?;
-    rows.push(unseen(alloc, resolver, step)?)?;
-    Ok(Reply {
-        unseen: Items::from(rows),
-        ..reply(alloc, line)?
-    })
+    let unseen = unseen_rows(alloc, resolver, step)?;
+    let told = reply(alloc, line)?;
+    Ok(Reply { unseen, ..told })
 }
 
-fn both(alloc: Global, first: Reply, second: Reply) -> Result<Replies, Fail> {
-    let mut replies = no_replies(alloc)?;
-    replies.put(first).map_err(|refused| refused.0)?;
-    replies.put(second).map_err(|refused| refused.0)?;
-    Ok(replies)
+fn unseen_rows(alloc: Global, resolver: usize, step: Step) -> Result<Items<UnseenRow>, Fail> {
+    let mut rows = room(alloc, 1)?;
+    rows.push(unseen(alloc, resolver, step)?)?;
+    Ok(Items::from(rows))
+}
+
+fn replies_to_row_2(alloc: Global, told: Step) -> Result<Replies, Fail> {
+    replies_of(
+        reply_to_row_2(alloc, 0, told)?,
+        reply_to_row_2(alloc, 1, told)?,
+        no_replies(alloc)?,
+    )
 }
 
 /// What is seen of a proxy: its version, how many rows its journal has, and which entries are there.
@@ -167,22 +170,17 @@ fn finish(tested: &mut Tested, replies: Replies) -> Result<Finished, Fail> {
 fn split(alloc: Global) -> Result<Tested, Fail> {
     let mut tested = Tested::new(alloc)?;
     begin(alloc, &mut tested, 0, SPLIT)?;
-    let first = reply(alloc, to_row_0(0, &[COMMITTED]))?;
-    let second = reply(alloc, to_row_0(1, &[COMMITTED]))?;
-    let _ = finish(&mut tested, both(alloc, first, second)?)?;
+    let _ = finish(&mut tested, replies_to_row_0(alloc)?)?;
     Ok(tested)
 }
 
 /// Begins the record of these steps: in row 0, or in row 2.
 fn begin(alloc: Global, tested: &mut Tested, row: usize, steps: &[Step]) -> Result<(), Fail> {
     let batch = batch(alloc, steps)?;
-    let (previous, own_previous) = if row == 0 { (0, 0) } else { (20, 10) };
-    match tested.begin(alloc, row, previous, own_previous, 0, &batch) {
-        Ok(_) => Ok(()),
-        Err(_) => {
-            let _ = tested.begin(alloc, row, previous, own_previous, 0, &batch)?;
-            Ok(())
-        }
+    if row == 0 {
+        tested.begin_batch(alloc, 0, 0, 0, &batch)
+    } else {
+        tested.begin_batch(alloc, 2, 20, 10, &batch)
     }
 }
 
@@ -190,9 +188,7 @@ fn begin(alloc: Global, tested: &mut Tested, row: usize, steps: &[Step]) -> Resu
 fn after(alloc: Global, told: Step, own: &[Step]) -> Result<(Tested, Finished), Fail> {
     let mut tested = split(alloc)?;
     begin(alloc, &mut tested, 2, own)?;
-    let first = reply_to_row_2(alloc, 0, told)?;
-    let second = reply_to_row_2(alloc, 1, told)?;
-    let replies = both(alloc, first, second)?;
+    let replies = replies_to_row_2(alloc, told)?;
     let finished = finish(&mut tested, replies)?;
     Ok((tested, finished))
 }

@@ -4,14 +4,15 @@
 
 ghost use Rattle.std.specs.Prelude.{◌≡◌, ◌≤◌, ◌<◌};
 
-use model::{Carried, Config, Reply, UnseenRow, UnseenState};
+use crate::replies_made::{Line, Told, both, no_replies, replies_of, reply, reply_by, to_row_0};
+use model::{Config, Reply};
 use mutation::{Admitted, Batch, Mutation, Transaction, admit};
 use proxy_state::{Finished, Outcome, Proxy, Refusal, Replies, Verdict};
 use request_builder::{Record, Requests};
 use std::alloc::{AllocError, Global};
 use std::marker::Model;
 use std::test::Fail;
-use system_keys::{Bytes, Change, Items, OutOfMemory, Tag};
+use system_keys::{Bytes, Items, OutOfMemory, Tag};
 
 /// The call, made once more after a failed allocation.
 macro_rules! twice {
@@ -22,6 +23,8 @@ macro_rules! twice {
         }
     };
 }
+
+pub(crate) use twice;
 
 pub(crate) const COMMITTED: Verdict = Verdict::Committed;
 
@@ -101,20 +104,59 @@ impl Tested {
         self.proxy.begin(&rec)
     }
 
+    /// Begins the record of a batch of these Sets, in this row of this proxy.
+    fn begin_puts(
+        &mut self,
+        alloc: Global,
+        row: usize,
+        previous: u64,
+        own_previous: u64,
+        puts: &[Put],
+    ) -> Result<(), Fail>
+        requires own { own_previous ≤ previous }
+        requires small { previous < 1000 }
+    {
+        let batch = batch_of(alloc, puts)?;
+        self.begin_batch(alloc, row, previous, own_previous, &batch)
+    }
+
+    pub(crate) fn begin_batch(
+        &mut self,
+        alloc: Global,
+        row: usize,
+        previous: u64,
+        own_previous: u64,
+        batch: &Batch,
+    ) -> Result<(), Fail>
+        requires own { own_previous ≤ previous }
+        requires small { previous < 1000 }
+    {
+        let _ = twice!(
+            self.begin(alloc, row, previous, own_previous, 0, batch),
+            Refusal::OutOfMemory
+        )?;
+        Ok(())
+    }
+
     fn finish(&mut self, replies: Replies) -> Result<Finished, (Refusal, Replies)> {
         match self.proxy.finish(replies) {
             Err((Refusal::OutOfMemory, replies)) => self.proxy.finish(replies),
             answer => answer,
         }
     }
+
+    /// The finished batch. The replies are not refused.
+    fn finished(&mut self, replies: Replies) -> Result<Finished, Fail> {
+        Ok(self.finish(replies).map_err(|refused| refused.0)?)
+    }
 }
 
 /// A Set of a key, and whether its transaction is lock aware.
 #[derive(Clone, Copy)]
 pub(crate) struct Put {
-    key: &'static [u8],
-    value: &'static [u8],
-    lock_aware: bool,
+    pub(crate) key: &'static [u8],
+    pub(crate) value: &'static [u8],
+    pub(crate) lock_aware: bool,
 }
 
 const LOCKS: Put = Put {
@@ -166,7 +208,11 @@ fn admitted(alloc: Global, one: Put) -> Result<Admitted, Fail> {
         mutations: Items::from(mutations),
         lock_aware: one.lock_aware,
     };
-    Ok(twice!(admit(alloc, &given), mutation::Refusal::OutOfMemory)?)
+    admitted_as(alloc, &given)
+}
+
+pub(crate) fn admitted_as(alloc: Global, given: &Transaction) -> Result<Admitted, Fail> {
+    Ok(twice!(admit(alloc, given), mutation::Refusal::OutOfMemory)?)
 }
 
 /// A batch with a transaction for each of these Sets.
@@ -175,113 +221,16 @@ fn batch_of(alloc: Global, puts: &[Put]) -> Result<Batch, Fail> {
     for one in puts {
         transactions.push(admitted(alloc, *one)?)?;
     }
+    batch_from(transactions)
+}
+
+pub(crate) fn batch_from(transactions: Vec<Admitted>) -> Result<Batch, Fail> {
     Ok(Batch::new(transactions).map_err(|refused| refused.0)?)
-}
-
-/// A state transaction that a resolver replies: its verdict, and what it puts.
-pub(crate) type Told = (Verdict, Put);
-
-/// A reply by its resolver, proxy, row, version, verdicts and unseen rows.
-#[derive(Clone, Copy)]
-pub(crate) struct Line<'a> {
-    pub(crate) resolver: usize,
-    pub(crate) proxy: usize,
-    pub(crate) row: usize,
-    pub(crate) version: u64,
-    pub(crate) verdicts: &'a [Verdict],
-    pub(crate) unseen: &'a [(u64, &'a [Told])],
-}
-
-fn content(alloc: Global, one: Put) -> Result<Carried, Fail> {
-    let mut mutations = room(alloc, 1)?;
-    mutations.push(Change::Set {
-        key: Bytes::from(bytes(alloc, one.key)?),
-        value: Bytes::from(bytes(alloc, one.value)?),
-    })?;
-    Ok(Carried {
-        mutations: Items::from(mutations),
-        lock_aware: one.lock_aware,
-    })
-}
-
-fn unseen_row(
-    alloc: Global,
-    carries: bool,
-    version: u64,
-    told: &[Told],
-) -> Result<UnseenRow, Fail> {
-    let mut states = room(alloc, told.len())?;
-    for (verdict, one) in told {
-        let carried = if carries {
-            Some(content(alloc, *one)?)
-        } else {
-            None
-        };
-        let verdict = *verdict;
-        states.push(UnseenState { verdict, carried })?;
-    }
-    let states = Items::from(states);
-    Ok(UnseenRow { version, states })
-}
-
-fn reply_by(alloc: Global, carries: bool, line: Line<'_>) -> Result<Reply, Fail> {
-    let mut unseen = room(alloc, line.unseen.len())?;
-    for (version, told) in line.unseen {
-        unseen.push(unseen_row(alloc, carries, *version, *told)?)?;
-    }
-    Ok(Reply {
-        resolver: line.resolver,
-        proxy: line.proxy,
-        row: line.row,
-        version: line.version,
-        verdicts: Items::from(twice!(Vec::from_slice(alloc, line.verdicts), _)?),
-        unseen: Items::from(unseen),
-    })
-}
-
-/// The reply, in which resolver 0 alone has the content of state transactions.
-pub(crate) fn reply(alloc: Global, line: Line<'_>) -> Result<Reply, Fail> {
-    reply_by(alloc, line.resolver == 0, line)
-}
-
-pub(crate) fn no_replies(alloc: Global) -> Result<Replies, Fail> {
-    let config = Config::new(2, 2, 100, 10)?;
-    Ok(twice!(Replies::new(alloc, &config), OutOfMemory)?)
-}
-
-fn replies_of(first: Reply, second: Reply, mut replies: Replies) -> Result<Replies, Fail> {
-    replies.put(first).map_err(|refused| refused.0)?;
-    replies.put(second).map_err(|refused| refused.0)?;
-    Ok(replies)
-}
-
-fn both(alloc: Global, first: Line<'_>, second: Line<'_>) -> Result<Replies, Fail> {
-    replies_of(
-        reply(alloc, first)?,
-        reply(alloc, second)?,
-        no_replies(alloc)?,
-    )
-}
-
-/// The reply of a resolver to row 0, at version 10, of proxy 0.
-pub(crate) const fn to_row_0<'a>(resolver: usize, verdicts: &'a [Verdict]) -> Line<'a> {
-    Line {
-        resolver,
-        proxy: 0,
-        row: 0,
-        version: 10,
-        verdicts,
-        unseen: &[],
-    }
 }
 
 fn begun(alloc: Global, puts: &[Put]) -> Result<Tested, Fail> {
     let mut tested = Tested::new(alloc)?;
-    let batch = batch_of(alloc, puts)?;
-    let _ = twice!(
-        tested.begin(alloc, 0, 0, 0, 0, &batch),
-        Refusal::OutOfMemory
-    )?;
+    tested.begin_puts(alloc, 0, 0, 0, puts)?;
     Ok(tested)
 }
 
@@ -413,7 +362,7 @@ fn replies_that_are_refused_come_back(rt: HostRuntime) -> Result<(), Fail> {
 // ---- records that are finished
 
 /// Both replies to row 0, with one verdict each.
-fn replies_to_row_0(alloc: Global) -> Result<Replies, Fail> {
+pub(crate) fn replies_to_row_0(alloc: Global) -> Result<Replies, Fail> {
     both(alloc, to_row_0(0, &[COMMITTED]), to_row_0(1, &[COMMITTED]))
 }
 
@@ -438,14 +387,8 @@ fn replies_to_row_2(alloc: Global) -> Result<Replies, Fail> {
 /// A proxy that began rows 0 and 2, and then finished row 0.
 fn finished_once(alloc: Global) -> Result<Tested, Fail> {
     let mut tested = begun(alloc, &[SERVES])?;
-    let batch = batch_of(alloc, &[WRITES, LOCKS])?;
-    let _ = twice!(
-        tested.begin(alloc, 2, 20, 10, 0, &batch),
-        Refusal::OutOfMemory
-    )?;
-    let _ = tested
-        .finish(replies_to_row_0(alloc)?)
-        .map_err(|refused| refused.0)?;
+    tested.begin_puts(alloc, 2, 20, 10, &[WRITES, LOCKS])?;
+    let _ = tested.finished(replies_to_row_0(alloc)?)?;
     Ok(tested)
 }
 
@@ -480,7 +423,7 @@ fn a_proxy_learns_the_rows_of_others(rt: HostRuntime) -> Result<(), Fail> {
     let mut tested = finished_once(alloc)?;
     assert_eq!(rt; versions(&tested.proxy), [10, 0, 0]);
     let replies = replies_to_row_2(alloc)?;
-    let finished = tested.finish(replies).map_err(|refused| refused.0)?;
+    let finished = tested.finished(replies)?;
     assert!(rt; is_row_2(&finished));
     assert_eq!(rt; versions(&tested.proxy), [10, 20, 30]);
     assert_eq!(rt; tested.proxy.version(), 30);
@@ -498,7 +441,7 @@ fn the_metadata_at_a_version_is_of_the_rows_up_to_it(rt: HostRuntime) -> Result<
     let alloc = rt.alloc();
     let mut tested = finished_once(alloc)?;
     let replies = replies_to_row_2(alloc)?;
-    let _ = tested.finish(replies).map_err(|refused| refused.0)?;
+    let _ = tested.finished(replies)?;
     assert!(rt; !has_tag_row_at(&tested.proxy, 10)?);
     assert!(rt; has_tag_row_at(&tested.proxy, 20)?);
     Ok(())
@@ -511,7 +454,7 @@ fn tags_are_those_after_the_whole_batch(rt: HostRuntime) -> Result<(), Fail> {
     let verdicts = &[COMMITTED, COMMITTED];
     let of_0 = to_row_0(0, &[COMMITTED, COMMITTED]);
     let replies = both(alloc, of_0, to_row_0(1, verdicts))?;
-    let finished = tested.finish(replies).map_err(|refused| refused.0)?;
+    let finished = tested.finished(replies)?;
     assert!(rt; has_tag_1(&finished, 3));
     Ok(())
 }
@@ -522,7 +465,7 @@ fn the_lock_is_read_before_the_batch(rt: HostRuntime) -> Result<(), Fail> {
     let mut tested = begun(alloc, &[LOCKS, SERVES_UNAWARE])?;
     let verdicts = &[COMMITTED, COMMITTED];
     let replies = both(alloc, to_row_0(0, verdicts), to_row_0(1, verdicts))?;
-    let finished = tested.finish(replies).map_err(|refused| refused.0)?;
+    let finished = tested.finished(replies)?;
     let second = outcome_at(&finished, 1);
     assert_eq!(rt;
         second,
@@ -536,6 +479,16 @@ fn the_lock_is_read_before_the_batch(rt: HostRuntime) -> Result<(), Fail> {
     Ok(())
 }
 
+/// The reply of a resolver to row 1, at version 20, with these unseen rows.
+const fn to_row_1<'a>(resolver: usize, unseen: &'a [(u64, &'a [Told])]) -> Line<'a> {
+    Line {
+        row: 1,
+        version: 20,
+        unseen,
+        ..to_row_0(resolver, ONE_VERDICT)
+    }
+}
+
 /// Row 0 is of proxy 1 with these transactions, and then this proxy finishes its row 1.
 fn after_row_of_another(
     alloc: Global,
@@ -543,27 +496,13 @@ fn after_row_of_another(
     of_1: &[Told],
 ) -> Result<(Tested, Finished), Fail> {
     let mut tested = Tested::new(alloc)?;
-    let batch = batch_of(alloc, &[SERVES_UNAWARE])?;
-    let _ = twice!(
-        tested.begin(alloc, 1, 10, 0, 0, &batch),
-        Refusal::OutOfMemory
+    tested.begin_puts(alloc, 1, 10, 0, &[SERVES_UNAWARE])?;
+    let replies = both(
+        alloc,
+        to_row_1(0, &[(10, of_0)]),
+        to_row_1(1, &[(10, of_1)]),
     )?;
-    let unseen_0: &[(u64, &[Told])] = &[(10, of_0)];
-    let unseen_1: &[(u64, &[Told])] = &[(10, of_1)];
-    let first = Line {
-        row: 1,
-        version: 20,
-        unseen: unseen_0,
-        ..to_row_0(0, &[COMMITTED])
-    };
-    let second = Line {
-        row: 1,
-        version: 20,
-        unseen: unseen_1,
-        ..to_row_0(1, &[COMMITTED])
-    };
-    let replies = both(alloc, first, second)?;
-    let finished = tested.finish(replies).map_err(|refused| refused.0)?;
+    let finished = tested.finished(replies)?;
     Ok((tested, finished))
 }
 
@@ -601,12 +540,8 @@ fn a_foreign_transaction_that_is_not_lock_aware_waits_for_no_lock(
     let alloc = rt.alloc();
     let mut tested = begun(alloc, &[LOCKS])?;
     let replies = both(alloc, to_row_0(0, &[COMMITTED]), to_row_0(1, &[COMMITTED]))?;
-    let _ = tested.finish(replies).map_err(|refused| refused.0)?;
-    let batch = batch_of(alloc, &[WRITES_UNAWARE])?;
-    let _ = twice!(
-        tested.begin(alloc, 2, 20, 10, 0, &batch),
-        Refusal::OutOfMemory
-    )?;
+    let _ = tested.finished(replies)?;
+    tested.begin_puts(alloc, 2, 20, 10, &[WRITES_UNAWARE])?;
     let told: &[Told] = &[(COMMITTED, SERVES_UNAWARE), (COMMITTED, TAGS)];
     let unseen: &[(u64, &[Told])] = &[(20, told)];
     let of_0 = Line {
@@ -621,9 +556,7 @@ fn a_foreign_transaction_that_is_not_lock_aware_waits_for_no_lock(
         unseen,
         ..to_row_0(1, &[])
     };
-    let finished = tested
-        .finish(both(alloc, of_0, of_1)?)
-        .map_err(|refused| refused.0)?;
+    let finished = tested.finished(both(alloc, of_0, of_1)?)?;
     assert!(rt; tested.proxy.metadata().row(ROW_OF_ALL).is_none());
     assert!(rt; tested.proxy.metadata().row(TAG_ROW).is_some());
     assert_eq!(rt; outcome_at(&finished, 0), Some(Outcome::Locked));
@@ -639,11 +572,7 @@ fn disagreement(alloc: Global, first: Line<'_>, second: Line<'_>) -> Result<Opti
 
 fn disagreement_by(alloc: Global, first: Reply, second: Reply) -> Result<Option<u64>, Fail> {
     let mut tested = Tested::new(alloc)?;
-    let batch = batch_of(alloc, &[SERVES])?;
-    let _ = twice!(
-        tested.begin(alloc, 3, 30, 0, 0, &batch),
-        Refusal::OutOfMemory
-    )?;
+    tested.begin_puts(alloc, 3, 30, 0, &[SERVES])?;
     match tested.finish(replies_of(first, second, no_replies(alloc)?)?) {
         Ok(_) => Ok(None),
         Err((Refusal::RepliesDisagree { version }, _)) => Ok(Some(version)),

@@ -9,6 +9,8 @@ mod finish_tests;
 #[cfg(test)]
 mod proxy_tests;
 #[cfg(test)]
+mod replies_made;
+#[cfg(test)]
 mod reply_tests;
 #[cfg(test)]
 mod tests;

@@ -138,7 +138,9 @@ fn expected_length(text: &[u8]) -> usize {
     text.len().saturating_sub(escapes.saturating_mul(3))
 }
 
-/// The first byte that the text stands for, and the rest of the text.
+/// The first byte that the text stands for, and the rest of the text. Every byte of a script goes
+/// through here, so it is not called.
+#[inline(always)]
 fn next_byte(text: &[u8]) -> Option<(u8, &[u8])>
     ensures value { option_map (λ next. (next.0, next.1.now)) result ≡ first_of text.now }
     ensures shorter { IfSome result (λ next. length next.1.now + 1 ≤ length text.now) }
