@@ -8,7 +8,11 @@ import tempfile
 import time
 
 ROOT = os.path.dirname(os.path.dirname(os.path.abspath(__file__)))
+sys.path.insert(0, os.path.join(ROOT, "tests", "memory"))
 PROGRAM = os.path.join(ROOT, "crates", "proxy_run", "out", "proxy_run")
+
+from program import first_field_twice  # noqa: E402
+
 PYTHON = ["python3", "-c", "import json,sys; json.load(sys.stdin.buffer)"]
 RUNS = 9
 # The peak of a script that is read as its tokens come, as a part of that of one that is read through a tree.
@@ -38,12 +42,6 @@ def measured(name, words, path, output):
     return seconds, user, peak
 
 
-def first_field_twice(script):
-    """The script with its first field repeated: it means the same, and only the tree of JSON values reads it."""
-    end = script.index(",") + 1
-    return script[:end] + script[1:end] + script[end:]
-
-
 def compared(mode, megabytes, script_of_size):
     """Measures the program on scripts of these sizes, the same scripts read through a tree, and Python's reading."""
     if not os.path.exists(PROGRAM):
@@ -52,10 +50,10 @@ def compared(mode, megabytes, script_of_size):
     with tempfile.TemporaryDirectory() as folder:
         path, output, tree_path = (os.path.join(folder, name) for name in ("script", "output", "tree"))
         for size in megabytes:
-            script = script_of_size(int(size * 1e6))
-            with open(path, "w") as file:
+            script = script_of_size(int(size * 1e6)).encode()
+            with open(path, "wb") as file:
                 file.write(script)
-            with open(tree_path, "w") as file:
+            with open(tree_path, "wb") as file:
                 file.write(first_field_twice(script))
             seconds, user, peak = measured(mode, [PROGRAM, mode], path, output)
             _, tree_user, tree_peak = measured("by a tree", [PROGRAM, mode], tree_path, output)

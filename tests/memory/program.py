@@ -92,6 +92,36 @@ def refuse_growths(trial, example):
     trial.expect(count == again, "%s: %d growths, and %d the second time" % (example.name, count, again))
 
 
+def first_field_twice(script):
+    """The script with its first field repeated: it means the same, and only the reader over a tree of JSON values takes it."""
+    end = script.index(b",") + 1
+    return script[:end] + script[1:end] + script[end:]
+
+
+def count_growths(trial, script, words):
+    """How many growths a run has: the greatest number for which one can be refused."""
+    above = 1
+    while trial.run(script, words, REFUSE_GROWTH=above)[1]:
+        above *= 2
+    below = above // 2
+    while below + 1 < above:
+        middle = (below + above) // 2
+        if trial.run(script, words, REFUSE_GROWTH=middle)[1]:
+            below = middle
+        else:
+            above = middle
+    return below
+
+
+def read_by_tokens(trial, example):
+    """A right script takes clearly fewer growths than through a tree of JSON values: it is read as its tokens come."""
+    name, words, script, _, status = example
+    if status == 0:
+        count = count_growths(trial, script, words)
+        by_tree = count_growths(trial, first_field_twice(script), words)
+        trial.expect(count + by_tree // 10 < by_tree, "%s: is read through a tree: %d growths, and %d" % (name, count, by_tree))
+
+
 def refuse_reads(trial, example):
     """Each read, also where they are short, and whatever the error is."""
     def judge(_, ended):
@@ -268,7 +298,7 @@ def try_pipes(trial, example):
     trial.expect(got == (DEVICE_FAILED, b""), "%s: ends wrong where nobody reads: %r" % (name, got))
 
 
-OF_EACH_EXAMPLE = (refuse_growths, refuse_reads, refuse_writes, shorten_calls, try_pipes, stop_and_go)
+OF_EACH_EXAMPLE = (refuse_growths, read_by_tokens, refuse_reads, refuse_writes, shorten_calls, try_pipes, stop_and_go)
 OF_THE_PROGRAM = (refuse_in_words, want_space, try_endless_inputs, try_words)
 
 
