@@ -308,6 +308,18 @@ def small_ones():
     yield case("one proxy and one resolver", turns(ask=["a"], proxies=1, resolvers=1), shown(0, 0, 'tags "a" none'))
     yield case("a move alone", turns(move("a", "b", 0), proxies=1), "move date 1", shown(0, 0))
     yield case("64 proxies and 64 resolvers", turns(proxies=64, resolvers=64), *[shown(proxy, 0) for proxy in range(64)])
+    first = sequence(63, transaction(0, [], [], [put(METADATA_VERSION, "v")]), written("n"))
+    yield case(
+        "batches among 64 proxies and 64 resolvers", turns(
+            move("m", "t", 63), first, offers(0, resolvers=64), finish(63), sequence(0, read("n", 5)), offers(1, resolvers=64), finish(0),
+            proxies=64, resolvers=64,
+        ),
+        "move date 1", sequenced(1), [offered(0, resolver, "committed") for resolver in range(63)], offered(0, 63, "committed committed"),
+        finished(63, 10, "txn 0 committed 10 0", "mutation 0 0 tags none", "txn 1 committed 10 1"), sequenced(2)[1:],
+        [offered(1, resolver, unseen="10") for resolver in range(63)], offered(1, 63, "conflict", "10"),
+        finished(0, 20, "txn 0 conflict 1020"), shown(0, 20, metadata_version='"v"'), *[shown(proxy, 0) for proxy in range(1, 63)],
+        shown(63, 10, metadata_version='"v"'),
+    )
     yield case(
         "an empty transaction is committed, and asks nobody", turns(sequence(0, transaction()), offers(0), finish(0), proxies=1),
         sequenced(1), offered_to_both(0), finished(0, 10, "txn 0 committed 10 0"), shown(0, 10),

@@ -1,7 +1,7 @@
 -- A request that was judged, and what is kept of it.
-use Rattle.std.proofs.Common.{◌≡◌, sym, ap, ◌∙◌, subst, ℕ, ◌<◌, max, ◌⊎◌, inl, inr, List, [], ◌∷◌, ◌++◌, map, filter, length, slice_get, slice_set, Some, nat_lt, arith}
+use Rattle.std.proofs.Common.{◌≡◌, sym, ap, ◌∙◌, subst, ℕ, ◌<◌, ◌-◌, max, min, ◌⊎◌, inl, inr, List, [], ◌∷◌, ◌++◌, map, filter, length, slice_get, slice_set, Some, nat_lt, arith}
 use Rattle.std.specs.Prelude.{Ok}
-use Rattle.std.proofs.lemmas.List.{length-map, length-set}
+use Rattle.std.proofs.lemmas.List.{length-map, length-set, map-append}
 use Rattle.std.proofs.lemmas.Option.{slice_get_within}
 use Rattle.model.specs.declared.reply.Reply.{Reply}
 use Rattle.model.specs.declared.unseen.UnseenRow.{UnseenRow}
@@ -12,7 +12,7 @@ use Rattle.model.specs.Requests.{request_reply, request_reply_row, request_verdi
 use Rattle.model.specs.declared.unseen.UnseenState.{UnseenState}
 use Rattle.model.specs.Laws.ResolverMemory.{share_of}
 use Rattle.model.specs.Verdicts.{judged_at}
-use Rattle.model.specs.WriteHistories.{Written, shares_of, all_judged}
+use Rattle.model.specs.WriteHistories.{Written, ShareAt, StandsForShares, shares_of, all_judged}
 use Rattle.share_judge.specs.Answers.{AreVerdicts, GainsShare, Forgets}
 use Rattle.model.proofs.MemoryAnswers.{is_next}
 use Rattle.model.proofs.MemoryAnswers.{memory_replies, verdicts_of_shares}
@@ -106,6 +106,15 @@ judged_memory v new one judged q verdicts reply row with_share bound stands is a
 
     same : new ≡ memory_after v one q told new.written
     same = λ k. record { number = number k; version = version k; written = new.written; rows = rows_are k; proxies = proxies_are k }
+
+-- the writes that lie at least the window before the request are forgotten
+pub judged_forgets : (v : Memory) (judged : List Request) (q : Request) (with_share written : Written) (bound : ℕ) → StandsForRequests v judged → GainsShare v.written (share_of q) with_share → Forgets with_share bound written → v.written.last < q.version → bound ≡ q.version → with_share.last ≡ q.version →
+    with_share.window ≡ v.written.window → written.window ≡ with_share.window → StandsForShares written (shares_of (judged ++ q ∷ [])) (q.version - written.window)
+judged_forgets v judged q with_share written bound stands gains forgets above bound_is last kept window =
+    let low = stands.written.in_window in
+    let all : max stands.forgotten (min bound (with_share.last - with_share.window)) ≡ q.version - written.window = omega (arith, low, above, bound_is, last, kept, window) in
+    subst (λ (shares : List ShareAt). StandsForShares written shares (q.version - written.window)) (sym (map-append share_of judged (q ∷ [])))
+    (subst (StandsForShares written (shares_of judged ++ share_of q ∷ [])) all (forgets (shares_of judged ++ share_of q ∷ []) stands.forgotten (gains (shares_of judged) stands.forgotten stands.written)))
 
 -- as many verdicts as parts
 pub as_many_verdicts : (v : Memory) (judged : List Request) (q : Request) (verdicts : List Verdict) → StandsForRequests v judged → AreVerdicts v.written (share_of q) verdicts → length verdicts ≡ length q.share

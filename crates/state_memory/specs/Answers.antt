@@ -1,6 +1,7 @@
 -- What a resolver answers, whichever requests it stands for, and the numbers and names of refusals
 -- (this project's profile).
-use Rattle.std.specs.Prelude.{◌≡◌, ℕ, List, [], ◌∷◌, ◌++◌, length, codes, Option, Some, None, Result}
+use Rattle.std.specs.Prelude.{◌≡◌, ℕ, ◌-◌, List, [], ◌∷◌, ◌++◌, length, codes, Option, Some, None}
+use Rattle.std.specs.Prelude.{Result}
 use Rattle.system_keys.specs.AsSpecified.{IsAsSpecified}
 use Rattle.model.specs.declared.reply.Reply.{Reply}
 use Rattle.model.specs.Requests.{Request, request_reply, remembered_requests}
@@ -8,6 +9,7 @@ use Rattle.model.specs.Offers.{OfferAnswer, OfferFault, answer_to}
 use Rattle.model.specs.Offers as offers
 use Rattle.model.specs.ResolverMemory.{Memory, StandsForRequests, Course as Way}
 use Rattle.model.specs.ResolverMemory as way
+use Rattle.model.specs.WriteHistories.{StandsForShares, shares_of}
 use Rattle.state_memory.specs.declared.answer.Answer.{Answer}
 use Rattle.state_memory.specs.declared.answer.Answer.TheVariants as answers
 use Rattle.state_memory.specs.declared.answer.Course.{Course}
@@ -65,6 +67,18 @@ abbrev pub GainsRequest : (before : Memory) (q : Request) (after : Memory) → T
 GainsRequest before q after =
     (judged : List Request) → StandsForRequests before judged
     → StandsForRequests after (judged ++ q ∷ [])
+
+-- Whatever requests the resolver stood for, it has forgotten the writes of these and of this one that
+-- lie at least the window before its version.
+abbrev pub ForgetsOldWrites : (before : Memory) (q : Request) (after : Memory) → Type 0
+ForgetsOldWrites before q after =
+    (judged : List Request) → StandsForRequests before judged
+    → StandsForShares after.written (shares_of (judged ++ q ∷ [])) (q.version - after.written.window)
+
+-- a request that was judged makes the resolver forget old writes
+abbrev pub ForgetsIfJudged : (before : Memory) (q : Request) (after : Memory) → Answer → Type 0
+ForgetsIfJudged before q after (answers.Judged reply) = ForgetsOldWrites before q after
+ForgetsIfJudged before q after (answers.Again reply) = Unit {0}
 
 -- a request that was judged adds to what the resolver stands for, and a repeat changes nothing
 abbrev pub IsAfterAnswer : (before : Memory) (q : Request) (after : Memory) → Answer → Type 0

@@ -7,7 +7,7 @@ ghost use Rattle.model.specs.ResolverMemory.{StandsForRequests, course};
 ghost use Rattle.model.specs.ResolverMemory as way;
 ghost use Rattle.state_memory.specs.Answers.{AnswersAfterJudged, IsAfterAnswer, GainsRequest};
 ghost use Rattle.state_memory.specs.Answers.{RepliesAfterJudged, IsRememberedCount, course_of};
-ghost use Rattle.state_memory.specs.Answers.{fault_of};
+ghost use Rattle.state_memory.specs.Answers.{fault_of, ForgetsOldWrites, ForgetsIfJudged};
 ghost use Rattle.state_memory.specs.Kept.{AreNew, HasRoom, AllIncrease, HasNoted, all_kept, reply_of};
 ghost use Rattle.state_memory.specs.Kept.{kept_reply};
 
@@ -115,9 +115,13 @@ impl Resolver {
     /// otherwise with `OutsideChain`. A later request fails with `Early` if its previous version is
     /// above the resolver's, and with `OutsideChain` if it is below. A request that does not fail
     /// so fails only with `OutOfMemory`. Each failure leaves the resolver unchanged.
+    ///
+    /// A request that it judges makes it forget the writes that lie at least the window before the
+    /// request's version.
     pub fn offer(&mut self, request: &Request) -> Result<Answer, Refusal>
         ensures answer { AnswersAfterJudged self.old request.now result }
         ensures after { IfOk result (λ answer. IsAfterAnswer self.old request.now self.new answer) }
+        ensures forgets { IfOk result (λ answer. ForgetsIfJudged self.old request.now self.new answer) }
         ensures number { self.new.number ≡ self.old.number }
         ensures proxies { length self.new.proxies ≡ length self.old.proxies }
         ensures window { self.new.written.window ≡ self.old.written.window }
@@ -174,6 +178,7 @@ impl Resolver {
         requires { course self.old request.now ≡ Ok way.Judge }
         ensures reply { IfOk result (λ reply. RepliesAfterJudged self.old request.now reply) }
         ensures gains { IfOk result (λ reply. GainsRequest self.old request.now self.new) }
+        ensures forgets { IfOk result (λ reply. ForgetsOldWrites self.old request.now self.new) }
         ensures number { self.new.number ≡ self.old.number }
         ensures proxies { length self.new.proxies ≡ length self.old.proxies }
         ensures window { self.new.written.window ≡ self.old.written.window }

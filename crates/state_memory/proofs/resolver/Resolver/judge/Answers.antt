@@ -9,7 +9,7 @@ use Rattle.model.specs.Laws.ResolverMemory.{share_of}
 use Rattle.share_judge.specs.Answers.{AreVerdicts, GainsShare}
 use Rattle.state_memory.proofs.KeptLaws.{kept_there}
 use Rattle.state_memory.specs.Kept.{kept_of, all_kept, rows_above, reply_of}
-use Rattle.state_memory.proofs.JudgedRequests.{place_within, version_above, kept_rows_increase, kept_replies_increase, rows_increase_more, order_after, next_there, noted_count, judged_reply, judged_memory, as_many_verdicts, row_made}
+use Rattle.state_memory.proofs.JudgedRequests.{place_within, version_above, kept_rows_increase, kept_replies_increase, rows_increase_more, order_after, next_there, noted_count, judged_reply, judged_memory, judged_forgets, as_many_verdicts, row_made}
 use Rattle.state_memory.proofs.resolver.Resolver.judge.Goals as goal
 
 pub index-requires : goal.index-requires
@@ -93,3 +93,15 @@ returns-clause-gains c = λ judged stands.
     (ap (λ (v : Memory). v.number) c.self.view_is) c.version-self-inside.ensures row_is reply_is
     (c.note_reply.ensures one (ap (λ xs. slice_get xs c.args.request.now.proxy) c.reserve_reply.ensures.same ∙ here) ∙ ap (λ xs. slice_set xs c.args.request.now.proxy (proxy_after one c.args.request.now c.reply-kept.result)) (c.reserve_reply.ensures.same ∙ kept))
     (c.forget_rows.ensures ∙ (λ k. rows_above ((c.reached_by_all.ensures ∙ ap (λ raw. reached_by_all (all_kept raw)) c.deref.ensures.value) k) ((c.push_back_reserved.ensures.items ∙ ap (λ xs. xs ++ (record { version = c.version-2.result; states = c.from.result }) ∷ []) (c.reserve.ensures.items ∙ rows)) k)))
+
+pub returns-clause-forgets : goal.returns-clause-forgets
+returns-clause-forgets c = λ judged stands.
+    let history = ap (λ (v : Memory). v.written) c.self.view_is in
+    let s_is : (record { version = c.version.result; parts = c.share-2.result.now }) ≡ share_of c.args.request.now = λ k. record { version = c.version.ensures k; parts = c.share-2.ensures.value k } in
+    let gains = subst (λ s. GainsShare c.args.self.now.written s c.judge.new.self) s_is (subst (λ w. GainsShare w (record { version = c.version.result; parts = c.share-2.result.now }) c.judge.new.self) history c.in_ok-verdicts.ensures.stands) in
+    let above = version_above c.args.self.now c.args.request.now c.self.inside.version c.self.inside.history.last c.requires (ap (λ (v : Memory). v.version) c.self.view_is) c.self.invariant.0 in
+    let last = ap (λ (w : Written). w.last) history in
+    judged_forgets c.args.self.now judged c.args.request.now c.judge.new.self _ _ stands gains c.forget.ensures.stands (omega (arith, above, last)) c.version-3.ensures
+    (c.in_ok-verdicts.ensures.last ∙ c.version.ensures)
+    (c.in_ok-verdicts.ensures.window ∙ ap (λ (w : Written). w.window) history)
+    c.forget.ensures.window
