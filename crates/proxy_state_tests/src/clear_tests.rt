@@ -142,7 +142,9 @@ fn replies_to_row_2(alloc: Global, told: Step) -> Result<Replies, Fail> {
 }
 
 /// What is seen of a proxy: its version, how many rows its journal has, and which entries are there.
-fn seen(proxy: &Proxy) -> (u64, usize, [bool; 4]) {
+type Seen = (u64, usize, [bool; 4]);
+
+fn seen(proxy: &Proxy) -> Seen {
     let rows = [TAG_ROW, TAG_ROW_2, ROW_OF_ALL, ROW_AT_M];
     let mut there = [false; 4];
     for place in 0..4 {
@@ -201,8 +203,26 @@ fn last_has(finished: &Finished, wanted: &[Tag]) -> bool {
     }
 }
 
-fn value_at_m(proxy: &Proxy) -> Option<&[u8]> {
-    proxy.metadata().row(ROW_AT_M)
+/// What is seen of the proxy after these steps, if the last mutation has these tags.
+fn seen_after(alloc: Global, told: Step, own: &[Step], tags: &[Tag]) -> Result<Option<Seen>, Fail> {
+    let (tested, finished) = after(alloc, told, own)?;
+    if last_has(&finished, tags) {
+        Ok(Some(seen(&tested.proxy)))
+    } else {
+        Ok(None)
+    }
+}
+
+/// Whether the row at `m` has this value after these steps, and the last mutation has these tags.
+fn has_at_m_after(
+    alloc: Global,
+    told: Step,
+    own: &[Step],
+    tags: &[Tag],
+    value: Option<&[u8]>,
+) -> Result<bool, Fail> {
+    let (tested, finished) = after(alloc, told, own)?;
+    Ok(last_has(&finished, tags) && tested.proxy.metadata().row(ROW_AT_M) == value)
 }
 
 /// A row of another proxy that changes nothing of the metadata that these tests ask for.
@@ -210,63 +230,60 @@ const NOTHING: Step = Step::Put(b"\xff/metadataVersion", b"v");
 
 #[test]
 fn a_key_after_a_boundary_has_its_tag(rt: HostRuntime) -> Result<(), Fail> {
-    let (tested, finished) = after(rt.alloc(), NOTHING, &[NOTHING, WRITE])?;
-    assert!(rt; last_has(&finished, &[TAG_2]));
-    assert_eq!(rt; seen(&tested.proxy), (30, 3, [true, true, true, true]));
+    let found = seen_after(rt.alloc(), NOTHING, &[NOTHING, WRITE], &[TAG_2])?;
+    assert_eq!(rt; found, Some((30, 3, [true, true, true, true])));
     Ok(())
+}
+
+/// Whether every mutation has these tags.
+fn all_have(finished: &Finished, wanted: &[Tag]) -> bool {
+    finished
+        .tagged
+        .as_slice()
+        .iter()
+        .all(|tagged| tagged.tags.as_slice() == wanted)
 }
 
 #[test]
 fn tags_are_those_after_a_clear(rt: HostRuntime) -> Result<(), Fail> {
     let (tested, finished) = after(rt.alloc(), NOTHING, &[WRITE, JOIN, WRITE])?;
-    assert!(rt; last_has(&finished, &[TAG_1]));
-    for tagged in finished.tagged.as_slice() {
-        assert_eq!(rt; tagged.tags.as_slice(), [TAG_1].as_slice());
-    }
+    assert!(rt; last_has(&finished, &[TAG_1]) && all_have(&finished, &[TAG_1]));
     assert_eq!(rt; seen(&tested.proxy), (30, 3, [true, true, true, false]));
     Ok(())
 }
 
 #[test]
 fn a_set_after_a_clear_stays(rt: HostRuntime) -> Result<(), Fail> {
-    let again = Step::Put(ROW_AT_M, SERVER);
-    let (tested, finished) = after(rt.alloc(), NOTHING, &[JOIN, again, WRITE])?;
-    assert!(rt; last_has(&finished, &[TAG_1]));
-    assert_eq!(rt; value_at_m(&tested.proxy), Some(SERVER));
+    let own = &[JOIN, Step::Put(ROW_AT_M, SERVER), WRITE];
+    assert!(rt; has_at_m_after(rt.alloc(), NOTHING, own, &[TAG_1], Some(SERVER))?);
     Ok(())
 }
 
 #[test]
 fn a_set_before_a_clear_goes(rt: HostRuntime) -> Result<(), Fail> {
-    let again = Step::Put(ROW_AT_M, SERVER);
-    let (tested, finished) = after(rt.alloc(), NOTHING, &[again, JOIN, WRITE])?;
-    assert!(rt; last_has(&finished, &[TAG_1]));
-    assert_eq!(rt; value_at_m(&tested.proxy), None);
+    let own = &[Step::Put(ROW_AT_M, SERVER), JOIN, WRITE];
+    assert!(rt; has_at_m_after(rt.alloc(), NOTHING, own, &[TAG_1], None)?);
     Ok(())
 }
 
 #[test]
 fn a_clear_of_another_proxy_counts(rt: HostRuntime) -> Result<(), Fail> {
-    let (tested, finished) = after(rt.alloc(), JOIN, &[NOTHING, WRITE])?;
-    assert!(rt; last_has(&finished, &[TAG_1]));
-    assert_eq!(rt; seen(&tested.proxy), (30, 3, [true, true, true, false]));
+    let found = seen_after(rt.alloc(), JOIN, &[NOTHING, WRITE], &[TAG_1])?;
+    assert_eq!(rt; found, Some((30, 3, [true, true, true, false])));
     Ok(())
 }
 
 #[test]
 fn clears_of_two_rows_both_count(rt: HostRuntime) -> Result<(), Fail> {
     let tags = Step::Remove(b"\xff/serverTag/", b"\xff/serverTag0");
-    let (tested, finished) = after(rt.alloc(), JOIN, &[tags, WRITE])?;
-    assert!(rt; last_has(&finished, &[]));
-    assert_eq!(rt; seen(&tested.proxy), (30, 3, [false, false, true, false]));
+    let found = seen_after(rt.alloc(), JOIN, &[tags, WRITE], &[])?;
+    assert_eq!(rt; found, Some((30, 3, [false, false, true, false])));
     Ok(())
 }
 
 #[test]
 fn a_set_after_a_clear_of_another_proxy_stays(rt: HostRuntime) -> Result<(), Fail> {
-    let again = Step::Put(ROW_AT_M, SERVER_2);
-    let (tested, finished) = after(rt.alloc(), JOIN, &[again, WRITE])?;
-    assert!(rt; last_has(&finished, &[TAG_2]));
-    assert_eq!(rt; value_at_m(&tested.proxy), Some(SERVER_2));
+    let own = &[Step::Put(ROW_AT_M, SERVER_2), WRITE];
+    assert!(rt; has_at_m_after(rt.alloc(), JOIN, own, &[TAG_2], Some(SERVER_2))?);
     Ok(())
 }

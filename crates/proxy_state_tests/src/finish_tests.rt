@@ -138,6 +138,26 @@ impl Tested {
         Ok(())
     }
 
+    /// Why the record is refused, if it is.
+    fn refused(
+        &mut self,
+        alloc: Global,
+        row: usize,
+        previous: u64,
+        own_previous: u64,
+        number: usize,
+        batch: &Batch,
+    ) -> Option<Refusal>
+        requires own { own_previous ≤ previous }
+        requires small { previous < 1000 }
+    {
+        let begun = twice!(
+            self.begin(alloc, row, previous, own_previous, number, batch),
+            Refusal::OutOfMemory
+        );
+        begun.err()
+    }
+
     fn finish(&mut self, replies: Replies) -> Result<Finished, (Refusal, Replies)> {
         match self.proxy.finish(replies) {
             Err((Refusal::OutOfMemory, replies)) => self.proxy.finish(replies),
@@ -259,19 +279,26 @@ fn a_proxy_begins_its_own_next_record_alone(rt: HostRuntime) -> Result<(), Fail>
     let alloc = rt.alloc();
     let mut tested = begun(alloc, &[WRITES])?;
     let batch = batch_of(alloc, &[WRITES])?;
-    let other = twice!(
-        tested.begin(alloc, 1, 10, 0, 1, &batch),
-        Refusal::OutOfMemory
+    let other = tested.refused(alloc, 1, 10, 0, 1, &batch);
+    assert_eq!(rt; other, Some(Refusal::NotMine));
+    let early = tested.refused(alloc, 2, 20, 20, 0, &batch);
+    assert_eq!(rt; early, Some(Refusal::OutOfOrder { expected: 10 }));
+    assert_eq!(rt;
+        (tested.proxy.last_begun(), tested.proxy.version()),
+        (10, 0)
     );
-    assert_eq!(rt; other.err(), Some(Refusal::NotMine));
-    let early = twice!(
-        tested.begin(alloc, 2, 20, 20, 0, &batch),
-        Refusal::OutOfMemory
-    );
-    assert_eq!(rt; early.err(), Some(Refusal::OutOfOrder { expected: 10 }));
-    assert_eq!(rt; tested.proxy.last_begun(), 10);
-    assert_eq!(rt; tested.proxy.version(), 0);
     Ok(())
+}
+
+/// Whether they are two, at version 30, of a proxy that has finished nothing, and both are asked.
+fn are_requests_of_row_2(built: &Requests) -> bool {
+    let requests = built.requests.as_slice();
+    let asked = built.asked.as_slice();
+    requests.len() == 2
+        && requests.iter().all(|request| request.last_received() == 0 && request.version() == 30)
+        && asked
+            .iter()
+            .all(|resolvers| resolvers.as_slice() == [0, 1].as_slice())
 }
 
 #[test]
@@ -283,14 +310,7 @@ fn requests_name_the_version_finished(rt: HostRuntime) -> Result<(), Fail> {
         tested.begin(alloc, 2, 20, 10, 0, &batch),
         Refusal::OutOfMemory
     )?;
-    assert_eq!(rt; built.requests.as_slice().len(), 2);
-    for request in built.requests.as_slice() {
-        assert_eq!(rt; request.last_received(), 0);
-        assert_eq!(rt; request.version(), 30);
-    }
-    for asked in built.asked.as_slice() {
-        assert_eq!(rt; asked.as_slice(), [0, 1].as_slice());
-    }
+    assert!(rt; are_requests_of_row_2(&built));
     Ok(())
 }
 
@@ -307,28 +327,28 @@ fn a_proxy_that_has_begun_nothing_finishes_nothing(rt: HostRuntime) -> Result<()
     Ok(())
 }
 
-#[test]
-fn the_least_resolver_that_is_missing_is_named(rt: HostRuntime) -> Result<(), Fail> {
-    let alloc = rt.alloc();
-    let mut tested = begun(alloc, &[SERVES])?;
-    let answer = tested.finish(no_replies(alloc)?);
-    assert_eq!(rt;
-        refusal(answer),
-        Some(Refusal::MissingReply { resolver: 0 })
-    );
-    let mut replies = no_replies(alloc)?;
+/// A reply of resolver 0 alone, to another version.
+fn wrong_reply_of_0(alloc: Global) -> Result<Replies, Fail> {
     let wrong = Line {
         version: 20,
         ..to_row_0(0, &[COMMITTED])
     };
-    replies
-        .put(reply(alloc, wrong)?)
-        .map_err(|refused| refused.0)?;
-    let answer = tested.finish(replies);
-    assert_eq!(rt;
-        refusal(answer),
-        Some(Refusal::MissingReply { resolver: 1 })
-    );
+    with_reply(no_replies(alloc)?, reply(alloc, wrong)?)
+}
+
+fn with_reply(mut replies: Replies, one: Reply) -> Result<Replies, Fail> {
+    replies.put(one).map_err(|refused| refused.0)?;
+    Ok(replies)
+}
+
+#[test]
+fn the_least_resolver_that_is_missing_is_named(rt: HostRuntime) -> Result<(), Fail> {
+    let alloc = rt.alloc();
+    let mut tested = begun(alloc, &[SERVES])?;
+    let none = refusal(tested.finish(no_replies(alloc)?));
+    assert_eq!(rt; none, Some(Refusal::MissingReply { resolver: 0 }));
+    let one = refusal(tested.finish(wrong_reply_of_0(alloc)?));
+    assert_eq!(rt; one, Some(Refusal::MissingReply { resolver: 1 }));
     Ok(())
 }
 
@@ -336,27 +356,40 @@ fn the_least_resolver_that_is_missing_is_named(rt: HostRuntime) -> Result<(), Fa
 fn replies_that_are_refused_come_back(rt: HostRuntime) -> Result<(), Fail> {
     let alloc = rt.alloc();
     let mut tested = begun(alloc, &[SERVES])?;
+    let Err((refusal, mut replies)) = tested.finish(wrong_reply_of_1(alloc)?) else {
+        return Err(Fail::from("finished"));
+    };
+    assert_eq!(rt; refusal, Refusal::RepliesDisagree { version: 10 });
+    let again = reply(alloc, to_row_0(1, &[COMMITTED]))?;
+    assert_eq!(rt;
+        put_again(&mut replies, again),
+        Some((Refusal::DoubleReply { resolver: 1 }, 10))
+    );
+    assert!(rt; has_finished_nothing(&tested.proxy));
+    Ok(())
+}
+
+/// Both replies to row 0, that of resolver 1 to another version.
+fn wrong_reply_of_1(alloc: Global) -> Result<Replies, Fail> {
     let wrong = Line {
         version: 20,
         ..to_row_0(1, &[COMMITTED])
     };
-    let answer = tested.finish(both(alloc, to_row_0(0, &[COMMITTED]), wrong)?);
-    let Err((refusal, mut replies)) = answer else {
-        return Err(Fail::from("finished"));
-    };
-    assert_eq!(rt; refusal, Refusal::RepliesDisagree { version: 10 });
-    let Err((refusal, second)) = replies.put(reply(alloc, to_row_0(1, &[COMMITTED]))?) else {
-        return Err(Fail::from("put"));
-    };
-    assert_eq!(rt; refusal, Refusal::DoubleReply { resolver: 1 });
-    assert_eq!(rt; second.version, 10);
-    assert_eq!(rt; tested.proxy.version(), 0);
-    assert_eq!(rt; tested.proxy.journal().len(), 0);
-    assert_eq!(rt;
-        tested.proxy.metadata_at(10).err(),
-        Some(Refusal::NotReached { version: 0 })
-    );
-    Ok(())
+    both(alloc, to_row_0(0, &[COMMITTED]), wrong)
+}
+
+/// Why the reply is refused, if it is, and the version of the one that comes back.
+fn put_again(replies: &mut Replies, one: Reply) -> Option<(Refusal, u64)> {
+    match replies.put(one) {
+        Ok(()) => None,
+        Err((refusal, back)) => Some((refusal, back.version)),
+    }
+}
+
+fn has_finished_nothing(proxy: &Proxy) -> bool {
+    proxy.version() == 0
+        && proxy.journal().is_empty()
+        && proxy.metadata_at(10).err() == Some(Refusal::NotReached { version: 0 })
 }
 
 // ---- records that are finished
@@ -657,11 +690,13 @@ fn told_by_1(alloc: Global, unseen: &[(u64, &[Told])]) -> Result<Option<u64>, Fa
 
 #[test]
 fn a_row_that_is_missing_disagrees_at_its_version(rt: HostRuntime) -> Result<(), Fail> {
-    let alloc = rt.alloc();
-    assert_eq!(rt; told_by_1(alloc, &[(20, ONE), (30, ONE)])?, Some(10));
-    assert_eq!(rt; told_by_1(alloc, &[(10, ONE), (30, ONE)])?, Some(20));
-    assert_eq!(rt; told_by_1(alloc, &[(10, ONE), (20, ONE)])?, Some(30));
-    assert_eq!(rt; told_by_1(alloc, &[])?, Some(10));
+    let first: &[(u64, &[Told])] = &[(20, ONE), (30, ONE)];
+    let second: &[(u64, &[Told])] = &[(10, ONE), (30, ONE)];
+    let third: &[(u64, &[Told])] = &[(10, ONE), (20, ONE)];
+    for (rows, version) in [(first, 10), (second, 20), (third, 30), (&[], 10)] {
+        let found = told_by_1(rt.alloc(), rows)?;
+        assert_eq!(rt; found, Some(version), "a row at {version}");
+    }
     Ok(())
 }
 

@@ -23,16 +23,26 @@ fn new_proxy(alloc: Global) -> Result<Proxy, Fail> {
     Ok(twice!(Proxy::new(alloc, 0, &config), OutOfMemory)?)
 }
 
+/// Its version, the version that it began last, how many rows its journal has, and whether it is locked.
+fn seen(proxy: &Proxy) -> (u64, u64, usize, bool) {
+    (
+        proxy.version(),
+        proxy.last_begun(),
+        proxy.journal().len(),
+        proxy.metadata().is_locked(),
+    )
+}
+
+fn copied(proxy: &Proxy) -> Result<Proxy, Fail> {
+    Ok(twice!(proxy.copy(), OutOfMemory)?)
+}
+
 #[test]
 fn a_new_proxy_has_begun_and_finished_nothing(rt: HostRuntime) -> Result<(), Fail> {
     let proxy = new_proxy(rt.alloc())?;
-    assert_eq!(rt; proxy.version(), 0);
-    assert_eq!(rt; proxy.last_begun(), 0);
-    assert_eq!(rt; proxy.journal().len(), 0);
-    assert!(rt; !proxy.metadata().is_locked());
-    let copy = twice!(proxy.copy(), OutOfMemory)?;
-    assert_eq!(rt; copy.version(), 0);
-    assert_eq!(rt; copy.journal().len(), 0);
+    assert_eq!(rt; seen(&proxy), (0, 0, 0, false));
+    let copy = copied(&proxy)?;
+    assert_eq!(rt; seen(&copy), (0, 0, 0, false));
     Ok(())
 }
 
@@ -44,12 +54,17 @@ fn is_not_reached(answer: &Result<Metadata, Refusal>) -> bool {
     }
 }
 
+fn is_locked_at(proxy: &Proxy, version: u64) -> Result<bool, Fail> {
+    let metadata = twice!(proxy.metadata_at(version), Refusal::OutOfMemory)?;
+    Ok(metadata.is_locked())
+}
+
 #[test]
 fn a_new_proxy_has_reached_version_0_alone(rt: HostRuntime) -> Result<(), Fail> {
     let proxy = new_proxy(rt.alloc())?;
-    assert!(rt; is_not_reached(&proxy.metadata_at(10)));
-    assert!(rt; is_not_reached(&proxy.metadata_at(1)));
-    let found = twice!(proxy.metadata_at(0), Refusal::OutOfMemory)?;
-    assert!(rt; !found.is_locked());
+    for version in [10, 1] {
+        assert!(rt; is_not_reached(&proxy.metadata_at(version)));
+    }
+    assert!(rt; !is_locked_at(&proxy, 0)?);
     Ok(())
 }
