@@ -59,7 +59,9 @@ impl BlankLedger {
     /// Names the cells. Called in a function that is generic in `N`, which stands for them.
     pub fn named<N: Naming>(self) -> Ledger<N>
         requires { self ≡ N.cells }
+        ensures { IsLedger N.cells }
     {
+        let _config = self.config();
         Ledger {
             blank: self,
             of: PhantomData,

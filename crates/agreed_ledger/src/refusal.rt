@@ -69,9 +69,12 @@ impl Refusal {
 }
 
 impl Refusal {
+    ghost use Rattle.agreed_ledger.specs.Refusals.{refusal_of};
+
     /// Why a cell was not set.
     pub(crate) fn of(unset: Unset) -> Refusal
-        ensures { (result ≡ refusals.CellTaken) ⊎ (result ≡ refusals.OutOfMemory) }
+        ensures value { result ≡ refusal_of unset }
+        ensures either { (result ≡ refusals.CellTaken) ⊎ (result ≡ refusals.OutOfMemory) }
     {
         match unset {
             Unset::OutOfMemory => Refusal::OutOfMemory,

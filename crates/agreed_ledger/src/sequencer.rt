@@ -40,10 +40,14 @@ impl<'l, N: Naming> Sequencer<'l, N> {
 
     /// Waits for the lock. What is under it is known by its type alone: records that are a history,
     /// and moves that follow them.
-    pub fn lock<R: Wait>(&self, rt: &R) -> SequencerGuard<'_, N> {
+    pub fn lock<R: Wait>(&self, rt: &R) -> SequencerGuard<'_, N>
+        ensures { MovesFollow N.cells.config result.records result.moves }
+    {
+        let guard = self.lock.lock(rt);
+        let _records = guard.records();
         SequencerGuard {
             ledger: self.ledger,
-            guard: self.lock.lock(rt),
+            guard,
         }
     }
 }

@@ -1,7 +1,7 @@
 -- Runs of events, one after another.
-use Rattle.std.proofs.Common.{◌≡◌, refl, sym, ap, ◌∙◌, subst, ℕ, suc, ◌<◌, List, [], ◌∷◌, ◌++◌, map, take, length, get_or, slice_get, false, is_none, Option, Some, None, option_map, arith}
+use Rattle.std.proofs.Common.{◌≡◌, refl, sym, ap, ◌∙◌, subst, ℕ, suc, ◌<◌, List, [], ◌∷◌, ◌++◌, map, take, length, get_or, slice_get, false, true, is_none, Option, Some, None, option_map, arith}
 use Rattle.std.specs.Prelude.{Result, Ok, Err, IsOk}
-use Rattle.std.proofs.lemmas.List.{map-append}
+use Rattle.std.proofs.lemmas.List.{map-append, length-map}
 use Rattle.std.proofs.lemmas.Option.{slice_get-map}
 use Rattle.system_keys.specs.AsSpecified.{IsFaultOf}
 use Rattle.model.specs.World.{World, answers, world_after, handle_event}
@@ -105,11 +105,19 @@ one_more first second third events i m event done all told next within is more o
 
 -- ---- a run that stops
 
-pub stopped_at_first : (now : Cluster) (events : List world.Event) (stopped : Stopped) → stopped.carried_out ≡ 0 → stopped.answers.items ≡ [] → HasStopped now now events stopped
-stopped_at_first now events stopped none empty =
+differ : false ≡ true → ⊥
+differ same = absurd (cc)
+
+some_events : (events : List Event) → (length events ≡ 0 → false ≡ true) → 0 < length (map event_of events)
+some_events [] some = absurd (differ (some refl))
+some_events (event ∷ events) some = omega arith
+
+pub stopped_at_first : (now : Cluster) (events : List Event) (stopped : Stopped) → (length events ≡ 0 → false ≡ true) → stopped.carried_out ≡ 0 → stopped.answers.items ≡ [] → HasStopped now now (map event_of events) stopped
+stopped_at_first now events stopped some none empty =
     record {
+      within = let there = some_events events some in omega (arith, there, none);
       count = ap length empty ∙ sym none;
-      carried_out = subst (λ (n : ℕ). HasCarriedOut now now (take n events) stopped.answers.items) (sym none) (subst (HasCarriedOut now now []) (sym empty) (none_carried_out now));
+      carried_out = subst (λ (n : ℕ). HasCarriedOut now now (take n (map event_of events)) stopped.answers.items) (sym none) (subst (HasCarriedOut now now []) (sym empty) (none_carried_out now));
       next = λ some. absurd (omega (arith, some, none));
     }
 
@@ -117,6 +125,7 @@ pub stopped_at : (first now same : Cluster) (events : List Event) (event : Event
 stopped_at first now same events event done stopped unchanged are count within is not_refused so_far =
     subst (λ (t : Cluster). HasStopped first t (map event_of events) stopped) (sym unchanged)
     (record {
+      within = let many = length-map events event_of in omega (arith, within, many);
       count = ap length are ∙ count;
       carried_out = subst (HasCarriedOut first now (take stopped.carried_out (map event_of events))) (sym are) so_far;
       next = λ some. (event_of event, event_at events stopped.carried_out event within is, not_refused);

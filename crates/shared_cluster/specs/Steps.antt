@@ -47,10 +47,11 @@ abbrev pub IsNotRefused : Cluster → (number : ℕ) → List world.Event → Ty
 IsNotRefused now number events =
     (event : world.Event) × (slice_get events number ≡ Some event) × IsOk (answer_to_event now event)
 
--- the cluster stopped: it carried out the first of these events and no other, and it stopped before
--- the first one, or before one that the definition does not refuse
+-- the cluster stopped before one of these events: it carried out those before that one and no other,
+-- and the one is the first, or one that the definition does not refuse
 pub record HasStopped
     (before after : Cluster) (events : List world.Event) (stopped : Stopped) : Type 0 where
+  pub within : stopped.carried_out < length events
   pub count : length stopped.answers.items ≡ stopped.carried_out
   pub carried_out :
       HasCarriedOut before after (take stopped.carried_out events) stopped.answers.items

@@ -25,7 +25,7 @@ loop-carried_out-preserved c =
     }
 
 pub returns-in_default : goal.returns-in_default
-returns-in_default c = stopped_at_first c.args.self.now (map event_of c.args.events.now) (record { carried_out = 0; answers = c.new.result }) refl c.new.ensures.items
+returns-in_default c = stopped_at_first c.args.self.now c.args.events.now (record { carried_out = 0; answers = c.new.result }) c.in_default.ensures.succeeds refl c.new.ensures.items
 
 pub returns-in_default-append_answer : goal.returns-in_default-append_answer
 returns-in_default-append_answer c =
