@@ -61,6 +61,7 @@ impl BlankLedger {
         requires { self ≡ N.cells }
         ensures { IsLedger N.cells }
     {
+        // (its contract says that there are such numbers, which the clause is about)
         let _config = self.config();
         Ledger {
             blank: self,

@@ -44,6 +44,7 @@ impl<'l, N: Naming> Sequencer<'l, N> {
         ensures { MovesFollow N.cells.config result.records result.moves }
     {
         let guard = self.lock.lock(rt);
+        // (its contract says what the type keeps of the records and moves)
         let _records = guard.records();
         SequencerGuard {
             ledger: self.ledger,

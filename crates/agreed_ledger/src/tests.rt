@@ -158,6 +158,14 @@ fn four_threads_see_the_records_that_a_fifth_sequences(rt: HostRuntime) -> Resul
     four_watch::<Brand, _>(&rt, alloc, blank(alloc, ROWS, 10)?)
 }
 
+/// Whether the first record has no moves.
+fn begins_without_moves<N: Naming>(ticket: &Ticket<N>, ledger: &Ledger<N>) -> bool {
+    match ticket.records().get(ledger, 0) {
+        Some(rec) => rec.moves().is_empty(),
+        None => false,
+    }
+}
+
 fn refuse_in_order<N: Naming + Send + Sync, R: Wait + Abort>(
     rt: &R,
     alloc: Global,
@@ -171,6 +179,7 @@ fn refuse_in_order<N: Naming + Send + Sync, R: Wait + Abort>(
     assert!(rt; refusal == Some(Refusal::NoSuchProxy));
     let ticket = sequence(rt, alloc, &sequencer, 1)??;
     assert!(rt; ticket.row() == 0);
+    assert!(rt; begins_without_moves(&ticket, &ledger));
     let refusal = sequence(rt, alloc, &sequencer, 2)?.err();
     assert!(rt; refusal == Some(Refusal::NoSuchProxy));
     let refusal = sequence(rt, alloc, &sequencer, 0)?.err();
