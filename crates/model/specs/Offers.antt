@@ -23,7 +23,7 @@ pub data OfferAnswer : Type 0 where
 
 -- Why a request is refused. `Early` and `OutsideChain` have the version of the last request that
 -- the resolver judged, 0 if there is none, and `GivenUp` has the version that the proxy has
--- acknowledged. *Profile*: all but `WrongResolver` and `NoSuchProxy`, which release 7.1 asserts.
+-- acknowledged. *Profile*: all of them; release 7.1 answers no such request.
 pub data OfferFault : Type 0 where
   WrongResolver : OfferFault
   NoSuchProxy : OfferFault
