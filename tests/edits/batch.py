@@ -46,6 +46,10 @@ class Batch:
         self.edits.append(edit)
         self.names[edit] = name
 
+    def tried_functions(self):
+        """The functions that alone need a check, if the batch changes nothing else."""
+        return self.names.values() if self.is_of_functions() else []
+
     def changed_files(self):
         """The texts of all files that the batch changes, by their paths in the crate."""
         texts = dict(self.texts)

@@ -47,11 +47,12 @@ class Room:
         for part in [] if self.anew else ["out/rlib", "out/incremental"]:
             copy_folder(f"{self.root}/crates/{crate}/{part}", f"{self.home(crate)}/{part}")
         is_library = any(crate in names for names in self.below.values())
-        ran = rt(self.home(crate), "lib" if is_library else "check", [])
+        # (one job: more of them end sooner, but take more of the processors, which other checks use meanwhile)
+        ran = rt(self.home(crate), "lib" if is_library else "check", ["--jobs", "1"])
         return "" if ran.returncode == 0 else ran.stdout[-2000:]
 
-    def try_texts(self, crate, texts):
-        """What a check of the crate prints with these texts in place of its own."""
+    def try_texts(self, crate, texts, functions):
+        """What a check of the crate prints with these texts in place of its own; of these functions, if there are any."""
         with tempfile.TemporaryDirectory(prefix="trial-", dir=self.folder) as trial:
             below = self.all_below(crate)
             self.begin(trial, [*below, crate])
@@ -67,7 +68,7 @@ class Room:
                 os.makedirs(os.path.dirname(f"{home}/{file}"), exist_ok=True)
                 with open(f"{home}/{file}", "w", encoding="utf-8") as it:
                     it.write(text)
-            return rt(home, "check", ["--jobs", "1"]).stdout
+            return rt(home, "check", ["--jobs", "1", *(f"--only={it}" for it in functions)]).stdout
 
 
 def copy_folder(source, target, copy=shutil.copy2):

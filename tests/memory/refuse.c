@@ -7,6 +7,7 @@
  * REFUSE_EACH: a file. Every growth is refused, each in a child of its own, which goes on to its end, while the
  * program itself goes on as if nothing were there. The file gets a line for each child: the number of the growth,
  * the status that waitpid gave, and how the child's standard error began.
+ * REFUSE_THEN: how many more growths such a child makes at most. At the next one it ends, as if all were well.
  * SHORT_READ, SHORT_WRITE: how many bytes one call takes at most.
  */
 #define _GNU_SOURCE
@@ -68,11 +69,22 @@ static void report_child(const char *file, pid_t child, int source)
     close(report);
 }
 
+/* Ends a child that has made as many growths as it may. */
+static void end_in_time(void)
+{
+    static long made;
+    const char *most = getenv("REFUSE_THEN");
+    if (most != NULL && ++made > atol(most))
+        _exit(0);
+}
+
 /* Whether this is the child in which this growth is refused. */
 static int is_refused_in_child(void)
 {
     const char *file = getenv("REFUSE_EACH");
     int ends[2];
+    if (is_child)
+        end_in_time();
     if (file == NULL || is_child)
         return 0;
     growths++;

@@ -16,10 +16,6 @@ mod records;
 mod refusal;
 mod sequenced;
 mod sequencer;
-#[cfg(test)]
-mod stretch_tests;
-#[cfg(test)]
-mod tests;
 mod ticket;
 
 pub use column::Column;

@@ -8,8 +8,6 @@ mod mode;
 mod mode_reading;
 mod run;
 mod status;
-#[cfg(test)]
-mod tests;
 
 pub use run::run_words;
 pub use status::Status;

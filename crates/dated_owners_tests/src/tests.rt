@@ -4,6 +4,7 @@
 
 use dated_owners::{OwnerMap, Refusal};
 use std::alloc::{AllocError, Global};
+use std::process::Abort;
 use std::test::Fail;
 use system_keys::{Items, KeyRange, OutOfMemory};
 
@@ -37,8 +38,23 @@ fn moved(
     dest: usize,
 ) -> Result<Option<Refusal>, Fail> {
     let range = range(alloc, ends.0, ends.1)?;
-    let answer = twice!(map.move_range(&range, date, dest), Refusal::OutOfMemory);
-    Ok(answer.err())
+    Ok(moved_to(map, &range, date, dest).err())
+}
+
+fn moved_to(map: &mut OwnerMap, range: &KeyRange, date: u64, dest: usize) -> Result<(), Refusal> {
+    twice!(map.move_range(range, date, dest), Refusal::OutOfMemory)
+}
+
+fn readers_of(
+    map: &OwnerMap,
+    range: &KeyRange,
+    snapshot: u64,
+) -> Result<Items<usize>, OutOfMemory> {
+    twice!(map.read_owners(range, snapshot), OutOfMemory)
+}
+
+fn writers_of(map: &OwnerMap, range: &KeyRange) -> Result<Items<usize>, OutOfMemory> {
+    twice!(map.write_owners(range), OutOfMemory)
 }
 
 /// Whether a read of the range asks just these resolvers.
@@ -50,7 +66,7 @@ fn read_asks(
     resolvers: &[usize],
 ) -> Result<bool, Fail> {
     let range = range(alloc, ends.0, ends.1)?;
-    let asked: Items<usize> = twice!(map.read_owners(&range, snapshot), OutOfMemory)?;
+    let asked = readers_of(map, &range, snapshot)?;
     Ok(asked.as_slice() == resolvers)
 }
 
@@ -62,7 +78,7 @@ fn write_asks(
     resolvers: &[usize],
 ) -> Result<bool, Fail> {
     let range = range(alloc, ends.0, ends.1)?;
-    let asked: Items<usize> = twice!(map.write_owners(&range), OutOfMemory)?;
+    let asked = writers_of(map, &range)?;
     Ok(asked.as_slice() == resolvers)
 }
 
@@ -84,73 +100,127 @@ fn resolver_0_owns_all_keys_at_first(rt: HostRuntime) -> Result<(), Fail> {
     Ok(())
 }
 
+/// Reads, by their range and snapshot, and the resolvers that they ask. The last owner is always
+/// asked, and one dated at the snapshot does not stop the walk.
+const READS: &[(&[u8], &[u8], u64, &[usize])] = &[
+    (b"m", b"t", 20, &[0, 1, 2]),
+    (b"m", b"t", 30, &[1, 2]),
+    (b"p", b"q", 41, &[1, 2]),
+    (b"p", b"q", 42, &[2]),
+    (b"a", b"m", 20, &[0]),
+];
+
+fn are_reads_right<R: Abort + AllocGlobal>(rt: &R, map: &OwnerMap) -> Result<(), Fail> {
+    for (begin, end, snapshot, resolvers) in READS {
+        let is_right = read_asks(map, rt.alloc(), (*begin, *end), *snapshot, *resolvers)?;
+        assert!(rt; is_right, "at {snapshot}");
+    }
+    Ok(())
+}
+
 #[test]
 fn reads_ask_back_to_their_snapshot(rt: HostRuntime) -> Result<(), Fail> {
-    let alloc = rt.alloc();
-    let map = moved_twice(alloc)?;
-    assert!(rt; read_asks(&map, alloc, (b"m", b"t"), 20, &[0, 1, 2])?);
-    assert!(rt; read_asks(&map, alloc, (b"m", b"t"), 30, &[1, 2])?);
-    // The last owner is always asked, and one dated at the snapshot does not stop the walk.
-    assert!(rt; read_asks(&map, alloc, (b"p", b"q"), 41, &[1, 2])?);
-    assert!(rt; read_asks(&map, alloc, (b"p", b"q"), 42, &[2])?);
-    assert!(rt; read_asks(&map, alloc, (b"a", b"m"), 20, &[0])?);
+    let map = moved_twice(rt.alloc())?;
+    are_reads_right(&rt, &map)
+}
+
+/// Writes, by their range, and the resolvers that they ask.
+const WRITES: &[(&[u8], &[u8], &[usize])] = &[
+    (b"a", b"z", &[0, 1, 2]),
+    (b"m", b"t", &[1, 2]),
+    (b"p", b"q", &[2]),
+];
+
+fn are_writes_right<R: Abort + AllocGlobal>(rt: &R, map: &OwnerMap) -> Result<(), Fail> {
+    for (begin, end, resolvers) in WRITES {
+        assert!(rt; write_asks(map, rt.alloc(), (*begin, *end), *resolvers)?);
+    }
     Ok(())
 }
 
 #[test]
 fn writes_ask_the_last_owner_of_each_key(rt: HostRuntime) -> Result<(), Fail> {
-    let alloc = rt.alloc();
-    let map = moved_twice(alloc)?;
-    assert!(rt; write_asks(&map, alloc, (b"a", b"z"), &[0, 1, 2])?);
-    assert!(rt; write_asks(&map, alloc, (b"m", b"t"), &[1, 2])?);
-    assert!(rt; write_asks(&map, alloc, (b"p", b"q"), &[2])?);
+    let map = moved_twice(rt.alloc())?;
+    are_writes_right(&rt, &map)
+}
+
+/// What is dated before version 30 is forgotten, and then what is dated before version 10.
+fn forgets<R: Abort + AllocGlobal>(rt: &R, map: &mut OwnerMap) -> Result<(), Fail> {
+    for version in [30, 10] {
+        map.forget(version);
+        let is_right = read_asks(map, rt.alloc(), (b"m", b"t"), 20, &[1, 2])?;
+        assert!(rt; is_right, "forgotten below {version}");
+    }
+    assert!(rt; write_asks(map, rt.alloc(), (b"a", b"z"), &[0, 1, 2])?);
     Ok(())
 }
 
 #[test]
 fn what_is_forgotten_does_not_come_back(rt: HostRuntime) -> Result<(), Fail> {
-    let alloc = rt.alloc();
-    let mut map = moved_twice(alloc)?;
-    map.forget(30);
-    assert!(rt; read_asks(&map, alloc, (b"m", b"t"), 20, &[1, 2])?);
-    map.forget(10);
-    assert!(rt; read_asks(&map, alloc, (b"m", b"t"), 20, &[1, 2])?);
-    assert!(rt; write_asks(&map, alloc, (b"a", b"z"), &[0, 1, 2])?);
+    let mut map = moved_twice(rt.alloc())?;
+    forgets(&rt, &mut map)
+}
+
+/// Moves of `[a, b)` that are refused: date, new resolver, and why.
+const REFUSED: [(u64, usize, Refusal); 2] = [
+    (40, 1, Refusal::DateGoesBack),
+    (40, 3, Refusal::NoSuchResolver),
+];
+
+/// Moves of `[a, b)` are refused, and then one is made at the date of the last move.
+fn goes_on<R: Abort + AllocGlobal>(rt: &R, map: &mut OwnerMap) -> Result<(), Fail> {
+    for (date, dest, refusal) in REFUSED {
+        let found = moved(map, rt.alloc(), (b"a", b"b"), date, dest)?;
+        assert_eq!(rt; found, Some(refusal));
+    }
+    assert!(rt; write_asks(map, rt.alloc(), (b"a", b"b"), &[0])?);
+    assert_eq!(rt; moved(map, rt.alloc(), (b"a", b"b"), 41, 2)?, None);
+    assert!(rt; write_asks(map, rt.alloc(), (b"a", b"b"), &[2])?);
     Ok(())
 }
 
 #[test]
 fn dates_may_be_equal_but_not_go_back(rt: HostRuntime) -> Result<(), Fail> {
-    let alloc = rt.alloc();
-    let mut map = moved_twice(alloc)?;
-    let early = moved(&mut map, alloc, (b"a", b"b"), 40, 1)?;
-    assert_eq!(rt; early, Some(Refusal::DateGoesBack));
-    let past_the_last = moved(&mut map, alloc, (b"a", b"b"), 40, 3)?;
-    assert_eq!(rt; past_the_last, Some(Refusal::NoSuchResolver));
-    assert!(rt; write_asks(&map, alloc, (b"a", b"b"), &[0])?);
-    assert_eq!(rt; moved(&mut map, alloc, (b"a", b"b"), 41, 2)?, None);
-    assert!(rt; write_asks(&map, alloc, (b"a", b"b"), &[2])?);
+    let mut map = moved_twice(rt.alloc())?;
+    goes_on(&rt, &mut map)
+}
+
+fn copy_of(map: &OwnerMap) -> Result<OwnerMap, OutOfMemory> {
+    twice!(map.copy(), OutOfMemory)
+}
+
+/// A move of the map changes whom its writes ask, and not those of its copy.
+fn part_ways<R: Abort + AllocGlobal>(
+    rt: &R,
+    map: &mut OwnerMap,
+    copy: &OwnerMap,
+) -> Result<(), Fail> {
+    moved(map, rt.alloc(), (b"m", b"t"), 50, 0)?;
+    assert!(rt; write_asks(copy, rt.alloc(), (b"m", b"t"), &[1, 2])?);
+    assert!(rt; write_asks(map, rt.alloc(), (b"m", b"t"), &[0])?);
     Ok(())
 }
 
 #[test]
 fn a_copy_goes_its_own_way(rt: HostRuntime) -> Result<(), Fail> {
-    let alloc = rt.alloc();
-    let mut map = moved_twice(alloc)?;
-    let copy = twice!(map.copy(), OutOfMemory)?;
-    moved(&mut map, alloc, (b"m", b"t"), 50, 0)?;
-    assert!(rt; write_asks(&copy, alloc, (b"m", b"t"), &[1, 2])?);
-    assert!(rt; write_asks(&map, alloc, (b"m", b"t"), &[0])?);
-    Ok(())
+    let mut map = moved_twice(rt.alloc())?;
+    let copy = copy_of(&map)?;
+    part_ways(&rt, &mut map, &copy)
 }
+
+/// Each refusal with the number and the name that are printed.
+const PRINTED: [(Refusal, u32, &str); 2] = [
+    (Refusal::NoSuchResolver, 20, "NoSuchResolver"),
+    (Refusal::DateGoesBack, 21, "DateGoesBack"),
+];
 
 #[test]
 fn refusals_have_numbers_and_names(rt: HostRuntime) -> Result<(), Fail> {
-    assert_eq!(rt; Refusal::NoSuchResolver.number(), Some(20));
-    assert_eq!(rt; Refusal::DateGoesBack.number(), Some(21));
+    for (refusal, number, name) in &PRINTED {
+        assert_eq!(rt; refusal.number(), Some(*number));
+        assert_eq!(rt; refusal.name(), *name);
+    }
     assert_eq!(rt; Refusal::OutOfMemory.number(), None);
-    assert_eq!(rt; Refusal::NoSuchResolver.name(), "NoSuchResolver");
-    assert_eq!(rt; Refusal::DateGoesBack.name(), "DateGoesBack");
     Ok(())
 }
 
@@ -179,16 +249,20 @@ impl Random {
         (self.0 >> 33).checked_rem(limit).unwrap_or(0)
     }
 
-    /// Two letters in order, by their numbers, and the range between them.
-    fn letters(&mut self, alloc: Global) -> Result<(usize, usize, KeyRange), Fail> {
+    /// Two letters in order, by their numbers.
+    fn letters(&mut self) -> (u64, u64) {
         let begin = self.below(LETTERS as u64);
         let end = begin
             .saturating_add(1)
             .saturating_add(self.below(4))
             .min(LETTERS as u64);
-        let range = range(alloc, &[letter(begin)], &[letter(end)])?;
-        Ok((begin as usize, end as usize, range))
+        (begin, end)
     }
+}
+
+/// The range between two letters.
+fn range_of(alloc: Global, ends: (u64, u64)) -> Result<KeyRange, Fail> {
+    range(alloc, &[letter(ends.0)], &[letter(ends.1)])
 }
 
 fn letter(number: u64) -> u8 {
@@ -196,25 +270,39 @@ fn letter(number: u64) -> u8 {
 }
 
 /// Resolver 0 owns each letter.
-fn first_owners(alloc: Global) -> Result<Vec<Owners>, Fail> {
-    let mut letters = twice!(Vec::with_capacity(alloc, LETTERS), _)?;
+fn first_owners(alloc: Global) -> Result<Vec<Owners>, AllocError> {
+    let mut letters = room(alloc, LETTERS)?;
     for _ in 0..LETTERS {
-        let mut owners = twice!(Vec::with_capacity(alloc, STEPS + 1), _)?;
-        owners.push((0u64, 0usize))?;
-        letters.push(owners)?;
+        letters.push(owned_by_0(alloc)?)?;
     }
     Ok(letters)
 }
 
-/// Adds an owner to each letter from `begin` up to `end`.
+/// An empty list with room for so many.
+fn room<T: Drop>(alloc: Global, count: usize) -> Result<Vec<T>, AllocError> {
+    twice!(Vec::with_capacity(alloc, count), _)
+}
+
+/// Resolver 0 as the one owner, with room for those of a whole run.
+fn owned_by_0(alloc: Global) -> Result<Owners, AllocError> {
+    let mut owners = room(alloc, STEPS + 1)?;
+    owners.push((0u64, 0usize))?;
+    Ok(owners)
+}
+
+/// Whether the letter of this number lies between the two.
+fn is_within(number: usize, ends: (u64, u64)) -> bool {
+    (ends.0 as usize) <= number && number < (ends.1 as usize)
+}
+
+/// Adds an owner to each letter between the two.
 fn add_owner(
     letters: &mut [Owners],
-    begin: usize,
-    end: usize,
+    ends: (u64, u64),
     owner: (u64, usize),
-) -> Result<(), Fail> {
+) -> Result<(), AllocError> {
     for (number, owners) in letters.iter_mut().enumerate() {
-        if begin <= number && number < end {
+        if is_within(number, ends) {
             owners.push(owner)?;
         }
     }
@@ -259,51 +347,114 @@ fn are_noted(list: &[usize], asked: &[bool; 3]) -> bool {
     rest.next().is_none()
 }
 
-/// Whether reads and writes of the letters from `begin` up to `end` ask whom their owners say.
-fn is_as_listed(
-    map: &OwnerMap,
-    letters: &[Owners],
-    ends: (usize, usize, KeyRange),
-    snapshot: u64,
-) -> Result<bool, Fail> {
-    let (begin, end, range) = ends;
-    let (mut readers, mut writers) = ([false; 3], [false; 3]);
+/// The resolvers that a read at the snapshot has to ask for the letters between the two.
+fn readers_listed(letters: &[Owners], ends: (u64, u64), snapshot: u64) -> [bool; 3] {
+    let mut readers = [false; 3];
     for (number, owners) in letters.iter().enumerate() {
-        if begin <= number && number < end {
+        if is_within(number, ends) {
             note_readers(owners, snapshot, &mut readers);
-            note_readers(owners, u64::MAX, &mut writers);
         }
     }
-    let reads: Items<usize> = twice!(map.read_owners(&range, snapshot), OutOfMemory)?;
-    let writes: Items<usize> = twice!(map.write_owners(&range), OutOfMemory)?;
-    Ok(are_noted(reads.as_slice(), &readers) && are_noted(writes.as_slice(), &writers))
+    readers
+}
+
+fn is_read_as_listed(
+    map: &OwnerMap,
+    range: &KeyRange,
+    snapshot: u64,
+    asked: &[bool; 3],
+) -> Result<bool, OutOfMemory> {
+    let reads = readers_of(map, range, snapshot)?;
+    Ok(are_noted(reads.as_slice(), asked))
+}
+
+fn is_written_as_listed(
+    map: &OwnerMap,
+    range: &KeyRange,
+    asked: &[bool; 3],
+) -> Result<bool, OutOfMemory> {
+    let writes = writers_of(map, range)?;
+    Ok(are_noted(writes.as_slice(), asked))
+}
+
+/// Whether reads and writes of the letters between the two ask whom their owners say.
+fn is_as_listed(
+    map: &OwnerMap,
+    alloc: Global,
+    letters: &[Owners],
+    ends: (u64, u64),
+    snapshot: u64,
+) -> Result<bool, Fail> {
+    let readers = readers_listed(letters, ends, snapshot);
+    let writers = readers_listed(letters, ends, u64::MAX);
+    let range = range_of(alloc, ends)?;
+    Ok(
+        is_read_as_listed(map, &range, snapshot, &readers)?
+            && is_written_as_listed(map, &range, &writers)?,
+    )
+}
+
+/// Moves the letters between the two to the resolver, in the map and in the lists.
+fn make_move(
+    map: &mut OwnerMap,
+    alloc: Global,
+    letters: &mut [Owners],
+    ends: (u64, u64),
+    owner: (u64, usize),
+) -> Result<(), Fail> {
+    let range = range_of(alloc, ends)?;
+    moved_to(map, &range, owner.0, owner.1)?;
+    add_owner(letters, ends, owner)?;
+    Ok(())
+}
+
+/// Makes a random move or forgets at random. `dates` are that of the last move and the oldest that
+/// is not forgotten; returns what they are then.
+fn change(
+    random: &mut Random,
+    map: &mut OwnerMap,
+    alloc: Global,
+    letters: &mut [Owners],
+    dates: (u64, u64),
+) -> Result<(u64, u64), Fail> {
+    let (last, oldest) = dates;
+    if random.below(4) == 0 {
+        let version = random.below(last.saturating_add(5));
+        map.forget(version);
+        return Ok((last, oldest.max(version)));
+    }
+    let date = last.saturating_add(random.below(6));
+    let ends = random.letters();
+    let dest = random.below(3) as usize;
+    make_move(map, alloc, letters, ends, (date, dest))?;
+    Ok((date, oldest))
 }
 
 /// Makes random moves and forgets, and tells whether the map always agrees with the lists.
-fn agrees_with_lists(alloc: Global, seed: u64) -> Result<bool, Fail> {
-    let mut random = Random(seed);
-    let (mut map, mut letters) = (map_of_three(alloc)?, first_owners(alloc)?);
-    let (mut last, mut oldest) = (0u64, 0u64);
+fn agree(
+    random: &mut Random,
+    map: &mut OwnerMap,
+    alloc: Global,
+    letters: &mut [Owners],
+) -> Result<bool, Fail> {
+    let mut dates = (0u64, 0u64);
     for _ in 0..STEPS {
-        if random.below(4) == 0 {
-            let version = random.below(last.saturating_add(5));
-            map.forget(version);
-            oldest = oldest.max(version);
-        } else {
-            last = last.saturating_add(random.below(6));
-            let (begin, end, range) = random.letters(alloc)?;
-            let dest = random.below(3) as usize;
-            let answer = twice!(map.move_range(&range, last, dest), Refusal::OutOfMemory);
-            answer?;
-            add_owner(&mut letters, begin, end, (last, dest))?;
-        }
-        trim_all(&mut letters, oldest);
-        let snapshot = random.below(last.saturating_add(8));
-        if !is_as_listed(&map, &letters, random.letters(alloc)?, snapshot)? {
+        dates = change(random, map, alloc, letters, dates)?;
+        trim_all(letters, dates.1);
+        let snapshot = random.below(dates.0.saturating_add(8));
+        if !is_as_listed(map, alloc, letters, random.letters(), snapshot)? {
             return Ok(false);
         }
     }
     Ok(true)
+}
+
+/// Whether a new map agrees with the lists of its owners.
+fn agrees_with_lists(alloc: Global, seed: u64) -> Result<bool, Fail> {
+    let mut random = Random(seed);
+    let mut map = map_of_three(alloc)?;
+    let mut letters = first_owners(alloc)?;
+    agree(&mut random, &mut map, alloc, &mut letters)
 }
 
 #[test]

@@ -11,8 +11,6 @@
 mod fact;
 mod setting;
 mod stretch;
-#[cfg(test)]
-mod tests;
 
 pub use fact::Fact;
 pub use setting::Unset;

@@ -30,9 +30,10 @@ pub fn read_script(alloc: Global, bytes: &[u8]) -> Result<FoldScript, ScriptFaul
     script_of_value(alloc, &value)
 }
 
-// The fold script that the bytes are, read as its tokens come. `None` decides nothing.
+/// The fold script that the bytes are, read as its tokens come, without a tree of the JSON values.
+/// `None` decides nothing: `read_script` then reads the tree.
 #[tactic(auto, unfolding(crate::specs::FoldScripts::script_of))]
-pub(crate) fn stream_script(alloc: Global, bytes: &[u8]) -> Option<FoldScript>
+pub fn stream_script(alloc: Global, bytes: &[u8]) -> Option<FoldScript>
     ensures { IfSome result (λ script. script_of bytes.now ≡ Ok script) }
 {
     let script: RawScript = read_tokens(alloc, bytes)?;

@@ -11,15 +11,9 @@ mod fold_reading;
 mod fold_script;
 mod fold_shapes;
 mod fold_streams;
-#[cfg(test)]
-mod fold_tests;
 mod run;
-#[cfg(test)]
-mod stream_tests;
-#[cfg(test)]
-mod tests;
 
 pub use answer::print_metadata;
-pub use fold_reading::read_script;
+pub use fold_reading::{read_script, stream_script};
 pub use fold_script::FoldScript;
 pub use run::run_fold;

@@ -13,8 +13,6 @@ mod limits;
 mod refusal;
 mod stamp;
 mod stamped;
-#[cfg(test)]
-mod tests;
 mod transaction;
 
 pub use admission::admit;

@@ -4,13 +4,14 @@
 
 ghost use Rattle.std.specs.Prelude.{◌≡◌, ◌≤◌, ◌<◌};
 
-use crate::replies_made::{Line, Told, both, no_replies, replies_of, reply, reply_by, to_row_0};
+use crate::replies_made::{Line, Told, both, no_replies, reply, to_row_0, with_reply};
 use model::{Config, Reply};
 use mutation::{Admitted, Batch, Mutation, Transaction, admit};
 use proxy_state::{Finished, Outcome, Proxy, Refusal, Replies, Verdict};
 use request_builder::{Record, Requests};
 use std::alloc::{AllocError, Global};
 use std::marker::Model;
+use std::process::Abort;
 use std::test::Fail;
 use system_keys::{Bytes, Items, OutOfMemory, Tag};
 
@@ -105,7 +106,7 @@ impl Tested {
     }
 
     /// Begins the record of a batch of these Sets, in this row of this proxy.
-    fn begin_puts(
+    pub(crate) fn begin_puts(
         &mut self,
         alloc: Global,
         row: usize,
@@ -167,7 +168,28 @@ impl Tested {
 
     /// The finished batch. The replies are not refused.
     fn finished(&mut self, replies: Replies) -> Result<Finished, Fail> {
-        Ok(self.finish(replies).map_err(|refused| refused.0)?)
+        match self.finish(replies) {
+            Ok(finished) => Ok(finished),
+            Err(refused) => Err(Fail::from(refused.0)),
+        }
+    }
+
+    /// Why the replies are refused, if they are.
+    pub(crate) fn refusal_of(&mut self, replies: Replies) -> Option<Refusal> {
+        match self.finish(replies) {
+            Ok(_) => None,
+            Err(refused) => Some(refused.0),
+        }
+    }
+
+    /// The batch that these replies finish.
+    fn finished_by(
+        &mut self,
+        alloc: Global,
+        first: Line<'_>,
+        second: Line<'_>,
+    ) -> Result<Finished, Fail> {
+        self.finished(both(alloc, first, second)?)
     }
 }
 
@@ -185,13 +207,13 @@ const LOCKS: Put = Put {
     lock_aware: true,
 };
 
-const TAGS: Put = Put {
+pub(crate) const TAGS: Put = Put {
     key: TAG_ROW,
     value: b"\x00\x00\x01",
     lock_aware: true,
 };
 
-const SERVES: Put = Put {
+pub(crate) const SERVES: Put = Put {
     key: ROW_OF_ALL,
     value: SERVER,
     lock_aware: true,
@@ -215,19 +237,31 @@ const SERVES_UNAWARE: Put = Put {
     lock_aware: false,
 };
 
-fn admitted(alloc: Global, one: Put) -> Result<Admitted, Fail> {
-    let mut mutations = room(alloc, 1)?;
-    mutations.push(Mutation::Set {
+fn set(alloc: Global, one: Put) -> Result<Mutation, AllocError> {
+    Ok(Mutation::Set {
         key: Bytes::from(bytes(alloc, one.key)?),
         value: Bytes::from(bytes(alloc, one.value)?),
-    })?;
-    let given = Transaction {
+    })
+}
+
+fn one_set(alloc: Global, one: Put) -> Result<Items<Mutation>, AllocError> {
+    let mut mutations = room(alloc, 1)?;
+    mutations.push(set(alloc, one)?)?;
+    Ok(Items::from(mutations))
+}
+
+fn transaction(alloc: Global, one: Put) -> Result<Transaction, AllocError> {
+    Ok(Transaction {
         snapshot: 0,
         reads: Items::from(Vec::new(alloc)),
         writes: Items::from(Vec::new(alloc)),
-        mutations: Items::from(mutations),
+        mutations: one_set(alloc, one)?,
         lock_aware: one.lock_aware,
-    };
+    })
+}
+
+fn admitted(alloc: Global, one: Put) -> Result<Admitted, Fail> {
+    let given = transaction(alloc, one)?;
     admitted_as(alloc, &given)
 }
 
@@ -245,21 +279,16 @@ fn batch_of(alloc: Global, puts: &[Put]) -> Result<Batch, Fail> {
 }
 
 pub(crate) fn batch_from(transactions: Vec<Admitted>) -> Result<Batch, Fail> {
-    Ok(Batch::new(transactions).map_err(|refused| refused.0)?)
+    match Batch::new(transactions) {
+        Ok(batch) => Ok(batch),
+        Err(refused) => Err(Fail::from(refused.0)),
+    }
 }
 
 fn begun(alloc: Global, puts: &[Put]) -> Result<Tested, Fail> {
     let mut tested = Tested::new(alloc)?;
     tested.begin_puts(alloc, 0, 0, 0, puts)?;
     Ok(tested)
-}
-
-/// Why the replies are refused, if they are and come back.
-fn refusal(answer: Result<Finished, (Refusal, Replies)>) -> Option<Refusal> {
-    match answer {
-        Ok(_) => None,
-        Err((refusal, _replies)) => Some(refusal),
-    }
 }
 
 fn versions(proxy: &Proxy) -> [u64; 3] {
@@ -274,31 +303,56 @@ fn versions(proxy: &Proxy) -> [u64; 3] {
 
 // ---- records that are refused
 
-#[test]
-fn a_proxy_begins_its_own_next_record_alone(rt: HostRuntime) -> Result<(), Fail> {
-    let alloc = rt.alloc();
-    let mut tested = begun(alloc, &[WRITES])?;
-    let batch = batch_of(alloc, &[WRITES])?;
-    let other = tested.refused(alloc, 1, 10, 0, 1, &batch);
+/// The batch is refused in a record of another proxy, and in one that comes too early.
+fn begins_no_other<R: Abort + AllocGlobal>(rt: &R, tested: &mut Tested, batch: &Batch) {
+    let other = tested.refused(rt.alloc(), 1, 10, 0, 1, batch);
     assert_eq!(rt; other, Some(Refusal::NotMine));
-    let early = tested.refused(alloc, 2, 20, 20, 0, &batch);
+    let early = tested.refused(rt.alloc(), 2, 20, 20, 0, batch);
     assert_eq!(rt; early, Some(Refusal::OutOfOrder { expected: 10 }));
     assert_eq!(rt;
         (tested.proxy.last_begun(), tested.proxy.version()),
         (10, 0)
     );
+}
+
+#[test]
+fn a_proxy_begins_its_own_next_record_alone(rt: HostRuntime) -> Result<(), Fail> {
+    let mut tested = begun(rt.alloc(), &[WRITES])?;
+    let batch = batch_of(rt.alloc(), &[WRITES])?;
+    begins_no_other(&rt, &mut tested, &batch);
     Ok(())
 }
 
 /// Whether they are two, at version 30, of a proxy that has finished nothing, and both are asked.
 fn are_requests_of_row_2(built: &Requests) -> bool {
-    let requests = built.requests.as_slice();
-    let asked = built.asked.as_slice();
-    requests.len() == 2
-        && requests.iter().all(|request| request.last_received() == 0 && request.version() == 30)
-        && asked
-            .iter()
-            .all(|resolvers| resolvers.as_slice() == [0, 1].as_slice())
+    built.requests.as_slice().len() == 2 && are_to_row_2(built) && are_both_asked(built)
+}
+
+fn are_to_row_2(built: &Requests) -> bool {
+    for request in built.requests.as_slice() {
+        if request.last_received() != 0 || request.version() != 30 {
+            return false;
+        }
+    }
+    true
+}
+
+fn are_both_asked(built: &Requests) -> bool {
+    for resolvers in built.asked.as_slice() {
+        if resolvers.as_slice() != [0, 1].as_slice() {
+            return false;
+        }
+    }
+    true
+}
+
+/// Whether the requests of row 2, with this batch, are as they should be.
+fn asks_for_row_2(alloc: Global, tested: &mut Tested, batch: &Batch) -> Result<bool, Refusal> {
+    let built = twice!(
+        tested.begin(alloc, 2, 20, 10, 0, batch),
+        Refusal::OutOfMemory
+    )?;
+    Ok(are_requests_of_row_2(&built))
 }
 
 #[test]
@@ -306,24 +360,21 @@ fn requests_name_the_version_finished(rt: HostRuntime) -> Result<(), Fail> {
     let alloc = rt.alloc();
     let mut tested = begun(alloc, &[WRITES])?;
     let batch = batch_of(alloc, &[SERVES])?;
-    let built = twice!(
-        tested.begin(alloc, 2, 20, 10, 0, &batch),
-        Refusal::OutOfMemory
-    )?;
-    assert!(rt; are_requests_of_row_2(&built));
+    assert!(rt; asks_for_row_2(alloc, &mut tested, &batch)?);
     Ok(())
 }
 
 // ---- replies that are refused
 
+fn refused_without_replies(alloc: Global, tested: &mut Tested) -> Result<Option<Refusal>, Fail> {
+    Ok(tested.refusal_of(no_replies(alloc)?))
+}
+
 #[test]
 fn a_proxy_that_has_begun_nothing_finishes_nothing(rt: HostRuntime) -> Result<(), Fail> {
     let mut tested = Tested::new(rt.alloc())?;
-    let answer = tested.finish(no_replies(rt.alloc())?);
-    assert_eq!(rt;
-        refusal(answer),
-        Some(Refusal::OutOfTurn { expected: None })
-    );
+    let refusal = refused_without_replies(rt.alloc(), &mut tested)?;
+    assert_eq!(rt; refusal, Some(Refusal::OutOfTurn { expected: None }));
     Ok(())
 }
 
@@ -336,35 +387,52 @@ fn wrong_reply_of_0(alloc: Global) -> Result<Replies, Fail> {
     with_reply(no_replies(alloc)?, reply(alloc, wrong)?)
 }
 
-fn with_reply(mut replies: Replies, one: Reply) -> Result<Replies, Fail> {
-    replies.put(one).map_err(|refused| refused.0)?;
-    Ok(replies)
+fn refused_with_one_reply(alloc: Global, tested: &mut Tested) -> Result<Option<Refusal>, Fail> {
+    Ok(tested.refusal_of(wrong_reply_of_0(alloc)?))
 }
 
-#[test]
-fn the_least_resolver_that_is_missing_is_named(rt: HostRuntime) -> Result<(), Fail> {
-    let alloc = rt.alloc();
-    let mut tested = begun(alloc, &[SERVES])?;
-    let none = refusal(tested.finish(no_replies(alloc)?));
+/// Without replies resolver 0 is named, and with its reply alone resolver 1.
+fn names_the_missing<R: Abort + AllocGlobal>(rt: &R, tested: &mut Tested) -> Result<(), Fail> {
+    let none = refused_without_replies(rt.alloc(), tested)?;
     assert_eq!(rt; none, Some(Refusal::MissingReply { resolver: 0 }));
-    let one = refusal(tested.finish(wrong_reply_of_0(alloc)?));
+    let one = refused_with_one_reply(rt.alloc(), tested)?;
     assert_eq!(rt; one, Some(Refusal::MissingReply { resolver: 1 }));
     Ok(())
 }
 
 #[test]
-fn replies_that_are_refused_come_back(rt: HostRuntime) -> Result<(), Fail> {
-    let alloc = rt.alloc();
-    let mut tested = begun(alloc, &[SERVES])?;
-    let Err((refusal, mut replies)) = tested.finish(wrong_reply_of_1(alloc)?) else {
-        return Err(Fail::from("finished"));
-    };
-    assert_eq!(rt; refusal, Refusal::RepliesDisagree { version: 10 });
+fn the_least_resolver_that_is_missing_is_named(rt: HostRuntime) -> Result<(), Fail> {
+    let mut tested = begun(rt.alloc(), &[SERVES])?;
+    names_the_missing(&rt, &mut tested)
+}
+
+/// Why both replies are refused, and the replies that come back.
+fn refused_back(alloc: Global, tested: &mut Tested) -> Result<(Refusal, Replies), Fail> {
+    match tested.finish(wrong_reply_of_1(alloc)?) {
+        Ok(_) => Err(Fail::from("finished")),
+        Err(refused) => Ok(refused),
+    }
+}
+
+/// Why another reply of resolver 1 is refused, if it is, and the version of the one that comes back.
+fn put_reply_of_1(alloc: Global, replies: &mut Replies) -> Result<Option<(Refusal, u64)>, Fail> {
     let again = reply(alloc, to_row_0(1, &[COMMITTED]))?;
-    assert_eq!(rt;
-        put_again(&mut replies, again),
-        Some((Refusal::DoubleReply { resolver: 1 }, 10))
-    );
+    Ok(put_again(replies, again))
+}
+
+/// The replies disagree, and come back with that of resolver 1.
+fn replies_come_back<R: Abort + AllocGlobal>(rt: &R, tested: &mut Tested) -> Result<(), Fail> {
+    let (refusal, mut replies) = refused_back(rt.alloc(), tested)?;
+    assert_eq!(rt; refusal, Refusal::RepliesDisagree { version: 10 });
+    let again = put_reply_of_1(rt.alloc(), &mut replies)?;
+    assert_eq!(rt; again, Some((Refusal::DoubleReply { resolver: 1 }, 10)));
+    Ok(())
+}
+
+#[test]
+fn replies_that_are_refused_come_back(rt: HostRuntime) -> Result<(), Fail> {
+    let mut tested = begun(rt.alloc(), &[SERVES])?;
+    replies_come_back(&rt, &mut tested)?;
     assert!(rt; has_finished_nothing(&tested.proxy));
     Ok(())
 }
@@ -420,9 +488,24 @@ fn replies_to_row_2(alloc: Global) -> Result<Replies, Fail> {
 /// A proxy that began rows 0 and 2, and then finished row 0.
 fn finished_once(alloc: Global) -> Result<Tested, Fail> {
     let mut tested = begun(alloc, &[SERVES])?;
-    tested.begin_puts(alloc, 2, 20, 10, &[WRITES, LOCKS])?;
-    let _ = tested.finished(replies_to_row_0(alloc)?)?;
+    begin_row_2(alloc, &mut tested)?;
+    finish_row_0(alloc, &mut tested)?;
     Ok(tested)
+}
+
+fn begin_row_2(alloc: Global, tested: &mut Tested) -> Result<(), Fail> {
+    tested.begin_puts(alloc, 2, 20, 10, &[WRITES, LOCKS])
+}
+
+fn finish_row_0(alloc: Global, tested: &mut Tested) -> Result<(), Fail> {
+    let _ = tested.finished(replies_to_row_0(alloc)?)?;
+    Ok(())
+}
+
+/// Finishes row 2, and tells whether its batch is finished as it should be.
+fn finishes_row_2(alloc: Global, tested: &mut Tested) -> Result<bool, Fail> {
+    let finished = tested.finished(replies_to_row_2(alloc)?)?;
+    Ok(is_row_2(&finished))
 }
 
 /// Whether the batch of row 2 committed its first transaction alone, whose Set has tag 1.
@@ -450,17 +533,19 @@ fn has_tag_1(finished: &Finished, count: usize) -> bool {
     }
 }
 
-#[test]
-fn a_proxy_learns_the_rows_of_others(rt: HostRuntime) -> Result<(), Fail> {
-    let alloc = rt.alloc();
-    let mut tested = finished_once(alloc)?;
+/// The proxy, which finished row 0, learns row 1 as it finishes row 2.
+fn learns_row_1<R: Abort + AllocGlobal>(rt: &R, tested: &mut Tested) -> Result<(), Fail> {
     assert_eq!(rt; versions(&tested.proxy), [10, 0, 0]);
-    let replies = replies_to_row_2(alloc)?;
-    let finished = tested.finished(replies)?;
-    assert!(rt; is_row_2(&finished));
+    assert!(rt; finishes_row_2(rt.alloc(), tested)?);
     assert_eq!(rt; versions(&tested.proxy), [10, 20, 30]);
     assert_eq!(rt; tested.proxy.version(), 30);
     Ok(())
+}
+
+#[test]
+fn a_proxy_learns_the_rows_of_others(rt: HostRuntime) -> Result<(), Fail> {
+    let mut tested = finished_once(rt.alloc())?;
+    learns_row_1(&rt, &mut tested)
 }
 
 /// Whether the metadata at the version has the tag row.
@@ -471,46 +556,47 @@ fn has_tag_row_at(proxy: &Proxy, version: u64) -> Result<bool, Fail> {
 
 #[test]
 fn the_metadata_at_a_version_is_of_the_rows_up_to_it(rt: HostRuntime) -> Result<(), Fail> {
-    let alloc = rt.alloc();
-    let mut tested = finished_once(alloc)?;
-    let replies = replies_to_row_2(alloc)?;
-    let _ = tested.finished(replies)?;
+    let mut tested = finished_once(rt.alloc())?;
+    let _ = finishes_row_2(rt.alloc(), &mut tested)?;
     assert!(rt; !has_tag_row_at(&tested.proxy, 10)?);
     assert!(rt; has_tag_row_at(&tested.proxy, 20)?);
     Ok(())
 }
 
+/// Finishes row 0, which has two verdicts of each resolver.
+fn finished_with_two(alloc: Global, tested: &mut Tested) -> Result<Finished, Fail> {
+    let verdicts = &[COMMITTED, COMMITTED];
+    tested.finished_by(alloc, to_row_0(0, verdicts), to_row_0(1, verdicts))
+}
+
 #[test]
 fn tags_are_those_after_the_whole_batch(rt: HostRuntime) -> Result<(), Fail> {
-    let alloc = rt.alloc();
-    let mut tested = begun(alloc, &[WRITES, TAGS, SERVES])?;
-    let verdicts = &[COMMITTED, COMMITTED];
-    let of_0 = to_row_0(0, &[COMMITTED, COMMITTED]);
-    let replies = both(alloc, of_0, to_row_0(1, verdicts))?;
-    let finished = tested.finished(replies)?;
+    let mut tested = begun(rt.alloc(), &[WRITES, TAGS, SERVES])?;
+    let finished = finished_with_two(rt.alloc(), &mut tested)?;
     assert!(rt; has_tag_1(&finished, 3));
     Ok(())
 }
 
+/// The second transaction was committed at version 10 beside the one that locks.
+fn is_served_under_lock<R: Abort>(rt: &R, proxy: &Proxy, finished: &Finished) {
+    let committed = Outcome::Committed {
+        version: 10,
+        number: 1,
+    };
+    assert_eq!(rt; outcome_at(finished, 1), Some(committed));
+    assert!(rt; proxy.metadata().is_locked());
+    assert!(rt; proxy.metadata().row(ROW_OF_ALL).is_some());
+}
+
 #[test]
 fn the_lock_is_read_before_the_batch(rt: HostRuntime) -> Result<(), Fail> {
-    let alloc = rt.alloc();
-    let mut tested = begun(alloc, &[LOCKS, SERVES_UNAWARE])?;
-    let verdicts = &[COMMITTED, COMMITTED];
-    let replies = both(alloc, to_row_0(0, verdicts), to_row_0(1, verdicts))?;
-    let finished = tested.finished(replies)?;
-    let second = outcome_at(&finished, 1);
-    assert_eq!(rt;
-        second,
-        Some(Outcome::Committed {
-            version: 10,
-            number: 1
-        })
-    );
-    assert!(rt; tested.proxy.metadata().is_locked());
-    assert!(rt; tested.proxy.metadata().row(ROW_OF_ALL).is_some());
+    let mut tested = begun(rt.alloc(), &[LOCKS, SERVES_UNAWARE])?;
+    let finished = finished_with_two(rt.alloc(), &mut tested)?;
+    is_served_under_lock(&rt, &tested.proxy, &finished);
     Ok(())
 }
+
+pub(crate) const ONE_VERDICT: &[Verdict] = &[Verdict::Committed];
 
 /// The reply of a resolver to row 1, at version 20, with these unseen rows.
 const fn to_row_1<'a>(resolver: usize, unseen: &'a [(u64, &'a [Told])]) -> Line<'a> {
@@ -522,239 +608,107 @@ const fn to_row_1<'a>(resolver: usize, unseen: &'a [(u64, &'a [Told])]) -> Line<
     }
 }
 
-/// Row 0 is of proxy 1 with these transactions, and then this proxy finishes its row 1.
-fn after_row_of_another(
-    alloc: Global,
-    of_0: &[Told],
-    of_1: &[Told],
-) -> Result<(Tested, Finished), Fail> {
+/// A proxy that began row 1, after a row of proxy 1.
+fn begun_row_1(alloc: Global) -> Result<Tested, Fail> {
     let mut tested = Tested::new(alloc)?;
     tested.begin_puts(alloc, 1, 10, 0, &[SERVES_UNAWARE])?;
-    let replies = both(
+    Ok(tested)
+}
+
+/// Finishes row 1, of whose resolvers each tells these transactions of row 0.
+fn finished_row_1(
+    alloc: Global,
+    tested: &mut Tested,
+    of_0: &[Told],
+    of_1: &[Told],
+) -> Result<Finished, Fail> {
+    tested.finished_by(
         alloc,
         to_row_1(0, &[(10, of_0)]),
         to_row_1(1, &[(10, of_1)]),
-    )?;
-    let finished = tested.finished(replies)?;
-    Ok((tested, finished))
+    )
+}
+
+/// There is no lock, and the transaction of row 1 is committed.
+fn is_committed_without_lock<R: Abort>(rt: &R, proxy: &Proxy, finished: &Finished) {
+    assert!(rt; !proxy.metadata().is_locked());
+    let committed = Outcome::Committed {
+        version: 20,
+        number: 0,
+    };
+    assert_eq!(rt; outcome_at(finished, 0), Some(committed));
 }
 
 #[test]
 fn what_one_resolver_alone_committed_is_not_applied(rt: HostRuntime) -> Result<(), Fail> {
+    let mut tested = begun_row_1(rt.alloc())?;
     let of_0: &[Told] = &[(COMMITTED, LOCKS)];
-    let (tested, finished) = after_row_of_another(rt.alloc(), of_0, &[(CONFLICT, LOCKS)])?;
-    assert!(rt; !tested.proxy.metadata().is_locked());
-    let first = outcome_at(&finished, 0);
-    assert_eq!(rt;
-        first,
-        Some(Outcome::Committed {
-            version: 20,
-            number: 0
-        })
-    );
+    let finished = finished_row_1(rt.alloc(), &mut tested, of_0, &[(CONFLICT, LOCKS)])?;
+    is_committed_without_lock(&rt, &tested.proxy, &finished);
     Ok(())
+}
+
+/// There is a lock, and the transaction of row 1 is refused by it.
+fn is_refused_by_lock<R: Abort>(rt: &R, proxy: &Proxy, finished: &Finished) {
+    assert!(rt; proxy.metadata().is_locked());
+    assert!(rt; proxy.metadata().row(ROW_OF_ALL).is_none());
+    assert_eq!(rt; outcome_at(finished, 0), Some(Outcome::Locked));
+    assert_eq!(rt; finished.tagged.as_slice().len(), 0);
 }
 
 #[test]
 fn the_lock_of_another_proxy_is_kept(rt: HostRuntime) -> Result<(), Fail> {
+    let mut tested = begun_row_1(rt.alloc())?;
     let told: &[Told] = &[(COMMITTED, LOCKS)];
-    let (tested, finished) = after_row_of_another(rt.alloc(), told, told)?;
-    assert!(rt; tested.proxy.metadata().is_locked());
-    assert!(rt; tested.proxy.metadata().row(ROW_OF_ALL).is_none());
-    assert_eq!(rt; outcome_at(&finished, 0), Some(Outcome::Locked));
-    assert_eq!(rt; finished.tagged.as_slice().len(), 0);
+    let finished = finished_row_1(rt.alloc(), &mut tested, told, told)?;
+    is_refused_by_lock(&rt, &tested.proxy, &finished);
     Ok(())
+}
+
+/// Finishes row 0, which locks, and begins row 2.
+fn lock_and_begin_row_2(alloc: Global, tested: &mut Tested) -> Result<(), Fail> {
+    finish_row_0(alloc, tested)?;
+    tested.begin_puts(alloc, 2, 20, 10, &[WRITES_UNAWARE])
+}
+
+/// Row 1, with a transaction that is not lock aware, and one that is.
+const UNAWARE_AND_AWARE: &[(u64, &[Told])] = &[(
+    20,
+    &[
+        (Verdict::Committed, SERVES_UNAWARE),
+        (Verdict::Committed, TAGS),
+    ],
+)];
+
+/// Finishes row 2, whose replies tell row 1.
+fn finished_after_foreign(alloc: Global, tested: &mut Tested) -> Result<Finished, Fail> {
+    let of_0 = Line {
+        row: 2,
+        version: 30,
+        unseen: UNAWARE_AND_AWARE,
+        ..to_row_0(0, &[])
+    };
+    let of_1 = Line {
+        resolver: 1,
+        ..of_0
+    };
+    tested.finished_by(alloc, of_0, of_1)
+}
+
+/// Of row 1 the lock aware transaction alone was applied, and that of row 2 is refused.
+fn is_applied_in_part<R: Abort>(rt: &R, proxy: &Proxy, finished: &Finished) {
+    assert!(rt; proxy.metadata().row(ROW_OF_ALL).is_none());
+    assert!(rt; proxy.metadata().row(TAG_ROW).is_some());
+    assert_eq!(rt; outcome_at(finished, 0), Some(Outcome::Locked));
 }
 
 #[test]
 fn a_foreign_transaction_that_is_not_lock_aware_waits_for_no_lock(
     rt: HostRuntime,
 ) -> Result<(), Fail> {
-    let alloc = rt.alloc();
-    let mut tested = begun(alloc, &[LOCKS])?;
-    let replies = both(alloc, to_row_0(0, &[COMMITTED]), to_row_0(1, &[COMMITTED]))?;
-    let _ = tested.finished(replies)?;
-    tested.begin_puts(alloc, 2, 20, 10, &[WRITES_UNAWARE])?;
-    let told: &[Told] = &[(COMMITTED, SERVES_UNAWARE), (COMMITTED, TAGS)];
-    let unseen: &[(u64, &[Told])] = &[(20, told)];
-    let of_0 = Line {
-        row: 2,
-        version: 30,
-        unseen,
-        ..to_row_0(0, &[])
-    };
-    let of_1 = Line {
-        row: 2,
-        version: 30,
-        unseen,
-        ..to_row_0(1, &[])
-    };
-    let finished = tested.finished(both(alloc, of_0, of_1)?)?;
-    assert!(rt; tested.proxy.metadata().row(ROW_OF_ALL).is_none());
-    assert!(rt; tested.proxy.metadata().row(TAG_ROW).is_some());
-    assert_eq!(rt; outcome_at(&finished, 0), Some(Outcome::Locked));
-    Ok(())
-}
-
-// ---- replies that disagree
-
-/// The version at which the replies to row 3, at version 40, disagree.
-fn disagreement(alloc: Global, first: Line<'_>, second: Line<'_>) -> Result<Option<u64>, Fail> {
-    disagreement_by(alloc, reply(alloc, first)?, reply(alloc, second)?)
-}
-
-fn disagreement_by(alloc: Global, first: Reply, second: Reply) -> Result<Option<u64>, Fail> {
-    let mut tested = Tested::new(alloc)?;
-    tested.begin_puts(alloc, 3, 30, 0, &[SERVES])?;
-    match tested.finish(replies_of(first, second, no_replies(alloc)?)?) {
-        Ok(_) => Ok(None),
-        Err((Refusal::RepliesDisagree { version }, _)) => Ok(Some(version)),
-        Err((refusal, _)) => Err(Fail::from(refusal)),
-    }
-}
-
-const ONE: &[Told] = &[(Verdict::Committed, TAGS)];
-
-/// The rows that are unseen.
-const ROWS: &[(u64, &[Told])] = &[(10, ONE), (20, ONE), (30, ONE)];
-
-const ONE_VERDICT: &[Verdict] = &[Verdict::Committed];
-
-/// The reply of a resolver to row 3, with rows 0 to 2.
-const fn to_row_3<'a>(resolver: usize) -> Line<'a> {
-    Line {
-        resolver,
-        proxy: 0,
-        row: 3,
-        version: 40,
-        verdicts: ONE_VERDICT,
-        unseen: ROWS,
-    }
-}
-
-#[test]
-fn replies_agree(rt: HostRuntime) -> Result<(), Fail> {
-    assert_eq!(rt; disagreement(rt.alloc(), to_row_3(0), to_row_3(1))?, None);
-    Ok(())
-}
-
-#[test]
-fn a_reply_to_another_record_disagrees(rt: HostRuntime) -> Result<(), Fail> {
-    let alloc = rt.alloc();
-    let row = Line {
-        row: 2,
-        ..to_row_3(1)
-    };
-    assert_eq!(rt; disagreement(alloc, to_row_3(0), row)?, Some(40));
-    let version = Line {
-        version: 50,
-        ..to_row_3(1)
-    };
-    assert_eq!(rt; disagreement(alloc, to_row_3(0), version)?, Some(40));
-    let proxy = Line {
-        proxy: 1,
-        ..to_row_3(0)
-    };
-    assert_eq!(rt; disagreement(alloc, proxy, to_row_3(1))?, Some(40));
-    Ok(())
-}
-
-#[test]
-fn a_wrong_number_of_verdicts_disagrees_before_the_rows(rt: HostRuntime) -> Result<(), Fail> {
-    let alloc = rt.alloc();
-    let none = Line {
-        verdicts: &[],
-        unseen: &[],
-        ..to_row_3(1)
-    };
-    assert_eq!(rt; disagreement(alloc, to_row_3(0), none)?, Some(40));
-    let two = Line {
-        verdicts: &[COMMITTED, COMMITTED],
-        ..to_row_3(0)
-    };
-    assert_eq!(rt; disagreement(alloc, two, to_row_3(1))?, Some(40));
-    Ok(())
-}
-
-/// The version at which the replies disagree if resolver 1 tells these rows.
-fn told_by_1(alloc: Global, unseen: &[(u64, &[Told])]) -> Result<Option<u64>, Fail> {
-    disagreement(
-        alloc,
-        to_row_3(0),
-        Line {
-            unseen,
-            ..to_row_3(1)
-        },
-    )
-}
-
-#[test]
-fn a_row_that_is_missing_disagrees_at_its_version(rt: HostRuntime) -> Result<(), Fail> {
-    let first: &[(u64, &[Told])] = &[(20, ONE), (30, ONE)];
-    let second: &[(u64, &[Told])] = &[(10, ONE), (30, ONE)];
-    let third: &[(u64, &[Told])] = &[(10, ONE), (20, ONE)];
-    for (rows, version) in [(first, 10), (second, 20), (third, 30), (&[], 10)] {
-        let found = told_by_1(rt.alloc(), rows)?;
-        assert_eq!(rt; found, Some(version), "a row at {version}");
-    }
-    Ok(())
-}
-
-#[test]
-fn a_row_that_both_lack_disagrees_at_its_version(rt: HostRuntime) -> Result<(), Fail> {
-    let unseen: &[(u64, &[Told])] = &[(10, ONE), (20, ONE)];
-    let first = Line {
-        unseen,
-        ..to_row_3(0)
-    };
-    let found = disagreement(
-        rt.alloc(),
-        first,
-        Line {
-            unseen,
-            ..to_row_3(1)
-        },
-    )?;
-    assert_eq!(rt; found, Some(30));
-    Ok(())
-}
-
-#[test]
-fn a_row_too_many_disagrees_at_its_version(rt: HostRuntime) -> Result<(), Fail> {
-    let alloc = rt.alloc();
-    let rows: &[(u64, &[Told])] = &[(10, ONE), (20, ONE), (30, ONE), (40, ONE)];
-    assert_eq!(rt; told_by_1(alloc, rows)?, Some(40));
-    let first = Line {
-        unseen: rows,
-        ..to_row_3(0)
-    };
-    assert_eq!(rt; disagreement(alloc, first, to_row_3(1))?, Some(40));
-    Ok(())
-}
-
-#[test]
-fn a_version_between_disagrees_at_the_one_that_should_stand(rt: HostRuntime) -> Result<(), Fail> {
-    let found = told_by_1(rt.alloc(), &[(10, ONE), (15, ONE), (30, ONE)])?;
-    assert_eq!(rt; found, Some(20));
-    Ok(())
-}
-
-#[test]
-fn another_number_of_state_transactions_disagrees(rt: HostRuntime) -> Result<(), Fail> {
-    let two: &[Told] = &[(COMMITTED, TAGS), (COMMITTED, SERVES)];
-    let found = told_by_1(rt.alloc(), &[(10, ONE), (20, two), (30, ONE)])?;
-    assert_eq!(rt; found, Some(20));
-    Ok(())
-}
-
-#[test]
-fn content_in_the_wrong_reply_disagrees(rt: HostRuntime) -> Result<(), Fail> {
-    let alloc = rt.alloc();
-    let first = reply_by(alloc, false, to_row_3(0))?;
-    let second = reply(alloc, to_row_3(1))?;
-    assert_eq!(rt; disagreement_by(alloc, first, second)?, Some(10));
-    let first = reply(alloc, to_row_3(0))?;
-    let second = reply_by(alloc, true, to_row_3(1))?;
-    assert_eq!(rt; disagreement_by(alloc, first, second)?, Some(10));
+    let mut tested = begun(rt.alloc(), &[LOCKS])?;
+    lock_and_begin_row_2(rt.alloc(), &mut tested)?;
+    let finished = finished_after_foreign(rt.alloc(), &mut tested)?;
+    is_applied_in_part(&rt, &tested.proxy, &finished);
     Ok(())
 }

@@ -5,6 +5,8 @@
 #[cfg(test)]
 mod clear_tests;
 #[cfg(test)]
+mod disagree_tests;
+#[cfg(test)]
 mod finish_tests;
 #[cfg(test)]
 mod proxy_tests;

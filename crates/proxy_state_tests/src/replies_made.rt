@@ -3,7 +3,7 @@
 use crate::finish_tests::{Put, bytes, room, twice};
 use model::{Carried, Config, Reply, UnseenRow, UnseenState};
 use proxy_state::{Replies, Verdict};
-use std::alloc::Global;
+use std::alloc::{AllocError, Global};
 use std::test::Fail;
 use system_keys::{Bytes, Change, Items, OutOfMemory};
 
@@ -21,16 +21,30 @@ pub(crate) struct Line<'a> {
     pub(crate) unseen: &'a [(u64, &'a [Told])],
 }
 
-fn content(alloc: Global, one: Put) -> Result<Carried, Fail> {
-    let mut mutations = room(alloc, 1)?;
-    mutations.push(Change::Set {
+fn set(alloc: Global, one: Put) -> Result<Change, AllocError> {
+    Ok(Change::Set {
         key: Bytes::from(bytes(alloc, one.key)?),
         value: Bytes::from(bytes(alloc, one.value)?),
-    })?;
+    })
+}
+
+fn content(alloc: Global, one: Put) -> Result<Carried, AllocError> {
+    let mut mutations = room(alloc, 1)?;
+    mutations.push(set(alloc, one)?)?;
     Ok(Carried {
         mutations: Items::from(mutations),
         lock_aware: one.lock_aware,
     })
+}
+
+fn unseen_state(alloc: Global, carries: bool, told: Told) -> Result<UnseenState, AllocError> {
+    let (verdict, one) = told;
+    let carried = if carries {
+        Some(content(alloc, one)?)
+    } else {
+        None
+    };
+    Ok(UnseenState { verdict, carried })
 }
 
 fn unseen_row(
@@ -38,33 +52,40 @@ fn unseen_row(
     carries: bool,
     version: u64,
     told: &[Told],
-) -> Result<UnseenRow, Fail> {
+) -> Result<UnseenRow, AllocError> {
     let mut states = room(alloc, told.len())?;
-    for (verdict, one) in told {
-        let carried = if carries {
-            Some(content(alloc, *one)?)
-        } else {
-            None
-        };
-        let verdict = *verdict;
-        states.push(UnseenState { verdict, carried })?;
+    for one in told {
+        states.push(unseen_state(alloc, carries, *one)?)?;
     }
     let states = Items::from(states);
     Ok(UnseenRow { version, states })
 }
 
-pub(crate) fn reply_by(alloc: Global, carries: bool, line: Line<'_>) -> Result<Reply, Fail> {
-    let mut unseen = room(alloc, line.unseen.len())?;
-    for (version, told) in line.unseen {
+fn unseen_rows(
+    alloc: Global,
+    carries: bool,
+    rows: &[(u64, &[Told])],
+) -> Result<Items<UnseenRow>, AllocError> {
+    let mut unseen = room(alloc, rows.len())?;
+    for (version, told) in rows {
         unseen.push(unseen_row(alloc, carries, *version, *told)?)?;
     }
+    Ok(Items::from(unseen))
+}
+
+fn verdicts(alloc: Global, given: &[Verdict]) -> Result<Items<Verdict>, AllocError> {
+    Ok(Items::from(twice!(Vec::from_slice(alloc, given), _)?))
+}
+
+pub(crate) fn reply_by(alloc: Global, carries: bool, line: Line<'_>) -> Result<Reply, Fail> {
+    let unseen = unseen_rows(alloc, carries, line.unseen)?;
     Ok(Reply {
         resolver: line.resolver,
         proxy: line.proxy,
         row: line.row,
         version: line.version,
-        verdicts: Items::from(twice!(Vec::from_slice(alloc, line.verdicts), _)?),
-        unseen: Items::from(unseen),
+        verdicts: verdicts(alloc, line.verdicts)?,
+        unseen,
     })
 }
 
@@ -78,22 +99,20 @@ pub(crate) fn no_replies(alloc: Global) -> Result<Replies, Fail> {
     Ok(twice!(Replies::new(alloc, &config), OutOfMemory)?)
 }
 
-pub(crate) fn replies_of(
-    first: Reply,
-    second: Reply,
-    mut replies: Replies,
-) -> Result<Replies, Fail> {
-    replies.put(first).map_err(|refused| refused.0)?;
-    replies.put(second).map_err(|refused| refused.0)?;
-    Ok(replies)
+pub(crate) fn with_reply(mut replies: Replies, one: Reply) -> Result<Replies, Fail> {
+    match replies.put(one) {
+        Ok(()) => Ok(replies),
+        Err(refused) => Err(Fail::from(refused.0)),
+    }
+}
+
+pub(crate) fn replies_of(first: Reply, second: Reply, replies: Replies) -> Result<Replies, Fail> {
+    with_reply(with_reply(replies, first)?, second)
 }
 
 pub(crate) fn both(alloc: Global, first: Line<'_>, second: Line<'_>) -> Result<Replies, Fail> {
-    replies_of(
-        reply(alloc, first)?,
-        reply(alloc, second)?,
-        no_replies(alloc)?,
-    )
+    let replies = with_reply(no_replies(alloc)?, reply(alloc, first)?)?;
+    with_reply(replies, reply(alloc, second)?)
 }
 
 /// The reply of a resolver to row 0, at version 10, of proxy 0.

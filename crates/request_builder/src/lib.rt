@@ -11,14 +11,10 @@ mod header;
 mod marks;
 mod parts;
 mod places;
-#[cfg(test)]
-mod random_tests;
 mod record;
 mod request;
 mod requests;
 mod share;
-#[cfg(test)]
-mod tests;
 
 pub use building::build;
 pub use header::RequestHeader;

@@ -33,9 +33,10 @@ pub fn read_batch(alloc: Global, bytes: &[u8]) -> Result<Batch, ScriptFault>
     batch_of_value(alloc, &value)
 }
 
-// The batch that the bytes are, read as its tokens come. `None` decides nothing.
+/// The batch that the bytes are, read as its tokens come, without a tree of the JSON values. `None`
+/// decides nothing: `read_batch` then reads the tree.
 #[tactic(auto, unfolding(crate::specs::BatchScripts::batch_of))]
-pub(crate) fn stream_batch(alloc: Global, bytes: &[u8]) -> Option<Batch>
+pub fn stream_batch(alloc: Global, bytes: &[u8]) -> Option<Batch>
     ensures { IfSome result (λ batch. batch_of bytes.now ≡ Ok batch) }
 {
     let given: Items<Transaction> = read_tokens(alloc, bytes)?;

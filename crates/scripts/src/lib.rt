@@ -7,11 +7,7 @@
 mod batch_checks;
 mod batch_reading;
 mod batch_shapes;
-#[cfg(test)]
-mod batch_stream_tests;
 mod batch_streams;
-#[cfg(test)]
-mod batch_tests;
 mod change_shapes;
 mod change_streams;
 mod checks;
@@ -27,12 +23,10 @@ mod stream_objects;
 mod stream_shapes;
 mod stream_tokens;
 mod streams;
-#[cfg(test)]
-mod tests;
 mod value_reading;
 
 pub use batch_checks::admit_batch;
-pub use batch_reading::read_batch;
+pub use batch_reading::{read_batch, stream_batch};
 pub use checks::{Checked, check_each};
 pub use devices::{Failed, Reader, Sink, Source, Writer};
 pub use lines::{print_asked, print_routing, push_tags};

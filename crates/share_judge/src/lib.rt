@@ -9,8 +9,6 @@
 #![tactic(auto)]
 
 mod judging;
-#[cfg(test)]
-mod tests;
 mod verdicts;
 mod write;
 mod write_history;

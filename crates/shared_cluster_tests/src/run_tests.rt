@@ -5,11 +5,11 @@
 ghost use Rattle.std.specs.Prelude.{◌≡◌, IfSome};
 ghost use Rattle.model.specs.World.{proxy_metadata};
 
-use crate::tests::{Given, LOCKS, NOTHING, cluster, moves, sequence};
-use model::{Finished, Outcome, Reply, Verdict};
+use crate::tests::{Given, LOCKS, NOTHING, Step, cluster, event_of, room};
+use model::{Finished, Outcome, Reply, UnseenRow, Verdict};
 use proxy_state::Metadata;
-use shared_cluster::{Answer, Event, OfferAnswer, Refusal, TurnWorld};
-use std::alloc::Global;
+use shared_cluster::{Answer, Event, OfferAnswer, Refusal, Stopped, TurnWorld};
+use std::alloc::{AllocError, Global};
 use std::fmt::Write;
 use std::process::Abort;
 use std::test::Fail;
@@ -40,73 +40,71 @@ fn metadata_of(world: &TurnWorld, number: usize) -> Option<&Metadata>
 
 // ---- events
 
-/// What the events of a case are made of.
-#[derive(Clone, Copy)]
-enum Step {
-    /// A batch of these transactions goes to the proxy.
-    Sequence(usize, &'static [Given]),
-    /// `[m, t)` moves to the resolver.
-    Move(usize),
-    /// The row is offered to the resolver.
-    Offer(usize, usize),
-    /// The row is offered to resolvers 0 and 1.
-    Both(usize),
-    /// The proxy finishes a record.
-    Finish(usize),
-}
-
-use Step::{Both, Finish, Move, Offer, Sequence};
+use Step::{Finish, Move, Offer, Sequence};
 
 fn events_of(alloc: Global, steps: &[Step]) -> Result<Vec<Event>, Fail> {
-    let mut events = twice!(Vec::with_capacity(alloc, steps.len().saturating_mul(2)), _)?;
+    let mut events = room(alloc, steps.len())?;
     for step in steps {
-        match *step {
-            Sequence(proxy, batch) => events.push(sequence(alloc, proxy, batch)?)?,
-            Move(dest) => events.push(moves(alloc, dest)?)?,
-            Offer(row, resolver) => events.push(Event::Offer { row, resolver })?,
-            Both(row) => {
-                events.push(Event::Offer { row, resolver: 0 })?;
-                events.push(Event::Offer { row, resolver: 1 })?;
-            }
-            Finish(proxy) => events.push(Event::Finish { proxy })?,
-        }
+        events.push(event_of(alloc, *step)?)?;
     }
     Ok(events)
 }
 
 // ---- results as text
 
-fn push_reply(text: &mut String, word: &str, reply: &Reply) -> Result<(), OutOfMemory> {
-    write!(text, "row {} resolver {} {word}", reply.row, reply.resolver)?;
-    for verdict in reply.verdicts.as_slice() {
+fn push_verdicts(text: &mut String, verdicts: &[Verdict]) -> Result<(), OutOfMemory> {
+    for verdict in verdicts {
         text.push_str(match verdict {
             Verdict::Conflict => " conflict",
             Verdict::TooOld => " too_old",
             Verdict::Committed => " committed",
         })?;
     }
+    Ok(())
+}
+
+fn push_unseen(text: &mut String, rows: &[UnseenRow]) -> Result<(), OutOfMemory> {
     text.push_str(" unseen")?;
-    for row in reply.unseen.as_slice() {
+    for row in rows {
         write!(text, " {}", row.version)?;
     }
     text.push_str("\n")?;
     Ok(())
 }
 
+fn push_reply(text: &mut String, word: &str, reply: &Reply) -> Result<(), OutOfMemory> {
+    write!(text, "row {} resolver {} {word}", reply.row, reply.resolver)?;
+    push_verdicts(text, reply.verdicts.as_slice())?;
+    push_unseen(text, reply.unseen.as_slice())
+}
+
+fn push_outcome(text: &mut String, outcome: &Outcome) -> Result<(), OutOfMemory> {
+    match outcome {
+        Outcome::Committed { version, number } => write!(text, " committed {version} {number}")?,
+        Outcome::Conflict => text.push_str(" conflict")?,
+        Outcome::TooOld => text.push_str(" too_old")?,
+        Outcome::Locked => text.push_str(" locked")?,
+    }
+    Ok(())
+}
+
 fn push_finished(text: &mut String, finished: &Finished) -> Result<(), OutOfMemory> {
     write!(text, "finished {}", finished.version)?;
     for outcome in finished.outcomes.as_slice() {
-        match outcome {
-            Outcome::Committed { version, number } => write!(
-                text,
-                " committed {version} {number}"
-            )?,
-            Outcome::Conflict => text.push_str(" conflict")?,
-            Outcome::TooOld => text.push_str(" too_old")?,
-            Outcome::Locked => text.push_str(" locked")?,
-        }
+        push_outcome(text, outcome)?;
     }
     text.push_str("\n")?;
+    Ok(())
+}
+
+fn push_detail(text: &mut String, refusal: Refusal) -> Result<(), OutOfMemory> {
+    match refusal {
+        Refusal::Early { version } => write!(text, " {version}")?,
+        Refusal::GivenUp { acknowledged } => write!(text, " {acknowledged}")?,
+        Refusal::OutOfTurn { expected: None } => text.push_str(" none")?,
+        Refusal::MissingReply { resolver } => write!(text, " {resolver}")?,
+        _ => {}
+    }
     Ok(())
 }
 
@@ -115,13 +113,7 @@ fn push_refusal(text: &mut String, refusal: Refusal) -> Result<(), OutOfMemory> 
     if let Some(number) = refusal.number() {
         write!(text, " {number}")?;
     }
-    match refusal {
-        Refusal::Early { version } => write!(text, " {version}")?,
-        Refusal::GivenUp { acknowledged } => write!(text, " {acknowledged}")?,
-        Refusal::OutOfTurn { expected: None } => text.push_str(" none")?,
-        Refusal::MissingReply { resolver } => write!(text, " {resolver}")?,
-        _ => {}
-    }
+    push_detail(text, refusal)?;
     text.push_str("\n")?;
     Ok(())
 }
@@ -149,23 +141,47 @@ fn text_of(alloc: Global, results: &[Result<Answer, Refusal>]) -> Result<String,
 
 // ---- runs
 
-/// Runs the events, and after a failed allocation those that are left.
-fn results_of(
+/// The results of a run, in order.
+type Results = Vec<Result<Answer, Refusal>>;
+
+/// The results of a run that stopped, and those of the events that are left.
+fn results_with_rest(
     alloc: Global,
     world: &mut TurnWorld,
     events: &[Event],
-) -> Result<Vec<Result<Answer, Refusal>>, Fail> {
-    let stopped = match world.run(alloc, events) {
-        Ok(results) => return Ok(results),
-        Err(stopped) => stopped,
-    };
-    let mut results = stopped.answers;
+    stopped: Stopped,
+) -> Result<Results, Fail> {
     let rest = events.get(stopped.carried_out..).unwrap_or(events);
-    let more = world.run(alloc, rest).map_err(|_| OutOfMemory)?;
+    match world.run(alloc, rest) {
+        Ok(more) => Ok(joined(stopped.answers, more)?),
+        Err(_) => Err(Fail::from(OutOfMemory)),
+    }
+}
+
+fn joined(mut results: Results, more: Results) -> Result<Results, AllocError> {
     for answer in more {
         results.push(answer)?;
     }
     Ok(results)
+}
+
+/// Runs the events, and after a failed allocation those that are left.
+fn results_of(alloc: Global, world: &mut TurnWorld, events: &[Event]) -> Result<Results, Fail> {
+    match world.run(alloc, events) {
+        Ok(results) => Ok(results),
+        Err(stopped) => results_with_rest(alloc, world, events, stopped),
+    }
+}
+
+fn results_after(alloc: Global, world: &mut TurnWorld, steps: &[Step]) -> Result<Results, Fail> {
+    let events = events_of(alloc, steps)?;
+    results_of(alloc, world, &events)
+}
+
+/// Runs the events of the steps from the world on, and gives the text of the results.
+fn text_after(alloc: Global, world: &mut TurnWorld, steps: &[Step]) -> Result<String, Fail> {
+    let results = results_after(alloc, world, steps)?;
+    Ok(twice!(text_of(alloc, &results), OutOfMemory)?)
 }
 
 /// Runs the events from the world on, and compares the text of the results.
@@ -175,11 +191,31 @@ fn gives<R: Abort + AllocGlobal>(
     steps: &[Step],
     wanted: &'static str,
 ) -> Result<(), Fail> {
-    let alloc = rt.alloc();
-    let events = events_of(alloc, steps)?;
-    let results = results_of(alloc, world, &events)?;
-    let text = twice!(text_of(alloc, &results), OutOfMemory)?;
+    let text = text_after(rt.alloc(), world, steps)?;
     assert_eq!(rt; text.as_str(), wanted);
+    Ok(())
+}
+
+/// `gives`, from a new cluster of two proxies on. Returns the cluster after it.
+fn begins<R: Abort + AllocGlobal>(
+    rt: &R,
+    step: u64,
+    steps: &[Step],
+    wanted: &'static str,
+) -> Result<TurnWorld, Fail> {
+    let mut world = cluster(rt.alloc(), 2, step)?;
+    gives(rt, &mut world, steps, wanted)?;
+    Ok(world)
+}
+
+/// `begins`, and no more.
+fn gives_at_first<R: Abort + AllocGlobal>(
+    rt: &R,
+    step: u64,
+    steps: &[Step],
+    wanted: &'static str,
+) -> Result<(), Fail> {
+    let _ = begins(rt, step, steps, wanted)?;
     Ok(())
 }
 
@@ -249,16 +285,20 @@ const TAGS_AT_10: Given = Given {
 
 // ---- cases
 
-const OWNERS: [Step; 13] = [
+const OWNERS: [Step; 17] = [
     Sequence(0, &[]),
     Sequence(0, &[]),
     Move(1),
     Sequence(0, &[]),
     Sequence(0, &[READS_N_AT_20, READS_N_AT_21, READS_N_AT_30]),
-    Both(0),
-    Both(1),
-    Both(2),
-    Both(3),
+    Offer(0, 0),
+    Offer(0, 1),
+    Offer(1, 0),
+    Offer(1, 1),
+    Offer(2, 0),
+    Offer(2, 1),
+    Offer(3, 0),
+    Offer(3, 1),
     Finish(0),
     Finish(0),
     Finish(0),
@@ -288,18 +328,20 @@ finished 40 committed 40 0 committed 40 1 committed 40 2
 /// A read asks the owners back to its snapshot.
 #[test]
 fn reads_ask_the_owners_since_their_snapshot(rt: HostRuntime) -> Result<(), Fail> {
-    let mut world = cluster(rt.alloc(), 2, 10)?;
-    gives(&rt, &mut world, &OWNERS, OWNERS_TEXT)
+    gives_at_first(&rt, 10, &OWNERS, OWNERS_TEXT)
 }
 
-const FALSE_CONFLICT: [Step; 10] = [
+const FALSE_CONFLICT: [Step; 13] = [
     Move(1),
     Sequence(0, &[WRITES_N]),
     Sequence(0, &[READS_N_AND_WRITES_B]),
     Sequence(0, &[READS_B_AT_10]),
-    Both(0),
-    Both(1),
-    Both(2),
+    Offer(0, 0),
+    Offer(0, 1),
+    Offer(1, 0),
+    Offer(1, 1),
+    Offer(2, 0),
+    Offer(2, 1),
     Finish(0),
     Finish(0),
     Finish(0),
@@ -325,15 +367,16 @@ finished 30 conflict
 /// committed it.
 #[test]
 fn a_write_that_is_refused_elsewhere_gives_a_false_conflict(rt: HostRuntime) -> Result<(), Fail> {
-    let mut world = cluster(rt.alloc(), 2, 10)?;
-    gives(&rt, &mut world, &FALSE_CONFLICT, FALSE_CONFLICT_TEXT)
+    gives_at_first(&rt, 10, &FALSE_CONFLICT, FALSE_CONFLICT_TEXT)
 }
 
-const LOCKED: [Step; 6] = [
+const LOCKED: [Step; 8] = [
     Sequence(0, &[LOCKS, SETS_A]),
     Sequence(1, &[SETS_B]),
-    Both(0),
-    Both(1),
+    Offer(0, 0),
+    Offer(0, 1),
+    Offer(1, 0),
+    Offer(1, 1),
     Finish(0),
     Finish(1),
 ];
@@ -352,17 +395,19 @@ finished 20 locked
 /// The lock is read once for each batch, so it holds from the next one on, at every proxy.
 #[test]
 fn a_lock_holds_from_the_next_batch_on(rt: HostRuntime) -> Result<(), Fail> {
-    let mut world = cluster(rt.alloc(), 2, 10)?;
-    gives(&rt, &mut world, &LOCKED, LOCKED_TEXT)
+    gives_at_first(&rt, 10, &LOCKED, LOCKED_TEXT)
 }
 
-const LOCKED_STATE: [Step; 9] = [
+const LOCKED_STATE: [Step; 12] = [
     Sequence(0, &[LOCKS, SETS_A]),
     Sequence(1, &[TAGS_AT_10]),
     Sequence(0, &[]),
-    Both(0),
-    Both(1),
-    Both(2),
+    Offer(0, 0),
+    Offer(0, 1),
+    Offer(1, 0),
+    Offer(1, 1),
+    Offer(2, 0),
+    Offer(2, 1),
     Finish(0),
     Finish(1),
     Finish(0),
@@ -383,25 +428,34 @@ finished 20 locked
 finished 30
 ";
 
+/// The tag of server 1, as the proxy knows it.
+fn tag_of_1(world: &TurnWorld, number: usize) -> Option<&[u8]> {
+    metadata_of(world, number)?.row(b"\xff/serverTag/server0000000001")
+}
+
+/// Whether the proxy knows of a lock.
+fn is_locked(world: &TurnWorld, number: usize) -> Option<bool> {
+    Some(metadata_of(world, number)?.is_locked())
+}
+
 /// A state transaction under the lock is committed by every resolver, and no proxy applies it.
 #[test]
 fn no_proxy_applies_what_the_lock_refuses(rt: HostRuntime) -> Result<(), Fail> {
-    let mut world = cluster(rt.alloc(), 2, 10)?;
-    gives(&rt, &mut world, &LOCKED_STATE, LOCKED_STATE_TEXT)?;
+    let world = begins(&rt, 10, &LOCKED_STATE, LOCKED_STATE_TEXT)?;
     for number in 0..2usize {
-        let metadata = metadata_of(&world, number);
-        let row = metadata.and_then(|one| one.row(b"\xff/serverTag/server0000000001"));
-        assert_eq!(rt; row.is_none(), true);
-        assert_eq!(rt; metadata.map(|one| one.is_locked()), Some(true));
+        assert_eq!(rt; tag_of_1(&world, number).is_none(), true);
+        assert_eq!(rt; is_locked(&world, number), Some(true));
     }
     Ok(())
 }
 
-const LOCK_CONFLICT: [Step; 5] = [
+const LOCK_CONFLICT: [Step; 7] = [
     Sequence(0, &[LOCKS]),
     Sequence(1, &[TAGS_AT_9]),
-    Both(0),
-    Both(1),
+    Offer(0, 0),
+    Offer(0, 1),
+    Offer(1, 0),
+    Offer(1, 1),
     Finish(1),
 ];
 
@@ -418,29 +472,44 @@ finished 20 conflict
 /// A state transaction reads the lock row, unless it is lock aware.
 #[test]
 fn a_lock_after_the_snapshot_is_a_conflict(rt: HostRuntime) -> Result<(), Fail> {
-    let mut world = cluster(rt.alloc(), 2, 10)?;
-    gives(&rt, &mut world, &LOCK_CONFLICT, LOCK_CONFLICT_TEXT)
+    gives_at_first(&rt, 10, &LOCK_CONFLICT, LOCK_CONFLICT_TEXT)
+}
+
+/// How many versions the resolver remembers.
+fn remembered(world: &TurnWorld, number: usize) -> Option<usize> {
+    Some(world.resolver(number)?.remembered())
 }
 
 /// Both resolvers remember so many versions.
 fn remember<R: Abort>(rt: &R, world: &TurnWorld, count: usize) {
     for number in 0..2usize {
-        let remembered = world.resolver(number).map(|one| one.remembered());
-        assert_eq!(rt; remembered, Some(count));
+        assert_eq!(rt; remembered(world, number), Some(count));
     }
 }
 
-const FIVE_BATCHES: [Step; 15] = [
+/// Both proxies know the tag of server 1.
+fn know_tag<R: Abort>(rt: &R, world: &TurnWorld) {
+    for number in 0..2usize {
+        assert_eq!(rt; tag_of_1(world, number), Some(b"\x00\x00\x01".as_slice()));
+    }
+}
+
+const FIVE_BATCHES: [Step; 20] = [
     Sequence(0, &[TAGS]),
     Sequence(0, &[TAGS]),
     Sequence(0, &[TAGS]),
     Sequence(0, &[TAGS]),
     Sequence(0, &[TAGS]),
-    Both(0),
-    Both(1),
-    Both(2),
-    Both(3),
-    Both(4),
+    Offer(0, 0),
+    Offer(0, 1),
+    Offer(1, 0),
+    Offer(1, 1),
+    Offer(2, 0),
+    Offer(2, 1),
+    Offer(3, 0),
+    Offer(3, 1),
+    Offer(4, 0),
+    Offer(4, 1),
     Finish(0),
     Finish(0),
     Finish(0),
@@ -471,7 +540,7 @@ finished 40 committed 40 0
 finished 50 committed 50 0
 ";
 
-const SIXTH_BATCH: [Step; 3] = [Sequence(1, &[]), Both(5), Finish(1)];
+const SIXTH_BATCH: [Step; 4] = [Sequence(1, &[]), Offer(5, 0), Offer(5, 1), Finish(1)];
 
 const SIXTH_BATCH_TEXT: &str = "\
 row 5 version 60
@@ -483,16 +552,11 @@ finished 60
 /// A resolver remembers versions until every proxy has seen them.
 #[test]
 fn five_batches_are_remembered_for_another_proxy(rt: HostRuntime) -> Result<(), Fail> {
-    let mut world = cluster(rt.alloc(), 2, 10)?;
-    gives(&rt, &mut world, &FIVE_BATCHES, FIVE_BATCHES_TEXT)?;
+    let mut world = begins(&rt, 10, &FIVE_BATCHES, FIVE_BATCHES_TEXT)?;
     remember(&rt, &world, 5);
     gives(&rt, &mut world, &SIXTH_BATCH, SIXTH_BATCH_TEXT)?;
     remember(&rt, &world, 1);
-    for number in 0..2usize {
-        let metadata = metadata_of(&world, number);
-        let row = metadata.and_then(|one| one.row(b"\xff/serverTag/server0000000001"));
-        assert_eq!(rt; row, Some(b"\x00\x00\x01".as_slice()));
-    }
+    know_tag(&rt, &world);
     Ok(())
 }
 
@@ -532,8 +596,7 @@ refused 31 10
 /// goes on.
 #[test]
 fn replies_are_repeated_until_they_are_given_up(rt: HostRuntime) -> Result<(), Fail> {
-    let mut world = cluster(rt.alloc(), 2, 10)?;
-    gives(&rt, &mut world, &REPEATS, REPEATS_TEXT)
+    gives_at_first(&rt, 10, &REPEATS, REPEATS_TEXT)
 }
 
 const REFUSALS: [Step; 12] = [
@@ -569,8 +632,7 @@ finished 10
 /// Each refusal of a world, between events that are answered.
 #[test]
 fn a_run_goes_on_after_each_refusal(rt: HostRuntime) -> Result<(), Fail> {
-    let mut world = cluster(rt.alloc(), 2, 10)?;
-    gives(&rt, &mut world, &REFUSALS, REFUSALS_TEXT)
+    gives_at_first(&rt, 10, &REFUSALS, REFUSALS_TEXT)
 }
 
 const LAST_VERSION: [Step; 4] = [
@@ -590,20 +652,29 @@ refused 51
 /// No version is given out at the limit or above it.
 #[test]
 fn a_run_goes_on_after_the_last_version(rt: HostRuntime) -> Result<(), Fail> {
-    let mut world = cluster(rt.alloc(), 2, 4_611_686_018_427_387_904)?;
-    gives(&rt, &mut world, &LAST_VERSION, LAST_VERSION_TEXT)
+    gives_at_first(
+        &rt,
+        4_611_686_018_427_387_904,
+        &LAST_VERSION,
+        LAST_VERSION_TEXT,
+    )
 }
 
 const FIRST: [Step; 1] = [Sequence(0, &[])];
 
 const SECOND: [Step; 1] = [Sequence(1, &[])];
 
+/// Runs of one event each, before each of them a run of none.
+fn runs_of_one<R: Abort + AllocGlobal>(rt: &R, world: &mut TurnWorld) -> Result<(), Fail> {
+    gives(rt, world, &[], "")?;
+    gives(rt, world, &FIRST, "row 0 version 10\n")?;
+    gives(rt, world, &[], "")?;
+    gives(rt, world, &SECOND, "row 1 version 20\n")
+}
+
 /// A run of no events answers nothing and changes nothing.
 #[test]
 fn a_run_of_no_events_changes_nothing(rt: HostRuntime) -> Result<(), Fail> {
     let mut world = cluster(rt.alloc(), 2, 10)?;
-    gives(&rt, &mut world, &[], "")?;
-    gives(&rt, &mut world, &FIRST, "row 0 version 10\n")?;
-    gives(&rt, &mut world, &[], "")?;
-    gives(&rt, &mut world, &SECOND, "row 1 version 20\n")
+    runs_of_one(&rt, &mut world)
 }

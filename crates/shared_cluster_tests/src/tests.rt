@@ -1,7 +1,7 @@
 //! Tests of the cluster without threads, against answers worked out by hand. Each call that
 //! allocates is made again after a failed allocation, so that the tests also pass if any one fails.
 
-use model::{Outcome, Reply, Verdict};
+use model::{Finished, Outcome, Reply, Verdict};
 use mutation::{Admitted, Batch, GivenRange, Mutation, Transaction, admit};
 use shared_cluster::{Answer, Config, Event, OfferAnswer, Refusal, TurnWorld};
 use std::alloc::{AllocError, Global};
@@ -35,31 +35,40 @@ fn first_verdict(reply: &Reply) -> Option<Verdict> {
     reply.verdicts.as_slice().first().copied()
 }
 
-fn told_of(answer: Result<Answer, Refusal>) -> Told {
+fn told_of_reply(answer: &OfferAnswer) -> Told {
     match answer {
-        Ok(Answer::Sequenced { row, version }) => Told::Sequenced(row, version),
-        Ok(Answer::Moved { date }) => Told::Moved(date),
-        Ok(Answer::Offered(OfferAnswer::Judged(reply))) => {
-            Told::Judged(first_verdict(&reply), reply.unseen.as_slice().len())
+        OfferAnswer::Judged(reply) => {
+            Told::Judged(first_verdict(reply), reply.unseen.as_slice().len())
         }
-        Ok(Answer::Offered(OfferAnswer::Again(reply))) => {
-            Told::Again(first_verdict(&reply), reply.unseen.as_slice().len())
+        OfferAnswer::Again(reply) => {
+            Told::Again(first_verdict(reply), reply.unseen.as_slice().len())
         }
-        Ok(Answer::Finished(finished)) => {
-            Told::Finished(
-                finished.version,
-                finished.outcomes.as_slice().first().copied(),
-            )
-        }
-        Err(refusal) => Told::Refused(refusal),
     }
 }
 
-fn carry_out(world: &mut TurnWorld, event: &Event) -> Told {
-    match world.step(event) {
-        Err(Refusal::OutOfMemory) => told_of(world.step(event)),
-        answer => told_of(answer),
+fn told_of_finished(finished: &Finished) -> Told {
+    let first = finished.outcomes.as_slice().first().copied();
+    Told::Finished(finished.version, first)
+}
+
+fn told_of(answer: &Result<Answer, Refusal>) -> Told {
+    match answer {
+        Ok(Answer::Sequenced { row, version }) => Told::Sequenced(*row, *version),
+        Ok(Answer::Moved { date }) => Told::Moved(*date),
+        Ok(Answer::Offered(offered)) => told_of_reply(offered),
+        Ok(Answer::Finished(finished)) => told_of_finished(finished),
+        Err(refusal) => Told::Refused(*refusal),
     }
+}
+
+fn answer_to(world: &mut TurnWorld, event: &Event) -> Result<Answer, Refusal> {
+    twice!(world.step(event), Refusal::OutOfMemory)
+}
+
+/// Carries out an event of this step.
+fn carry_out(alloc: Global, world: &mut TurnWorld, step: Step) -> Result<Told, Fail> {
+    let event = event_of(alloc, step)?;
+    Ok(told_of(&answer_to(world, &event)))
 }
 
 pub(crate) fn cluster(alloc: Global, proxies: usize, step: u64) -> Result<TurnWorld, Fail> {
@@ -69,9 +78,20 @@ pub(crate) fn cluster(alloc: Global, proxies: usize, step: u64) -> Result<TurnWo
 
 // ---- events
 
-fn bytes(alloc: Global, text: &[u8]) -> Result<Vec<u8>, AllocError> {
-    twice!(Vec::from_slice(alloc, text), _)
+/// What an event is made of.
+#[derive(Clone, Copy)]
+pub(crate) enum Step {
+    /// A batch of these transactions goes to the proxy.
+    Sequence(usize, &'static [Given]),
+    /// `[m, t)` moves to the resolver.
+    Move(usize),
+    /// The row is offered to the resolver.
+    Offer(usize, usize),
+    /// The proxy finishes a record.
+    Finish(usize),
 }
+
+use Step::{Finish, Move, Offer, Sequence};
 
 /// A transaction: its snapshot, the key that it reads, the key that it writes, the key that it sets
 /// and to what, and whether it is lock aware. An empty key is none.
@@ -84,71 +104,103 @@ pub(crate) struct Given {
     pub(crate) lock_aware: bool,
 }
 
+fn bytes(alloc: Global, text: &[u8]) -> Result<Vec<u8>, AllocError> {
+    twice!(Vec::from_slice(alloc, text), _)
+}
+
+/// An empty list with room for so many.
+pub(crate) fn room<T: Drop>(alloc: Global, count: usize) -> Result<Vec<T>, AllocError> {
+    twice!(Vec::with_capacity(alloc, count), _)
+}
+
+/// The key right after this one.
+fn key_after(alloc: Global, key: &[u8]) -> Result<Vec<u8>, AllocError> {
+    let mut after = room(alloc, 16)?;
+    for byte in key {
+        after.push(*byte)?;
+    }
+    after.push(0)?;
+    Ok(after)
+}
+
+fn range_of(alloc: Global, key: &[u8]) -> Result<GivenRange, AllocError> {
+    Ok(GivenRange {
+        begin: Bytes::from(bytes(alloc, key)?),
+        end: Bytes::from(key_after(alloc, key)?),
+    })
+}
+
 /// The range of one key, or none if the key is empty.
-fn ranges(alloc: Global, key: &[u8]) -> Result<Items<GivenRange>, Fail> {
-    let mut ranges = twice!(Vec::with_capacity(alloc, 1), _)?;
+fn ranges(alloc: Global, key: &[u8]) -> Result<Items<GivenRange>, AllocError> {
+    let mut ranges = room(alloc, 1)?;
     if !key.is_empty() {
-        let begin = Bytes::from(bytes(alloc, key)?);
-        let mut after = twice!(Vec::with_capacity(alloc, 16), _)?;
-        for byte in key {
-            after.push(*byte)?;
-        }
-        after.push(0)?;
-        let end = Bytes::from(after);
-        ranges.push(GivenRange { begin, end })?;
+        ranges.push(range_of(alloc, key)?)?;
     }
     Ok(Items::from(ranges))
 }
 
-fn admitted(alloc: Global, one: Given) -> Result<Admitted, Fail> {
-    let mut mutations = twice!(Vec::with_capacity(alloc, 1), _)?;
-    let (key, value) = one.set;
+fn set(alloc: Global, key: &[u8], value: &[u8]) -> Result<Mutation, AllocError> {
+    Ok(Mutation::Set {
+        key: Bytes::from(bytes(alloc, key)?),
+        value: Bytes::from(bytes(alloc, value)?),
+    })
+}
+
+/// The Set of the key, or nothing if the key is empty.
+fn mutations(alloc: Global, key: &[u8], value: &[u8]) -> Result<Items<Mutation>, AllocError> {
+    let mut mutations = room(alloc, 1)?;
     if !key.is_empty() {
-        mutations.push(Mutation::Set {
-            key: Bytes::from(bytes(alloc, key)?),
-            value: Bytes::from(bytes(alloc, value)?),
-        })?;
+        mutations.push(set(alloc, key, value)?)?;
     }
-    let given = Transaction {
+    Ok(Items::from(mutations))
+}
+
+fn transaction(alloc: Global, one: Given) -> Result<Transaction, AllocError> {
+    Ok(Transaction {
         snapshot: one.snapshot,
         reads: ranges(alloc, one.read)?,
         writes: ranges(alloc, one.write)?,
-        mutations: Items::from(mutations),
+        mutations: mutations(alloc, one.set.0, one.set.1)?,
         lock_aware: one.lock_aware,
-    };
+    })
+}
+
+fn admitted(alloc: Global, one: Given) -> Result<Admitted, Fail> {
+    let given = transaction(alloc, one)?;
     Ok(twice!(admit(alloc, &given), mutation::Refusal::OutOfMemory)?)
 }
 
-/// A batch of these transactions for a proxy.
-pub(crate) fn sequence(alloc: Global, proxy: usize, transactions: &[Given]) -> Result<Event, Fail> {
-    let mut batch = twice!(Vec::with_capacity(alloc, transactions.len()), _)?;
+fn all_admitted(alloc: Global, transactions: &[Given]) -> Result<Vec<Admitted>, Fail> {
+    let mut batch = room(alloc, transactions.len())?;
     for one in transactions {
         batch.push(admitted(alloc, *one)?)?;
     }
-    let batch = Batch::new(batch).map_err(|refused| refused.0)?;
-    Ok(Event::Sequence { proxy, batch })
+    Ok(batch)
 }
 
-/// A move of `[m, t)` to the resolver.
-pub(crate) fn moves(alloc: Global, dest: usize) -> Result<Event, Fail> {
-    let range = KeyRange::new(bytes(alloc, b"m")?, bytes(alloc, b"t")?)?;
-    Ok(Event::Move { range, dest })
+fn batch(alloc: Global, transactions: &[Given]) -> Result<Batch, Fail> {
+    match Batch::new(all_admitted(alloc, transactions)?) {
+        Ok(batch) => Ok(batch),
+        Err(refused) => Err(Fail::from(refused.0)),
+    }
 }
 
-/// Offers a row to both resolvers, and compares the verdicts.
-fn offer_to_both<R: Abort>(
-    rt: &R,
-    world: &mut TurnWorld,
-    row: usize,
-    verdicts: [Option<Verdict>; 2],
-    unseen: usize,
-) {
-    for resolver in 0..2 {
-        let event = Event::Offer { row, resolver };
-        assert_eq!(rt;
-            carry_out(world, &event),
-            Told::Judged(verdicts[resolver], unseen)
-        );
+fn range_of_m(alloc: Global) -> Result<KeyRange, Fail> {
+    Ok(KeyRange::new(bytes(alloc, b"m")?, bytes(alloc, b"t")?)?)
+}
+
+pub(crate) fn event_of(alloc: Global, step: Step) -> Result<Event, Fail> {
+    match step {
+        Sequence(proxy, transactions) => {
+            let batch = batch(alloc, transactions)?;
+            Ok(Event::Sequence { proxy, batch })
+        }
+        Move(dest) => {
+            let range = range_of_m(alloc)?;
+            Ok(Event::Move { range, dest })
+        }
+        Offer(row, resolver) => Ok(Event::Offer { row, resolver }),
+        Finish(proxy) => Ok(Event::Finish { proxy }),
     }
 }
 
@@ -186,165 +238,155 @@ pub(crate) const LOCKS: Given = Given {
 
 // ---- stories
 
+/// Carries out the steps from the world on, and compares what is told of each.
+fn tells<R: Abort + AllocGlobal>(
+    rt: &R,
+    world: &mut TurnWorld,
+    story: &[(Step, Told)],
+) -> Result<(), Fail> {
+    for (place, (step, wanted)) in story.iter().enumerate() {
+        let told = carry_out(rt.alloc(), world, *step)?;
+        assert_eq!(rt; told, *wanted, "at step {place}");
+    }
+    Ok(())
+}
+
+/// `tells`, from a new cluster on.
+fn begins<R: Abort + AllocGlobal>(
+    rt: &R,
+    proxies: usize,
+    step: u64,
+    story: &[(Step, Told)],
+) -> Result<TurnWorld, Fail> {
+    let mut world = cluster(rt.alloc(), proxies, step)?;
+    tells(rt, &mut world, story)?;
+    Ok(world)
+}
+
+const MOVED: [(Step, Told); 13] = [
+    (Sequence(0, &[]), Told::Sequenced(0, 10)),
+    (Sequence(0, &[WRITES_N]), Told::Sequenced(1, 20)),
+    (Move(1), Told::Moved(21)),
+    (Sequence(0, &[READS_N]), Told::Sequenced(2, 30)),
+    (Offer(0, 0), Told::Judged(None, 0)),
+    (Offer(0, 1), Told::Judged(None, 0)),
+    (Offer(1, 0), Told::Judged(COMMITTED, 0)),
+    (Offer(1, 1), Told::Judged(None, 0)),
+    (Offer(2, 0), Told::Judged(CONFLICT, 0)),
+    (Offer(2, 1), Told::Judged(COMMITTED, 0)),
+    (Finish(0), Told::Finished(10, None)),
+    (Finish(0), Told::Finished(20, Some(COMMITTED_AT_20))),
+    (Finish(0), Told::Finished(30, Some(Outcome::Conflict))),
+];
+
+const COMMITTED_AT_20: Outcome = Outcome::Committed {
+    version: 20,
+    number: 0,
+};
+
+fn version_of(world: &TurnWorld, number: usize) -> Option<u64> {
+    world.proxy(number).map(|proxy| proxy.version())
+}
+
 /// The resolver that had a key before still finds the write that the new one never saw.
 #[test]
 fn a_write_before_a_move_conflicts_with_a_read_after_it(rt: HostRuntime) -> Result<(), Fail> {
-    let alloc = rt.alloc();
-    let mut world = cluster(alloc, 1, 10)?;
-    assert_eq!(rt;
-        carry_out(&mut world, &sequence(alloc, 0, &[])?),
-        Told::Sequenced(0, 10)
-    );
-    assert_eq!(rt;
-        carry_out(&mut world, &sequence(alloc, 0, &[WRITES_N])?),
-        Told::Sequenced(1, 20)
-    );
-    assert_eq!(rt; carry_out(&mut world, &moves(alloc, 1)?), Told::Moved(21));
-    assert_eq!(rt;
-        carry_out(&mut world, &sequence(alloc, 0, &[READS_N])?),
-        Told::Sequenced(2, 30)
-    );
-    offer_to_both(&rt, &mut world, 0, [None, None], 0);
-    offer_to_both(&rt, &mut world, 1, [COMMITTED, None], 0);
-    offer_to_both(&rt, &mut world, 2, [CONFLICT, COMMITTED], 0);
-    let finish = Event::Finish { proxy: 0 };
-    let committed = Outcome::Committed {
-        version: 20,
-        number: 0,
-    };
-    assert_eq!(rt; carry_out(&mut world, &finish), Told::Finished(10, None));
-    assert_eq!(rt;
-        carry_out(&mut world, &finish),
-        Told::Finished(20, Some(committed))
-    );
-    assert_eq!(rt;
-        carry_out(&mut world, &finish),
-        Told::Finished(30, Some(Outcome::Conflict))
-    );
-    assert_eq!(rt; world.proxy(0).map(|proxy| proxy.version()), Some(30));
+    let world = begins(&rt, 1, 10, &MOVED)?;
+    assert_eq!(rt; version_of(&world, 0), Some(30));
     assert_eq!(rt; world.proxy(1).is_none(), true);
     Ok(())
+}
+
+const LOCK_SPREADS: [(Step, Told); 7] = [
+    (Sequence(0, &[LOCKS]), Told::Sequenced(0, 10)),
+    (Sequence(1, &[WRITES_N]), Told::Sequenced(1, 20)),
+    (Offer(0, 0), Told::Judged(COMMITTED, 0)),
+    (Offer(0, 1), Told::Judged(COMMITTED, 0)),
+    (Offer(1, 0), Told::Judged(COMMITTED, 1)),
+    (Offer(1, 1), Told::Judged(None, 1)),
+    (Finish(1), Told::Finished(20, Some(Outcome::Locked))),
+];
+
+fn is_locked(world: &TurnWorld, number: usize) -> Option<bool> {
+    world
+        .proxy(number)
+        .map(|proxy| proxy.metadata().is_locked())
 }
 
 /// What one proxy locks, another learns from the resolvers, and refuses by it.
 #[test]
 fn a_lock_spreads_to_another_proxy(rt: HostRuntime) -> Result<(), Fail> {
-    let alloc = rt.alloc();
-    let mut world = cluster(alloc, 2, 10)?;
-    assert_eq!(rt;
-        carry_out(&mut world, &sequence(alloc, 0, &[LOCKS])?),
-        Told::Sequenced(0, 10)
-    );
-    assert_eq!(rt;
-        carry_out(&mut world, &sequence(alloc, 1, &[WRITES_N])?),
-        Told::Sequenced(1, 20)
-    );
-    offer_to_both(&rt, &mut world, 0, [COMMITTED, COMMITTED], 0);
-    let to_0 = Event::Offer {
-        row: 1,
-        resolver: 0,
-    };
-    let to_1 = Event::Offer {
-        row: 1,
-        resolver: 1,
-    };
-    assert_eq!(rt; carry_out(&mut world, &to_0), Told::Judged(COMMITTED, 1));
-    assert_eq!(rt; carry_out(&mut world, &to_1), Told::Judged(None, 1));
-    let locked = carry_out(&mut world, &Event::Finish { proxy: 1 });
-    assert_eq!(rt; locked, Told::Finished(20, Some(Outcome::Locked)));
-    let is_locked = world.proxy(1).map(|proxy| proxy.metadata().is_locked());
-    assert_eq!(rt; is_locked, Some(true));
-    let is_locked = world.proxy(0).map(|proxy| proxy.metadata().is_locked());
-    assert_eq!(rt; is_locked, Some(false));
+    let world = begins(&rt, 2, 10, &LOCK_SPREADS)?;
+    assert_eq!(rt; is_locked(&world, 1), Some(true));
+    assert_eq!(rt; is_locked(&world, 0), Some(false));
     Ok(())
 }
+
+const REPEATED: [(Step, Told); 15] = [
+    (Sequence(0, &[]), Told::Sequenced(0, 10)),
+    (Sequence(1, &[]), Told::Sequenced(1, 20)),
+    (Sequence(1, &[]), Told::Sequenced(2, 30)),
+    (Offer(0, 0), Told::Judged(None, 0)),
+    (Offer(0, 0), Told::Again(None, 0)),
+    (Offer(2, 0), Told::Refused(Refusal::Early { version: 10 })),
+    (
+        Finish(0),
+        Told::Refused(Refusal::MissingReply { resolver: 1 }),
+    ),
+    (Offer(0, 1), Told::Judged(None, 0)),
+    (Finish(0), Told::Finished(10, None)),
+    (
+        Finish(0),
+        Told::Refused(Refusal::OutOfTurn { expected: None }),
+    ),
+    (Sequence(0, &[]), Told::Sequenced(3, 40)),
+    (Offer(1, 0), Told::Judged(None, 1)),
+    (Offer(2, 0), Told::Judged(None, 0)),
+    (Offer(3, 0), Told::Judged(None, 2)),
+    (
+        Offer(0, 0),
+        Told::Refused(Refusal::GivenUp { acknowledged: 10 }),
+    ),
+];
 
 /// Requests that come early, again, and once too often; each refused event changes nothing.
 #[test]
 fn requests_are_repeated_until_they_are_given_up(rt: HostRuntime) -> Result<(), Fail> {
-    let alloc = rt.alloc();
-    let mut world = cluster(alloc, 2, 10)?;
-    let empty_0 = sequence(alloc, 0, &[])?;
-    let empty_1 = sequence(alloc, 1, &[])?;
-    assert_eq!(rt; carry_out(&mut world, &empty_0), Told::Sequenced(0, 10));
-    assert_eq!(rt; carry_out(&mut world, &empty_1), Told::Sequenced(1, 20));
-    assert_eq!(rt; carry_out(&mut world, &empty_1), Told::Sequenced(2, 30));
-    let first = Event::Offer {
-        row: 0,
-        resolver: 0,
-    };
-    let third = Event::Offer {
-        row: 2,
-        resolver: 0,
-    };
-    assert_eq!(rt; carry_out(&mut world, &first), Told::Judged(None, 0));
-    assert_eq!(rt; carry_out(&mut world, &first), Told::Again(None, 0));
-    let early = Told::Refused(Refusal::Early { version: 10 });
-    assert_eq!(rt; carry_out(&mut world, &third), early);
-    let finish = Event::Finish { proxy: 0 };
-    let missing = Told::Refused(Refusal::MissingReply { resolver: 1 });
-    assert_eq!(rt; carry_out(&mut world, &finish), missing);
-    let other = Event::Offer {
-        row: 0,
-        resolver: 1,
-    };
-    assert_eq!(rt; carry_out(&mut world, &other), Told::Judged(None, 0));
-    assert_eq!(rt; carry_out(&mut world, &finish), Told::Finished(10, None));
-    let out_of_turn = Told::Refused(Refusal::OutOfTurn { expected: None });
-    assert_eq!(rt; carry_out(&mut world, &finish), out_of_turn);
-    assert_eq!(rt; carry_out(&mut world, &empty_0), Told::Sequenced(3, 40));
-    for (row, unseen) in [(1, 1), (2, 0), (3, 2)] {
-        let event = Event::Offer { row, resolver: 0 };
-        assert_eq!(rt; carry_out(&mut world, &event), Told::Judged(None, unseen));
-    }
-    let given_up = Told::Refused(Refusal::GivenUp { acknowledged: 10 });
-    assert_eq!(rt; carry_out(&mut world, &first), given_up);
+    let _ = begins(&rt, 2, 10, &REPEATED)?;
     Ok(())
+}
+
+const NOT_THERE: [(Step, Told); 6] = [
+    (Sequence(2, &[]), Told::Refused(Refusal::NoSuchProxy)),
+    (Finish(2), Told::Refused(Refusal::NoSuchProxy)),
+    (Move(2), Told::Refused(Refusal::NoSuchResolver)),
+    (Offer(0, 2), Told::Refused(Refusal::NoSuchRow)),
+    (Sequence(0, &[]), Told::Sequenced(0, 10)),
+    (Offer(0, 2), Told::Refused(Refusal::WrongResolver)),
+];
+
+fn version_of_resolver(world: &TurnWorld, number: usize) -> Option<u64> {
+    world.resolver(number).map(|resolver| resolver.version())
 }
 
 #[test]
 fn what_is_not_there_is_refused(rt: HostRuntime) -> Result<(), Fail> {
-    let alloc = rt.alloc();
-    let mut world = cluster(alloc, 2, 10)?;
-    let no_proxy = Told::Refused(Refusal::NoSuchProxy);
-    assert_eq!(rt; carry_out(&mut world, &sequence(alloc, 2, &[])?), no_proxy);
-    assert_eq!(rt;
-        carry_out(&mut world, &Event::Finish { proxy: 2 }),
-        no_proxy
-    );
-    let no_resolver = Told::Refused(Refusal::NoSuchResolver);
-    assert_eq!(rt; carry_out(&mut world, &moves(alloc, 2)?), no_resolver);
-    let no_row = Event::Offer {
-        row: 0,
-        resolver: 2,
-    };
-    assert_eq!(rt;
-        carry_out(&mut world, &no_row),
-        Told::Refused(Refusal::NoSuchRow)
-    );
-    assert_eq!(rt;
-        carry_out(&mut world, &sequence(alloc, 0, &[])?),
-        Told::Sequenced(0, 10)
-    );
-    let wrong = Told::Refused(Refusal::WrongResolver);
-    assert_eq!(rt; carry_out(&mut world, &no_row), wrong);
-    assert_eq!(rt;
-        world.resolver(1).map(|resolver| resolver.version()),
-        Some(0)
-    );
+    let world = begins(&rt, 2, 10, &NOT_THERE)?;
+    assert_eq!(rt; version_of_resolver(&world, 1), Some(0));
     assert_eq!(rt; world.resolver(2).is_none(), true);
     Ok(())
 }
 
+const LAST_STEP: u64 = 4_611_686_018_427_387_904;
+
+const LAST_VERSION: [(Step, Told); 2] = [
+    (Sequence(0, &[]), Told::Sequenced(0, LAST_STEP)),
+    (Sequence(0, &[]), Told::Refused(Refusal::VersionsEnd)),
+];
+
 #[test]
 fn versions_end_below_their_limit(rt: HostRuntime) -> Result<(), Fail> {
-    let alloc = rt.alloc();
-    let step = 4_611_686_018_427_387_904;
-    let mut world = cluster(alloc, 2, step)?;
-    let first = sequence(alloc, 0, &[])?;
-    assert_eq!(rt; carry_out(&mut world, &first), Told::Sequenced(0, step));
-    let end = Told::Refused(Refusal::VersionsEnd);
-    assert_eq!(rt; carry_out(&mut world, &first), end);
+    let _ = begins(&rt, 2, LAST_STEP, &LAST_VERSION)?;
     Ok(())
 }
 

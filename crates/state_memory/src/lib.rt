@@ -7,13 +7,9 @@
 
 mod answer;
 mod proxy_memory;
-#[cfg(test)]
-mod random_tests;
 mod refusal;
 mod resolver;
 mod rows;
-#[cfg(test)]
-mod tests;
 
 pub use answer::Answer;
 pub use model::{Carried, Reply, StateMark, UnseenRow, UnseenState, Verdict};

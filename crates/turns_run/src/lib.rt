@@ -7,12 +7,6 @@
 mod answer;
 mod event_streams;
 mod run;
-#[cfg(test)]
-mod run_tests;
-#[cfg(test)]
-mod stream_tests;
-#[cfg(test)]
-mod tests;
 mod turns_checks;
 mod turns_events;
 mod turns_lines;
@@ -23,5 +17,5 @@ mod turns_shapes;
 mod turns_streams;
 
 pub use run::run_turns;
-pub use turns_reading::read_turns;
+pub use turns_reading::{read_turns, stream_turns};
 pub use turns_script::TurnsScript;

@@ -29,9 +29,10 @@ pub fn read_turns(alloc: Global, bytes: &[u8]) -> Result<TurnsScript, ScriptFaul
     script_of_value(alloc, &value)
 }
 
-// The turns script that the bytes are, read as its tokens come. `None` decides nothing.
+/// The turns script that the bytes are, read as its tokens come, without a tree of the JSON values.
+/// `None` decides nothing: `read_turns` then reads the tree.
 #[tactic(auto, unfolding(crate::specs::TurnsScripts::script_of))]
-pub(crate) fn stream_turns(alloc: Global, bytes: &[u8]) -> Option<TurnsScript>
+pub fn stream_turns(alloc: Global, bytes: &[u8]) -> Option<TurnsScript>
     ensures { IfSome result (λ script. script_of bytes.now ≡ Ok script) }
 {
     let script: RawTurns = read_tokens(alloc, bytes)?;

@@ -1,0 +1,6 @@
+//! The tests of facts, through its public calls.
+
+#![tactic(auto)]
+
+#[cfg(test)]
+mod tests;

@@ -1,0 +1,6 @@
+//! The tests of mutation, through its public calls.
+
+#![tactic(auto)]
+
+#[cfg(test)]
+mod tests;
