@@ -11,6 +11,8 @@ class Batch:
 
     def __init__(self, home):
         self.home, self.edits, self.names, self.texts = home, [], {}, {}
+        # whether the whole crate is checked for it
+        self.is_whole = True
         # the edits of each function, by its file; they become texts when the batch is written
         self.functions = collections.defaultdict(lambda: collections.defaultdict(list))
 
@@ -47,8 +49,8 @@ class Batch:
         self.names[edit] = name
 
     def tried_functions(self):
-        """The functions that alone need a check, if the batch changes nothing else."""
-        return self.names.values() if self.is_of_functions() else []
+        """The functions that alone need a check, where the whole crate does not."""
+        return [] if self.is_whole else self.names.values()
 
     def changed_files(self):
         """The texts of all files that the batch changes, by their paths in the crate."""
@@ -88,4 +90,7 @@ def batches(edits, home, most):
             batch = Batch(home)
             batch.add(edit)
             made.append(batch)
+    for batch in made:
+        is_lone = len(batch.edits) == 1
+        batch.is_whole = not batch.is_of_functions() and not (is_lone and batch.edits[0].is_refused_by_function())
     return made

@@ -11,6 +11,12 @@ def read(path):
         return file.read()
 
 
+def is_name(name, function):
+    """Whether a name of an edit, or none, is the function's: a method's begins with the module of its type."""
+    is_method = name.count("::") > 1 and function.path.count("::") > 1
+    return name in ("", function.path) or is_method and name.split("::")[-2:] == function.path.split("::")[-2:]
+
+
 class Edit:
     """One edit file, and what it changes.
 
@@ -24,6 +30,7 @@ class Edit:
 
     def __init__(self, path, crate, home):
         self.path, self.crate, self.name = path, crate, os.path.basename(path).removesuffix(".edit")
+        self.home = home
         self.refused, self.expected, self.falls = "", "refused", None
         self.pairs, self.function, self.file, self.text, self.fault = [], None, "", "", ""
         self.answer = None
@@ -70,8 +77,9 @@ class Edit:
             at = text.index(old, begin, end)
             here = self.holder(file, text, at, at + len(old), here, first=not texts)
             texts[file] = text[:at] + new + text[at + len(old) :]
-        if here and len(texts) == 1 and self.refused in ("", here.path):
-            self.function, self.file, self.refused = here, self.pairs[0][0], here.path
+        if here and len(texts) == 1 and is_name(self.refused, here):
+            self.refused = self.refused or here.path
+            self.function, self.file = here._replace(path=self.refused), self.pairs[0][0]
             now = texts[self.file]
             self.text = now[here.start : len(now) - (len(read(f"{home}/{self.file}")) - here.end)]
         elif not self.refused:
@@ -92,6 +100,12 @@ class Edit:
         if not around or not first and around[0].path != here.path:
             return None
         return around[0] if first else here
+
+    def is_refused_by_function(self):
+        """Whether a function of src/ must refuse the edit, and no law or lemma."""
+        files = [os.path.join(at, it) for at, _, names in os.walk(f"{self.home}/src") for it in names]
+        texts = ((os.path.relpath(it, self.home), read(it)) for it in files if it.endswith(".rt"))
+        return any(is_name(self.refused, it) for file in texts for it in functions(*file))
 
     def can_be_beside(self):
         """Whether a copy of the function with the edit can stand beside the function."""

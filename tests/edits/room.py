@@ -15,23 +15,23 @@ def lines_of(root):
 
 
 class Room:
-    """A folder with a copy of the repository, in which each crate is proved as it is: the base of all trials."""
+    """A folder with a copy of the repository, in which the libraries below each trial stand proved.
 
-    def __init__(self, root, folder, anew):
-        self.root, self.anew = root, anew
+    ci_output: the file in which a run of `rt ci` in the repository writes what it prints, if its libraries serve.
+    """
+
+    def __init__(self, root, folder, anew, ci_output=None):
+        self.root, self.anew, self.ci_output = root, anew, ci_output
         self.folder, self.base, self.lines = folder, f"{folder}/base", lines_of(root)
-        named = {name: line.partition(":")[2].split() for name, line in self.lines.items()}
-        self.below = {name: [it for it in words if it in named] for name, words in named.items()}
-        self.begin(self.base, self.below)
+        self.named = {name: line.partition(":")[2].split() for name, line in self.lines.items()}
+        self.below = {name: [it for it in words if it in self.named] for name, words in self.named.items()}
+        self.kit = os.path.dirname(run(["rt", "doc"], root).stdout.strip())
+        os.makedirs(f"{self.base}/.git")
+        with open(f"{self.base}/crates.txt", "w", encoding="utf-8") as file:
+            file.write("".join(f"{line}\n" for line in self.lines.values()))
         for crate in self.below:
             for part in SOURCES:
-                copy_folder(f"{root}/crates/{crate}/{part}", f"{self.base}/crates/{crate}/{part}")
-
-    def begin(self, folder, crates):
-        """Makes the folder the top of a repository of these crates."""
-        os.makedirs(f"{folder}/.git")
-        with open(f"{folder}/crates.txt", "w", encoding="utf-8") as file:
-            file.write("".join(f"{self.lines[it]}\n" for it in crates))
+                copy_folder(f"{root}/crates/{crate}/{part}", f"{self.home(crate)}/{part}")
 
     def home(self, crate):
         return f"{self.base}/crates/{crate}"
@@ -42,41 +42,69 @@ class Room:
             found += [it for it in [*self.all_below(name), name] if it not in found]
         return found
 
-    def prove(self, crate):
-        """Proves the crate as it is, from what is kept of it unless anew, and says what went wrong, if anything did."""
-        for part in [] if self.anew else ["out/rlib", "out/incremental"]:
-            copy_folder(f"{self.root}/crates/{crate}/{part}", f"{self.home(crate)}/{part}")
-        is_library = any(crate in names for names in self.below.values())
-        # (one job: more of them end sooner, but take more of the processors, which other checks use meanwhile)
-        ran = rt(self.home(crate), "lib" if is_library else "check", ["--jobs", "1"])
-        return "" if ran.returncode == 0 else ran.stdout[-2000:]
+    def is_proved_by_ci(self, crate):
+        with open(self.ci_output, encoding="utf-8", errors="replace") as file:
+            return f"rt: {crate} proved" in map(str.rstrip, file)
+
+    def prove(self, crate, is_whole):
+        """Has the crate proved as it is, and says what went wrong, if anything did.
+
+        Where `rt ci` has proved it, its library is taken, and the crate is checked once more only if `is_whole` asks
+        that what this check proves is kept for the trials.
+        """
+        if self.ci_output:
+            if not self.is_proved_by_ci(crate):
+                return "rt ci has not proved it"
+            copy_folder(f"{self.root}/crates/{crate}/out/rlib", f"{self.home(crate)}/out/rlib")
+            ran = self.check(crate, self.home(crate)) if is_whole else None
+        else:
+            for part in [] if self.anew else ["out/rlib", "out/incremental"]:
+                copy_folder(f"{self.root}/crates/{crate}/{part}", f"{self.home(crate)}/{part}")
+            is_library = any(crate in names for names in self.below.values())
+            # (one job: more of them end sooner, but take more of the processors, which other checks use meanwhile)
+            ran = run(["rt", "lib" if is_library else "check", "--jobs", "1"], self.home(crate))
+        return "" if ran is None or ran.returncode == 0 else ran.stdout[-2000:]
+
+    def has_kept(self, crate):
+        """Whether trials of the crate start from what an earlier check of it proved."""
+        return os.path.isdir(f"{self.home(crate)}/out/incremental")
 
     def try_texts(self, crate, texts, functions):
         """What a check of the crate prints with these texts in place of its own; of these functions, if there are any."""
         with tempfile.TemporaryDirectory(prefix="trial-", dir=self.folder) as trial:
-            below = self.all_below(crate)
-            self.begin(trial, [*below, crate])
-            for name in below:
-                for part in SOURCES:
-                    copy_folder(f"{self.home(name)}/{part}", f"{trial}/crates/{name}/{part}")
-                copy_folder(f"{self.home(name)}/out/rlib", f"{trial}/crates/{name}/out/rlib", os.link)
             # a check keeps one version of each function, so each trial starts from the base's
             for part in (*SOURCES, "out/incremental"):
-                copy_folder(f"{self.home(crate)}/{part}", f"{trial}/crates/{crate}/{part}")
-            home = f"{trial}/crates/{crate}"
+                copy_folder(f"{self.home(crate)}/{part}", f"{trial}/{part}")
             for file, text in texts.items():
-                os.makedirs(os.path.dirname(f"{home}/{file}"), exist_ok=True)
-                with open(f"{home}/{file}", "w", encoding="utf-8") as it:
+                os.makedirs(os.path.dirname(f"{trial}/{file}"), exist_ok=True)
+                with open(f"{trial}/{file}", "w", encoding="utf-8") as it:
                     it.write(text)
-            return rt(home, "check", ["--jobs", "1", *(f"--only={it}" for it in functions)]).stdout
+            said = self.check(crate, trial, [f"--only={it}" for it in functions]).stdout
+            if not self.has_kept(crate):
+                # what it proved of the functions that others call serves the next trials
+                shutil.copytree(f"{trial}/out/incremental", f"{self.home(crate)}/out/incremental")
+            return said
+
+    def check(self, crate, home, flags=()):
+        """Checks a crate that stands in this folder over the libraries of the room."""
+        names = ["std", *(it for it in self.named[crate] if it not in self.below)]
+        libraries = [f"{it}={self.kit}/rlibs/{it}.rlib" for it in names]
+        libraries += [f"{it}={self.home(it)}/out/rlib/{it}.rlib" for it in self.below[crate]]
+        below = [f"{self.kit}/rlibs", *(f"{self.home(it)}/out/rlib" for it in self.all_below(crate))]
+        words = ["rattle", "check", "--crate-name", crate, "src/lib.rt", *flags]
+        words += [word for it in libraries for word in ("--extern", it)]
+        words += [word for it in below for word in ("-L", f"dependency={it}")]
+        words += ["--antt-project", f"{self.kit}/rattle/logic/antt-project.json"]
+        words += ["--logic-built", f"{self.kit}/logic_built", "--incremental", "out/incremental"]
+        os.makedirs(f"{home}/out/incremental", exist_ok=True)
+        return run(words, home)
 
 
-def copy_folder(source, target, copy=shutil.copy2):
+def copy_folder(source, target):
     if os.path.isdir(source):
-        shutil.copytree(source, target, copy_function=copy)
+        shutil.copytree(source, target)
 
 
-def rt(home, verb, flags):
+def run(words, home):
     how = {"stdin": subprocess.DEVNULL, "stdout": subprocess.PIPE, "stderr": subprocess.STDOUT}
-    return subprocess.run(["rt", verb, *flags], cwd=home, text=True, errors="replace", **how)
-
+    return subprocess.run(words, cwd=home, text=True, errors="replace", **how)

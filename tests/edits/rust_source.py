@@ -29,8 +29,11 @@ def block_of(indent, line):
     if not impl:
         return None
     parameters = re.findall(r"\w+", impl[1] or "")
-    of_type = parameters if not impl[2] or "<" in impl[3] else []
-    return Block(indent, plain(impl[3], of_type) + plain(impl[2] or "", parameters), bool(impl[2]))
+    if not impl[2]:
+        words = [it for it in re.findall(r"\w+", re.sub(r"'\w+", "", impl[3])) if it not in parameters]
+        return Block(indent, "+".join(words), False)
+    of_type = parameters if "<" in impl[3] else []
+    return Block(indent, plain(impl[3], of_type) + plain(impl[2], parameters), True)
 
 
 def opens_body(head, indent, word, is_first):
