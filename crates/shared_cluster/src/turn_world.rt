@@ -86,7 +86,8 @@ impl TurnWorld {
     /// The proxy of this number, or None if the cluster has none.
     pub fn proxy(&self, proxy: usize) -> Option<&Proxy>
         ensures { MatchOption result (self.now.config.proxies ≤ proxy)
-            (λ found. IsProxy self.now.config self.now.world proxy found.now) }
+            (λ found. (proxy < self.now.config.proxies)
+            × IsProxy self.now.config self.now.world proxy found.now) }
     {
         self.proxies.get(proxy)
     }
@@ -94,7 +95,8 @@ impl TurnWorld {
     /// The resolver of this number, or None if the cluster has none.
     pub fn resolver(&self, resolver: usize) -> Option<&Resolver>
         ensures { MatchOption result (self.now.config.resolvers ≤ resolver)
-            (λ found. IsResolver self.now.config self.now.world resolver found.now) }
+            (λ found. (resolver < self.now.config.resolvers)
+            × IsResolver self.now.config self.now.world resolver found.now) }
     {
         self.resolvers.get(resolver)
     }
