@@ -15,5 +15,6 @@ pub use key_ranges::{Ends, given_range, given_ranges, range, ranges};
 pub use lists::{bytes, list, none, one, repeated, room};
 pub use texts::{is_shown_as, joined, text_room};
 pub use transactions::{
-    Given, NOTHING, Step, admitted, batch, batch_of, mutation, mutations, transaction,
+    Given, NOTHING, Step, admitted, batch, batch_of, change, changes, mutation, mutations,
+    transaction,
 };

@@ -1,11 +1,11 @@
 //! Mutations, transactions and batches.
 
-use crate::key_ranges::{Ends, given_ranges};
+use crate::key_ranges::{Ends, given_ranges, range};
 use crate::lists::{bytes, room};
 use mutation::{Admitted, Batch, Mutation, Transaction, admit};
 use std::alloc::{AllocError, Global};
 use std::test::Fail;
-use system_keys::Items;
+use system_keys::{Change, Items};
 
 /// A mutation as plain data.
 #[derive(Clone, Copy)]
@@ -65,6 +65,27 @@ pub fn mutations(alloc: Global, steps: &[Step<'_>]) -> Result<Items<Mutation>, A
     let mut list = room(alloc, steps.len())?;
     for step in steps {
         list.push(mutation(alloc, *step)?)?;
+    }
+    Ok(Items::from(list))
+}
+
+/// The change, whose range has no fault. There is none with a stamp.
+pub fn change(alloc: Global, step: Step<'_>) -> Result<Change, Fail> {
+    match step {
+        Step::Set(key, value) => Ok(Change::Set {
+            key: bytes(alloc, key)?,
+            value: bytes(alloc, value)?,
+        }),
+        Step::Clear(begin, end) => Ok(Change::clear(range(alloc, begin, end)?)),
+        Step::SetStamped(_, _) => Err(Fail::from("a change has no stamp")),
+    }
+}
+
+/// The changes, whose ranges have no fault.
+pub fn changes(alloc: Global, steps: &[Step<'_>]) -> Result<Items<Change>, Fail> {
+    let mut list = room(alloc, steps.len())?;
+    for step in steps {
+        list.push(change(alloc, *step)?)?;
     }
     Ok(Items::from(list))
 }

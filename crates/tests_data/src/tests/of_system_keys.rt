@@ -1,25 +1,13 @@
-//! Tests against vectors and hand-made values. Each call that takes memory is made again where it
-//! was refused memory, and what was copied is then as before, so that the tests also pass where any
-//! one allocation fails.
+//! Tests of system_keys.
 
 use std::alloc::{AllocError, Global};
-use std::fmt::Display;
 use std::test::Fail;
 use system_keys::{
     Bytes, Change, KeyRange, OutOfMemory, Refusal, RowFault, RowKind, ServerId, Tag, Teams,
     TeamsFault, classify, decode_key_servers, decode_tag, encode_key_servers, encode_tag, is_state,
     print_bytes, read_bytes,
 };
-
-/// The call, made once more where it was refused memory.
-macro_rules! twice {
-    ($call:expr, $memory:pat) => {
-        match $call {
-            Err($memory) => $call,
-            answer => answer,
-        }
-    };
-}
+use testing::{bytes, is_shown_as, list, range, repeated, room, twice};
 
 /// `server0000000001`.
 const SERVER_1: [u8; 16] = [
@@ -37,45 +25,25 @@ const ONE_SOURCE: [u8; 18] = [
     0x31, 0x00,
 ];
 
-fn owned(alloc: Global, bytes: &[u8]) -> Result<Vec<u8>, AllocError> {
-    match Vec::from_slice(alloc, bytes) {
-        Err(_) => Vec::from_slice(alloc, bytes),
-        made => made,
-    }
+fn made_range(
+    alloc: Global,
+    begin: &[u8],
+    end: &[u8],
+) -> Result<Result<KeyRange, Refusal>, AllocError> {
+    Ok(KeyRange::new(list(alloc, begin)?, list(alloc, end)?))
 }
 
-/// No bytes yet, with room for this many.
-fn room(alloc: Global, count: usize) -> Result<Vec<u8>, AllocError> {
-    match Vec::with_capacity(alloc, count) {
-        Err(_) => Vec::with_capacity(alloc, count),
-        made => made,
-    }
-}
-
-fn repeated(alloc: Global, byte: u8, count: usize) -> Result<Vec<u8>, AllocError> {
-    let mut bytes = room(alloc, count)?;
-    for _ in 0..count {
-        bytes.push(byte)?;
-    }
-    Ok(bytes)
-}
-
-fn range(alloc: Global, begin: &[u8], end: &[u8]) -> Result<Result<KeyRange, Refusal>, AllocError> {
-    Ok(KeyRange::new(owned(alloc, begin)?, owned(alloc, end)?))
-}
-
-fn set(alloc: Global, key: &[u8], value: &[u8]) -> Result<Result<Change, Refusal>, AllocError> {
-    Ok(Change::set(owned(alloc, key)?, owned(alloc, value)?))
-}
-
-/// The range from `begin` up to `end`, which has no fault.
-fn sound_range(alloc: Global, begin: &[u8], end: &[u8]) -> Result<KeyRange, Fail> {
-    Ok(range(alloc, begin, end)??)
+fn made_set(
+    alloc: Global,
+    key: &[u8],
+    value: &[u8],
+) -> Result<Result<Change, Refusal>, AllocError> {
+    Ok(Change::set(list(alloc, key)?, list(alloc, value)?))
 }
 
 /// The Set of the key to the value, which has no fault.
 fn sound_set(alloc: Global, key: &[u8], value: &[u8]) -> Result<Change, Fail> {
-    Ok(set(alloc, key, value)??)
+    Ok(made_set(alloc, key, value)??)
 }
 
 fn is_range(range: &KeyRange, begin: &[u8], end: &[u8]) -> bool {
@@ -115,7 +83,7 @@ fn is_b_up_to_d(range: KeyRange) -> Result<bool, OutOfMemory> {
 
 #[test]
 fn a_range_holds_its_begin_and_not_its_end(rt: HostRuntime) -> Result<(), Fail> {
-    let range = sound_range(rt.alloc(), b"b", b"d")?;
+    let range = range(rt.alloc(), b"b", b"d")?;
     assert!(rt; is_b_up_to_d(range)?);
     Ok(())
 }
@@ -128,7 +96,7 @@ fn is_overlap(
     end: &[u8],
     overlapping: bool,
 ) -> Result<bool, Fail> {
-    let other = sound_range(alloc, begin, end)?;
+    let other = range(alloc, begin, end)?;
     Ok(middle.overlaps(&other) == overlapping && other.overlaps(middle) == overlapping)
 }
 
@@ -152,14 +120,14 @@ fn overlaps_by_shared_keys(alloc: Global, middle: &KeyRange) -> Result<bool, Fai
 #[test]
 fn ranges_that_touch_do_not_overlap(rt: HostRuntime) -> Result<(), Fail> {
     let alloc = rt.alloc();
-    let middle = sound_range(alloc, b"b", b"d")?;
+    let middle = range(alloc, b"b", b"d")?;
     assert!(rt; overlaps_by_shared_keys(alloc, &middle)?);
     Ok(())
 }
 
 /// The fault for which the range from `begin` up to `end` is refused.
 fn range_fault(alloc: Global, begin: &[u8], end: &[u8]) -> Result<Option<Refusal>, AllocError> {
-    Ok(range(alloc, begin, end)?.err())
+    Ok(made_range(alloc, begin, end)?.err())
 }
 
 /// Whether each range is refused as it is to be: `longer` is a byte too long for an end.
@@ -193,7 +161,7 @@ fn a_range_is_refused_by_its_first_fault(rt: HostRuntime) -> Result<(), Fail> {
 
 /// The fault for which the Set of the key to the value is refused.
 fn set_fault(alloc: Global, key: &[u8], value: &[u8]) -> Result<Option<Refusal>, AllocError> {
-    Ok(set(alloc, key, value)?.err())
+    Ok(made_set(alloc, key, value)?.err())
 }
 
 /// Whether each Set is refused as it is to be: the key is a byte too long, and so is the value.
@@ -284,12 +252,12 @@ fn set_is_copied(alloc: Global) -> Result<bool, Fail> {
 }
 
 fn clear_is_copied(alloc: Global) -> Result<bool, Fail> {
-    let range = sound_range(alloc, b"b", b"d")?;
+    let range = range(alloc, b"b", b"d")?;
     Ok(is_copied_clear(Change::clear(range), b"b", b"d")?)
 }
 
 fn bytes_are_copied(alloc: Global) -> Result<bool, Fail> {
-    Ok(are_copied_bytes(&Bytes::from(owned(alloc, b"abc")?))?)
+    Ok(are_copied_bytes(&bytes(alloc, b"abc")?)?)
 }
 
 fn tag_is_copied(tag: Tag) -> Result<bool, OutOfMemory> {
@@ -323,7 +291,7 @@ fn is_state_set(alloc: Global, key: &[u8]) -> Result<bool, Fail> {
 
 /// Whether the Clear of this range is a change of the state.
 fn is_state_clear(alloc: Global, begin: &[u8], end: &[u8]) -> Result<bool, Fail> {
-    Ok(is_state(&Change::clear(sound_range(alloc, begin, end)?)))
+    Ok(is_state(&Change::clear(range(alloc, begin, end)?)))
 }
 
 #[test]
@@ -368,13 +336,6 @@ fn each_key_has_its_kind(rt: HostRuntime) {
     }
 }
 
-fn servers(alloc: Global, ids: &[ServerId]) -> Result<Vec<ServerId>, AllocError> {
-    match Vec::from_slice(alloc, ids) {
-        Err(_) => Vec::from_slice(alloc, ids),
-        made => made,
-    }
-}
-
 /// What `Teams::new` answers.
 type MadeTeams = Result<Teams, (TeamsFault, Vec<ServerId>, Vec<ServerId>)>;
 
@@ -383,7 +344,7 @@ fn teams(
     sources: &[ServerId],
     destinations: &[ServerId],
 ) -> Result<MadeTeams, AllocError> {
-    Ok(Teams::new(servers(alloc, sources)?, servers(alloc, destinations)?))
+    Ok(Teams::new(list(alloc, sources)?, list(alloc, destinations)?))
 }
 
 fn copy_of_teams(teams: &Teams) -> Result<Teams, OutOfMemory> {
@@ -442,17 +403,9 @@ fn teams_rise_and_are_few_enough(rt: HostRuntime) -> Result<(), Fail> {
     Ok(())
 }
 
-/// No ids yet, with room for this many.
-fn room_for_ids(alloc: Global, count: usize) -> Result<Vec<ServerId>, AllocError> {
-    match Vec::with_capacity(alloc, count) {
-        Err(_) => Vec::with_capacity(alloc, count),
-        made => made,
-    }
-}
-
 /// This many ids, rising.
 fn many(alloc: Global, count: u16) -> Result<Vec<ServerId>, AllocError> {
-    let mut ids = room_for_ids(alloc, usize::from(count))?;
+    let mut ids = room(alloc, usize::from(count))?;
     for number in 0..count {
         let [high, low] = number.to_be_bytes();
         ids.push(ServerId([high, low, 0, 0, 0, 0, 0, 0, 0, 0, 0, 0, 0, 0, 0, 0]))?;
@@ -672,11 +625,6 @@ fn refusals_have_their_numbers_and_names(rt: HostRuntime) {
     ] {
         assert!(rt; is_row_fault(fault, number, name));
     }
-}
-
-fn is_shown_as<T: Display + Drop>(alloc: Global, error: T, text: &str) -> Result<bool, AllocError> {
-    let shown = twice!(format!(in alloc; "{error}"), _)?;
-    Ok(shown.as_str() == text)
 }
 
 #[test]

@@ -1,36 +1,14 @@
-//! Tests against vectors and hand-made values. Each call that takes memory is made again where it
-//! was refused memory, and what it was made on is then as before, so that the tests also pass where
-//! any one allocation fails.
+//! Tests of mutation.
 
 use mutation::*;
 use std::alloc::{AllocError, Global};
-use std::fmt::Display;
 use std::process::Abort;
 use std::test::Fail;
-use system_keys::{Bytes, Change, Items, KeyRange, OutOfMemory};
-
-/// The call, made once more where it was refused memory.
-macro_rules! twice {
-    ($call:expr, $memory:pat) => {
-        match $call {
-            Err($memory) => $call,
-            answer => answer,
-        }
-    };
-}
-
-/// The call on an object, made once more where it was refused memory: the object is then as it was.
-macro_rules! twice_on {
-    ($rt:expr; $is_as_it_was:expr, $call:expr, $memory:pat) => {
-        match $call {
-            Err($memory) => {
-                assert!($rt; $is_as_it_was, "a refusal of memory changed the object");
-                $call
-            }
-            answer => answer,
-        }
-    };
-}
+use system_keys::{Bytes, Change, KeyRange, OutOfMemory};
+use testing::{
+    Given, NOTHING, Step, batch, given_range, is_shown_as, repeated, room, transaction, twice,
+    twice_on,
+};
 
 const SERVER_TAG_KEY: &[u8] = b"\xff/serverTag/server0000000001";
 
@@ -40,100 +18,40 @@ const AT_TWO: &[u8] = b"ab0123456789\x02\x00\x00\x00";
 /// That value with the stamp of transaction 3 in the batch of version 258.
 const AT_TWO_STAMPED: &[u8] = b"ab\x00\x00\x00\x00\x00\x00\x01\x02\x00\x03";
 
-fn bytes(alloc: Global, text: &[u8]) -> Result<Bytes, AllocError> {
-    Ok(Bytes::from(twice!(Vec::from_slice(alloc, text), _)?))
-}
+/// A lock aware transaction at snapshot 7 with nothing in it.
+const AT_SEVEN: Given<'static> = Given {
+    snapshot: 7,
+    lock_aware: true,
+    ..NOTHING
+};
 
-fn range(alloc: Global, begin: &[u8], end: &[u8]) -> Result<GivenRange, AllocError> {
-    Ok(GivenRange {
-        begin: bytes(alloc, begin)?,
-        end: bytes(alloc, end)?,
-    })
-}
-
-fn set(alloc: Global, key: &[u8], value: &[u8]) -> Result<Mutation, AllocError> {
-    Ok(Mutation::Set {
-        key: bytes(alloc, key)?,
-        value: bytes(alloc, value)?,
-    })
-}
-
-fn clear(alloc: Global, begin: &[u8], end: &[u8]) -> Result<Mutation, AllocError> {
-    Ok(Mutation::Clear {
-        begin: bytes(alloc, begin)?,
-        end: bytes(alloc, end)?,
-    })
-}
-
-fn set_stamped(alloc: Global, key: &[u8], value: &[u8]) -> Result<Mutation, AllocError> {
-    Ok(Mutation::SetStamped {
-        key: bytes(alloc, key)?,
-        value: bytes(alloc, value)?,
-    })
-}
-
-/// No items.
-fn nothing<T>(alloc: Global) -> Items<T> {
-    Items::from(Vec::new(alloc))
-}
-
-/// The item alone.
-fn one<T: Drop>(alloc: Global, item: T) -> Result<Items<T>, AllocError> {
-    let mut items = twice!(Vec::with_capacity(alloc, 1), _)?;
-    items.push(item)?;
-    Ok(Items::from(items))
-}
-
-fn one_range(alloc: Global, begin: &[u8], end: &[u8]) -> Result<Items<GivenRange>, AllocError> {
-    one(alloc, range(alloc, begin, end)?)
-}
-
-/// A transaction at snapshot 7 that is lock aware, with these entries.
-fn transaction(
-    reads: Items<GivenRange>,
-    writes: Items<GivenRange>,
-    mutations: Items<Mutation>,
-) -> Transaction {
-    Transaction {
-        snapshot: 7,
-        reads,
-        writes,
-        mutations,
-        lock_aware: true,
-    }
-}
-
-/// A transaction with nothing in it.
-fn empty(alloc: Global) -> Transaction {
-    transaction(nothing(alloc), nothing(alloc), nothing(alloc))
-}
-
-/// A transaction of one mutation.
-fn lone(alloc: Global, mutation: Mutation) -> Result<Transaction, AllocError> {
-    let mutations = one(alloc, mutation)?;
-    Ok(transaction(nothing(alloc), nothing(alloc), mutations))
-}
+/// That with one read, one write and a mutation of each kind.
+const ONE_EACH: Given<'static> = Given {
+    reads: &[(b"a", b"b")],
+    writes: &[(b"c", b"\xff\xff")],
+    mutations: &[
+        Step::Set(b"k", b"v"),
+        Step::Clear(b"", b"m"),
+        Step::SetStamped(b"n", AT_TWO),
+    ],
+    ..AT_SEVEN
+};
 
 fn admitted(alloc: Global, given: &Transaction) -> Result<Admitted, Refusal> {
     twice!(admit(alloc, given), Refusal::OutOfMemory)
 }
 
-/// The transaction, admitted: it has no fault.
-fn faultless(alloc: Global, given: &Transaction) -> Result<Admitted, Fail> {
-    Ok(admitted(alloc, given)?)
-}
-
 /// What admission says of a transaction of one mutation: `None` where it is admitted.
-fn refusal_of(alloc: Global, mutation: Mutation) -> Result<Option<Refusal>, AllocError> {
-    let given = lone(alloc, mutation)?;
+fn refusal_of(alloc: Global, step: Step<'_>) -> Result<Option<Refusal>, AllocError> {
+    let mutations = &[step];
+    let given = transaction(
+        alloc,
+        Given {
+            mutations,
+            ..AT_SEVEN
+        },
+    )?;
     Ok(admitted(alloc, &given).err())
-}
-
-/// A SetStamped of `m`, admitted.
-fn admitted_stamp(alloc: Global, value: &[u8]) -> Result<Admitted, Fail> {
-    let mutation = set_stamped(alloc, b"m", value)?;
-    let given = lone(alloc, mutation)?;
-    faultless(alloc, &given)
 }
 
 fn copy_of_value(value: &Bytes) -> Result<Option<Bytes>, Fail> {
@@ -167,43 +85,15 @@ fn value_stamped(
     version: u64,
     number: usize,
 ) -> Result<Option<Bytes>, Fail> {
-    let admitted = admitted_stamp(alloc, value)?;
-    stamped_value(alloc, &admitted, version, number)
-}
-
-/// That many bytes `k`.
-fn repeated(alloc: Global, count: usize) -> Result<Vec<u8>, AllocError> {
-    let mut bytes = twice!(Vec::with_capacity(alloc, count), _)?;
-    for _ in 0..count {
-        bytes.push(b'k')?;
-    }
-    Ok(bytes)
-}
-
-fn admitted_empty(alloc: Global) -> Result<Admitted, Refusal> {
-    let given = empty(alloc);
-    admitted(alloc, &given)
-}
-
-/// As many transactions with nothing in them.
-fn transactions(alloc: Global, count: usize) -> Result<Vec<Admitted>, Fail> {
-    let mut transactions = twice!(Vec::with_capacity(alloc, count), _)?;
-    for _ in 0..count {
-        transactions.push(admitted_empty(alloc)?)?;
-    }
-    Ok(transactions)
-}
-
-fn set_refusal(alloc: Global, key: &[u8], value: &[u8]) -> Result<Option<Refusal>, AllocError> {
-    refusal_of(alloc, set(alloc, key, value)?)
-}
-
-fn clear_refusal(alloc: Global, begin: &[u8], end: &[u8]) -> Result<Option<Refusal>, AllocError> {
-    refusal_of(alloc, clear(alloc, begin, end)?)
-}
-
-fn stamp_refusal(alloc: Global, key: &[u8], value: &[u8]) -> Result<Option<Refusal>, AllocError> {
-    refusal_of(alloc, set_stamped(alloc, key, value)?)
+    let mutations = &[Step::SetStamped(b"m", value)];
+    let stamp = testing::admitted(
+        alloc,
+        Given {
+            mutations,
+            ..AT_SEVEN
+        },
+    )?;
+    stamped_value(alloc, &stamp, version, number)
 }
 
 #[test]
@@ -226,14 +116,23 @@ fn a_stamp_without_room_is_refused(rt: HostRuntime) -> Result<(), Fail> {
     let alloc = rt.alloc();
     let refused = Some(Refusal::BadStamp);
     assert_eq!(rt;
-        stamp_refusal(alloc, b"m", b"ab0123456789\x03\x00\x00\x00")?,
+        refusal_of(
+            alloc,
+            Step::SetStamped(b"m", b"ab0123456789\x03\x00\x00\x00")
+        )?,
         refused
     );
     assert_eq!(rt;
-        stamp_refusal(alloc, b"m", b"ab0123456789\x02\x00\x00\x01")?,
+        refusal_of(
+            alloc,
+            Step::SetStamped(b"m", b"ab0123456789\x02\x00\x00\x01")
+        )?,
         refused
     );
-    assert_eq!(rt; stamp_refusal(alloc, b"m", b"\x00\x00\x00")?, refused);
+    assert_eq!(rt;
+        refusal_of(alloc, Step::SetStamped(b"m", b"\x00\x00\x00"))?,
+        refused
+    );
     Ok(())
 }
 
@@ -244,11 +143,14 @@ fn is_bad_row(refusal: Option<Refusal>) -> bool {
 #[test]
 fn rows_of_a_fixed_form_take_no_stamp(rt: HostRuntime) -> Result<(), Fail> {
     let alloc = rt.alloc();
-    let server_tag = stamp_refusal(alloc, SERVER_TAG_KEY, b"\x00\x00\x01")?;
+    let server_tag = refusal_of(alloc, Step::SetStamped(SERVER_TAG_KEY, b"\x00\x00\x01"))?;
     assert!(rt; is_bad_row(server_tag));
-    let key_servers = stamp_refusal(alloc, b"\xff/keyServers/a", &[0u8; 14])?;
+    let key_servers = refusal_of(alloc, Step::SetStamped(b"\xff/keyServers/a", &[0u8; 14]))?;
     assert!(rt; is_bad_row(key_servers));
-    let metadata_version = stamp_refusal(alloc, b"\xff/metadataVersion", &[0u8; 14])?;
+    let metadata_version = refusal_of(
+        alloc,
+        Step::SetStamped(b"\xff/metadataVersion", &[0u8; 14]),
+    )?;
     assert!(rt; metadata_version.is_none());
     Ok(())
 }
@@ -256,38 +158,37 @@ fn rows_of_a_fixed_form_take_no_stamp(rt: HostRuntime) -> Result<(), Fail> {
 #[test]
 fn rows_of_a_fixed_form_take_values_that_decode(rt: HostRuntime) -> Result<(), Fail> {
     let alloc = rt.alloc();
-    let server_tag = set_refusal(alloc, SERVER_TAG_KEY, b"\x00\x00\x01")?;
+    let server_tag = refusal_of(alloc, Step::Set(SERVER_TAG_KEY, b"\x00\x00\x01"))?;
     assert!(rt; server_tag.is_none());
-    let key_servers = set_refusal(alloc, b"\xff/keyServers/", b"\x01server0000000001\x00")?;
+    let key_servers = refusal_of(
+        alloc,
+        Step::Set(b"\xff/keyServers/", b"\x01server0000000001\x00"),
+    )?;
     assert!(rt; key_servers.is_none());
-    let cut_off = set_refusal(alloc, b"\xff/keyServers/", b"\x01server000000000")?;
+    let cut_off = refusal_of(
+        alloc,
+        Step::Set(b"\xff/keyServers/", b"\x01server000000000"),
+    )?;
     assert!(rt; is_bad_row(cut_off));
     Ok(())
 }
 
 /// What admission says of the transaction at once, with no second call.
-fn refusal_at_once(alloc: Global, given: Transaction) -> Option<Refusal> {
-    admit(alloc, &given).err()
-}
-
-fn one_set(alloc: Global, key: &[u8], value: &[u8]) -> Result<Items<Mutation>, AllocError> {
-    one(alloc, set(alloc, key, value)?)
-}
-
-fn one_clear(alloc: Global, begin: &[u8], end: &[u8]) -> Result<Items<Mutation>, AllocError> {
-    one(alloc, clear(alloc, begin, end)?)
+fn refusal_at_once(alloc: Global, given: Given<'_>) -> Result<Option<Refusal>, AllocError> {
+    let given = transaction(alloc, given)?;
+    Ok(admit(alloc, &given).err())
 }
 
 /// A transaction with an empty read and a Set outside the key space.
-fn of_two_faults(alloc: Global) -> Result<Transaction, AllocError> {
-    let reads = one_range(alloc, b"b", b"a")?;
-    let mutations = one_set(alloc, b"\xff\xff", b"")?;
-    Ok(transaction(reads, nothing(alloc), mutations))
-}
+const OF_TWO_FAULTS: Given<'static> = Given {
+    reads: &[(b"b", b"a")],
+    mutations: &[Step::Set(b"\xff\xff", b"")],
+    ..AT_SEVEN
+};
 
 #[test]
 fn reads_are_looked_at_first(rt: HostRuntime) -> Result<(), Fail> {
-    let refusal = refusal_at_once(rt.alloc(), of_two_faults(rt.alloc())?);
+    let refusal = refusal_at_once(rt.alloc(), OF_TWO_FAULTS)?;
     assert_eq!(rt;
         refusal,
         Some(Refusal::Key(system_keys::Refusal::EmptyRange))
@@ -296,15 +197,15 @@ fn reads_are_looked_at_first(rt: HostRuntime) -> Result<(), Fail> {
 }
 
 /// A transaction with a write past the key space and an empty Clear.
-fn of_a_faulty_write(alloc: Global) -> Result<Transaction, AllocError> {
-    let writes = one_range(alloc, b"a", b"\xff\xff\x00")?;
-    let mutations = one_clear(alloc, b"b", b"a")?;
-    Ok(transaction(nothing(alloc), writes, mutations))
-}
+const OF_A_FAULTY_WRITE: Given<'static> = Given {
+    writes: &[(b"a", b"\xff\xff\x00")],
+    mutations: &[Step::Clear(b"b", b"a")],
+    ..AT_SEVEN
+};
 
 #[test]
 fn writes_are_looked_at_before_mutations(rt: HostRuntime) -> Result<(), Fail> {
-    let refusal = refusal_at_once(rt.alloc(), of_a_faulty_write(rt.alloc())?);
+    let refusal = refusal_at_once(rt.alloc(), OF_A_FAULTY_WRITE)?;
     assert_eq!(rt;
         refusal,
         Some(Refusal::Key(system_keys::Refusal::KeyOutside))
@@ -314,14 +215,14 @@ fn writes_are_looked_at_before_mutations(rt: HostRuntime) -> Result<(), Fail> {
 
 /// What admission says of a Set with a key of that many bytes.
 fn key_refusal(alloc: Global, length: usize) -> Result<Option<Refusal>, AllocError> {
-    let key = repeated(alloc, length)?;
-    set_refusal(alloc, &key, b"")
+    let key = repeated(alloc, b'k', length)?;
+    refusal_of(alloc, Step::Set(&key, b""))
 }
 
 /// What admission says of a Clear with an end of that many bytes.
 fn end_refusal(alloc: Global, length: usize) -> Result<Option<Refusal>, AllocError> {
-    let end = repeated(alloc, length)?;
-    clear_refusal(alloc, b"k", &end)
+    let end = repeated(alloc, b'k', length)?;
+    refusal_of(alloc, Step::Clear(b"k", &end))
 }
 
 #[test]
@@ -338,14 +239,14 @@ fn a_key_has_at_most_10_000_bytes(rt: HostRuntime) -> Result<(), Fail> {
 
 /// What admission says of a Set with a value of that many bytes.
 fn value_refusal(alloc: Global, length: usize) -> Result<Option<Refusal>, AllocError> {
-    let value = repeated(alloc, length)?;
-    set_refusal(alloc, b"k", &value)
+    let value = repeated(alloc, b'k', length)?;
+    refusal_of(alloc, Step::Set(b"k", &value))
 }
 
 /// What admission says of a SetStamped with a value of that many bytes.
 fn stamped_value_refusal(alloc: Global, length: usize) -> Result<Option<Refusal>, AllocError> {
-    let value = repeated(alloc, length)?;
-    stamp_refusal(alloc, b"k", &value)
+    let value = repeated(alloc, b'k', length)?;
+    refusal_of(alloc, Step::SetStamped(b"k", &value))
 }
 
 #[test]
@@ -358,14 +259,18 @@ fn a_value_has_at_most_100_000_bytes(rt: HostRuntime) -> Result<(), Fail> {
     Ok(())
 }
 
-/// The batch of these transactions, where there is one.
-fn batch_of(transactions: Vec<Admitted>) -> Option<Batch> {
-    Batch::new(transactions).ok()
+/// So many transactions with nothing in them.
+fn transactions(alloc: Global, count: usize) -> Result<Vec<Admitted>, Fail> {
+    let mut transactions = room(alloc, count)?;
+    for _ in 0..count {
+        transactions.push(testing::admitted(alloc, AT_SEVEN)?)?;
+    }
+    Ok(transactions)
 }
 
 /// How many transactions that batch has.
 fn batch_length(transactions: Vec<Admitted>) -> Option<usize> {
-    let batch = batch_of(transactions)?;
+    let batch = Batch::new(transactions).ok()?;
     Some(batch.transactions().len())
 }
 
@@ -382,36 +287,6 @@ fn a_batch_has_at_most_1_024_transactions(rt: HostRuntime) -> Result<(), Fail> {
     let past = handed_back(transactions(rt.alloc(), 1_025)?);
     assert_eq!(rt; past, Some((Refusal::BatchTooLarge, 1_025)));
     Ok(())
-}
-
-/// The mutation of this place in the transaction of one each.
-fn mutation_at(alloc: Global, place: usize) -> Result<Mutation, AllocError> {
-    match place {
-        0 => set(alloc, b"k", b"v"),
-        1 => clear(alloc, b"", b"m"),
-        _ => set_stamped(alloc, b"n", AT_TWO),
-    }
-}
-
-/// A mutation of each kind.
-fn mutations(alloc: Global) -> Result<Items<Mutation>, AllocError> {
-    let mut mutations = twice!(Vec::with_capacity(alloc, 3), _)?;
-    for place in 0..3 {
-        mutations.push(mutation_at(alloc, place)?)?;
-    }
-    Ok(Items::from(mutations))
-}
-
-/// A lock aware transaction at snapshot 7 with one read, one write and a mutation of each kind.
-fn of_one_each(alloc: Global) -> Result<Transaction, AllocError> {
-    let reads = one_range(alloc, b"a", b"b")?;
-    let writes = one_range(alloc, b"c", b"\xff\xff")?;
-    Ok(transaction(reads, writes, mutations(alloc)?))
-}
-
-fn admitted_of_one_each(alloc: Global) -> Result<Admitted, Fail> {
-    let given = of_one_each(alloc)?;
-    faultless(alloc, &given)
 }
 
 fn are(bytes: &Bytes, expected: &[u8]) -> bool {
@@ -543,7 +418,7 @@ fn admit_one_each(rt: &impl Abort, alloc: Global, given: &Transaction) -> Result
 
 #[test]
 fn admission_keeps_every_field(rt: HostRuntime) -> Result<(), Fail> {
-    let given = of_one_each(rt.alloc())?;
+    let given = transaction(rt.alloc(), ONE_EACH)?;
     admit_one_each(&rt, rt.alloc(), &given)
 }
 
@@ -567,7 +442,7 @@ fn stamp_and_copy(rt: &impl Abort, alloc: Global, admitted: &Admitted) -> Result
 
 #[test]
 fn stamping_keeps_every_field(rt: HostRuntime) -> Result<(), Fail> {
-    let admitted = admitted_of_one_each(rt.alloc())?;
+    let admitted = testing::admitted(rt.alloc(), ONE_EACH)?;
     stamp_and_copy(&rt, rt.alloc(), &admitted)
 }
 
@@ -597,7 +472,7 @@ fn copy_range(rt: &impl Abort, read: &GivenRange) -> Result<(), Fail> {
 }
 
 fn copy_new_range(rt: &impl Abort, alloc: Global) -> Result<(), Fail> {
-    let read = range(alloc, b"a", b"b")?;
+    let read = given_range(alloc, b"a", b"b")?;
     copy_range(rt, &read)
 }
 
@@ -609,7 +484,7 @@ fn copy_given_and_mutations(rt: &impl Abort, given: &Transaction) -> Result<(), 
 #[test]
 fn given_transactions_are_copied(rt: HostRuntime) -> Result<(), Fail> {
     copy_new_range(&rt, rt.alloc())?;
-    let given = of_one_each(rt.alloc())?;
+    let given = transaction(rt.alloc(), ONE_EACH)?;
     copy_given_and_mutations(&rt, &given)
 }
 
@@ -643,7 +518,7 @@ fn copy_admitted_and_mutations(rt: &impl Abort, admitted: &Admitted) -> Result<(
 
 #[test]
 fn admitted_transactions_are_copied(rt: HostRuntime) -> Result<(), Fail> {
-    let admitted = admitted_of_one_each(rt.alloc())?;
+    let admitted = testing::admitted(rt.alloc(), ONE_EACH)?;
     copy_admitted_and_mutations(&rt, &admitted)
 }
 
@@ -657,24 +532,6 @@ fn is_batch(batch: &Batch) -> bool {
     }
 }
 
-fn make_room(transactions: &mut Vec<Admitted>) -> Result<(), AllocError> {
-    twice!(transactions.reserve(1), _)
-}
-
-/// Puts the transaction behind the others.
-fn add(transactions: &mut Vec<Admitted>, admitted: Admitted) -> Result<(), AllocError> {
-    transactions.push(admitted)?;
-    Ok(())
-}
-
-/// Two transactions with nothing in them, and that of one each.
-fn three_transactions(alloc: Global) -> Result<Vec<Admitted>, Fail> {
-    let mut transactions = transactions(alloc, 2)?;
-    make_room(&mut transactions)?;
-    add(&mut transactions, admitted_of_one_each(alloc)?)?;
-    Ok(transactions)
-}
-
 fn copy_batch(rt: &impl Abort, batch: &Batch) -> Result<(), Fail> {
     let copy = twice_on!(rt; is_batch(batch), batch.copy(), OutOfMemory)?;
     assert!(rt; is_batch(&copy));
@@ -683,7 +540,7 @@ fn copy_batch(rt: &impl Abort, batch: &Batch) -> Result<(), Fail> {
 
 #[test]
 fn batches_are_copied(rt: HostRuntime) -> Result<(), Fail> {
-    let batch = batch_of(three_transactions(rt.alloc())?).ok_or("too large")?;
+    let batch = batch(rt.alloc(), &[AT_SEVEN, AT_SEVEN, ONE_EACH])?;
     copy_batch(&rt, &batch)
 }
 
@@ -697,11 +554,6 @@ fn refusals_have_numbers_and_names(rt: HostRuntime) {
     assert!(rt; is_called(empty_range, 13, "EmptyRange"));
     assert!(rt; is_called(Refusal::BadStamp, 15, "BadStamp"));
     assert!(rt; is_called(Refusal::BatchTooLarge, 16, "BatchTooLarge"));
-}
-
-fn is_shown_as<T: Display + Drop>(alloc: Global, error: T, text: &str) -> Result<bool, AllocError> {
-    let shown = twice!(format!(in alloc; "{error}"), _)?;
-    Ok(shown.as_str() == text)
 }
 
 #[test]

@@ -1,5 +1,4 @@
-//! Tests: a copy is an equal value. Each call that takes memory is made again where it was refused
-//! memory, so that the tests also pass where any one allocation fails.
+//! Tests of model: a copy is an equal value.
 
 use model::{
     Carried, Config, Finished, JournalRow, Move, Outcome, Part, Refusal, Reply, Route, Routing,
@@ -9,46 +8,20 @@ use std::alloc::{AllocError, Global};
 use std::fmt::Debug;
 use std::process::Abort;
 use std::test::Fail;
-use system_keys::{Bytes, Change, Items, KeyRange, OutOfMemory, Tag};
+use system_keys::{Change, Items, KeyRange, OutOfMemory, Tag};
+use testing::{Step, bytes, change, none, one, range, twice};
 
-/// The call, made once more where it was refused memory.
-macro_rules! twice {
-    ($call:expr, $memory:pat) => {
-        match $call {
-            Err($memory) => $call,
-            answer => answer,
-        }
-    };
+fn set_of_a(alloc: Global) -> Result<Change, Fail> {
+    change(alloc, Step::Set(b"a", b"1"))
 }
 
-fn owned(alloc: Global, text: &[u8]) -> Result<Vec<u8>, AllocError> {
-    twice!(Vec::from_slice(alloc, text), _)
-}
-
-fn bytes(alloc: Global, text: &[u8]) -> Result<Bytes, Fail> {
-    Ok(Bytes::from(owned(alloc, text)?))
-}
-
-fn range(alloc: Global) -> Result<KeyRange, Fail> {
-    Ok(KeyRange::new(owned(alloc, b"m")?, owned(alloc, b"t")?)?)
-}
-
-fn one<T: Drop>(alloc: Global, item: T) -> Result<Items<T>, Fail> {
-    let mut items = twice!(Vec::with_capacity(alloc, 1), _)?;
-    items.push(item)?;
-    Ok(Items::from(items))
-}
-
-fn set(alloc: Global) -> Result<Change, Fail> {
-    Ok(Change::Set {
-        key: bytes(alloc, b"a")?,
-        value: bytes(alloc, b"1")?,
-    })
+fn range_of_m(alloc: Global) -> Result<KeyRange, Fail> {
+    range(alloc, b"m", b"t")
 }
 
 fn carried(alloc: Global) -> Result<Carried, Fail> {
     Ok(Carried {
-        mutations: one(alloc, set(alloc)?)?,
+        mutations: one(alloc, set_of_a(alloc)?)?,
         lock_aware: true,
     })
 }
@@ -69,13 +42,13 @@ fn unseen_row(alloc: Global) -> Result<UnseenRow, Fail> {
 
 fn state_txn(alloc: Global) -> Result<StateTxn, Fail> {
     Ok(StateTxn {
-        mutations: one(alloc, Change::clear(range(alloc)?))?,
+        mutations: one(alloc, Change::clear(range_of_m(alloc)?))?,
         lock_aware: false,
         verdicts: one(alloc, Verdict::Conflict)?,
     })
 }
 
-fn tags(alloc: Global) -> Result<Items<Tag>, Fail> {
+fn tags(alloc: Global) -> Result<Items<Tag>, AllocError> {
     one(
         alloc,
         Tag {
@@ -89,7 +62,7 @@ fn tagged(alloc: Global) -> Result<Tagged, Fail> {
     Ok(Tagged {
         number: 1,
         place: 2,
-        change: set(alloc)?,
+        change: set_of_a(alloc)?,
         tags: tags(alloc)?,
     })
 }
@@ -102,7 +75,7 @@ fn route(alloc: Global) -> Result<Route, Fail> {
 }
 
 fn printed<T: Debug>(alloc: Global, value: &T) -> Result<String, AllocError> {
-    twice!(format!(in alloc; "{value:?}"), _)
+    format!(in alloc; "{value:?}")
 }
 
 /// The copy was made, and is alike.
@@ -161,7 +134,7 @@ fn numbers_outside_their_limits_are_refused(rt: HostRuntime) {
 
 fn moved(alloc: Global) -> Result<Move, Fail> {
     Ok(Move {
-        range: range(alloc)?,
+        range: range_of_m(alloc)?,
         date: 21,
         dest: 1,
     })
@@ -175,12 +148,12 @@ fn moves_are_copied(rt: HostRuntime) -> Result<(), Fail> {
 }
 
 fn part(alloc: Global) -> Result<Part, Fail> {
-    let reads = one(alloc, range(alloc)?)?;
+    let reads = one(alloc, range_of_m(alloc)?)?;
     Ok(Part {
         number: 1,
         snapshot: 20,
         reads,
-        writes: Items::from(Vec::new(alloc)),
+        writes: none(alloc),
     })
 }
 
