@@ -1,39 +1,39 @@
-//! That the stream serves: no clause says that it ever reads a script. What it reads is right by
-//! its contract. Each script is read once more after `None`, so that the tests also pass if any one
-//! allocation fails.
+//! That fold scripts are read by their tokens alone: no clause says that one ever is. What is read is
+//! right by the contract.
 
-use crate::tests::again::{joined, letters, twice};
-use fold_run::{read_script, stream_script};
-use scripts::ScriptFault;
+use super::read;
+use crate::tests::letters;
+use fold_run::stream_script;
 use std::alloc::{AllocError, Global};
 use std::process::Abort;
 use std::test::Fail;
+use testing::joined;
 
 fn is_streamed_at_once(alloc: Global, script: &[u8]) -> bool {
     stream_script(alloc, script).is_some()
 }
 
+/// Reads the script by its tokens, at the second try if an allocation failed at the first.
 fn is_streamed(rt: &impl AllocGlobal, script: &[u8]) -> bool {
     is_streamed_at_once(rt.alloc(), script) || is_streamed_at_once(rt.alloc(), script)
 }
 
-/// Whether the tree reads the script.
 fn is_read(alloc: Global, script: &[u8]) -> bool {
-    twice!(read_script(alloc, script), ScriptFault::OutOfMemory).is_ok()
+    read(alloc, script).is_ok()
 }
 
 fn streams(rt: &(impl Abort + AllocGlobal), script: &str) {
     assert!(rt; is_streamed(rt, script.as_bytes()), "{script}");
 }
 
-/// The stream does not read the script, and the tree does.
+/// The tokens alone do not give the script, and the tree does.
 fn leaves_to_the_tree(rt: &(impl Abort + AllocGlobal), script: &str) {
     let bytes = script.as_bytes();
     assert!(rt; !is_streamed(rt, bytes), "{script}");
     assert!(rt; is_read(rt.alloc(), bytes), "{script}");
 }
 
-/// Neither reads the script.
+/// Neither gives a script.
 fn refuses(rt: &(impl Abort + AllocGlobal), script: &str) {
     let bytes = script.as_bytes();
     assert!(rt; !is_streamed(rt, bytes), "{script}");

@@ -1,8 +1,8 @@
-//! What no clause says, since a reader and a writer of the standard library count no calls: that each call of
-//! ours is one call of theirs, and that one which failed is not made again.
-use super::again::run_twice;
-use super::fakes::{Faltering, Halting};
-use super::{SCRIPT, TEXT};
+//! That each call of ours is one call of the standard library's reader or writer, and that one which
+//! failed is not made again: no clause says so, since these count no calls.
+
+use super::{SCRIPT, TEXT, run_twice};
+use crate::tests::fakes::{Faltering, Halting};
 use fold_run::run_fold;
 use scripts::{Failed, Reader, RunStatus, Sink, Source, Writer};
 use std::io::ErrorKind;

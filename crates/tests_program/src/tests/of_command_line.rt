@@ -1,6 +1,5 @@
-//! What no clause says: that runs succeed if no allocation fails, and `clap`'s texts. A run that
-//! failed with `OutOfMemory` is made once more, so that the tests also pass if any one allocation
-//! fails.
+//! Tests of command_line: that runs by words succeed, and `clap`'s texts.
+
 use command_line::{Status, run_words};
 use scripts::{Reader, RunStatus, Writer};
 use std::process::Abort;
@@ -103,14 +102,6 @@ fn answers(rt: &(impl Abort + AllocGlobal), words: &[&str], script: &[u8], text:
     assert_eq!(rt; left, 0);
     assert!(rt; room.starts_with(text.as_bytes()));
     assert_eq!(rt; room.get(text.len()), Some(&0));
-}
-
-fn folds(rt: &(impl Abort + AllocGlobal), script: &[u8], text: &str) {
-    answers(rt, FOLD, script, text, 0);
-}
-
-fn refuses_script(rt: &(impl Abort + AllocGlobal), script: &[u8], text: &str) {
-    answers(rt, FOLD, script, text, 1);
 }
 
 // The words are refused with exactly this text, and nothing is read or written.
@@ -225,80 +216,6 @@ fn a_call_for_help_is_refused_with_the_help(rt: HostRuntime) {
     for words in [["--help"].as_slice(), &["-h"], &["fold", "-h"]] {
         refuses(&rt, words, HELP);
     }
-}
-
-#[test]
-fn without_rows_the_version_is_none(rt: HostRuntime) {
-    folds(
-        &rt,
-        br#"{"resolvers":2,"rows":[],"ask":["a"]}"#,
-        "version 0\nlocked no\nmetadata_version none\ntags \"a\" none\n",
-    );
-    folds(
-        &rt,
-        br#"{"ask":[],"rows":[],"resolvers":64}"#,
-        "version 0\nlocked no\nmetadata_version none\n",
-    );
-}
-
-#[test]
-fn a_conflict_by_one_resolver_changes_nothing(rt: HostRuntime) {
-    folds(
-        &rt,
-        br#"{"resolvers":2,"rows":[{"version":10,"states":[{"lock_aware":false,
-        "verdicts":["committed","conflict"],"mutations":[
-        {"set":["\\xff/keyServers/","\\x01server0000000001\\x00"]}]}]}],"ask":["a"]}"#,
-        "version 10\nlocked no\nmetadata_version none\ntags \"a\" none\n",
-    );
-}
-
-#[test]
-fn the_lock_is_read_once_a_row(rt: HostRuntime) {
-    folds(
-        &rt,
-        br#"{"resolvers":1,"rows":[{"version":10,"states":[
-        {"lock_aware":true,"verdicts":["committed"],"mutations":[{"set":["\\xff/dbLocked","L"]}]},
-        {"lock_aware":false,"verdicts":["committed"],"mutations":[
-        {"set":["\\xff/serverTag/server0000000001","\\x00\\x00\\x01"]},
-        {"set":["\\xff/keyServers/","\\x01server0000000001\\x00"]}]}]},
-        {"version":20,"states":[{"lock_aware":false,"verdicts":["committed"],"mutations":[
-        {"set":["\\xff/metadataVersion","v"]}]}]}],"ask":["a"]}"#,
-        "version 20\nlocked yes\nmetadata_version none\nroute \"\" 0:1\ntags \"a\" 0:1\n",
-    );
-}
-
-#[test]
-fn rows_that_do_not_decode_are_refused(rt: HostRuntime) {
-    refuses_script(
-        &rt,
-        br#"{"resolvers":1,"rows":[{"version":10,"states":[{"lock_aware":false,
-        "verdicts":["committed"],"mutations":[
-        {"set":["\\xff/keyServers/","\\x01server0000000001"]}]}]}],"ask":[]}"#,
-        "refused 14 BadRow\n",
-    );
-    refuses_script(
-        &rt,
-        br#"{"resolvers":1,"rows":[{"version":10,"states":[{"lock_aware":false,
-        "verdicts":["committed"],"mutations":[
-        {"set":["\\xff/keyServers/","\\x02server0000000002server0000000001\\x00"]}]}]}],"ask":[]}"#,
-        "refused 14 BadRow\n",
-    );
-}
-
-#[test]
-fn keys_outside_are_refused(rt: HostRuntime) {
-    refuses_script(
-        &rt,
-        br#"{"resolvers":1,"rows":[{"version":10,"states":[{"lock_aware":false,
-        "verdicts":["committed"],"mutations":[{"set":["\\xff\\xff","v"]}]}]}],"ask":[]}"#,
-        "refused 12 KeyOutside\n",
-    );
-}
-
-#[test]
-fn what_is_no_script_is_refused(rt: HostRuntime) {
-    refuses_script(&rt, br#"{"proxies":2"#, "refused 70 NotJson\n");
-    refuses_script(&rt, b"{}", "refused 71 BadShape\n");
 }
 
 #[test]

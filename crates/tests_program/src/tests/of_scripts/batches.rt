@@ -1,13 +1,14 @@
-//! Tests of whole batches against worked texts. Each call that allocates is made once more after
-//! `OutOfMemory`, so that the tests also pass if any one allocation fails.
+//! Tests of whole batches against worked texts.
 
-use crate::tests::again::{joined, letters, roomy, twice};
+use super::read;
+use crate::tests::letters;
 use mutation::{Admitted, AdmittedMutation, Batch, Refusal};
-use scripts::{ScriptFault, read_batch};
+use scripts::ScriptFault;
 use std::alloc::{AllocError, Global};
 use std::process::Abort;
 use std::test::Fail;
 use system_keys::{Bytes, KeyRange};
+use testing::joined;
 
 /// A transaction with each kind of mutation, and one with nothing in it.
 const TWO_TRANSACTIONS: &[u8] = br#"[{"snapshot":7,"reads":[["a","b"],["","\\xff\\xff"]],
@@ -27,11 +28,11 @@ const SETS_OUTSIDE: &str =
     r#"{"snapshot":0,"reads":[],"writes":[],"mutations":[{"set":["\\xff\\xff","v"]}],"lock_aware":false}"#;
 
 fn reads(rt: &(impl Abort + AllocGlobal), text: &[u8]) -> Batch {
-    twice!(read_batch(rt.alloc(), text), ScriptFault::OutOfMemory).expect(rt, "a batch")
+    read(rt.alloc(), text).expect(rt, "a batch")
 }
 
 fn fault_of(alloc: Global, text: &[u8]) -> Option<ScriptFault> {
-    twice!(read_batch(alloc, text), ScriptFault::OutOfMemory).err()
+    read(alloc, text).err()
 }
 
 /// The text is refused, with this number.
@@ -52,47 +53,6 @@ fn refuses_joined(
     let text = joined(rt.alloc(), texts)?;
     refuses(rt, text.as_bytes(), number);
     Ok(())
-}
-
-/// A batch of one transaction with these reads, writes and mutations is refused.
-fn refuses_one(
-    rt: &(impl Abort + AllocGlobal),
-    reads: &str,
-    writes: &str,
-    mutations: &str,
-    number: u32,
-) -> Result<(), AllocError> {
-    let texts = [
-        r#"[{"snapshot":7,"reads":["#,
-        reads,
-        r#"],"writes":["#,
-        writes,
-        r#"],"mutations":["#,
-        mutations,
-        r#"],"lock_aware":false}]"#,
-    ];
-    refuses_joined(rt, &texts, number)
-}
-
-fn refuses_mutations(
-    rt: &(impl Abort + AllocGlobal),
-    mutations: &str,
-    number: u32,
-) -> Result<(), AllocError> {
-    refuses_one(rt, "", "", mutations, number)
-}
-
-/// This many transactions with nothing in them, and behind them the last one.
-fn many(alloc: Global, count: usize, last: &str) -> Result<String, AllocError> {
-    let mut text = roomy(alloc, 100_000)?;
-    text.push('[')?;
-    for _ in 0..count {
-        text.push_str(EMPTY)?;
-        text.push(',')?;
-    }
-    text.push_str(last)?;
-    text.push(']')?;
-    Ok(text)
 }
 
 fn is_range(range: &KeyRange, begin: &[u8], end: &[u8]) -> bool {
@@ -188,86 +148,6 @@ fn a_batch_may_be_empty(rt: HostRuntime) {
 }
 
 #[test]
-fn keys_values_and_ranges_are_checked(rt: HostRuntime) -> Result<(), Fail> {
-    for (mutations, number) in [
-        (r#"{"set":["\\xff\\xff","v"]}"#, 12),
-        (r#"{"set_stamped":["\\xff\\xff","v"]}"#, 12),
-        (r#"{"clear":["a","\\xff\\xff\\x00"]}"#, 12),
-        (r#"{"clear":["b","a"]}"#, 13),
-        (
-            r#"{"set":["\\xff/keyServers/","\\x01server0000000001"]}"#,
-            14,
-        ),
-        (r#"{"clear":["b","a"]},{"set":["\\xff\\xff","v"]}"#, 13),
-    ] {
-        refuses_mutations(&rt, mutations, number)?;
-    }
-    Ok(())
-}
-
-/// The text of a mutation with so many letters between the two parts.
-fn lettered(alloc: Global, front: &str, count: usize, back: &str) -> Result<String, AllocError> {
-    let word = letters(alloc, count)?;
-    joined(alloc, &[front, word.as_str(), back])
-}
-
-fn refuses_letters(
-    rt: &(impl Abort + AllocGlobal),
-    front: &str,
-    count: usize,
-    back: &str,
-    number: u32,
-) -> Result<(), AllocError> {
-    let mutations = lettered(rt.alloc(), front, count, back)?;
-    refuses_mutations(rt, mutations.as_str(), number)
-}
-
-#[test]
-fn long_keys_are_refused(rt: HostRuntime) -> Result<(), Fail> {
-    refuses_letters(&rt, r#"{"set":[""#, 10_001, r#"",""]}"#, 10)?;
-    Ok(())
-}
-
-#[test]
-fn long_values_are_refused(rt: HostRuntime) -> Result<(), Fail> {
-    refuses_letters(&rt, r#"{"set_stamped":["b",""#, 100_001, r#""]}"#, 11)?;
-    Ok(())
-}
-
-#[test]
-fn a_stamp_needs_its_place(rt: HostRuntime) -> Result<(), Fail> {
-    for (mutations, number) in [
-        (
-            r#"{"set_stamped":["g","ab0123456789\\x03\\x00\\x00\\x00"]}"#,
-            15,
-        ),
-        (r#"{"set_stamped":["g","\\x00\\x00\\x00"]}"#, 15),
-        (
-            r#"{"set_stamped":["\\xff/serverTag/server0000000001","\\x00\\x00\\x01"]}"#,
-            14,
-        ),
-    ] {
-        refuses_mutations(&rt, mutations, number)?;
-    }
-    Ok(())
-}
-
-#[test]
-fn reads_come_before_writes_and_mutations(rt: HostRuntime) -> Result<(), Fail> {
-    let outside = r#"{"set":["\\xff\\xff","v"]}"#;
-    for (reads, writes, number) in [
-        (r#"["b","a"]"#, "", 13),
-        (r#"["b","a"]"#, r#"["a","\\xff\\xff\\x00"]"#, 13),
-        (r#"["a","\\xff\\xff\\x00"]"#, r#"["b","a"]"#, 12),
-        ("", r#"["b","a"]"#, 13),
-        (r#"["a","b"]"#, r#"["a","b"]"#, 12),
-    ] {
-        refuses_one(&rt, reads, writes, outside, number)?;
-    }
-    Ok(())
-}
-
-#[test]
 fn the_first_transaction_at_fault_is_told(rt: HostRuntime) -> Result<(), Fail> {
     refuses_joined(
         &rt,
@@ -295,27 +175,6 @@ fn refuses_reads_from(rt: &(impl Abort + AllocGlobal), key: &str) -> Result<(), 
 fn a_long_key_of_a_later_transaction_is_refused(rt: HostRuntime) -> Result<(), Fail> {
     let key = letters(rt.alloc(), 10_001)?;
     refuses_reads_from(&rt, key.as_str())?;
-    Ok(())
-}
-
-/// The batch of 1,024 transactions with nothing in them, and this one behind them, is refused.
-fn refuses_behind_1_024(
-    rt: &(impl Abort + AllocGlobal),
-    last: &str,
-    number: u32,
-) -> Result<(), AllocError> {
-    let text = many(rt.alloc(), 1_024, last)?;
-    refuses(rt, text.as_bytes(), number);
-    Ok(())
-}
-
-#[test]
-fn a_batch_has_at_most_1_024_transactions(rt: HostRuntime) -> Result<(), Fail> {
-    let full = many(rt.alloc(), 1_023, EMPTY)?;
-    assert_eq!(rt; count_of(&rt, full.as_bytes()), 1_024);
-    refuses_behind_1_024(&rt, EMPTY, 16)?;
-    refuses_behind_1_024(&rt, READS_NOTHING, 13)?;
-    refuses_behind_1_024(&rt, "{}", 71)?;
     Ok(())
 }
 
@@ -360,26 +219,6 @@ fn all_fields_are_there_and_none_other(rt: HostRuntime) {
     ] {
         refuses(&rt, text.as_bytes(), 71);
     }
-}
-
-#[test]
-fn ranges_and_mutations_have_their_form(rt: HostRuntime) -> Result<(), Fail> {
-    for reads in [r#"["a"]"#, r#"["a","b","c"]"#, r#"["a","\\x0"]"#, "7"] {
-        refuses_one(&rt, reads, "", "", 71)?;
-    }
-    for mutations in [
-        "{}",
-        "7",
-        r#"{"set_stamped":["a"]}"#,
-        r#"{"set_stamped":["a","b","c"]}"#,
-        r#"{"set":["a","b"],"set_stamped":["a","b"]}"#,
-        r#"{"set_stamped":["a","b"],"more":0}"#,
-        r#"{"stamped":["a","b"]}"#,
-        r#"{"set":["a","\\n00"]}"#,
-    ] {
-        refuses_mutations(&rt, mutations, 71)?;
-    }
-    Ok(())
 }
 
 /// Whether the refusal is a script's, with this number and this name.

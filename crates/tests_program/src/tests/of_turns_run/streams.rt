@@ -1,14 +1,12 @@
-//! That the stream serves: no clause says that it ever reads a script. What it reads is right by
-//! its contract. Each script is read once more after `None`, so that the tests also pass if any one
-//! allocation fails.
+//! That turns scripts are read by their tokens alone: no clause says that one ever is. What is read
+//! is right by the contract.
 
-use crate::tests::MOVED;
-use crate::tests::again::{joined, twice};
-use scripts::ScriptFault;
+use super::{MOVED, read};
 use std::alloc::{AllocError, Global};
 use std::process::Abort;
 use std::test::Fail;
-use turns_run::{read_turns, stream_turns};
+use testing::joined;
+use turns_run::stream_turns;
 
 /// The fields of a right script, but for its numbers.
 const LISTS: &str = r#""events":[],"ask":[]"#;
@@ -17,6 +15,7 @@ fn is_streamed_at_once(alloc: Global, script: &[u8]) -> bool {
     stream_turns(alloc, script).is_some()
 }
 
+/// Reads the script by its tokens, at the second try if an allocation failed at the first.
 fn is_streamed(rt: &impl AllocGlobal, script: &[u8]) -> bool {
     is_streamed_at_once(rt.alloc(), script) || is_streamed_at_once(rt.alloc(), script)
 }
@@ -25,12 +24,11 @@ fn streams(rt: &(impl Abort + AllocGlobal), script: &str) {
     assert!(rt; is_streamed(rt, script.as_bytes()), "{script}");
 }
 
-/// Whether the tree reads the script.
 fn is_read(alloc: Global, script: &[u8]) -> bool {
-    twice!(read_turns(alloc, script), ScriptFault::OutOfMemory).is_ok()
+    read(alloc, script).is_ok()
 }
 
-/// The stream does not read the script; whether the tree does.
+/// The tokens alone do not give the script; whether the tree does.
 fn is_left_to_the_tree(rt: &(impl Abort + AllocGlobal), script: &str) -> bool {
     assert!(rt; !is_streamed(rt, script.as_bytes()), "{script}");
     is_read(rt.alloc(), script.as_bytes())
@@ -48,13 +46,13 @@ fn streams_events(rt: &(impl Abort + AllocGlobal), events: &str) -> Result<(), A
     Ok(())
 }
 
-/// The stream does not read the script with these events; whether the tree does.
+/// The tokens alone do not give the script with these events; whether the tree does.
 fn are_events_left(rt: &(impl Abort + AllocGlobal), events: &str) -> Result<bool, AllocError> {
     let script = with_events(rt.alloc(), events)?;
     Ok(is_left_to_the_tree(rt, script.as_str()))
 }
 
-/// The stream does not read the script with these numbers; whether the tree does.
+/// The tokens alone do not give the script with these numbers; whether the tree does.
 fn are_numbers_left(rt: &(impl Abort + AllocGlobal), numbers: &str) -> Result<bool, AllocError> {
     let script = joined(rt.alloc(), &["{", numbers, ",", LISTS, "}"])?;
     Ok(is_left_to_the_tree(rt, script.as_str()))

@@ -1,17 +1,17 @@
-//! That the stream serves batches: no clause says that it ever reads one. What it reads is right by
-//! its contract. Each batch is read once more after `None`, so that the tests also pass if any one
-//! allocation fails.
+//! That batches are read by their tokens alone: no clause says that one ever is. What is read is
+//! right by the contract.
 
-use crate::tests::again::twice;
-use scripts::{ScriptFault, read_batch, stream_batch};
+use super::read;
+use scripts::stream_batch;
 use std::process::Abort;
 
+/// Reads the text by its tokens, at the second try if an allocation failed at the first.
 fn is_streamed(rt: &impl AllocGlobal, text: &[u8]) -> bool {
     stream_batch(rt.alloc(), text).is_some() || stream_batch(rt.alloc(), text).is_some()
 }
 
 fn is_read(rt: &impl AllocGlobal, text: &[u8]) -> bool {
-    twice!(read_batch(rt.alloc(), text), ScriptFault::OutOfMemory).is_ok()
+    read(rt.alloc(), text).is_ok()
 }
 
 #[test]

@@ -1,14 +1,20 @@
-//! What no clause says: the words in which faults are shown, and that lines are printed if no
-//! allocation fails. A call that failed with `OutOfMemory` is made once more, so that the tests
-//! also pass if any one allocation fails.
-pub(crate) mod again;
+//! Tests of scripts: the words in which faults are shown, that lines are printed, and batches.
 
-use again::twice;
+mod batch_streams;
+mod batches;
+
 use model::Routing;
-use scripts::{RunStatus, ScriptFault, print_asked, print_routing};
-use std::alloc::{AllocError, Global};
+use mutation::Batch;
+use scripts::{RunStatus, ScriptFault, print_asked, print_routing, read_batch};
+use std::alloc::Global;
 use std::test::Fail;
-use system_keys::{Items, OutOfMemory, Refusal, Tag};
+use system_keys::{OutOfMemory, Refusal, Tag};
+use testing::{is_shown_as, none, twice};
+
+/// What the text is read as, at the second try if an allocation failed at the first.
+fn read(alloc: Global, text: &[u8]) -> Result<Batch, ScriptFault> {
+    twice!(read_batch(alloc, text), ScriptFault::OutOfMemory)
+}
 
 #[test]
 fn numbers_of_statuses(rt: HostRuntime) {
@@ -20,11 +26,6 @@ fn numbers_of_statuses(rt: HostRuntime) {
     ] {
         assert!(rt; status.number() == number);
     }
-}
-
-fn is_shown_as(alloc: Global, fault: ScriptFault, text: &str) -> Result<bool, AllocError> {
-    let shown = twice!(format!(in alloc; "{fault}"), _)?;
-    Ok(shown.as_str() == text)
 }
 
 #[test]
@@ -64,7 +65,7 @@ fn print_locked(alloc: Global, text: &mut String) -> Result<(), OutOfMemory> {
         version: 7,
         locked: true,
         metadata_version: None,
-        routes: Items::from(Vec::new(alloc)),
+        routes: none(alloc),
     };
     print_routing(alloc, text, &routing)
 }

@@ -1,14 +1,32 @@
-//! What no clause says: that runs succeed if no allocation fails. A run that failed with
-//! `OutOfMemory` is made once more, so that the tests also pass if any one allocation fails.
-pub(crate) mod again;
-pub(crate) mod fakes;
-mod std_devices;
+//! Tests of runs of fold_run over devices that fail, stop early or go on for ever.
 
-use again::run_twice;
-use fakes::{MemorySink, MemorySource, Spaces};
-use fold_run::run_fold;
-use scripts::{Reader, RunStatus, Sink, Source, Writer};
+mod reading;
+mod std_devices;
+mod streams;
+
+use super::fakes::{MemorySink, MemorySource, Spaces};
+use fold_run::{FoldScript, read_script, run_fold};
+use scripts::{Reader, RunStatus, ScriptFault, Sink, Source, Writer};
+use std::alloc::Global;
 use std::process::Abort;
+use testing::twice;
+
+/// The run, a tuple that begins with its status, made once more after `OutOfMemory`.
+macro_rules! run_twice {
+    ($run:expr) => {
+        match $run {
+            (RunStatus::OutOfMemory, ..) => $run,
+            ended => ended,
+        }
+    };
+}
+
+pub(crate) use run_twice;
+
+/// What the script is read as, at the second try if an allocation failed at the first.
+fn read(alloc: Global, script: &[u8]) -> Result<FoldScript, ScriptFault> {
+    twice!(read_script(alloc, script), ScriptFault::OutOfMemory)
+}
 
 const SCRIPT: &[u8] = br#"{"resolvers":1,"rows":[],"ask":["a"]}"#;
 
@@ -17,16 +35,16 @@ const TEXT: &[u8] = b"version 0\nlocked no\nmetadata_version none\ntags \"a\" no
 // What may go wrong with the devices of a run: how many bytes a call gives or takes at most, which
 // call fails, and which write takes no byte. Calls count from 1.
 #[derive(Clone, Copy)]
-pub(crate) struct Devices {
-    pub(crate) read_at_most: usize,
-    pub(crate) failing_read: u64,
-    pub(crate) written_at_most: usize,
-    pub(crate) failing_write: u64,
-    pub(crate) full_write: u64,
+struct Devices {
+    read_at_most: usize,
+    failing_read: u64,
+    written_at_most: usize,
+    failing_write: u64,
+    full_write: u64,
 }
 
 // Devices that never fail.
-pub(crate) const RELIABLE: Devices = Devices {
+const RELIABLE: Devices = Devices {
     read_at_most: 64,
     failing_read: 0,
     written_at_most: 64,
@@ -36,13 +54,13 @@ pub(crate) const RELIABLE: Devices = Devices {
 
 // How a run ended, what its devices counted, and whether what it wrote was as expected.
 #[derive(Clone, Copy)]
-pub(crate) struct Ended {
-    pub(crate) status: RunStatus,
-    pub(crate) reads: u64,
-    pub(crate) failed_reads: u64,
-    pub(crate) writes: u64,
-    pub(crate) failed_writes: u64,
-    pub(crate) as_expected: bool,
+struct Ended {
+    status: RunStatus,
+    reads: u64,
+    failed_reads: u64,
+    writes: u64,
+    failed_writes: u64,
+    as_expected: bool,
 }
 
 fn run_once(rt: &impl AllocGlobal, script: &[u8], devices: Devices, expected: &[u8]) -> Ended {
@@ -64,7 +82,7 @@ fn run_once(rt: &impl AllocGlobal, script: &[u8], devices: Devices, expected: &[
 }
 
 // Folds this script, and once more after `OutOfMemory`.
-pub(crate) fn run(
+fn run(
     rt: &impl AllocGlobal,
     script: &[u8],
     devices: Devices,
