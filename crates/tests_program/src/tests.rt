@@ -16,7 +16,7 @@ use testing::text_room;
 fn letters(alloc: Global, count: usize) -> Result<String, AllocError> {
     let mut text = text_room(alloc, count)?;
     for _ in 0..count {
-        text.push('a')?;
+        text.push_str("a")?;
     }
     Ok(text)
 }

@@ -42,6 +42,11 @@ impl<'a> MemorySource<'a> {
     pub fn reads(&self) -> u64 {
         self.reads
     }
+
+    /// How many bytes are left.
+    pub fn left(&self) -> usize {
+        self.rest.len()
+    }
 }
 
 impl Source for MemorySource<'_> {
@@ -208,28 +213,20 @@ impl Sink for MemorySink {
     }
 }
 
-/// A reader of the standard library that gives at most `most` bytes a call, and whose call of the number
-/// `fails_at` fails. It would go on after that.
+/// A reader of the standard library over a source in memory: where a call of the source fails, the reader's
+/// call fails with this error. It would go on after that.
 #[derive(Drop)]
 pub struct Faltering<'a> {
-    pub rest: &'a [u8],
-    pub most: usize,
-    pub fails_at: u64,
+    pub source: MemorySource<'a>,
     pub error: ErrorKind,
-    pub calls: u64,
 }
 
 impl Read for Faltering<'_> {
     fn read(&mut self, buffer: &mut [u8]) -> io::Result<usize> {
-        self.calls = self.calls.saturating_add(1);
-        if self.calls == self.fails_at {
-            return Err(io::Error::from(self.error));
+        match self.source.read(buffer) {
+            Ok(count) => Ok(count),
+            Err(Failed) => Err(io::Error::from(self.error)),
         }
-        let count = self.rest.len().min(buffer.len()).min(self.most);
-        let (front, rest) = self.rest.split_at(count);
-        buffer[..count].copy_from_slice(front);
-        self.rest = rest;
-        Ok(count)
     }
 }
 

@@ -38,41 +38,19 @@ Options:
 // Room for what is written, with nothing in it yet.
 const ROOM: [u8; 128] = [0; 128];
 
-fn run_once(rt: &impl AllocGlobal, words: &[&str], script: &mut &[u8], room: &mut [u8]) -> Status {
+// How a run by words ended: the number of its status, whether the words were refused with the
+// expected text, and how many bytes of the script were left.
+#[derive(Clone, Copy)]
+struct Ended {
+    number: u8,
+    is_refused: bool,
+    left: usize,
+}
+
+fn run_over(rt: &impl AllocGlobal, words: &[&str], script: &mut &[u8], room: &mut [u8]) -> Status {
     let mut reader = Reader::new(script);
     let mut writer = Writer::new(room);
     run_words(rt, words, &mut reader, &mut writer)
-}
-
-// Runs these words over the script: how it ended, and how many bytes of the script were left.
-fn run_from_start(
-    rt: &impl AllocGlobal,
-    words: &[&str],
-    given: &[u8],
-    room: &mut [u8],
-) -> (Status, usize) {
-    let mut script = given;
-    let status = run_once(rt, words, &mut script, room);
-    (status, script.len())
-}
-
-// The same, and once more, from its beginning, after `OutOfMemory`.
-fn run(rt: &impl AllocGlobal, words: &[&str], given: &[u8], room: &mut [u8]) -> (Status, usize) {
-    match run_from_start(rt, words, given, room) {
-        (Status::Ran(RunStatus::OutOfMemory), _) => run_from_start(rt, words, given, room),
-        ran => ran,
-    }
-}
-
-// The number of the status, and how many bytes of the script were left.
-fn run_for_number(
-    rt: &impl AllocGlobal,
-    words: &[&str],
-    given: &[u8],
-    room: &mut [u8],
-) -> (u8, usize) {
-    let (status, left) = run(rt, words, given, room);
-    (status.number(), left)
 }
 
 fn is_refusal(status: &Status, says: &str) -> bool {
@@ -82,24 +60,39 @@ fn is_refusal(status: &Status, says: &str) -> bool {
     }
 }
 
-// Whether the words are refused with this text, and how many bytes of the script were left.
-fn run_for_refusal(
+fn run_once(
     rt: &impl AllocGlobal,
     words: &[&str],
+    given: &[u8],
     says: &str,
     room: &mut [u8],
-) -> (bool, usize) {
-    let (status, left) = run(rt, words, SCRIPT, room);
-    (is_refusal(&status, says), left)
+) -> Ended {
+    let mut script = given;
+    let status = run_over(rt, words, &mut script, room);
+    Ended {
+        number: status.number(),
+        is_refused: is_refusal(&status, says),
+        left: script.len(),
+    }
+}
+
+// Runs these words over the script, and once more, from its beginning, after `OutOfMemory`.
+fn run(rt: &impl AllocGlobal, words: &[&str], given: &[u8], says: &str, room: &mut [u8]) -> Ended {
+    let ended = run_once(rt, words, given, says, room);
+    if ended.number == RunStatus::OutOfMemory.number() {
+        run_once(rt, words, given, says, room)
+    } else {
+        ended
+    }
 }
 
 // The words are taken, the whole script is read and answered by this text, and the status has this
 // number.
 fn answers(rt: &(impl Abort + AllocGlobal), words: &[&str], script: &[u8], text: &str, number: u8) {
     let mut room = ROOM;
-    let (ended, left) = run_for_number(rt, words, script, &mut room);
-    assert_eq!(rt; ended, number);
-    assert_eq!(rt; left, 0);
+    let ended = run(rt, words, script, "", &mut room);
+    assert_eq!(rt; ended.number, number);
+    assert_eq!(rt; ended.left, 0);
     assert!(rt; room.starts_with(text.as_bytes()));
     assert_eq!(rt; room.get(text.len()), Some(&0));
 }
@@ -107,10 +100,10 @@ fn answers(rt: &(impl Abort + AllocGlobal), words: &[&str], script: &[u8], text:
 // The words are refused with exactly this text, and nothing is read or written.
 fn refuses(rt: &(impl Abort + AllocGlobal), words: &[&str], says: &str) {
     let mut room = ROOM;
-    let (is_refused, left) = run_for_refusal(rt, words, says, &mut room);
-    assert!(rt; is_refused, "{says}");
-    assert_eq!(rt; left, SCRIPT.len());
-    assert_eq!(rt; room, ROOM);
+    let ended = run(rt, words, SCRIPT, says, &mut room);
+    assert!(rt; ended.is_refused, "{says}");
+    assert_eq!(rt; ended.left, SCRIPT.len());
+    assert!(rt; room.as_slice() == ROOM.as_slice(), "something was written");
 }
 
 #[test]
@@ -221,7 +214,7 @@ fn a_call_for_help_is_refused_with_the_help(rt: HostRuntime) {
 #[test]
 fn a_full_writer_ends_the_run(rt: HostRuntime) {
     let mut room = [0u8; 3];
-    let (number, _left) = run_for_number(&rt, FOLD, SCRIPT, &mut room);
-    assert_eq!(rt; number, 3);
-    assert_eq!(rt; room, *b"ver");
+    let ended = run(&rt, FOLD, SCRIPT, "", &mut room);
+    assert_eq!(rt; ended.number, 3);
+    assert!(rt; room.as_slice() == b"ver".as_slice());
 }

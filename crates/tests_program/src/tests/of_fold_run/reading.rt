@@ -1,11 +1,11 @@
 //! Tests of reading whole fold scripts: how many calls it takes, and what is no JSON.
 
 use super::{Devices, Ended, RELIABLE, read, run};
-use crate::tests::letters;
 use scripts::{RunStatus, ScriptFault};
 use std::alloc::{AllocError, Global};
 use std::process::Abort;
 use std::test::Fail;
+use testing::repeated;
 
 /// Two servers, each with its tag and its range of keys.
 const TWO_SERVERS: &[u8] = br#"{"resolvers":2,"rows":[{"version":10,"states":[{"lock_aware":true,
@@ -34,12 +34,12 @@ fn is_no_json(rt: &(impl Abort + AllocGlobal), script: &[u8]) {
 
 /// How a run over so many letters ends. Each read gets all that it asks for.
 fn read_in_full_chunks(rt: &impl AllocGlobal, count: usize) -> Result<Ended, AllocError> {
-    let text = letters(rt.alloc(), count)?;
+    let text = repeated(rt.alloc(), b'a', count)?;
     let devices = Devices {
         read_at_most: count,
         ..LARGE
     };
-    Ok(run(rt, text.as_bytes(), devices, NOT_JSON))
+    Ok(run(rt, text.as_slice(), devices, NOT_JSON))
 }
 
 /// A script of this many letters is read in this many calls.

@@ -2,7 +2,7 @@
 //! failed is not made again: no clause says so, since these count no calls.
 
 use super::{SCRIPT, TEXT, run_twice};
-use crate::tests::fakes::{Faltering, Halting};
+use crate::tests::fakes::{Faltering, Halting, MemorySource};
 use fold_run::run_fold;
 use scripts::{Failed, Reader, RunStatus, Sink, Source, Writer};
 use std::io::ErrorKind;
@@ -18,11 +18,8 @@ const ERRORS: [ErrorKind; 4] = [
 // A reader of the script, ten bytes a call, that fails at the call of this number; at none where it is 0.
 fn reader(fails_at: u64, error: ErrorKind) -> Faltering<'static> {
     Faltering {
-        rest: SCRIPT,
-        most: 10,
-        fails_at,
+        source: MemorySource::new(SCRIPT, 10).failing_at(fails_at),
         error,
-        calls: 0,
     }
 }
 
@@ -44,8 +41,8 @@ fn a_read_is_one_call(rt: HostRuntime) {
     let mut device = Reader::new(&mut inner);
     assert_eq!(rt; device.read(&mut buffer), Ok(10));
     assert_eq!(rt; device.failures(), 0);
-    assert_eq!(rt; inner.calls, 1);
-    assert_eq!(rt; inner.rest.len(), SCRIPT.len() - 10);
+    assert_eq!(rt; inner.source.reads(), 1);
+    assert_eq!(rt; inner.source.left(), SCRIPT.len() - 10);
 }
 
 // What two calls of one of our devices returned, and the failures that it had counted after each.
@@ -82,8 +79,8 @@ fn read_fails_once(rt: &impl Abort, error: ErrorKind) {
     let calls = two_reads(&mut inner);
     assert!(rt; calls.first.is_err());
     assert!(rt; goes_on_after_one(calls));
-    assert_eq!(rt; inner.calls, 2);
-    assert_eq!(rt; inner.rest.len(), SCRIPT.len() - 10);
+    assert_eq!(rt; inner.source.reads(), 2);
+    assert_eq!(rt; inner.source.left(), SCRIPT.len() - 10);
 }
 
 #[test]
@@ -161,7 +158,7 @@ fn run_once(
         status,
         reads_failed,
         writes_failed,
-        inner_reader.calls,
+        inner_reader.source.reads(),
         inner_writer.calls,
     )
 }
