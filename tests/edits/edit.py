@@ -1,4 +1,5 @@
 """Edits: small wrong changes of a crate, each of which the prover must refuse."""
+import functools
 import os
 
 from rust_source import functions
@@ -111,9 +112,18 @@ class Edit:
         """Whether a copy of the function with the edit can stand beside the function."""
         return not self.function.is_trait_method and "#[cycle" not in self.text
 
+    @functools.cached_property
+    def paragraphs(self):
+        """The paragraphs that the edit changes, each with its file and its number there: one holds a definition."""
+        texts = ((file, read(f"{self.home}/{file}"), old) for file, old, _ in self.pairs)
+        return {(file, text.count("\n\n", 0, text.find(old))) for file, text, old in texts}
+
     def can_share(self, other):
         """Whether each of two edits that change what others prove leaves alone what must refuse the other."""
         if self.falls is None or other.falls is None or self.refused == other.refused:
+            return False
+        # (of two changes of one definition, what falls with both may stand with each alone)
+        if self.paragraphs & other.paragraphs:
             return False
         return self.refused not in other.falls and other.refused not in self.falls
 
