@@ -42,8 +42,8 @@ class Records:
         files = [it for it in sorted(os.listdir(HERE)) if it == "run" or it.endswith(".py") and it not in OF_COSTS]
         kit = run(["rt", "version"], HERE).printed
         self.runner = [(it, read(f"{HERE}/{it}")) for it in files] + [kit]
-        lines = read(self.path).splitlines() if os.path.isfile(self.path) else []
-        self.kept = dict(line.split() for line in lines)
+        self.written = read(self.path) if os.path.isfile(self.path) else ""
+        self.kept = dict(it for it in map(str.split, self.written.splitlines()) if len(it) == 2)
 
     def sum(self, crate):
         """The sum over what decides the verdicts of a crate's edits, but for the crates below it."""
@@ -66,7 +66,10 @@ class Records:
         return int(count) % PARTS if has_history else None
 
     def write(self, tried):
-        """Records the crates all of whose edits were tried and are refused; one with a wrong answer has no record."""
+        """Records the crates all of whose edits were tried and are refused; one with a wrong answer has no record.
+
+        Returns whether the records have changed.
+        """
         for crate, edits in self.edits.items():
             if any(it.answer and not it.is_well() for it in edits):
                 self.kept.pop(crate, None)
@@ -75,3 +78,4 @@ class Records:
         lines = [f"{crate} {self.kept[crate]}\n" for crate in sorted(self.kept) if crate in self.edits]
         with open(self.path, "w", encoding="utf-8") as file:
             file.write("".join(lines))
+        return "".join(lines) != self.written

@@ -7,8 +7,9 @@ import time
 from batch import Batch, batches
 from verdict import Said, judge
 
-# How many edits share a check at the most: more would make the last check of a run long.
-MOST = 24
+# How many edits share a check at the most: with fewer the libraries below are read more often, and with more the last
+# check of a run is long.
+MOST = 36
 
 # How often a run looks whether the process that it runs beside has ended, in seconds.
 LOOK = 5
