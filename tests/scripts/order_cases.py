@@ -54,6 +54,7 @@ def two_faults_of_changes():
 SHAPELESS = {
     "no text in the first key": (("rows", 0, "states", 0, "mutations", 0, "set", 0), "\\x6d"),
     "no text in the last value": (("rows", 2, "states", 2, "mutations", 2, "set", 1), "\\xFF"),
+    "one text in the last change": (("rows", 2, "states", 2, "mutations", 2, "set"), ["a"]),
     "a null for the first change": (("rows", 0, "states", 0, "mutations", 0), None),
     "a null for the last change": (("rows", 2, "states", 2, "mutations", 2), None),
     "a null for the last change of a transaction": (("rows", 0, "states", 0, "mutations", 2), None),
@@ -99,8 +100,8 @@ NO_JSON = {
     "a zero character behind": ("", "\0"),
 }
 
-# members that are no JSON, to stand first or last in the script
-NO_MEMBERS = ['"x":1e999', '"x":nul', '"x":"\\ud800"', '"x":"\t"', '"x"', '"x":', '"x":[1,]', '"x":01']
+# members that are no JSON, to stand first or last in the script; with none there is one comma too many
+NO_MEMBERS = ['', '"x":1e999', '"x":nul', '"x":"\\ud800"', '"x":"\t"', '"x"', '"x":', '"x":[1,]', '"x":01']
 
 
 def json_and_others():

@@ -90,6 +90,15 @@ def tags():
     yield "a tag that is gone", script([(NO, equal)], [(NO, gone)], ask=["a"]), head(20) + 'route "" 3:258\ntags "a" 3:258\n'
     changed = [tag(SERVER_1, "\\x00\\x00\\x05")]
     yield "a tag that changed", script([(NO, equal)], [(NO, changed)]), head(20) + 'route "" 0:5 3:258\n'
+    later = [
+        [(NO, [row("", [SERVER_1])])], [(NO, [tag(SERVER_1, "\\x00\\x00\\x01")])], [(NO, [row("m", [SERVER_1], [SERVER_2])])],
+        [(NO, [tag(SERVER_2, "\\x00\\x00\\x00")])],
+    ]
+    answer = head(40) + 'route "" 0:1\nroute "m" 0:0 0:1\ntags "a" 0:1\ntags "m" 0:0 0:1\n'
+    yield "tags in later rows than their servers", script(*later, ask=["a", "m"]), answer
+    answer = head(50) + 'route "" none\nroute "m" none\ntags "a" none\ntags "m" none\n'
+    all_tags = [{"clear": [SERVER_TAG, "\\xff/serverTag0"]}]
+    yield "all tags gone, and their servers not", script(*later, [(NO, all_tags)], ask=["a", "m"]), answer
 
 
 def routes():

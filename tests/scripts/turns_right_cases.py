@@ -185,6 +185,41 @@ def locks():
     )
 
 
+def outcomes():
+    """Transactions that are committed, in conflict, too old and refused by the lock."""
+    write_of_n = transaction(0, [], [one_key("n")], [put("n", "1")])
+    yield case(
+        "a write before a move, and a read after it",
+        turns(
+            sequence(0), sequence(0, write_of_n), move("m", "t", 1), sequence(0, read("n", 10)), offers(0, 1, 2), [finish(0)] * 3,
+            ask=["n"], proxies=1,
+        ),
+        sequenced(2), "move date 21", sequenced(3)[2:], offered_to_both(0), offered(1, 0, "committed"), offered(1, 1),
+        offered(2, 0, "conflict"), offered(2, 1, "committed"), finished(0, 10),
+        finished(0, 20, "txn 0 committed 20 0", "mutation 0 0 tags none"), finished(0, 30, "txn 0 conflict 1020"),
+        shown(0, 30, 'tags "n" none'),
+    )
+    tagged = transaction(0, [], [], [put_tag(SERVER_1, "\\x00\\x00\\x01"), put_servers("", SERVER_1), put("a", "1")], True)
+    late = transaction(0, [["a", "b"]], [], [put("a", "2")])
+    lock = transaction(0, [], [], [put(LOCKED, "L")], True)
+    plain, aware = transaction(0, [], [["b", "c"]], [put("b", "3")]), transaction(0, [], [], [clear("b", "c")], True)
+    routes = ['route "" 0:1', 'tags "a" 0:1']
+    yield case(
+        "all but a conflict, by two proxies in turn, with the tags of one server",
+        turns(
+            sequence(0, tagged), offers(0), finish(0), sequence(1, late), offers(1), finish(1), sequence(1, lock), offers(2), finish(1),
+            sequence(0, plain, aware), offers(3), finish(0), ask=["a"], window=10,
+        ),
+        sequenced(1), offered_to_both(0, "committed"),
+        finished(0, 10, "txn 0 committed 10 0", *["mutation 0 %d tags 0:1" % number for number in range(3)]),
+        sequenced(2)[1:], offered(1, 0, "too_old", "10"), offered(1, 1, "none", "10"), finished(1, 20, "txn 0 too_old 1007"),
+        sequenced(3)[2:], offered_to_both(2, "committed"), finished(1, 30, "txn 0 committed 30 0", "mutation 0 0 tags 0:1"),
+        sequenced(4)[3:], offered(3, 0, "committed", "20 30"), offered(3, 1, "none", "20 30"),
+        finished(0, 40, "txn 0 locked 1038", "txn 1 committed 40 1", "mutation 1 0 tags 0:1"),
+        shown(0, 40, *routes, locked="yes"), shown(1, 30, *routes, locked="yes"),
+    )
+
+
 def told_rows():
     """A proxy is told what it has not seen, and ends with the same rows."""
     batches = [sequence(0, transaction(0, [], [], [put_servers(key, SERVER_1)])) for key in "abcde"]
@@ -367,6 +402,6 @@ def many_events():
 
 
 CASES = (
-    small_ones, stamps, moved_ranges, verdicts, refused_writes, state_transactions, locks, told_rows, tags, refused_events, last_numbers,
-    many_events,
+    small_ones, stamps, moved_ranges, verdicts, refused_writes, state_transactions, locks, outcomes, told_rows, tags, refused_events,
+    last_numbers, many_events,
 )

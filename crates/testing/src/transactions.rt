@@ -1,0 +1,124 @@
+//! Mutations, transactions and batches.
+
+use crate::key_ranges::{Ends, given_ranges, range};
+use crate::lists::{bytes, room};
+use mutation::{Admitted, Batch, Mutation, Transaction, admit};
+use std::alloc::{AllocError, Global};
+use std::test::Fail;
+use system_keys::{Change, Items};
+
+/// A mutation as plain data.
+#[derive(Clone, Copy)]
+pub enum Step<'a> {
+    /// A Set of the key to the value.
+    Set(&'a [u8], &'a [u8]),
+    /// A Clear from the one key up to the other.
+    Clear(&'a [u8], &'a [u8]),
+    /// A SetStamped of the key to the value.
+    SetStamped(&'a [u8], &'a [u8]),
+}
+
+/// A transaction as plain data.
+#[derive(Clone, Copy)]
+pub struct Given<'a> {
+    /// The version that it read at.
+    pub snapshot: u64,
+    /// What it read.
+    pub reads: &'a [Ends<'a>],
+    /// What it wants to write.
+    pub writes: &'a [Ends<'a>],
+    /// What it wants to change.
+    pub mutations: &'a [Step<'a>],
+    /// Whether it may commit while the database is locked.
+    pub lock_aware: bool,
+}
+
+/// A transaction with nothing in it, at snapshot 0 and not lock aware.
+pub const NOTHING: Given<'static> = Given {
+    snapshot: 0,
+    reads: &[],
+    writes: &[],
+    mutations: &[],
+    lock_aware: false,
+};
+
+/// The mutation, unchecked.
+pub fn mutation(alloc: Global, step: Step<'_>) -> Result<Mutation, AllocError> {
+    Ok(match step {
+        Step::Set(key, value) => Mutation::Set {
+            key: bytes(alloc, key)?,
+            value: bytes(alloc, value)?,
+        },
+        Step::Clear(begin, end) => Mutation::Clear {
+            begin: bytes(alloc, begin)?,
+            end: bytes(alloc, end)?,
+        },
+        Step::SetStamped(key, value) => Mutation::SetStamped {
+            key: bytes(alloc, key)?,
+            value: bytes(alloc, value)?,
+        },
+    })
+}
+
+/// The mutations, unchecked.
+pub fn mutations(alloc: Global, steps: &[Step<'_>]) -> Result<Items<Mutation>, AllocError> {
+    let mut list = room(alloc, steps.len())?;
+    for step in steps {
+        list.push(mutation(alloc, *step)?)?;
+    }
+    Ok(Items::from(list))
+}
+
+/// The change, whose range has no fault. There is none with a stamp.
+pub fn change(alloc: Global, step: Step<'_>) -> Result<Change, Fail> {
+    match step {
+        Step::Set(key, value) => Ok(Change::Set {
+            key: bytes(alloc, key)?,
+            value: bytes(alloc, value)?,
+        }),
+        Step::Clear(begin, end) => Ok(Change::clear(range(alloc, begin, end)?)),
+        Step::SetStamped(_, _) => Err(Fail::from("a change has no stamp")),
+    }
+}
+
+/// The changes, whose ranges have no fault.
+pub fn changes(alloc: Global, steps: &[Step<'_>]) -> Result<Items<Change>, Fail> {
+    let mut list = room(alloc, steps.len())?;
+    for step in steps {
+        list.push(change(alloc, *step)?)?;
+    }
+    Ok(Items::from(list))
+}
+
+/// The transaction, unchecked.
+pub fn transaction(alloc: Global, given: Given<'_>) -> Result<Transaction, AllocError> {
+    Ok(Transaction {
+        snapshot: given.snapshot,
+        reads: given_ranges(alloc, given.reads)?,
+        writes: given_ranges(alloc, given.writes)?,
+        mutations: mutations(alloc, given.mutations)?,
+        lock_aware: given.lock_aware,
+    })
+}
+
+/// The transaction, which has no fault.
+pub fn admitted(alloc: Global, given: Given<'_>) -> Result<Admitted, Fail> {
+    Ok(admit(alloc, &transaction(alloc, given)?)?)
+}
+
+/// The batch of these transactions, which have no fault.
+pub fn batch(alloc: Global, transactions: &[Given<'_>]) -> Result<Batch, Fail> {
+    let mut list = room(alloc, transactions.len())?;
+    for given in transactions {
+        list.push(admitted(alloc, *given)?)?;
+    }
+    batch_of(list)
+}
+
+/// The batch of these transactions, which are not too many.
+pub fn batch_of(transactions: Vec<Admitted>) -> Result<Batch, Fail> {
+    match Batch::new(transactions) {
+        Ok(batch) => Ok(batch),
+        Err(refused) => Err(Fail::from(refused.0)),
+    }
+}
