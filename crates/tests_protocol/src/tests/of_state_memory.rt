@@ -1,5 +1,6 @@
-//! Tests against answers worked out by hand. Each call that allocates is made again after a failed
-//! allocation, so that the tests also pass if any one fails.
+//! Tests of state_memory, by hand and against the list of all requests that were judged.
+
+mod random_requests;
 
 ghost use Rattle.std.specs.Prelude.{◌≡◌, [], ◌∷◌, Ok, IfOk, IfSome};
 ghost use Rattle.model.specs.Offers.{answer_to};
@@ -13,17 +14,8 @@ use state_memory::{
 use std::alloc::{AllocError, Global};
 use std::process::Abort;
 use std::test::Fail;
-use system_keys::{Bytes, Change, Items, KeyRange, OutOfMemory};
-
-/// The call, made once more after a failed allocation.
-macro_rules! twice {
-    ($call:expr, $memory:pat) => {
-        match $call {
-            Err($memory) => $call,
-            answer => answer,
-        }
-    };
-}
+use system_keys::{Change, Items, OutOfMemory};
+use testing::{Content, Ends, Step, carried_if, none, one, part, twice};
 
 // ---- a caller, proved from the public contracts alone
 
@@ -67,81 +59,35 @@ const STATE: Body = Body {
     is_state: true,
 };
 
-fn bytes(alloc: Global, text: &[u8]) -> Result<Vec<u8>, AllocError> {
-    twice!(Vec::from_slice(alloc, text), _)
+/// The range of the key `k`.
+const KEY_K: &[Ends<'static>] = &[(b"k", b"k\0")];
+
+/// The content of a state transaction: one Set of a system key.
+const CONTENT: Content<'static> = (&[Step::Set(b"\xff/a", b"x")], true);
+
+fn ranges_of_k(is_wanted: bool) -> &'static [Ends<'static>] {
+    if is_wanted { KEY_K } else { &[] }
 }
 
-/// An empty list with room for so many.
-pub(crate) fn room<T: Drop>(alloc: Global, count: usize) -> Result<Vec<T>, AllocError> {
-    twice!(Vec::with_capacity(alloc, count), _)
-}
-
-fn range_of_k(alloc: Global) -> Result<KeyRange, Fail> {
-    Ok(KeyRange::new(bytes(alloc, b"k")?, bytes(alloc, b"k\0")?)?)
-}
-
-/// The range of the key `k`, if it is wanted.
-fn key_k(alloc: Global, is_wanted: bool) -> Result<Items<KeyRange>, Fail> {
-    let mut ranges = room(alloc, 1)?;
-    if is_wanted {
-        ranges.push(range_of_k(alloc)?)?;
-    }
-    Ok(Items::from(ranges))
-}
-
-fn set_of_a(alloc: Global) -> Result<Change, AllocError> {
-    Ok(Change::Set {
-        key: Bytes::from(bytes(alloc, b"\xff/a")?),
-        value: Bytes::from(bytes(alloc, b"x")?),
-    })
-}
-
-/// One Set of a system key.
-fn content(alloc: Global) -> Result<Carried, AllocError> {
-    let mut mutations = room(alloc, 1)?;
-    mutations.push(set_of_a(alloc)?)?;
-    Ok(Carried {
-        mutations: Items::from(mutations),
-        lock_aware: true,
-    })
-}
-
-fn part_of(alloc: Global, body: Body) -> Result<Part, Fail> {
-    Ok(Part {
-        number: 0,
-        snapshot: body.snapshot,
-        reads: key_k(alloc, body.reads)?,
-        writes: key_k(alloc, body.writes)?,
-    })
-}
-
-fn share_of(alloc: Global, body: Option<Body>) -> Result<Share, Fail> {
-    let mut parts = room(alloc, 1)?;
-    if let Some(body) = body {
-        parts.push(part_of(alloc, body)?)?;
-    }
-    Ok(Share::new(Items::from(parts)))
+fn parts_of(alloc: Global, body: Option<Body>) -> Result<Items<Part>, Fail> {
+    let Some(body) = body else {
+        return Ok(none(alloc));
+    };
+    let line = (
+        body.snapshot,
+        ranges_of_k(body.reads),
+        ranges_of_k(body.writes),
+    );
+    Ok(one(alloc, part(alloc, 0, line)?)?)
 }
 
 /// The mark of the state transaction, which resolver 0 gets with its content.
-fn mark_for(alloc: Global, resolver: usize) -> Result<StateMark, AllocError> {
-    let carried = match resolver {
-        0 => Some(content(alloc)?),
-        _ => None,
-    };
-    Ok(StateMark { number: 0, carried })
-}
-
-fn marks_of(
-    alloc: Global,
-    resolver: usize,
-    body: Option<Body>,
-) -> Result<Items<StateMark>, AllocError> {
-    let mut marks = room(alloc, 1)?;
-    if is_of_state(body) {
-        marks.push(mark_for(alloc, resolver)?)?;
+fn marks_of(alloc: Global, resolver: usize, body: Option<Body>) -> Result<Items<StateMark>, Fail> {
+    if !is_of_state(body) {
+        return Ok(none(alloc));
     }
-    Ok(Items::from(marks))
+    let carried = carried_if(alloc, resolver == 0, CONTENT)?;
+    Ok(one(alloc, StateMark { number: 0, carried })?)
 }
 
 fn is_of_state(body: Option<Body>) -> bool {
@@ -168,7 +114,7 @@ fn header_of(line: Line) -> RequestHeader {
 }
 
 pub(crate) fn request(alloc: Global, line: Line, body: Option<Body>) -> Result<Request, Fail> {
-    let share = share_of(alloc, body)?;
+    let share = Share::new(parts_of(alloc, body)?);
     let marks = marks_of(alloc, line.0, body)?;
     match Request::new(header_of(line), share, marks) {
         Some(request) => Ok(request),
@@ -420,10 +366,10 @@ fn strangers_are_refused(rt: HostRuntime) -> Result<(), Fail> {
 // ---- what each proxy has not seen
 
 /// Proxy, previous version, version, last received version, and the versions of the unseen rows.
-type Step = (usize, u64, u64, u64, &'static [u64]);
+type Turn = (usize, u64, u64, u64, &'static [u64]);
 
 /// Proxy 0 begins rows 0 and 2 at once, and proxy 1 row 1.
-const AT_ONCE: [Step; 3] = [
+const AT_ONCE: [Turn; 3] = [
     (0, 0, 10, 0, &[]),
     (1, 10, 20, 0, &[10]),
     (0, 20, 30, 0, &[20]),
@@ -489,7 +435,7 @@ fn rows_are_remembered_for_a_proxy_that_is_late(rt: HostRuntime) -> Result<(), F
 }
 
 /// Empty requests after that of row 0.
-const AFTER_ROW_0: [Step; 3] = [
+const AFTER_ROW_0: [Turn; 3] = [
     (1, 10, 20, 0, &[10]),
     (1, 20, 30, 0, &[]),
     (0, 30, 40, 10, &[20, 30]),
@@ -616,7 +562,7 @@ fn refusals_have_numbers_and_names(rt: HostRuntime) -> Result<(), Fail> {
 fn refusals_are_printed_with_their_versions(rt: HostRuntime) -> Result<(), Fail> {
     let alloc = rt.alloc();
     let early = Refusal::Early { version: 7 };
-    let shown = twice!(format!(in alloc; "{early}"), _)?;
+    let shown = format!(in alloc; "{early}")?;
     assert_eq!(rt;
         shown.as_str(),
         "the request is early, since the resolver has come to 7"

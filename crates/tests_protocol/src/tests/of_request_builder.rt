@@ -1,31 +1,21 @@
-//! Tests against answers worked out by hand, and against owners that are kept key by key. Each call
-//! that allocates is made again after a failed allocation, so that the tests also pass if any one
-//! fails.
+//! Tests of request_builder, by hand and against owners that are kept key by key.
+
+mod random_batches;
 
 use dated_owners::OwnerMap;
-use mutation::{Admitted, Batch, GivenRange, Mutation, Refusal, Transaction, admit};
+use mutation::Batch;
 use request_builder::{
-    Carried, Move, Part, Record, Request, RequestHeader, Requests, Share, StateMark, build,
+    Move, Part, Record, Request, RequestHeader, Requests, Share, StateMark, build,
 };
 use std::alloc::{AllocError, Global};
 use std::test::Fail;
-use system_keys::{Bytes, Change, Items, KeyRange, OutOfMemory};
-
-/// The call, made once more after a failed allocation.
-macro_rules! twice {
-    ($call:expr, $memory:pat) => {
-        match $call {
-            Err($memory) => $call,
-            answer => answer,
-        }
-    };
-}
-
-/// The begin and the end of a range.
-type Ends = (&'static [u8], &'static [u8]);
+use system_keys::{Change, Items, KeyRange, OutOfMemory};
+use testing::{
+    Ends, Given, NOTHING, PartLine, Step, batch, carried_if, part, plain_batch, range, room, twice,
+};
 
 /// The row that locks the database, and the least key after it.
-pub(crate) const LOCK_ROW: Ends = (b"\xff/dbLocked", b"\xff/dbLocked\x00");
+pub(crate) const LOCK_ROW: Ends<'static> = (b"\xff/dbLocked", b"\xff/dbLocked\x00");
 
 /// How many moves a test makes at most.
 pub(crate) const MOVES: usize = 12;
@@ -37,92 +27,6 @@ const AT_ZERO_STAMPED: &[u8] = b"\x00\x00\x00\x00\x00\x00\x00\x28\x00\x01z";
 
 // ---- what the tests are made of
 
-pub(crate) fn bytes(alloc: Global, text: &[u8]) -> Result<Vec<u8>, AllocError> {
-    twice!(Vec::from_slice(alloc, text), _)
-}
-
-/// An empty list with room for so many.
-pub(crate) fn room<T: Drop>(alloc: Global, count: usize) -> Result<Vec<T>, AllocError> {
-    twice!(Vec::with_capacity(alloc, count), _)
-}
-
-pub(crate) fn range(alloc: Global, begin: &[u8], end: &[u8]) -> Result<KeyRange, Fail> {
-    Ok(KeyRange::new(bytes(alloc, begin)?, bytes(alloc, end)?)?)
-}
-
-pub(crate) fn given_range(
-    alloc: Global,
-    begin: &[u8],
-    end: &[u8],
-) -> Result<GivenRange, AllocError> {
-    let begin = Bytes::from(bytes(alloc, begin)?);
-    let end = Bytes::from(bytes(alloc, end)?);
-    Ok(GivenRange { begin, end })
-}
-
-fn given_ranges(alloc: Global, ranges: &[Ends]) -> Result<Items<GivenRange>, AllocError> {
-    let mut given = room(alloc, ranges.len())?;
-    for ends in ranges {
-        given.push(given_range(alloc, ends.0, ends.1)?)?;
-    }
-    Ok(Items::from(given))
-}
-
-fn no_mutations(alloc: Global) -> Items<Mutation> {
-    Items::from(Vec::new(alloc))
-}
-
-/// One Set of the key.
-pub(crate) fn set(alloc: Global, key: &[u8], value: &[u8]) -> Result<Items<Mutation>, AllocError> {
-    let mut mutations = room(alloc, 2)?;
-    mutations.push(Mutation::Set {
-        key: Bytes::from(bytes(alloc, key)?),
-        value: Bytes::from(bytes(alloc, value)?),
-    })?;
-    Ok(Items::from(mutations))
-}
-
-fn admitted(
-    alloc: Global,
-    snapshot: u64,
-    ranges: (&[Ends], &[Ends]),
-    mutations: Items<Mutation>,
-    lock_aware: bool,
-) -> Result<Admitted, Fail> {
-    let reads = given_ranges(alloc, ranges.0)?;
-    let writes = given_ranges(alloc, ranges.1)?;
-    let given = Transaction {
-        snapshot,
-        reads,
-        writes,
-        mutations,
-        lock_aware,
-    };
-    Ok(admit_given(alloc, &given)?)
-}
-
-pub(crate) fn admit_given(alloc: Global, given: &Transaction) -> Result<Admitted, Refusal> {
-    twice!(admit(alloc, given), Refusal::OutOfMemory)
-}
-
-pub(crate) fn batch_of(transactions: Vec<Admitted>) -> Result<Batch, Fail> {
-    Ok(Batch::new(transactions).map_err(|refused| refused.0)?)
-}
-
-/// Adds a transaction without mutations.
-fn push_plain(
-    transactions: &mut Vec<Admitted>,
-    alloc: Global,
-    snapshot: u64,
-    reads: &[Ends],
-    writes: &[Ends],
-) -> Result<(), Fail> {
-    let nothing = no_mutations(alloc);
-    let transaction = admitted(alloc, snapshot, (reads, writes), nothing, false)?;
-    transactions.push(transaction)?;
-    Ok(())
-}
-
 /// A map of resolvers, and its moves one by one.
 #[derive(Drop)]
 pub(crate) struct Moved {
@@ -133,7 +37,7 @@ pub(crate) struct Moved {
 /// The owners before any move. No test has more than 3 resolvers.
 fn first_owners(alloc: Global, resolvers: usize) -> Result<OwnerMap, OutOfMemory> {
     let resolvers = resolvers.clamp(1, 3);
-    twice!(OwnerMap::new(alloc, resolvers), OutOfMemory)
+    OwnerMap::new(alloc, resolvers)
 }
 
 pub(crate) fn unmoved(alloc: Global, resolvers: usize) -> Result<Moved, Fail> {
@@ -144,10 +48,7 @@ pub(crate) fn unmoved(alloc: Global, resolvers: usize) -> Result<Moved, Fail> {
 
 impl Moved {
     pub(crate) fn add(&mut self, range: KeyRange, date: u64, dest: usize) -> Result<(), Fail> {
-        twice!(
-            self.owners.move_range(&range, date, dest),
-            dated_owners::Refusal::OutOfMemory
-        )?;
+        self.owners.move_range(&range, date, dest)?;
         self.moves.push(Move { range, date, dest })?;
         Ok(())
     }
@@ -197,13 +98,19 @@ fn are_asked(requests: &Requests, lists: &[&[usize]]) -> bool {
     asked.len() == lists.len()
 }
 
-fn are_ranges(ranges: &[KeyRange], ends: &[Ends]) -> bool {
-    let alike = |(range, ends): (&KeyRange, &Ends)| range.begin() == ends.0
+fn are_ranges(ranges: &[KeyRange], ends: &[Ends<'_>]) -> bool {
+    let alike = |(range, ends): (&KeyRange, &Ends<'_>)| range.begin() == ends.0
         && range.end() == ends.1;
     ranges.len() == ends.len() && ranges.iter().zip(ends).all(alike)
 }
 
-fn is_part(part: &Part, number: usize, snapshot: u64, reads: &[Ends], writes: &[Ends]) -> bool {
+fn is_part(
+    part: &Part,
+    number: usize,
+    snapshot: u64,
+    reads: &[Ends<'_>],
+    writes: &[Ends<'_>],
+) -> bool {
     part.number == number
         && part.snapshot == snapshot
         && are_ranges(part.reads.as_slice(), reads)
@@ -233,17 +140,15 @@ pub(crate) fn is_to(request: &Request, resolver: usize) -> bool {
 // ---- rows worked out by hand
 
 /// Reads and writes of the ranges that moved twice.
-fn four(alloc: Global) -> Result<Batch, Fail> {
-    let mut transactions = room(alloc, 4)?;
-    push_plain(&mut transactions, alloc, 20, &[(b"m", b"t")], &[])?;
-    push_plain(&mut transactions, alloc, 30, &[(b"m", b"t")], &[])?;
-    push_plain(&mut transactions, alloc, 0, &[], &[(b"a", b"z")])?;
-    push_plain(&mut transactions, alloc, 0, &[], &[(b"m", b"t")])?;
-    batch_of(transactions)
-}
+const FOUR: &[PartLine<'static>] = &[
+    (20, &[(b"m", b"t")], &[]),
+    (30, &[(b"m", b"t")], &[]),
+    (0, &[], &[(b"a", b"z")]),
+    (0, &[], &[(b"m", b"t")]),
+];
 
 fn record_of_four(alloc: Global, moved: &Moved) -> Result<Record, Fail> {
-    let batch = four(alloc)?;
+    let batch = plain_batch(alloc, FOUR)?;
     moved.record(alloc, &batch)
 }
 
@@ -319,17 +224,15 @@ fn moved_once(alloc: Global) -> Result<Moved, Fail> {
 }
 
 /// Reads of a key that moved, at snapshots around the date of its move.
-fn reads_around_the_move(alloc: Global) -> Result<Batch, Fail> {
-    let mut transactions = room(alloc, 3)?;
-    for snapshot in [20, 21, 30] {
-        push_plain(&mut transactions, alloc, snapshot, &[(b"n", b"n\x00")], &[])?;
-    }
-    batch_of(transactions)
-}
+const AROUND_THE_MOVE: &[PartLine<'static>] = &[
+    (20, &[(b"n", b"n\x00")], &[]),
+    (21, &[(b"n", b"n\x00")], &[]),
+    (30, &[(b"n", b"n\x00")], &[]),
+];
 
 fn requests_around_the_move(alloc: Global) -> Result<Requests, Fail> {
     let moved = moved_once(alloc)?;
-    let batch = reads_around_the_move(alloc)?;
+    let batch = plain_batch(alloc, AROUND_THE_MOVE)?;
     requests_for(alloc, &moved, &batch)
 }
 
@@ -342,26 +245,28 @@ fn reads_before_a_move_ask_both_owners(rt: HostRuntime) -> Result<(), Fail> {
     Ok(())
 }
 
-/// Adds a transaction of one Set, without ranges.
-fn push_set(
-    transactions: &mut Vec<Admitted>,
-    alloc: Global,
-    key: &[u8],
-    value: &[u8],
-    lock_aware: bool,
-) -> Result<(), Fail> {
-    let mutations = set(alloc, key, value)?;
-    let transaction = admitted(alloc, 5, (&[], &[]), mutations, lock_aware)?;
-    transactions.push(transaction)?;
-    Ok(())
-}
+/// A state transaction without ranges.
+const LOCKS: Given<'static> = Given {
+    snapshot: 5,
+    mutations: &[Step::Set(b"\xff/dbLocked", b"L")],
+    ..NOTHING
+};
+
+/// A transaction that sets a key of no system row, without ranges.
+const SETS: Given<'static> = Given {
+    snapshot: 5,
+    mutations: &[Step::Set(b"a", b"")],
+    ..NOTHING
+};
 
 /// A state transaction that is lock aware, or not, and then a transaction without ranges.
 fn locking(alloc: Global, lock_aware: bool) -> Result<Batch, Fail> {
-    let mut transactions = room(alloc, 2)?;
-    push_set(&mut transactions, alloc, LOCK_ROW.0, b"L", lock_aware)?;
-    push_set(&mut transactions, alloc, b"a", b"", lock_aware)?;
-    batch_of(transactions)
+    let state = Given {
+        lock_aware,
+        ..LOCKS
+    };
+    let other = Given { lock_aware, ..SETS };
+    batch(alloc, &[state, other])
 }
 
 fn requests_for_locking(alloc: Global, moved: &Moved, lock_aware: bool) -> Result<Requests, Fail> {
@@ -430,34 +335,23 @@ fn a_state_transaction_goes_to_every_resolver(rt: HostRuntime) -> Result<(), Fai
     Ok(())
 }
 
-/// One SetStamped of `k`.
-fn set_stamped(alloc: Global) -> Result<Items<Mutation>, AllocError> {
-    let mut mutations = room(alloc, 1)?;
-    mutations.push(Mutation::SetStamped {
-        key: Bytes::from(bytes(alloc, b"k")?),
-        value: Bytes::from(bytes(alloc, AT_ZERO)?),
-    })?;
-    Ok(Items::from(mutations))
-}
-
-fn push_stamped(transactions: &mut Vec<Admitted>, alloc: Global) -> Result<(), Fail> {
-    let mutations = set_stamped(alloc)?;
-    let transaction = admitted(alloc, 6, (&[], &[]), mutations, true)?;
-    transactions.push(transaction)?;
-    Ok(())
-}
-
 /// A transaction without mutations, and then one with a SetStamped.
-fn stamping(alloc: Global) -> Result<Batch, Fail> {
-    let mut transactions = room(alloc, 2)?;
-    push_plain(&mut transactions, alloc, 5, &[], &[])?;
-    push_stamped(&mut transactions, alloc)?;
-    batch_of(transactions)
-}
+const STAMPING: &[Given<'static>] = &[
+    Given {
+        snapshot: 5,
+        ..NOTHING
+    },
+    Given {
+        snapshot: 6,
+        mutations: &[Step::SetStamped(b"k", AT_ZERO)],
+        lock_aware: true,
+        ..NOTHING
+    },
+];
 
 fn record_of_stamping(alloc: Global) -> Result<Record, Fail> {
     let moved = moved_twice(alloc)?;
-    let batch = stamping(alloc)?;
+    let batch = batch(alloc, STAMPING)?;
     moved.record(alloc, &batch)
 }
 
@@ -505,33 +399,23 @@ fn header(resolver: usize) -> RequestHeader {
     }
 }
 
+/// Reads and writes nothing at snapshot 7.
+const EMPTY: PartLine<'static> = (7, &[], &[]);
+
 /// The share of parts with these numbers, and with no ranges.
-fn share_of(alloc: Global, numbers: &[usize]) -> Result<Share, AllocError> {
+fn share_of(alloc: Global, numbers: &[usize]) -> Result<Share, Fail> {
     let mut parts = room(alloc, numbers.len())?;
     for number in numbers {
-        parts.push(Part {
-            number: *number,
-            snapshot: 7,
-            reads: Items::from(Vec::new(alloc)),
-            writes: Items::from(Vec::new(alloc)),
-        })?;
+        parts.push(part(alloc, *number, EMPTY)?)?;
     }
     Ok(Share::new(Items::from(parts)))
 }
 
 /// Marks of these numbers, with content or without.
-fn marks_of(
-    alloc: Global,
-    numbers: &[usize],
-    has_content: bool,
-) -> Result<Items<StateMark>, AllocError> {
+fn marks_of(alloc: Global, numbers: &[usize], has_content: bool) -> Result<Items<StateMark>, Fail> {
     let mut marks = room(alloc, numbers.len())?;
     for number in numbers {
-        let content = Carried {
-            mutations: Items::from(Vec::new(alloc)),
-            lock_aware: true,
-        };
-        let carried = if has_content { Some(content) } else { None };
+        let carried = carried_if(alloc, has_content, (&[], true))?;
         marks.push(StateMark {
             number: *number,
             carried,
@@ -547,7 +431,7 @@ fn request_of(
     parts: &[usize],
     marks: &[usize],
     has_content: bool,
-) -> Result<Option<Request>, AllocError> {
+) -> Result<Option<Request>, Fail> {
     let share = share_of(alloc, parts)?;
     let states = marks_of(alloc, marks, has_content)?;
     Ok(Request::new(header(resolver), share, states))
@@ -560,7 +444,7 @@ fn is_made(
     parts: &[usize],
     marks: &[usize],
     has_content: bool,
-) -> Result<bool, AllocError> {
+) -> Result<bool, Fail> {
     let request = request_of(alloc, resolver, parts, marks, has_content)?;
     Ok(request.is_some())
 }

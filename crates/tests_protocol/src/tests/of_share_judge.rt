@@ -1,6 +1,4 @@
-//! Tests against verdicts worked out by hand, and against all pairs of random parts with nothing
-//! forgotten. The calls of the tables are made again after a failed allocation, so that these tests
-//! also pass if any one fails.
+//! Tests of share_judge, by hand and against all pairs of random parts with nothing forgotten.
 
 ghost use Rattle.std.specs.Prelude.{◌≡◌, IfOk};
 ghost use Rattle.model.specs.Verdicts.{judged_at, verdicts_after};
@@ -8,19 +6,10 @@ ghost use Rattle.model.specs.Verdicts.{judged_at, verdicts_after};
 use model::Part;
 use request_builder::Share;
 use share_judge::{Verdict, WriteHistory};
-use std::alloc::{AllocError, Global};
+use std::alloc::Global;
 use std::test::Fail;
 use system_keys::{Items, KeyRange, OutOfMemory};
-
-/// The call, made once more after a failed allocation.
-macro_rules! twice {
-    ($call:expr, $memory:pat) => {
-        match $call {
-            Err($memory) => $call,
-            answer => answer,
-        }
-    };
-}
+use testing::{Ends, PartLine, Random, parts, range, room, twice};
 
 // ---- a caller, proved from the public contracts alone
 
@@ -44,43 +33,9 @@ fn judge_two(
 
 // ---- shares
 
-/// A range by its ends.
-type Ends<'a> = (&'a [u8], &'a [u8]);
-
-/// A part by its snapshot, its reads and its writes.
-type Row<'a> = (u64, &'a [Ends<'a>], &'a [Ends<'a>]);
-
-fn bytes(alloc: Global, text: &[u8]) -> Result<Vec<u8>, AllocError> {
-    twice!(Vec::from_slice(alloc, text), _)
-}
-
-fn range(alloc: Global, ends: Ends<'_>) -> Result<KeyRange, Fail> {
-    Ok(KeyRange::new(bytes(alloc, ends.0)?, bytes(alloc, ends.1)?)?)
-}
-
-fn ranges(alloc: Global, ends: &[Ends<'_>]) -> Result<Items<KeyRange>, Fail> {
-    let mut ranges = twice!(Vec::with_capacity(alloc, ends.len()), _)?;
-    for ends in ends {
-        ranges.push(range(alloc, *ends)?)?;
-    }
-    Ok(Items::from(ranges))
-}
-
-fn part(alloc: Global, number: usize, row: &Row<'_>) -> Result<Part, Fail> {
-    Ok(Part {
-        number,
-        snapshot: row.0,
-        reads: ranges(alloc, row.1)?,
-        writes: ranges(alloc, row.2)?,
-    })
-}
-
-fn share(alloc: Global, rows: &[Row<'_>]) -> Result<Share, Fail> {
-    let mut parts = twice!(Vec::with_capacity(alloc, rows.len()), _)?;
-    for (number, row) in rows.iter().enumerate() {
-        parts.push(part(alloc, number, row)?)?;
-    }
-    Ok(Share::new(Items::from(parts)))
+/// The share of the parts, numbered from 0.
+fn share(alloc: Global, lines: &[PartLine<'_>]) -> Result<Share, Fail> {
+    Ok(Share::new(parts(alloc, lines)?))
 }
 
 fn new_history(alloc: Global) -> Result<WriteHistory, OutOfMemory> {
@@ -106,10 +61,10 @@ fn gives_on(
     alloc: Global,
     history: &mut WriteHistory,
     version: u64,
-    rows: &[Row<'_>],
+    lines: &[PartLine<'_>],
     verdicts: &[Verdict],
 ) -> Result<bool, Fail> {
-    let share = share(alloc, rows)?;
+    let share = share(alloc, lines)?;
     gives(history, version, &share, verdicts)
 }
 
@@ -122,10 +77,10 @@ const D: Ends<'static> = (b"d", b"d\0");
 const E: Ends<'static> = (b"e", b"e\0");
 
 /// One part that writes `[a, c)`.
-const FIRST: [Row<'static>; 1] = [(0, &[], &[(b"a", b"c")])];
+const FIRST: [PartLine<'static>; 1] = [(0, &[], &[(b"a", b"c")])];
 
 /// Reads around a write of `[a, c)` at version 10, and writes that are refused and committed.
-const SECOND: [Row<'static>; 6] = [
+const SECOND: [PartLine<'static>; 6] = [
     (10, &[B], &[]),
     (9, &[B], &[]),
     (9, &[C], &[]),
@@ -145,7 +100,7 @@ const SECOND_VERDICTS: [Verdict; 6] = [
 ];
 
 /// The last version before each judgement, its own version, the rows and their verdicts.
-const AROUND_THE_WRITE: [(u64, u64, &[Row<'static>], &[Verdict]); 2] = [
+const AROUND_THE_WRITE: [(u64, u64, &[PartLine<'static>], &[Verdict]); 2] = [
     (0, 10, &FIRST, &[Verdict::Committed]),
     (10, 20, &SECOND, &SECOND_VERDICTS),
 ];
@@ -196,7 +151,7 @@ fn what_is_forgotten_changes_no_verdict(rt: HostRuntime) -> Result<(), Fail> {
 }
 
 /// A read at snapshot 40, one at snapshot 39, and a write.
-const AT_THE_WINDOW: [Row<'static>; 3] = [(40, &[C], &[]), (39, &[C], &[]), (0, &[], &[B])];
+const AT_THE_WINDOW: [PartLine<'static>; 3] = [(40, &[C], &[]), (39, &[C], &[]), (0, &[], &[B])];
 
 #[test]
 fn only_reads_before_the_window_are_too_old(rt: HostRuntime) -> Result<(), Fail> {
@@ -208,13 +163,13 @@ fn only_reads_before_the_window_are_too_old(rt: HostRuntime) -> Result<(), Fail>
 }
 
 /// A write of `b`, and then a read of it.
-const WRITE_FIRST: [Row<'static>; 2] = [(0, &[], &[B]), (0, &[B], &[])];
+const WRITE_FIRST: [PartLine<'static>; 2] = [(0, &[], &[B]), (0, &[B], &[])];
 
 /// A read of `b`, and then a write of it.
-const READ_FIRST: [Row<'static>; 2] = [(10, &[B], &[]), (10, &[], &[B])];
+const READ_FIRST: [PartLine<'static>; 2] = [(10, &[B], &[]), (10, &[], &[B])];
 
 /// The same as `WRITE_FIRST`, with snapshots past the version 30.
-const PAST_THE_VERSION: [Row<'static>; 2] = [(35, &[], &[B]), (35, &[B], &[])];
+const PAST_THE_VERSION: [PartLine<'static>; 2] = [(35, &[], &[B]), (35, &[B], &[])];
 
 #[test]
 fn in_a_share_only_earlier_writes_conflict(rt: HostRuntime) -> Result<(), Fail> {
@@ -244,7 +199,7 @@ fn an_empty_share_counts_as_judged(rt: HostRuntime) -> Result<(), Fail> {
 }
 
 /// A read of `b` at snapshot 9.
-const READ_AT_NINE: [Row<'static>; 1] = [(9, &[B], &[])];
+const READ_AT_NINE: [PartLine<'static>; 1] = [(9, &[B], &[])];
 
 fn copy_of(history: &WriteHistory) -> Result<WriteHistory, OutOfMemory> {
     twice!(history.copy(), OutOfMemory)
@@ -295,38 +250,23 @@ struct Plain {
     writes: [Option<Letters>; 2],
 }
 
-/// Random numbers, by a linear congruence.
-#[derive(Drop)]
-struct Random(u64);
-
-impl Random {
-    /// A number below `limit`, or 0 if there is none.
-    fn below(&mut self, limit: u64) -> u64 {
-        self.0 = self
-            .0
-            .wrapping_mul(6_364_136_223_846_793_005)
-            .wrapping_add(1_442_695_040_888_963_407);
-        (self.0 >> 33).checked_rem(limit).unwrap_or(0)
+/// Some letters, or none.
+fn letters_at_random(random: &mut Random) -> Option<Letters> {
+    if random.below(2) == 0 {
+        return None;
     }
+    let begin = random.below(LETTERS);
+    let end = begin.saturating_add(1).saturating_add(random.below(3));
+    Some((begin, end))
+}
 
-    /// Some letters, or none.
-    fn letters(&mut self) -> Option<Letters> {
-        if self.below(2) == 0 {
-            return None;
-        }
-        let begin = self.below(LETTERS);
-        let end = begin.saturating_add(1).saturating_add(self.below(3));
-        Some((begin, end))
-    }
-
-    /// A part of the share of the version: snapshots lie around the window, some past the version.
-    fn part(&mut self, version: u64) -> Plain {
-        Plain {
-            version,
-            snapshot: version.saturating_add(5).saturating_sub(self.below(60)),
-            reads: [self.letters(), self.letters()],
-            writes: [self.letters(), self.letters()],
-        }
+/// A part of the share of the version: snapshots lie around the window, some past the version.
+fn part_at_random(random: &mut Random, version: u64) -> Plain {
+    Plain {
+        version,
+        snapshot: version.saturating_add(5).saturating_sub(random.below(60)),
+        reads: [letters_at_random(random), letters_at_random(random)],
+        writes: [letters_at_random(random), letters_at_random(random)],
     }
 }
 
@@ -335,17 +275,15 @@ fn letter(number: u64) -> [u8; 1] {
 }
 
 fn to_ranges(alloc: Global, letters: &[Option<Letters>; 2]) -> Result<Items<KeyRange>, Fail> {
-    let mut ranges = Vec::with_capacity(alloc, 2)?;
+    let mut ranges = room(alloc, 2)?;
     for some in letters.iter().flatten() {
-        let begin = Vec::from_slice(alloc, &letter(some.0))?;
-        let end = Vec::from_slice(alloc, &letter(some.1))?;
-        ranges.push(KeyRange::new(begin, end)?)?;
+        ranges.push(range(alloc, &letter(some.0), &letter(some.1))?)?;
     }
     Ok(Items::from(ranges))
 }
 
 fn to_share(alloc: Global, plain: &[Plain]) -> Result<Share, Fail> {
-    let mut parts = Vec::with_capacity(alloc, plain.len())?;
+    let mut parts = room(alloc, plain.len())?;
     for (number, t) in plain.iter().enumerate() {
         parts.push(Part {
             number,
@@ -403,9 +341,9 @@ fn are_expected(
 
 /// Up to three parts of the share of the version.
 fn parts_at_random(alloc: Global, random: &mut Random, version: u64) -> Result<Vec<Plain>, Fail> {
-    let mut parts = Vec::with_capacity(alloc, 3)?;
+    let mut parts = room(alloc, 3)?;
     for _ in 0..random.below(4) {
-        parts.push(random.part(version))?;
+        parts.push(part_at_random(random, version))?;
     }
     Ok(parts)
 }

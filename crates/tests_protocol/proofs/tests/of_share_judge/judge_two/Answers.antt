@@ -3,7 +3,7 @@ use Rattle.std.proofs.Common.{◌∙◌, ap₂, List, [], ◌∷◌, append-nil}
 use Rattle.std.proofs.lemmas.Result.{IfOk-weaker}
 use Rattle.model.specs.Verdicts.{JudgedPart, judged_at, verdicts_after}
 use Rattle.model.specs.WriteHistories.{ShareAt}
-use Rattle.share_judge_tests.proofs.tests.judge_two.Goals as goal
+use Rattle.tests_protocol.proofs.tests.of_share_judge.judge_two.Goals as goal
 
 pub returns : goal.returns
 returns c =

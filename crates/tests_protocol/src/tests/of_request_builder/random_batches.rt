@@ -1,14 +1,14 @@
 //! Random moves and batches, against owners that are kept key by key.
 
-use crate::tests::{
-    LOCK_ROW, MOVES, Moved, admit_given, batch_of, given_range, has_lock, is_to, range,
-    requests_for, room, set, unmoved,
+use crate::tests::of_request_builder::{
+    LOCK_ROW, MOVES, Moved, has_lock, is_to, requests_for, unmoved,
 };
-use mutation::{Admitted, Batch, GivenRange, Transaction};
+use mutation::{Admitted, Batch, GivenRange, Transaction, admit};
 use request_builder::{Part, Requests, StateMark};
 use std::alloc::Global;
 use std::test::Fail;
 use system_keys::{Items, KeyRange};
+use testing::{Random, Step, batch_of, given_range, mutations, range, room};
 
 /// How many letters, from `a` on, are keys of the random runs.
 const LETTERS: usize = 10;
@@ -35,48 +35,33 @@ struct Drawn {
     lock_aware: bool,
 }
 
-/// Random numbers, by a linear congruence.
-#[derive(Drop)]
-struct Random(u64);
+/// A range of one to four letters.
+fn letters_at_random(random: &mut Random) -> Letters {
+    let begin = random.below(LETTERS as u64);
+    let end = begin
+        .saturating_add(1)
+        .saturating_add(random.below(4))
+        .min(LETTERS as u64);
+    (begin as usize, end as usize)
+}
 
-impl Random {
-    /// A number below `limit`, or 0 if there is none.
-    fn below(&mut self, limit: u64) -> u64 {
-        self.0 = self
-            .0
-            .wrapping_mul(6_364_136_223_846_793_005)
-            .wrapping_add(1_442_695_040_888_963_407);
-        (self.0 >> 33).checked_rem(limit).unwrap_or(0)
+/// Up to two ranges.
+fn ranges_at_random(random: &mut Random, alloc: Global) -> Result<Vec<Letters>, Fail> {
+    let mut ranges = room(alloc, 2)?;
+    for _ in 0..random.below(3) {
+        ranges.push(letters_at_random(random))?;
     }
+    Ok(ranges)
+}
 
-    /// A range of one to four letters.
-    fn letters(&mut self) -> Letters {
-        let begin = self.below(LETTERS as u64);
-        let end = begin
-            .saturating_add(1)
-            .saturating_add(self.below(4))
-            .min(LETTERS as u64);
-        (begin as usize, end as usize)
-    }
-
-    /// Up to two ranges.
-    fn ranges(&mut self, alloc: Global) -> Result<Vec<Letters>, Fail> {
-        let mut ranges = room(alloc, 2)?;
-        for _ in 0..self.below(3) {
-            ranges.push(self.letters())?;
-        }
-        Ok(ranges)
-    }
-
-    fn drawn(&mut self, alloc: Global, last: u64) -> Result<Drawn, Fail> {
-        Ok(Drawn {
-            snapshot: self.below(last.saturating_add(8)),
-            reads: self.ranges(alloc)?,
-            writes: self.ranges(alloc)?,
-            is_state: self.below(3) == 0,
-            lock_aware: self.below(2) == 0,
-        })
-    }
+fn draw(random: &mut Random, alloc: Global, last: u64) -> Result<Drawn, Fail> {
+    Ok(Drawn {
+        snapshot: random.below(last.saturating_add(8)),
+        reads: ranges_at_random(random, alloc)?,
+        writes: ranges_at_random(random, alloc)?,
+        is_state: random.below(3) == 0,
+        lock_aware: random.below(2) == 0,
+    })
 }
 
 fn letter(number: usize) -> u8 {
@@ -102,10 +87,10 @@ fn admitted_drawn(alloc: Global, drawn: &Drawn) -> Result<Admitted, Fail> {
         snapshot: drawn.snapshot,
         reads: given_letters(alloc, &drawn.reads)?,
         writes: given_letters(alloc, &drawn.writes)?,
-        mutations: set(alloc, key, b"L")?,
+        mutations: mutations(alloc, &[Step::Set(key, b"L")])?,
         lock_aware: drawn.lock_aware,
     };
-    Ok(admit_given(alloc, &given)?)
+    Ok(admit(alloc, &given)?)
 }
 
 /// Whether the resolver owned the letter from its newest owner back to the first one dated below
@@ -297,7 +282,10 @@ fn move_at_random(
     let mut last = 0u64;
     for _ in 0..random.below(MOVES as u64) {
         last = last.saturating_add(random.below(6));
-        let (letters, dest) = (random.letters(), random.below(RESOLVERS as u64) as usize);
+        let (letters, dest) = (
+            letters_at_random(random),
+            random.below(RESOLVERS as u64) as usize,
+        );
         moved.add(range_of(alloc, letters)?, last, dest)?;
         for (number, owners) in all.iter_mut().enumerate() {
             if letters.0 <= number && number < letters.1 {
@@ -316,7 +304,7 @@ fn batch_at_random(
 ) -> Result<(Vec<Drawn>, Batch), Fail> {
     let (mut drawn, mut transactions) = (room(alloc, 5)?, room(alloc, 5)?);
     for _ in 0..random.below(6) {
-        let transaction = random.drawn(alloc, last)?;
+        let transaction = draw(random, alloc, last)?;
         transactions.push(admitted_drawn(alloc, &transaction)?)?;
         drawn.push(transaction)?;
     }

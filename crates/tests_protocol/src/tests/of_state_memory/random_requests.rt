@@ -1,9 +1,10 @@
 //! Random requests, against the list of all requests that were judged, of which nothing is forgotten.
 
-use crate::tests::{Body, Line, is_state, is_to, new_resolver, offer, room, row_at};
+use crate::tests::of_state_memory::{Body, Line, is_state, is_to, new_resolver, offer, row_at};
 use state_memory::{Answer, Refusal, Reply, Resolver, UnseenRow, Verdict};
 use std::alloc::Global;
 use std::test::Fail;
+use testing::{Random, room};
 
 /// How many proxies there are.
 const PROXIES: usize = 3;
@@ -22,62 +23,48 @@ struct Judged {
     verdict: Verdict,
 }
 
-/// Random numbers, by a linear congruence.
-#[derive(Drop)]
-struct Random(u64);
+/// A number below the limit, or 0 if there is none.
+fn below(random: &mut Random, limit: u64) -> usize {
+    random.below(limit) as usize
+}
 
-impl Random {
-    /// A number below `limit`, or 0 if there is none.
-    fn below(&mut self, limit: u64) -> u64 {
-        self.0 = self
-            .0
-            .wrapping_mul(6_364_136_223_846_793_005)
-            .wrapping_add(1_442_695_040_888_963_407);
-        (self.0 >> 33).checked_rem(limit).unwrap_or(0)
+/// A transaction, or none.
+fn body_at_random(random: &mut Random, version: u64) -> Option<Body> {
+    if random.below(4) == 0 {
+        return None;
     }
+    Some(Body {
+        snapshot: version.saturating_sub(random.below(45)),
+        reads: random.below(2) == 0,
+        writes: random.below(3) == 0,
+        is_state: random.below(2) == 0,
+    })
+}
 
-    fn proxy(&mut self, limit: u64) -> usize {
-        self.below(limit) as usize
-    }
-
-    /// A transaction, or none.
-    fn body(&mut self, version: u64) -> Option<Body> {
-        if self.below(4) == 0 {
-            return None;
+/// A request to the resolver, after these: next in turn, early, repeated or of a stranger.
+fn line_at_random(random: &mut Random, number: usize, judged: &[Judged]) -> Line {
+    let version = last_version(judged);
+    let proxy = below(random, PROXIES as u64);
+    match random.below(8) {
+        0 => {
+            let previous = version.saturating_add(1).saturating_add(random.below(9));
+            (number, proxy, previous, previous.saturating_add(5), 0)
         }
-        Some(Body {
-            snapshot: version.saturating_sub(self.below(45)),
-            reads: self.below(2) == 0,
-            writes: self.below(3) == 0,
-            is_state: self.below(2) == 0,
-        })
-    }
-
-    /// A request to the resolver, after these: next in turn, early, repeated or of a stranger.
-    fn line(&mut self, number: usize, judged: &[Judged]) -> Line {
-        let version = last_version(judged);
-        let proxy = self.proxy(PROXIES as u64);
-        match self.below(8) {
-            0 => {
-                let previous = version.saturating_add(1).saturating_add(self.below(9));
-                (number, proxy, previous, previous.saturating_add(5), 0)
-            }
-            1 | 2 => match judged.get(self.proxy(judged.len() as u64)) {
-                Some(one) => one.line,
-                None => (number, proxy, 0, 0, 0),
-            },
-            3 => {
-                let previous = self.below(version.saturating_add(5));
-                let next = previous.saturating_add(self.below(9));
-                let received = self.below(previous.saturating_add(3));
-                let other = number.saturating_add(self.proxy(2));
-                (other, self.proxy(5), previous, next, received)
-            }
-            _ => {
-                let next = version.saturating_add(1).saturating_add(self.below(9));
-                let received = version.saturating_sub(self.below(40));
-                (number, proxy, version, next, received)
-            }
+        1 | 2 => match judged.get(below(random, judged.len() as u64)) {
+            Some(one) => one.line,
+            None => (number, proxy, 0, 0, 0),
+        },
+        3 => {
+            let previous = random.below(version.saturating_add(5));
+            let next = previous.saturating_add(random.below(9));
+            let received = random.below(previous.saturating_add(3));
+            let other = number.saturating_add(below(random, 2));
+            (other, below(random, 5), previous, next, received)
+        }
+        _ => {
+            let next = version.saturating_add(1).saturating_add(random.below(9));
+            let received = version.saturating_sub(random.below(40));
+            (number, proxy, version, next, received)
         }
     }
 }
@@ -284,8 +271,8 @@ fn answers_all(
     judged: &mut Vec<Judged>,
 ) -> Result<bool, Fail> {
     for _ in 0..STEPS {
-        let line = random.line(number, judged);
-        let asked = (line, random.body(line.3));
+        let line = line_at_random(random, number, judged);
+        let asked = (line, body_at_random(random, line.3));
         if !answers(resolver, alloc, number, judged, asked)? || !is_up_to(resolver, judged) {
             return Ok(false);
         }

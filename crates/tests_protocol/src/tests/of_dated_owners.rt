@@ -1,30 +1,11 @@
-//! Tests against answers worked out by hand, and against lists of owners that are kept key by key.
-//! Each call that allocates is made again after a failed allocation, so that the tests also pass if
-//! any one fails.
+//! Tests of dated_owners, by hand and against lists of owners that are kept key by key.
 
 use dated_owners::{OwnerMap, Refusal};
 use std::alloc::{AllocError, Global};
 use std::process::Abort;
 use std::test::Fail;
 use system_keys::{Items, KeyRange, OutOfMemory};
-
-/// The call, made once more after a failed allocation.
-macro_rules! twice {
-    ($call:expr, $memory:pat) => {
-        match $call {
-            Err($memory) => $call,
-            answer => answer,
-        }
-    };
-}
-
-fn bytes(alloc: Global, text: &[u8]) -> Result<Vec<u8>, AllocError> {
-    twice!(Vec::from_slice(alloc, text), _)
-}
-
-fn range(alloc: Global, begin: &[u8], end: &[u8]) -> Result<KeyRange, Fail> {
-    Ok(KeyRange::new(bytes(alloc, begin)?, bytes(alloc, end)?)?)
-}
+use testing::{Random, range, room, twice};
 
 fn map_of_three(alloc: Global) -> Result<OwnerMap, OutOfMemory> {
     twice!(OwnerMap::new(alloc, 3), OutOfMemory)
@@ -235,29 +216,14 @@ const STEPS: usize = 60;
 /// The owners of one letter, oldest first: dates and resolvers.
 type Owners = Vec<(u64, usize)>;
 
-/// Random numbers, by a linear congruence.
-#[derive(Drop)]
-struct Random(u64);
-
-impl Random {
-    /// A number below `limit`, or 0 if there is none.
-    fn below(&mut self, limit: u64) -> u64 {
-        self.0 = self
-            .0
-            .wrapping_mul(6_364_136_223_846_793_005)
-            .wrapping_add(1_442_695_040_888_963_407);
-        (self.0 >> 33).checked_rem(limit).unwrap_or(0)
-    }
-
-    /// Two letters in order, by their numbers.
-    fn letters(&mut self) -> (u64, u64) {
-        let begin = self.below(LETTERS as u64);
-        let end = begin
-            .saturating_add(1)
-            .saturating_add(self.below(4))
-            .min(LETTERS as u64);
-        (begin, end)
-    }
+/// Two letters in order, by their numbers.
+fn letters_at_random(random: &mut Random) -> (u64, u64) {
+    let begin = random.below(LETTERS as u64);
+    let end = begin
+        .saturating_add(1)
+        .saturating_add(random.below(4))
+        .min(LETTERS as u64);
+    (begin, end)
 }
 
 /// The range between two letters.
@@ -276,11 +242,6 @@ fn first_owners(alloc: Global) -> Result<Vec<Owners>, AllocError> {
         letters.push(owned_by_0(alloc)?)?;
     }
     Ok(letters)
-}
-
-/// An empty list with room for so many.
-fn room<T: Drop>(alloc: Global, count: usize) -> Result<Vec<T>, AllocError> {
-    twice!(Vec::with_capacity(alloc, count), _)
 }
 
 /// Resolver 0 as the one owner, with room for those of a whole run.
@@ -424,7 +385,7 @@ fn change(
         return Ok((last, oldest.max(version)));
     }
     let date = last.saturating_add(random.below(6));
-    let ends = random.letters();
+    let ends = letters_at_random(random);
     let dest = random.below(3) as usize;
     make_move(map, alloc, letters, ends, (date, dest))?;
     Ok((date, oldest))
@@ -442,7 +403,7 @@ fn agree(
         dates = change(random, map, alloc, letters, dates)?;
         trim_all(letters, dates.1);
         let snapshot = random.below(dates.0.saturating_add(8));
-        if !is_as_listed(map, alloc, letters, random.letters(), snapshot)? {
+        if !is_as_listed(map, alloc, letters, letters_at_random(random), snapshot)? {
             return Ok(false);
         }
     }
