@@ -1,6 +1,7 @@
 """Files of edits: `src/order.edits` in the folder of a crate has the edits of its src/order.rt, a block each.
 
-A block is the name of the edit and below it its lines. Empty lines stand between blocks.
+The first line, `file: src/order.rt`, names the file that they edit. A block is a line `edit: NAME` and below it the
+lines of the edit. Empty lines stand between blocks.
 """
 import collections
 import os
@@ -9,6 +10,9 @@ import os
 Block = collections.namedtuple("Block", "path file name lines")
 
 ENDING = ".edits"
+
+# How the first lines of a file and of a block begin.
+OF_FILE, OF_BLOCK = "file: ", "edit: "
 
 
 def read(path):
@@ -38,14 +42,18 @@ def blocks_of(folder):
 
 
 def blocks_in(path, file):
-    parts = [it.strip("\n").split("\n") for it in read(path).split("\n\n") if it.strip("\n")]
-    return [Block(path, file, name, tuple(lines)) for name, *lines in parts]
+    """The blocks of a file of edits, whose first line names this file of the crate."""
+    head, *parts = [it.strip("\n").split("\n") for it in read(path).split("\n\n") if it.strip("\n")]
+    if head != [OF_FILE + file] or not all(first.startswith(OF_BLOCK) for first, *_ in parts):
+        raise SystemExit(f"{path}: it begins with '{OF_FILE}{file}', and each block with '{OF_BLOCK}NAME'")
+    return [Block(path, file, first.removeprefix(OF_BLOCK), tuple(lines)) for first, *lines in parts]
 
 
 def write_lines(block, lines):
     """Writes these lines in place of the block's into its file, and returns the block that now stands there."""
     written = block._replace(lines=tuple(lines))
     found = [written if it.name == block.name else it for it in blocks_in(block.path, block.file)]
+    texts = [OF_FILE + block.file, *("\n".join((OF_BLOCK + it.name, *it.lines)) for it in found)]
     with open(block.path, "w", encoding="utf-8") as file:
-        file.write("\n\n".join("\n".join((it.name, *it.lines)) for it in found) + "\n")
+        file.write("\n\n".join(texts) + "\n")
     return written
