@@ -1,6 +1,6 @@
 //! The modes of the program.
 ghost use Rattle.std.specs.Prelude.{◌≡◌};
-ghost use Rattle.command_line.specs.Modes.{mode_named};
+ghost use Rattle.mode_choice.specs.Modes.{mode_named};
 
 /// What a run of the program does.
 #[derive(Clone, Copy, Debug, PartialEq, Eq)]

@@ -8,8 +8,8 @@ use Rattle.clap.specs.Words.{Text}
 use Rattle.clap.specs.Values.{Accepts, same_text}
 use Rattle.clap.specs.declared.builder.value_parser.ValueParser.TheVariants.{Names}
 use Rattle.clap.proofs.WalkLemmas.{list_any-map}
-use Rattle.command_line.specs.CommandLine.{ModeNames, mode_given}
-use Rattle.command_line.specs.Modes.{mode_named}
+use Rattle.mode_choice.specs.CommandLine.{ModeNames, mode_given}
+use Rattle.mode_choice.specs.Modes.{mode_named}
 
 either : (a b : Bool) → (a || b) ≡ true → (a ≡ true) ⊎ (b ≡ true)
 either true b e = inl refl

@@ -10,9 +10,9 @@ use Rattle.clap.specs.declared.builder.command.Command.{Command}
 use Rattle.clap.specs.declared.error.Error.{Error}
 use Rattle.clap.specs.declared.parser.matches.ArgMatches.{ArgMatches}
 use Rattle.clap.specs.declared.builder.value_parser.ValueParser.TheVariants.{Names}
-use Rattle.command_line.specs.Modes.{mode_named}
-use Rattle.command_line.specs.declared.mode.Mode.{Mode}
-use Rattle.command_line.specs.declared.mode.Mode.TheVariants.{Fold}
+use Rattle.mode_choice.specs.Modes.{mode_named}
+use Rattle.mode_choice.specs.declared.mode.Mode.{Mode}
+use Rattle.mode_choice.specs.declared.mode.Mode.TheVariants.{Fold}
 
 -- the names of the modes, wherever they lie in memory
 pub record ModeNames : Type 0 where
@@ -42,6 +42,11 @@ mode_given (Some name) = mode_named name
 -- the mode that the matches give
 abbrev pub mode_of : List Row → Option Mode
 mode_of rows = mode_given (first_of (codes "mode") rows)
+
+-- `clap` takes the words, and they give this mode
+abbrev pub GivesMode : ModeNames → List Text → Mode → Type 0
+GivesMode names words mode = (fault_of (command_line names) words ≡ [])
+    × (mode_of (matches_of (command_line names) words) ≡ Some mode)
 
 -- the command is that command line, and each word that a parse gives as the mode is among the names
 pub record IsCommandLine (names : ModeNames) (command : Command) : Type 0 where

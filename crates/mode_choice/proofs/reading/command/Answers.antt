@@ -6,9 +6,9 @@ use Rattle.clap.specs.Values.{Accepts}
 use Rattle.clap.specs.declared.builder.command.Command.{Command}
 use Rattle.clap.specs.declared.builder.value_parser.ValueParser.{ValueParser}
 use Rattle.clap.specs.declared.builder.value_parser.ValueParser.TheVariants.{Names}
-use Rattle.command_line.specs.CommandLine.{ModeNames, bare_shape, mode_rule}
-use Rattle.command_line.proofs.GivenValue.{one_given_passes}
-use Rattle.command_line.proofs.mode_reading.command.Goals as goal
+use Rattle.mode_choice.specs.CommandLine.{ModeNames, bare_shape, mode_rule}
+use Rattle.mode_choice.proofs.GivenValue.{one_given_passes}
+use Rattle.mode_choice.proofs.reading.command.Goals as goal
 
 pub returns : goal.returns
 returns c =

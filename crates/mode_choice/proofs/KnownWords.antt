@@ -1,5 +1,5 @@
 -- What clap makes of words that are written out.
-use Rattle.std.proofs.Common.{◌≡◌, ◌≢◌, ℕ, List, [], ◌∷◌, Option, Some, codes, map, refl, sym, subst, ap, ◌∙◌, inl, inr}
+use Rattle.std.proofs.Common.{◌≡◌, ◌≢◌, ℕ, List, [], ◌∷◌, Some, codes, map, refl, sym, subst, ap, ◌∙◌, inl, inr}
 use Rattle.std.specs.Borrow.{Bor}
 use Rattle.clap.specs.Kinds.{Kinds}
 use Rattle.clap.specs.Words.{App, Text, fault_of, matches_of, new_rule, with_rule}
@@ -7,12 +7,10 @@ use Rattle.clap.specs.declared.builder.value_parser.ValueParser.TheVariants.{Nam
 use Rattle.clap.specs.declared.error.kind.ErrorKind.{ErrorKind}
 use Rattle.clap.specs.declared.error.kind.ErrorKind.TheVariants as kind
 use Rattle.clap.proofs.OnLiterals.{clap_on_literals}
-use Rattle.command_line.specs.CommandLine.{ModeNames, bare_shape, command_line, mode_of}
-use Rattle.command_line.specs.Statuses.{IsRejected}
-use Rattle.command_line.specs.WordRuns.{IsFoldLine, IsRejectedLine, IsTurnsLine, RunsMode, RunsOrRunsOut, RunsWords}
-use Rattle.command_line.specs.declared.mode.Mode.{Mode}
-use Rattle.command_line.specs.declared.mode.Mode.TheVariants.{Fold, Turns}
-use Rattle.command_line.specs.declared.status.Status.{Status}
+use Rattle.mode_choice.specs.CommandLine.{GivesMode, ModeNames, bare_shape, command_line, mode_of}
+use Rattle.mode_choice.specs.KnownLines.{IsFoldLine, IsRejectedLine, IsTurnsLine}
+use Rattle.mode_choice.specs.declared.mode.Mode.{Mode}
+use Rattle.mode_choice.specs.declared.mode.Mode.TheVariants.{Fold, Turns}
 
 -- a list of names, and the command line that takes them
 abbrev NameList : Type 0
@@ -80,14 +78,14 @@ unfolding clap_on_literals
 short_help_at_refused list_at fold_at turns_at = refl
 
 -- clap takes no words and `fold` alone, and they give the fold
-fold_line_gives : (names : ModeNames) (words : List Text) → IsFoldLine words → Gives names.list words Fold
+pub fold_line_gives : (names : ModeNames) (words : List Text) → IsFoldLine words → GivesMode names words Fold
 fold_line_gives names words (inl none) = subst (λ (ws : List Text). Gives names.list ws Fold) (sym none) (no_words_give names.list)
 fold_line_gives names words (inr fold) =
     subst (λ (ws : List Text). Gives names.list ws Fold) (sym fold)
     (of_names (λ (list : NameList). Gives list (codes "fold" ∷ []) Fold) fold_gives names)
 
 -- clap takes `turns` alone, and it gives its mode
-turns_line_gives : (names : ModeNames) (words : List Text) → IsTurnsLine words → Gives names.list words Turns
+pub turns_line_gives : (names : ModeNames) (words : List Text) → IsTurnsLine words → GivesMode names words Turns
 turns_line_gives names words turns =
     subst (λ (ws : List Text). Gives names.list ws Turns) (sym turns)
     (of_names (λ (list : NameList). Gives list (codes "turns" ∷ []) Turns) turns_gives names)
@@ -103,28 +101,7 @@ first_fault_is names words word k is refused = some_fault _ k (ap (fault_of (com
     ∙ of_names (λ (list : NameList). fault_of (line list) (word ∷ []) ≡ k ∷ []) refused names)
 
 -- clap refuses the mode that does not exist yet, and a call for help
-rejected_line_refused : (names : ModeNames) (words : List Text) → IsRejectedLine words → fault_of (command_line names) words ≢ []
+pub rejected_line_refused : (names : ModeNames) (words : List Text) → IsRejectedLine words → fault_of (command_line names) words ≢ []
 rejected_line_refused names words (inl threads) = first_fault_is names words _ kind.InvalidValue threads threads_at_refused
 rejected_line_refused names words (inr (inl help)) = first_fault_is names words _ kind.DisplayHelp help help_at_refused
 rejected_line_refused names words (inr (inr help)) = first_fault_is names words _ kind.DisplayHelp help short_help_at_refused
-
--- if clap takes the words and they give this mode, it runs
-mode_runs : (words : List Text) (status : Status) (unchanged : Type 0) (runs : Mode → Type 0) (mode : Mode)
-    → (run : RunsWords words status unchanged runs) → Gives run.names.list words mode → RunsOrRunsOut status unchanged (runs mode)
-mode_runs words status unchanged runs mode run gives =
-    subst (λ (given : Option Mode). RunsOrRunsOut status unchanged (RunsMode given runs)) gives.1 (run.taken gives.0)
-
--- a command line that folds
-pub fold_line_folds : (words : List Text) (status : Status) (unchanged : Type 0) (runs : Mode → Type 0)
-    → RunsWords words status unchanged runs → IsFoldLine words → RunsOrRunsOut status unchanged (runs Fold)
-fold_line_folds words status unchanged runs run line = mode_runs words status unchanged runs Fold run (fold_line_gives run.names words line)
-
--- a command line that carries out events
-pub turns_line_plays : (words : List Text) (status : Status) (unchanged : Type 0) (runs : Mode → Type 0)
-    → RunsWords words status unchanged runs → IsTurnsLine words → RunsOrRunsOut status unchanged (runs Turns)
-turns_line_plays words status unchanged runs run line = mode_runs words status unchanged runs Turns run (turns_line_gives run.names words line)
-
--- a command line of another mode, or a call for help, is rejected
-pub rejected_line_rejected : (words : List Text) (status : Status) (unchanged : Type 0) (runs : Mode → Type 0)
-    → RunsWords words status unchanged runs → IsRejectedLine words → IsRejected status × unchanged
-rejected_line_rejected words status unchanged runs run line = run.refused (rejected_line_refused run.names words line)

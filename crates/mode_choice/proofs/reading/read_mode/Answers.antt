@@ -3,11 +3,11 @@ use Rattle.std.proofs.lemmas.Result.{err_from_is_err_and}
 use Rattle.clap.specs.Words.{App, fault_of, first_of, found_of, is_simple, is_simple_and_free, matches_of}
 use Rattle.clap.specs.Kinds.{HasKind}
 use Rattle.clap.proofs.WalkLemmas.{first_value-rows}
-use Rattle.command_line.specs.CommandLine.{ModeNames, mode_given}
-use Rattle.command_line.proofs.OfferedModes.{fold_or_turns, some_mode}
+use Rattle.mode_choice.specs.CommandLine.{ModeNames, mode_given}
+use Rattle.mode_choice.proofs.OfferedModes.{fold_or_turns, some_mode}
 use Rattle.std.specs.Prelude.{IsSome, Option}
-use Rattle.command_line.specs.declared.mode.Mode.{Mode}
-use Rattle.command_line.proofs.mode_reading.read_mode.Goals as goal
+use Rattle.mode_choice.specs.declared.mode.Mode.{Mode}
+use Rattle.mode_choice.proofs.reading.read_mode.Goals as goal
 
 -- names for a command line that no command was made of
 abbrev some_names : ModeNames

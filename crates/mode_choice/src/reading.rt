@@ -1,7 +1,7 @@
 //! The command line, as `clap` reads it.
 ghost use Rattle.std.specs.Prelude.{◌≡◌, IfOk, IsSome, codes, map};
 ghost use Rattle.clap.specs.Words.{first_value, found_of};
-ghost use Rattle.command_line.specs.CommandLine.{IsCommandLine, ModeNames, ReadsMode, mode_given};
+ghost use Rattle.mode_choice.specs.CommandLine.{IsCommandLine, ModeNames, ReadsMode, mode_given};
 
 use crate::mode::{Mode, NAMES};
 use clap::{Arg, ArgMatches, Command, Error};
