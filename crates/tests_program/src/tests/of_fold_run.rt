@@ -82,12 +82,7 @@ fn run_once(rt: &impl AllocGlobal, script: &[u8], devices: Devices, expected: &[
 }
 
 // Folds this script, and once more after `OutOfMemory`.
-fn run(
-    rt: &impl AllocGlobal,
-    script: &[u8],
-    devices: Devices,
-    expected: &[u8],
-) -> Ended {
+fn run(rt: &impl AllocGlobal, script: &[u8], devices: Devices, expected: &[u8]) -> Ended {
     let ended = run_once(rt, script, devices, expected);
     match ended.status {
         RunStatus::OutOfMemory => run_once(rt, script, devices, expected),

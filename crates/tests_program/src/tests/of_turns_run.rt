@@ -10,8 +10,7 @@ use testing::twice;
 use turns_run::{TurnsScript, read_turns};
 
 /// A move between a write and a read of its range, offered and finished.
-const MOVED: &[u8] =
-    br#"{"proxies":1,"resolvers":2,"window":100,"step":10,"ask":["n"],"events":[
+const MOVED: &[u8] = br#"{"proxies":1,"resolvers":2,"window":100,"step":10,"ask":["n"],"events":[
 {"sequence":{"proxy":0,"batch":[]}},
 {"sequence":{"proxy":0,"batch":[{"snapshot":0,"reads":[],
 "writes":[["n","n\\x00"]],"mutations":[{"set":["n","1"]}],"lock_aware":false}]}},
