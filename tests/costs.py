@@ -179,7 +179,7 @@ def table(costs):
 
 
 def row(name, cells):
-    return f"{name:22}" + "".join(f"{cell:>16}" for cell in cells)
+    return f"{name:22}" + "".join(f"{cell:>11}" for cell in cells)
 
 
 def number(seconds):

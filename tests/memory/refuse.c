@@ -8,7 +8,8 @@
  * program itself goes on as if nothing were there. The file gets a line for each child: the number of the growth,
  * the status that waitpid gave, and how the child's standard error began.
  * REFUSE_THEN: how many more growths such a child makes at most. At the next one it ends, as if all were well.
- * REFUSE_FIRST: how many growths are refused so, each of them; of those that follow, one of thirteen.
+ * REFUSE_FIRST, REFUSE_STEP, REFUSE_TURN: how many growths are refused so, each of them; of those that follow, one of
+ * so many; and which, from 0.
  * SHORT_READ, SHORT_WRITE: how many bytes one call takes at most.
  */
 #define _GNU_SOURCE
@@ -29,7 +30,7 @@ static int is_child;
 
 /* What the variables say; a number is -1 where its variable is not set. */
 struct settings {
-    long growth, read, write, then, first, short_read, short_write;
+    long growth, read, write, then, first, step, turn, short_read, short_write;
     int on, error;
     const char *mark, *each;
 };
@@ -51,6 +52,8 @@ static const struct settings *told(void)
         it.write = number_of("REFUSE_WRITE");
         it.then = number_of("REFUSE_THEN");
         it.first = number_of("REFUSE_FIRST");
+        it.step = number_of("REFUSE_STEP");
+        it.turn = number_of("REFUSE_TURN");
         it.short_read = number_of("SHORT_READ");
         it.short_write = number_of("SHORT_WRITE");
         it.on = getenv("REFUSE_ON") != NULL;
@@ -113,11 +116,11 @@ static void end_in_time(void)
 }
 
 /* Whether this growth is refused in a child. A test that makes more growths than the first ones repeats itself: of the
- * others one of thirteen is refused, and which of the thirteen changes, so that each growth of a loop comes up. */
+ * others one in a step is refused. Which one changes after a hundred steps, so that each growth of a loop comes up. */
 static int is_tried(long growth)
 {
-    long first = told()->first;
-    return first < 0 || growth <= first || growth % 13 == growth / 1300 % 13;
+    const struct settings *it = told();
+    return it->first < 0 || growth <= it->first || growth % it->step == (growth / (100 * it->step) + it->turn) % it->step;
 }
 
 /* Whether this is the child in which this growth is refused. */
