@@ -3,7 +3,7 @@ import collections
 import os
 import re
 
-from edit import read
+from edit_files import read
 
 
 class Batch:

@@ -1,14 +1,11 @@
 """Edits: small wrong changes of a crate, each of which the prover must refuse."""
+import functools
 import os
 
+from edit_files import files_below, read, write_lines
 from rust_source import functions
 
 EXPECTED = ("refused", "not refused", "bad edit")
-
-
-def read(path):
-    with open(path, encoding="utf-8") as file:
-        return file.read()
 
 
 def is_name(name, function):
@@ -18,8 +15,9 @@ def is_name(name, function):
 
 
 class Edit:
-    """One edit file, and what it changes.
+    """One edit, and what it changes.
 
+    block: its lines, and where they stand; home: the folder of a copy of its crate.
     refused: the function, law or lemma that must not be proved.
     pairs: the file, the old text and the new text of each change, in order.
     function: the function whose body holds the whole edit, in `file`, with its text after the edit
@@ -28,19 +26,19 @@ class Edit:
     expected: "refused" but for the controls. fault: why it cannot be tried, or nothing.
     """
 
-    def __init__(self, path, crate, home):
-        self.path, self.crate, self.name = path, crate, os.path.basename(path).removesuffix(".edit")
-        self.home = home
+    def __init__(self, crate, home, block):
+        self.crate, self.home, self.block, self.name = crate, home, block, block.name
         self.refused, self.expected, self.falls = "", "refused", None
         self.pairs, self.function, self.file, self.text, self.fault = [], None, "", "", ""
         self.answer = None
-        self.read_lines(home)
+        self.read_lines()
+        self.fault = self.fault or self.fault_of_pairs()
         if not self.fault:
             self.find_function(home)
 
-    def read_lines(self, home):
-        file, old = "", None
-        for line in read(self.path).split("\n"):
+    def read_lines(self):
+        file, old = self.block.file, None
+        for line in self.block.lines:
             word, _, rest = line.partition(":")
             rest = rest.removeprefix(" ")
             if word == "refused":
@@ -55,13 +53,14 @@ class Edit:
                 old = rest
             elif word == "new":
                 self.pairs.append((file, old, rest))
-        self.fault = self.fault_of_lines(home)
+            else:
+                self.fault = f"no line of an edit begins with {word!r}"
 
-    def fault_of_lines(self, home):
+    def fault_of_pairs(self):
         if not self.pairs or self.expected not in EXPECTED:
             return "it has no pair of 'old:' and 'new:', or expects no such thing"
         for file, old, _ in self.pairs:
-            if old is None or not os.path.isfile(f"{home}/{file}"):
+            if old is None or not os.path.isfile(f"{self.home}/{file}"):
                 return f"there is no file {file!r}, or no 'old:' before a 'new:'"
         return ""
 
@@ -101,19 +100,35 @@ class Edit:
             return None
         return around[0] if first else here
 
+    def outcome(self):
+        return self.answer.outcome if self.answer else "bad edit" if self.fault else "not tried"
+
+    def is_well(self):
+        """Whether it was tried, and was answered as it must be."""
+        return self.answer is not None and self.answer.outcome == self.expected
+
     def is_refused_by_function(self):
         """Whether a function of src/ must refuse the edit, and no law or lemma."""
-        files = [os.path.join(at, it) for at, _, names in os.walk(f"{self.home}/src") for it in names]
-        texts = ((os.path.relpath(it, self.home), read(it)) for it in files if it.endswith(".rt"))
+        files = [f"src/{it}" for it in files_below(f"{self.home}/src") if it.endswith(".rt")]
+        texts = ((it, read(f"{self.home}/{it}")) for it in files)
         return any(is_name(self.refused, it) for file in texts for it in functions(*file))
 
     def can_be_beside(self):
         """Whether a copy of the function with the edit can stand beside the function."""
         return not self.function.is_trait_method and "#[cycle" not in self.text
 
+    @functools.cached_property
+    def paragraphs(self):
+        """The paragraphs that the edit changes, each with its file and its number there: one holds a definition."""
+        texts = ((file, read(f"{self.home}/{file}"), old) for file, old, _ in self.pairs)
+        return {(file, text.count("\n\n", 0, text.find(old))) for file, text, old in texts}
+
     def can_share(self, other):
         """Whether each of two edits that change what others prove leaves alone what must refuse the other."""
         if self.falls is None or other.falls is None or self.refused == other.refused:
+            return False
+        # (of two changes of one definition, what falls with both may stand with each alone)
+        if self.paragraphs & other.paragraphs:
             return False
         return self.refused not in other.falls and other.refused not in self.falls
 
@@ -130,9 +145,9 @@ class Edit:
         return texts
 
     def record_falls(self, names):
-        """Writes what else the edit makes fall into its file."""
-        lines = [it for it in read(self.path).split("\n") if not it.startswith("falls:")]
+        """Writes what else the edit makes fall into its block."""
+        self.falls = set(names)
+        lines = [it for it in self.block.lines if not it.startswith("falls:")]
         at = next(number for number, it in enumerate(lines) if it.startswith("refused:")) + 1
         lines.insert(at, f"falls: {', '.join(sorted(names))}".rstrip())
-        with open(self.path, "w", encoding="utf-8") as file:
-            file.write("\n".join(lines))
+        self.block = write_lines(self.block, lines)

@@ -1,10 +1,15 @@
 """Copies of the repository in which crates are checked, so that no check changes the work tree."""
+import collections
 import os
 import shutil
 import subprocess
 import tempfile
+import time
 
 SOURCES = ("src", "specs", "proofs")
+
+# What a program printed, and what it took: seconds, and those of a processor.
+Ran = collections.namedtuple("Ran", "printed status seconds processor")
 
 
 def lines_of(root):
@@ -25,7 +30,9 @@ class Room:
         self.folder, self.base, self.lines = folder, f"{folder}/base", lines_of(root)
         self.named = {name: line.partition(":")[2].split() for name, line in self.lines.items()}
         self.below = {name: [it for it in words if it in self.named] for name, words in self.named.items()}
-        self.kit = os.path.dirname(run(["rt", "doc"], root).stdout.strip())
+        self.kit = os.path.dirname(run(["rt", "doc"], root).printed.strip())
+        # each check that was made, with its crate
+        self.checks = []
         os.makedirs(f"{self.base}/.git")
         with open(f"{self.base}/crates.txt", "w", encoding="utf-8") as file:
             file.write("".join(f"{line}\n" for line in self.lines.values()))
@@ -62,15 +69,15 @@ class Room:
                 copy_folder(f"{self.root}/crates/{crate}/{part}", f"{self.home(crate)}/{part}")
             is_library = any(crate in names for names in self.below.values())
             # (one job: more of them end sooner, but take more of the processors, which other checks use meanwhile)
-            ran = run(["rt", "lib" if is_library else "check", "--jobs", "1"], self.home(crate))
-        return "" if ran is None or ran.returncode == 0 else ran.stdout[-2000:]
+            ran = self.counted(crate, ["rt", "lib" if is_library else "check", "--jobs", "1"], self.home(crate))
+        return "" if ran is None or ran.status == 0 else ran.printed[-2000:]
 
     def has_kept(self, crate):
         """Whether trials of the crate start from what an earlier check of it proved."""
         return os.path.isdir(f"{self.home(crate)}/out/incremental")
 
     def try_texts(self, crate, texts, functions):
-        """What a check of the crate prints with these texts in place of its own; of these functions, if there are any."""
+        """Checks the crate with these texts in place of its own; these functions alone, if there are any."""
         with tempfile.TemporaryDirectory(prefix="trial-", dir=self.folder) as trial:
             # a check keeps one version of each function, so each trial starts from the base's
             for part in (*SOURCES, "out/incremental"):
@@ -79,11 +86,11 @@ class Room:
                 os.makedirs(os.path.dirname(f"{trial}/{file}"), exist_ok=True)
                 with open(f"{trial}/{file}", "w", encoding="utf-8") as it:
                     it.write(text)
-            said = self.check(crate, trial, [f"--only={it}" for it in functions]).stdout
+            ran = self.check(crate, trial, [f"--only={it}" for it in functions])
             if not self.has_kept(crate):
                 # what it proved of the functions that others call serves the next trials
                 shutil.copytree(f"{trial}/out/incremental", f"{self.home(crate)}/out/incremental")
-            return said
+            return ran
 
     def check(self, crate, home, flags=()):
         """Checks a crate that stands in this folder over the libraries of the room."""
@@ -97,7 +104,12 @@ class Room:
         words += ["--antt-project", f"{self.kit}/rattle/logic/antt-project.json"]
         words += ["--logic-built", f"{self.kit}/logic_built", "--incremental", "out/incremental"]
         os.makedirs(f"{home}/out/incremental", exist_ok=True)
-        return run(words, home)
+        return self.counted(crate, words, home)
+
+    def counted(self, crate, words, home):
+        ran = run(words, home)
+        self.checks.append((crate, ran))
+        return ran
 
 
 def copy_folder(source, target):
@@ -106,5 +118,11 @@ def copy_folder(source, target):
 
 
 def run(words, home):
+    begun = time.monotonic()
     how = {"stdin": subprocess.DEVNULL, "stdout": subprocess.PIPE, "stderr": subprocess.STDOUT}
-    return subprocess.run(words, cwd=home, text=True, errors="replace", **how)
+    with subprocess.Popen(words, cwd=home, text=True, errors="replace", **how) as process:
+        printed = process.stdout.read()
+        # (what this child alone took: others run side by side)
+        _, status, used = os.wait4(process.pid, 0)
+        process.returncode = os.waitstatus_to_exitcode(status)
+    return Ran(printed, process.returncode, time.monotonic() - begun, used.ru_utime + used.ru_stime)

@@ -7,8 +7,9 @@ import re
 FELL = re.compile(r"(?m)^fn (\S+): (?:not proved|no proof)[:;]? ?(.*)$")
 # What a function's line says of those that it calls is no fault of its own.
 OF_CALLEES = re.compile(r"(; )?(it calls|it passes|a call of) .*?, which (is|are) not proved")
-# An error in a declaration, as of a lemma or of an answer in a function's folder of proofs/.
-WRONG = re.compile(r"(?m)^(?:\./)?(\S+):\d+:\d+: error: `([^`]*)`: (.*)$")
+# An error in a declaration, as of a lemma or of an answer in a function's folder of proofs/; or one in a `use` line,
+# which is no declaration.
+WRONG = re.compile(r"(?m)^(?:\./)?(\S+):\d+:\d+: error: (?:`([^`]*)`: )?(.*)$")
 # A proof that names what the edit took away: such an error says little of the contract.
 NAME_IS_GONE = re.compile(r"has no field|is not in scope|has no `|was not admitted")
 ENDED = re.compile(r"(?m)^(logic=(not-)?proved|only=)")
@@ -23,8 +24,9 @@ class Said:
         self.first_error = (re.findall(r"(?m)^\S*:\d+:\d+: error.*", text) or text.split("\n"))[0][:300]
         self.answers, self.lemmas = collections.defaultdict(list), {}
         for file, name, why in WRONG.findall(text):
-            self.answers[os.path.dirname(file)].append((name, why))
-            if os.path.basename(file) not in PROOF_FILES:
+            if name or NAME_IS_GONE.search(why):
+                self.answers[os.path.dirname(file)].append((name or "use", why))
+            if name and os.path.basename(file) not in PROOF_FILES:
                 self.lemmas.setdefault(name, []).append(why)
         self.fallen = {name.removeprefix(f"{crate}::"): why for name, why in FELL.findall(text)}
         self.functions = {}

@@ -8,6 +8,8 @@
  * program itself goes on as if nothing were there. The file gets a line for each child: the number of the growth,
  * the status that waitpid gave, and how the child's standard error began.
  * REFUSE_THEN: how many more growths such a child makes at most. At the next one it ends, as if all were well.
+ * REFUSE_FIRST, REFUSE_STEP, REFUSE_TURN: how many growths are refused so, each of them; of those that follow, one of
+ * so many; and which, from 0.
  * SHORT_READ, SHORT_WRITE: how many bytes one call takes at most.
  */
 #define _GNU_SOURCE
@@ -26,22 +28,58 @@
 static long growths, reads, writes;
 static int is_child;
 
+/* What the variables say; a number is -1 where its variable is not set. */
+struct settings {
+    long growth, read, write, then, first, step, turn, short_read, short_write;
+    int on, error;
+    const char *mark, *each;
+};
+
+static long number_of(const char *name)
+{
+    const char *text = getenv(name);
+    return text == NULL ? -1 : atol(text);
+}
+
+/* The settings. They are read once, in the first growth, before the program starts a thread. */
+static const struct settings *told(void)
+{
+    static struct settings it;
+    static int is_read;
+    if (!is_read) {
+        it.growth = number_of("REFUSE_GROWTH");
+        it.read = number_of("REFUSE_READ");
+        it.write = number_of("REFUSE_WRITE");
+        it.then = number_of("REFUSE_THEN");
+        it.first = number_of("REFUSE_FIRST");
+        it.step = number_of("REFUSE_STEP");
+        it.turn = number_of("REFUSE_TURN");
+        it.short_read = number_of("SHORT_READ");
+        it.short_write = number_of("SHORT_WRITE");
+        it.on = getenv("REFUSE_ON") != NULL;
+        it.error = getenv("REFUSE_ERROR") == NULL ? EIO : (int)number_of("REFUSE_ERROR");
+        it.mark = getenv("REFUSE_MARK");
+        it.each = getenv("REFUSE_EACH");
+        is_read = 1;
+    }
+    return &it;
+}
+
 /* Leaves the mark that a call was refused. */
 static void leave_mark(void)
 {
-    const char *mark = getenv("REFUSE_MARK");
+    const char *mark = told()->mark;
     if (mark != NULL)
         close(open(mark, O_CREAT | O_WRONLY, 0600));
 }
 
-/* Whether this call is one of those that the variable names. */
-static int is_refused(const char *name, long *calls)
+/* Whether this call is the one with the wanted number, or a later one where all from it on are refused. */
+static int is_refused(long wanted, long *calls)
 {
-    const char *wanted = getenv(name);
-    if (wanted == NULL)
+    if (wanted < 0)
         return 0;
-    long call = __atomic_add_fetch(calls, 1, __ATOMIC_SEQ_CST), first = atol(wanted);
-    if (call != first && !(call > first && getenv("REFUSE_ON") != NULL))
+    long call = __atomic_add_fetch(calls, 1, __ATOMIC_SEQ_CST);
+    if (call != wanted && !(call > wanted && told()->on))
         return 0;
     leave_mark();
     return 1;
@@ -73,21 +111,29 @@ static void report_child(const char *file, pid_t child, int source)
 static void end_in_time(void)
 {
     static long made;
-    const char *most = getenv("REFUSE_THEN");
-    if (most != NULL && ++made > atol(most))
+    if (told()->then >= 0 && ++made > told()->then)
         _exit(0);
+}
+
+/* Whether this growth is refused in a child. A test that makes more growths than the first ones repeats itself: of the
+ * others one in a step is refused. Which one changes after a hundred steps, so that each growth of a loop comes up. */
+static int is_tried(long growth)
+{
+    const struct settings *it = told();
+    return it->first < 0 || growth <= it->first || growth % it->step == (growth / (100 * it->step) + it->turn) % it->step;
 }
 
 /* Whether this is the child in which this growth is refused. */
 static int is_refused_in_child(void)
 {
-    const char *file = getenv("REFUSE_EACH");
+    const char *file = told()->each;
     int ends[2];
+    if (file == NULL)
+        return 0;
     if (is_child)
         end_in_time();
-    if (file == NULL || is_child)
+    if (is_child || !is_tried(++growths))
         return 0;
-    growths++;
     if (pipe(ends) != 0)
         abort();
     pid_t child = fork();
@@ -110,14 +156,13 @@ static int is_refused_in_child(void)
 /* Whether this growth is refused. */
 static int is_growth_refused(void)
 {
-    return is_refused_in_child() || is_refused("REFUSE_GROWTH", &growths);
+    return is_refused_in_child() || is_refused(told()->growth, &growths);
 }
 
 /* What a refused read or write answers. */
 static ssize_t refuse_device(void)
 {
-    const char *error = getenv("REFUSE_ERROR");
-    errno = error == NULL ? EIO : atoi(error);
+    errno = told()->error;
     return errno == 0 ? 0 : -1;
 }
 
@@ -128,10 +173,9 @@ static void *refuse_growth(void)
 }
 
 /* How many bytes a call may take that asks for this many. */
-static size_t shortened(const char *name, size_t count)
+static size_t shortened(long most, size_t count)
 {
-    const char *most = getenv(name);
-    return most != NULL && (size_t)atol(most) < count ? (size_t)atol(most) : count;
+    return most >= 0 && (size_t)most < count ? (size_t)most : count;
 }
 
 void *malloc(size_t size)
@@ -155,9 +199,9 @@ ssize_t read(int file, void *bytes, size_t count)
     static ssize_t (*next)(int, void *, size_t);
     if (next == NULL)
         next = dlsym(RTLD_NEXT, "read");
-    if (is_refused("REFUSE_READ", &reads))
+    if (is_refused(told()->read, &reads))
         return refuse_device();
-    return next(file, bytes, shortened("SHORT_READ", count));
+    return next(file, bytes, shortened(told()->short_read, count));
 }
 
 ssize_t write(int file, const void *bytes, size_t count)
@@ -165,7 +209,7 @@ ssize_t write(int file, const void *bytes, size_t count)
     static ssize_t (*next)(int, const void *, size_t);
     if (next == NULL)
         next = dlsym(RTLD_NEXT, "write");
-    if (is_refused("REFUSE_WRITE", &writes))
+    if (is_refused(told()->write, &writes))
         return refuse_device();
-    return next(file, bytes, shortened("SHORT_WRITE", count));
+    return next(file, bytes, shortened(told()->short_write, count));
 }

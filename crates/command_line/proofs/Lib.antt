@@ -1,3 +1,1 @@
-pub mod GivenValue
-pub mod KnownWords
-pub mod OfferedModes
+pub mod KnownRuns

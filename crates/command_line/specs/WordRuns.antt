@@ -1,10 +1,10 @@
 -- What a run by words leaves.
-use Rattle.std.specs.Prelude.{◌≡◌, ◌≢◌, ◌⊎◌, ◌∷◌, ℕ, List, [], Option, Some, None, codes}
+use Rattle.std.specs.Prelude.{◌≡◌, ◌≢◌, ◌⊎◌, ℕ, List, [], Option, Some, None}
 use Rattle.clap.specs.Words.{Text, fault_of, matches_of}
-use Rattle.command_line.specs.CommandLine.{ModeNames, command_line, mode_of}
+use Rattle.mode_choice.specs.CommandLine.{ModeNames, command_line, mode_of}
 use Rattle.command_line.specs.Statuses.{IsRejected}
-use Rattle.command_line.specs.declared.mode.Mode.{Mode}
-use Rattle.command_line.specs.declared.mode.Mode.TheVariants.{Fold, Turns}
+use Rattle.mode_choice.specs.declared.mode.Mode.{Mode}
+use Rattle.mode_choice.specs.declared.mode.Mode.TheVariants.{Fold, Turns}
 use Rattle.command_line.specs.declared.status.Status.{Status}
 use Rattle.command_line.specs.declared.status.Status.TheVariants.{CommandLineRefused, Ran}
 use Rattle.fold_run.specs.FoldText.{fold_text}
@@ -52,16 +52,3 @@ pub record RunsWords
   pub refused : fault_of (command_line names) words ≢ [] → IsRejected status × unchanged
   pub taken : fault_of (command_line names) words ≡ [] → RunsOrRunsOut status unchanged
       (RunsMode (mode_of (matches_of (command_line names) words)) runs)
-
--- the words of a command line that folds: none, or `fold` alone
-abbrev pub IsFoldLine : List Text → Type 0
-IsFoldLine words = (words ≡ []) ⊎ (words ≡ codes "fold" ∷ [])
-
--- the words of a command line that carries out events: `turns` alone
-abbrev pub IsTurnsLine : List Text → Type 0
-IsTurnsLine words = words ≡ codes "turns" ∷ []
-
--- the words of a command line that is rejected: a mode that does not exist yet, or a call for help
-abbrev pub IsRejectedLine : List Text → Type 0
-IsRejectedLine words = (words ≡ codes "threads" ∷ [])
-    ⊎ (words ≡ codes "--help" ∷ []) ⊎ (words ≡ codes "-h" ∷ [])

@@ -1,11 +1,8 @@
-//! The command line: which run the words after the program's name ask for, by `clap`'s reading of
-//! them, and that run.
+//! The command line: the run that the words after the program's name ask for.
 //!
-//! Source: this project's profile (words, modes and statuses).
+//! Source: this project's profile (modes and statuses).
 #![tactic(auto)]
 
-mod mode;
-mod mode_reading;
 mod run;
 mod status;
 

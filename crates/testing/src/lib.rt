@@ -1,5 +1,5 @@
-//! What the tests of several crates are made of: byte strings, ranges, transactions, batches,
-//! records, requests and replies, from plain data. It stands in no program.
+//! What the tests of several crates are made of, from plain data: byte strings, ranges,
+//! transactions, batches, parts of shares, replies and rows of a journal. It stands in no program.
 //!
 //! What these functions take memory for is not taken again if it is refused: a test that wants
 //! memory for its data ends with that error. The calls that are tested are made again, by `twice`.
@@ -8,13 +8,22 @@
 mod again;
 mod key_ranges;
 mod lists;
+mod random;
+mod replies;
+mod shares;
 mod texts;
 mod transactions;
 
 pub use key_ranges::{Ends, given_range, given_ranges, range, ranges};
 pub use lists::{bytes, list, none, one, repeated, room};
+pub use random::Random;
+pub use replies::{
+    Content, Joined, ReplyLine, Told, ToldRow, carried, carried_if, journal_row, reply, reply_by,
+    unseen_rows,
+};
+pub use shares::{PartLine, part, parts};
 pub use texts::{is_shown_as, joined, text_room};
 pub use transactions::{
     Given, NOTHING, Step, admitted, batch, batch_of, change, changes, mutation, mutations,
-    transaction,
+    plain_batch, transaction, transaction_of,
 };

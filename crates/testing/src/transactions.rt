@@ -1,7 +1,8 @@
 //! Mutations, transactions and batches.
 
 use crate::key_ranges::{Ends, given_ranges, range};
-use crate::lists::{bytes, room};
+use crate::lists::{bytes, none, one, room};
+use crate::shares::PartLine;
 use mutation::{Admitted, Batch, Mutation, Transaction, admit};
 use std::alloc::{AllocError, Global};
 use std::test::Fail;
@@ -101,6 +102,17 @@ pub fn transaction(alloc: Global, given: Given<'_>) -> Result<Transaction, Alloc
     })
 }
 
+/// The transaction of this mutation alone, unchecked, at snapshot 0 and lock aware.
+pub fn transaction_of(alloc: Global, step: Step<'_>) -> Result<Transaction, AllocError> {
+    Ok(Transaction {
+        snapshot: 0,
+        reads: none(alloc),
+        writes: none(alloc),
+        mutations: one(alloc, mutation(alloc, step)?)?,
+        lock_aware: true,
+    })
+}
+
 /// The transaction, which has no fault.
 pub fn admitted(alloc: Global, given: Given<'_>) -> Result<Admitted, Fail> {
     Ok(admit(alloc, &transaction(alloc, given)?)?)
@@ -121,4 +133,25 @@ pub fn batch_of(transactions: Vec<Admitted>) -> Result<Batch, Fail> {
         Ok(batch) => Ok(batch),
         Err(refused) => Err(Fail::from(refused.0)),
     }
+}
+
+/// The transaction without mutations, of these ranges, and not lock aware.
+fn plain(alloc: Global, line: PartLine<'_>) -> Result<Transaction, AllocError> {
+    let (snapshot, reads, writes) = line;
+    Ok(Transaction {
+        snapshot,
+        reads: given_ranges(alloc, reads)?,
+        writes: given_ranges(alloc, writes)?,
+        mutations: none(alloc),
+        lock_aware: false,
+    })
+}
+
+/// The batch of transactions without mutations, which have no fault.
+pub fn plain_batch(alloc: Global, lines: &[PartLine<'_>]) -> Result<Batch, Fail> {
+    let mut list = room(alloc, lines.len())?;
+    for line in lines {
+        list.push(admit(alloc, &plain(alloc, *line)?)?)?;
+    }
+    batch_of(list)
 }

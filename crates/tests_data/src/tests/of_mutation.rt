@@ -6,8 +6,8 @@ use std::process::Abort;
 use std::test::Fail;
 use system_keys::{Bytes, Change, KeyRange, OutOfMemory};
 use testing::{
-    Given, NOTHING, Step, batch, given_range, is_shown_as, repeated, room, transaction, twice,
-    twice_on,
+    Given, NOTHING, Step, batch, given_range, is_shown_as, repeated, room, transaction,
+    transaction_of, twice, twice_on,
 };
 
 const SERVER_TAG_KEY: &[u8] = b"\xff/serverTag/server0000000001";
@@ -43,14 +43,7 @@ fn admitted(alloc: Global, given: &Transaction) -> Result<Admitted, Refusal> {
 
 /// What admission says of a transaction of one mutation: `None` where it is admitted.
 fn refusal_of(alloc: Global, step: Step<'_>) -> Result<Option<Refusal>, AllocError> {
-    let mutations = &[step];
-    let given = transaction(
-        alloc,
-        Given {
-            mutations,
-            ..AT_SEVEN
-        },
-    )?;
+    let given = transaction_of(alloc, step)?;
     Ok(admitted(alloc, &given).err())
 }
 
@@ -85,14 +78,8 @@ fn value_stamped(
     version: u64,
     number: usize,
 ) -> Result<Option<Bytes>, Fail> {
-    let mutations = &[Step::SetStamped(b"m", value)];
-    let stamp = testing::admitted(
-        alloc,
-        Given {
-            mutations,
-            ..AT_SEVEN
-        },
-    )?;
+    let given = transaction_of(alloc, Step::SetStamped(b"m", value))?;
+    let stamp = admit(alloc, &given)?;
     stamped_value(alloc, &stamp, version, number)
 }
 

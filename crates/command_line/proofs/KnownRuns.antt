@@ -1,0 +1,32 @@
+-- What a run by words that are written out comes to.
+use Rattle.std.proofs.Common.{List, Option, subst}
+use Rattle.clap.specs.Words.{Text}
+use Rattle.mode_choice.specs.CommandLine.{GivesMode}
+use Rattle.mode_choice.specs.KnownLines.{IsFoldLine, IsRejectedLine, IsTurnsLine}
+use Rattle.mode_choice.specs.declared.mode.Mode.{Mode}
+use Rattle.mode_choice.specs.declared.mode.Mode.TheVariants.{Fold, Turns}
+use Rattle.mode_choice.proofs.KnownWords.{fold_line_gives, rejected_line_refused, turns_line_gives}
+use Rattle.command_line.specs.Statuses.{IsRejected}
+use Rattle.command_line.specs.WordRuns.{RunsMode, RunsOrRunsOut, RunsWords}
+use Rattle.command_line.specs.declared.status.Status.{Status}
+
+-- if clap takes the words and they give this mode, it runs
+mode_runs : (words : List Text) (status : Status) (unchanged : Type 0) (runs : Mode → Type 0) (mode : Mode)
+    → (run : RunsWords words status unchanged runs) → GivesMode run.names words mode → RunsOrRunsOut status unchanged (runs mode)
+mode_runs words status unchanged runs mode run gives =
+    subst (λ (given : Option Mode). RunsOrRunsOut status unchanged (RunsMode given runs)) gives.1 (run.taken gives.0)
+
+-- a command line that folds
+pub fold_line_folds : (words : List Text) (status : Status) (unchanged : Type 0) (runs : Mode → Type 0)
+    → RunsWords words status unchanged runs → IsFoldLine words → RunsOrRunsOut status unchanged (runs Fold)
+fold_line_folds words status unchanged runs run line = mode_runs words status unchanged runs Fold run (fold_line_gives run.names words line)
+
+-- a command line that carries out events
+pub turns_line_plays : (words : List Text) (status : Status) (unchanged : Type 0) (runs : Mode → Type 0)
+    → RunsWords words status unchanged runs → IsTurnsLine words → RunsOrRunsOut status unchanged (runs Turns)
+turns_line_plays words status unchanged runs run line = mode_runs words status unchanged runs Turns run (turns_line_gives run.names words line)
+
+-- a command line of another mode, or a call for help, is rejected
+pub rejected_line_rejected : (words : List Text) (status : Status) (unchanged : Type 0) (runs : Mode → Type 0)
+    → RunsWords words status unchanged runs → IsRejectedLine words → IsRejected status × unchanged
+rejected_line_rejected words status unchanged runs run line = run.refused (rejected_line_refused run.names words line)

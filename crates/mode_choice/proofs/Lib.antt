@@ -1,0 +1,3 @@
+pub mod GivenValue
+pub mod KnownWords
+pub mod OfferedModes

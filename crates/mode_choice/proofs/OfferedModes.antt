@@ -1,0 +1,40 @@
+-- The command line takes no modes but `fold` and `turns`.
+use Rattle.std.proofs.Common.{◌||◌, ◌⊎◌, ◌≡◌, ◌∙◌, Bool, true, false, List, Option, Some, None, codes, map, refl, sym, subst, inl, inr}
+use Rattle.std.specs.Prelude.{IsSome}
+use Rattle.std.specs.List.{list_any}
+use Rattle.std.proofs.lemmas.Slice.Eq.{bytes_eq-Decides}
+use Rattle.std.specs.Str.{bytes_eq}
+use Rattle.clap.specs.Words.{Text}
+use Rattle.clap.specs.Values.{Accepts, same_text}
+use Rattle.clap.specs.declared.builder.value_parser.ValueParser.TheVariants.{Names}
+use Rattle.clap.proofs.WalkLemmas.{list_any-map}
+use Rattle.mode_choice.specs.CommandLine.{ModeNames, mode_given}
+use Rattle.mode_choice.specs.Modes.{mode_named}
+
+either : (a b : Bool) → (a || b) ≡ true → (a ≡ true) ⊎ (b ≡ true)
+either true b e = inl refl
+either false b e = inr e
+
+or_false : (b : Bool) → (b || false) ≡ true → b ≡ true
+or_false true e = refl
+or_false false e = e
+
+-- a word that is among the names is `fold` or `turns`
+pub fold_or_turns : (names : ModeNames) (word : Text) → Accepts false (Names names.list) word → (codes "fold" ≡ word) ⊎ (codes "turns" ≡ word)
+fold_or_turns names word taken =
+    let among : list_any (λ t. same_text false t word) (map (λ n. n.now) names.list.now) ≡ true =
+    sym (list_any-map (λ t. same_text false t word) (λ n. n.now) names.list.now) ∙ taken in
+    let two : (bytes_eq (codes "fold") word || (bytes_eq (codes "turns") word || false)) ≡ true =
+    subst (λ (ts : List Text). list_any (λ t. same_text false t word) ts ≡ true) names.texts among in
+    elim (either _ _ two) [
+      | inl fold ↦ inl ((bytes_eq-Decides (codes "fold") word).0 fold)
+      | inr rest ↦ inr ((bytes_eq-Decides (codes "turns") word).0 (or_false _ rest))
+    ]
+
+-- a word that can be `fold` or `turns` alone gives a mode, and so does none
+pub some_mode : (given : Option Text) → ((word : Text) → given ≡ Some word → (codes "fold" ≡ word) ⊎ (codes "turns" ≡ word)) → IsSome (mode_given given)
+some_mode None among = refl
+some_mode (Some word) among = elim (among word refl) [
+  | inl fold ↦ subst (λ (name : Text). IsSome (mode_named name)) fold refl
+  | inr turns ↦ subst (λ (name : Text). IsSome (mode_named name)) turns refl
+]

@@ -1,0 +1,16 @@
+-- Command lines that are written out.
+use Rattle.std.specs.Prelude.{◌≡◌, ◌⊎◌, ◌∷◌, List, [], codes}
+use Rattle.clap.specs.Words.{Text}
+
+-- the words of a command line that folds: none, or `fold` alone
+abbrev pub IsFoldLine : List Text → Type 0
+IsFoldLine words = (words ≡ []) ⊎ (words ≡ codes "fold" ∷ [])
+
+-- the words of a command line that carries out events: `turns` alone
+abbrev pub IsTurnsLine : List Text → Type 0
+IsTurnsLine words = words ≡ codes "turns" ∷ []
+
+-- the words of a command line that is rejected: a mode that does not exist yet, or a call for help
+abbrev pub IsRejectedLine : List Text → Type 0
+IsRejectedLine words = (words ≡ codes "threads" ∷ [])
+    ⊎ (words ≡ codes "--help" ∷ []) ⊎ (words ≡ codes "-h" ∷ [])

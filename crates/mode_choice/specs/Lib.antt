@@ -1,0 +1,4 @@
+pub mod Choices
+pub mod CommandLine
+pub mod KnownLines
+pub mod Modes

@@ -1,0 +1,28 @@
+//! The modes of the program.
+ghost use Rattle.std.specs.Prelude.{◌≡◌};
+ghost use Rattle.mode_choice.specs.Modes.{mode_named};
+
+/// What a run of the program does.
+#[derive(Clone, Copy, Debug, PartialEq, Eq)]
+pub enum Mode {
+    /// Folds the journal rows of a script into metadata.
+    Fold,
+    /// Carries out the events of a script in a cluster without threads.
+    Turns,
+}
+
+/// The names of the modes, as the command line takes them.
+pub static NAMES: [&str; 2] = ["fold", "turns"];
+
+impl Mode {
+    /// The mode of this name.
+    pub fn named(name: &str) -> Option<Mode>
+        ensures { result ≡ mode_named name.now }
+    {
+        match name {
+            "fold" => Some(Mode::Fold),
+            "turns" => Some(Mode::Turns),
+            _ => None,
+        }
+    }
+}

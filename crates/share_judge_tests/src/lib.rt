@@ -1,6 +1,0 @@
-//! The tests of share_judge, through its public calls.
-
-#![tactic(auto)]
-
-#[cfg(test)]
-mod tests;

@@ -1,0 +1,129 @@
+//! State transactions, as a request carries them, as a reply tells them and in a row of the journal.
+
+use crate::lists::{list, room};
+use crate::transactions::{Step, changes};
+use model::{Carried, JournalRow, Reply, StateTxn, UnseenRow, UnseenState, Verdict};
+use std::alloc::Global;
+use std::test::Fail;
+use system_keys::Items;
+
+/// What a state transaction changes, and whether it is lock aware.
+pub type Content<'a> = (&'a [Step<'a>], bool);
+
+/// A state transaction of an unseen row: the resolver's verdict, and the content.
+pub type Told<'a> = (Verdict, Content<'a>);
+
+/// An unseen row: its version and its state transactions.
+pub type ToldRow<'a> = (u64, &'a [Told<'a>]);
+
+/// A state transaction of the journal: the verdict of each resolver, and the content.
+pub type Joined<'a> = (&'a [Verdict], Content<'a>);
+
+/// A reply as plain data.
+#[derive(Clone, Copy)]
+pub struct ReplyLine<'a> {
+    /// The resolver that replies.
+    pub resolver: usize,
+    /// The proxy that asked.
+    pub proxy: usize,
+    /// The row of the record.
+    pub row: usize,
+    /// The version of the record.
+    pub version: u64,
+    /// The verdicts on the share.
+    pub verdicts: &'a [Verdict],
+    /// The rows that the proxy has not seen.
+    pub unseen: &'a [ToldRow<'a>],
+}
+
+/// The content of a state transaction.
+pub fn carried(alloc: Global, content: Content<'_>) -> Result<Carried, Fail> {
+    let (steps, lock_aware) = content;
+    let mutations = changes(alloc, steps)?;
+    Ok(Carried {
+        mutations,
+        lock_aware,
+    })
+}
+
+/// The content, if it is wanted.
+pub fn carried_if(
+    alloc: Global,
+    is_wanted: bool,
+    content: Content<'_>,
+) -> Result<Option<Carried>, Fail> {
+    if is_wanted {
+        Ok(Some(carried(alloc, content)?))
+    } else {
+        Ok(None)
+    }
+}
+
+fn unseen_state(alloc: Global, carries: bool, told: Told<'_>) -> Result<UnseenState, Fail> {
+    let (verdict, content) = told;
+    let carried = carried_if(alloc, carries, content)?;
+    Ok(UnseenState { verdict, carried })
+}
+
+fn unseen_row(alloc: Global, carries: bool, told: ToldRow<'_>) -> Result<UnseenRow, Fail> {
+    let (version, lines) = told;
+    let mut states = room(alloc, lines.len())?;
+    for line in lines {
+        states.push(unseen_state(alloc, carries, *line)?)?;
+    }
+    let states = Items::from(states);
+    Ok(UnseenRow { version, states })
+}
+
+/// The unseen rows, with the content of each state transaction or with none.
+pub fn unseen_rows(
+    alloc: Global,
+    carries: bool,
+    told: &[ToldRow<'_>],
+) -> Result<Items<UnseenRow>, Fail> {
+    let mut rows = room(alloc, told.len())?;
+    for row in told {
+        rows.push(unseen_row(alloc, carries, *row)?)?;
+    }
+    Ok(Items::from(rows))
+}
+
+/// The reply, with the content of each state transaction or with none.
+pub fn reply_by(alloc: Global, carries: bool, line: ReplyLine<'_>) -> Result<Reply, Fail> {
+    let unseen = unseen_rows(alloc, carries, line.unseen)?;
+    let verdicts = Items::from(list(alloc, line.verdicts)?);
+    Ok(Reply {
+        resolver: line.resolver,
+        proxy: line.proxy,
+        row: line.row,
+        version: line.version,
+        verdicts,
+        unseen,
+    })
+}
+
+/// The reply, in which resolver 0 alone has the content of state transactions.
+pub fn reply(alloc: Global, line: ReplyLine<'_>) -> Result<Reply, Fail> {
+    reply_by(alloc, line.resolver == 0, line)
+}
+
+fn state(alloc: Global, joined: Joined<'_>) -> Result<StateTxn, Fail> {
+    let (verdicts, (steps, lock_aware)) = joined;
+    let mutations = changes(alloc, steps)?;
+    let verdicts = Items::from(list(alloc, verdicts)?);
+    Ok(StateTxn {
+        mutations,
+        lock_aware,
+        verdicts,
+    })
+}
+
+/// The row of the journal with these state transactions.
+pub fn journal_row(alloc: Global, version: u64, lines: &[Joined<'_>]) -> Result<JournalRow, Fail> {
+    let mut states = room(alloc, lines.len())?;
+    for line in lines {
+        states.push(state(alloc, *line)?)?;
+    }
+    let states = Items::from(states);
+    Ok(JournalRow { version, states })
+}
