@@ -5,6 +5,10 @@ import re
 
 from edit_files import read
 
+# How many edits share a check at the most: with fewer the libraries below are read more often, and with more the last
+# check of a run is long. Edits of definitions make more fall together, and such a check is made again in halves.
+MOST, MOST_OF_DEFINITIONS = 36, 24
+
 
 class Batch:
     """Edits to try by one check: `names` says what must not be proved for each, and `texts` the changed files."""
@@ -18,6 +22,9 @@ class Batch:
 
     def is_of_functions(self):
         return self.edits[0].function is not None
+
+    def is_full(self):
+        return len(self.edits) == (MOST if self.is_of_functions() else MOST_OF_DEFINITIONS)
 
     def add(self, edit):
         """Takes the edit in, if it can share a check with those that are here."""
@@ -82,11 +89,11 @@ class Batch:
                 texts[f"{folder}_edit{number}/{name}"] = renamed
 
 
-def batches(edits, home, most):
-    """All the edits in batches, each of at most so many."""
+def batches(edits, home, is_alone=False):
+    """All the edits in batches, or each in one of its own."""
     made = []
     for edit in edits:
-        if not any(len(it.edits) < most and it.add(edit) for it in made):
+        if is_alone or not any(not it.is_full() and it.add(edit) for it in made):
             batch = Batch(home)
             batch.add(edit)
             made.append(batch)

@@ -31,8 +31,8 @@ class Room:
         self.named = {name: line.partition(":")[2].split() for name, line in self.lines.items()}
         self.below = {name: [it for it in words if it in self.named] for name, words in self.named.items()}
         self.kit = os.path.dirname(run(["rt", "doc"], root).printed.strip())
-        # each check that was made, with its crate
-        self.checks = []
+        # each check that was made, with its crate; and the crates whose library rt ci has proved for this run
+        self.checks, self.taken = [], set()
         os.makedirs(f"{self.base}/.git")
         with open(f"{self.base}/crates.txt", "w", encoding="utf-8") as file:
             file.write("".join(f"{line}\n" for line in self.lines.values()))
@@ -49,23 +49,24 @@ class Room:
             found += [it for it in [*self.all_below(name), name] if it not in found]
         return found
 
-    def is_proved_by_ci(self, crate):
+    def take_proved(self):
+        """Takes the libraries that `rt ci` has proved since the last call: where it ends, it may put older ones there."""
         with open(self.ci_output, encoding="utf-8", errors="replace") as file:
-            return f"rt: {crate} proved" in map(str.rstrip, file)
+            said = set(map(str.rstrip, file))
+        for crate in (it for it in self.below if it not in self.taken and f"rt: {it} proved" in said):
+            copy_folder(f"{self.root}/crates/{crate}/out/rlib", f"{self.home(crate)}/out/rlib")
+            self.taken.add(crate)
 
     def prove(self, crate, is_whole):
         """Has the crate proved as it is, and says what went wrong, if anything did.
 
-        Where `rt ci` has proved it, its library is taken, and the crate is checked once more only if `is_whole` asks
-        that what this check proves is kept for the trials.
+        Where `rt ci` has proved it for this run, the crate is checked once more only if `is_whole` asks that what this
+        check proves is kept for the trials.
         """
-        if self.ci_output:
-            if not self.is_proved_by_ci(crate):
-                return "rt ci has not proved it"
-            copy_folder(f"{self.root}/crates/{crate}/out/rlib", f"{self.home(crate)}/out/rlib")
+        if crate in self.taken:
             ran = self.check(crate, self.home(crate)) if is_whole else None
         else:
-            for part in [] if self.anew else ["out/rlib", "out/incremental"]:
+            for part in [] if self.anew or self.ci_output else ["out/rlib", "out/incremental"]:
                 copy_folder(f"{self.root}/crates/{crate}/{part}", f"{self.home(crate)}/{part}")
             is_library = any(crate in names for names in self.below.values())
             # (one job: more of them end sooner, but take more of the processors, which other checks use meanwhile)

@@ -7,10 +7,6 @@ import time
 from batch import Batch, batches
 from verdict import Said, judge
 
-# How many edits share a check at the most: with fewer the libraries below are read more often, and with more the last
-# check of a run is long.
-MOST = 36
-
 # How often a run looks whether the process that it runs beside has ended, in seconds.
 LOOK = 5
 
@@ -66,10 +62,15 @@ class Trials:
         return max(self.options.jobs // 2, 1) if self.is_beside() else self.options.jobs
 
     def ready_proofs(self):
-        """The crates that are still to be proved as they are, and that stand on proved crates alone."""
+        """The crates that are still to be proved as they are, and that stand on proved crates alone.
+
+        While `rt ci` runs these are the ones that it has proved, and once it has ended all others: it need not prove
+        a crate anew whose verdict is known.
+        """
         ready = [it for it in sorted(self.needed - self.started) if self.proved.issuperset(self.room.all_below(it))]
         if self.is_beside():
-            ready = [it for it in ready if self.room.is_proved_by_ci(it)]
+            self.room.take_proved()
+            ready = [it for it in ready if it in self.room.taken]
         self.started.update(ready)
         return ready
 
@@ -116,7 +117,7 @@ class Trials:
             kinds[edit.expected == "bad edit", is_recorded, is_alone].append(edit)
         made = []
         for (_, is_recorded, is_alone), edits in sorted(kinds.items()):
-            some = batches(edits, home, 1 if is_alone else MOST)
+            some = batches(edits, home, is_alone)
             for batch in some:
                 batch.is_whole |= is_recorded
             made += some
@@ -135,5 +136,5 @@ class Trials:
             batch.edits[0].record_falls(said.all_names() - {batch.edits[0].refused})
         half = len(later) // 2 if not judged else 0
         for some in (later[:half], later[half:]):
-            self.waiting += batches(some, self.room.home(crate), MOST)
+            self.waiting += batches(some, self.room.home(crate))
         self.waiting += self.later.pop(crate, [])

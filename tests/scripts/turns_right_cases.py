@@ -1,5 +1,5 @@
 """Right turns scripts, each with the lines that it must be answered, worked out by hand."""
-from script import BAD_STAMP, KEY_SERVERS, LOCKED, METADATA_VERSION, SERVER_1, SERVER_2, SERVER_3, write
+from script import BAD_STAMP, KEY_SERVERS, LOCKED, METADATA_VERSION, SERVER_1, SERVER_2, SERVER_3, SERVER_TAG, write
 from turns_words import (
     LOCK, case, clear, finish, finished, move, offer, offered, offered_to_both, offers, one_key, put, put_servers, put_tag,
     sequence, sequenced, shown, stamp, transaction, turns,
@@ -220,6 +220,39 @@ def outcomes():
     )
 
 
+def locks_among_rows():
+    """A lock counts from the next batch on, for the own rows and for those that a proxy is told of; only an applied lock counts."""
+    lock = transaction(0, [], [], [put(LOCKED, "L")], True)
+    yield case(
+        "a lock, and a state transaction of its batch that is not lock aware",
+        turns(sequence(0, lock, transaction(0, [], [], [put_servers("", SERVER_1)])), offers(0), finish(0), proxies=1),
+        sequenced(1), offered_to_both(0, "committed committed"),
+        finished(0, 10, "txn 0 committed 10 0", "mutation 0 0 tags none", "txn 1 committed 10 1", "mutation 1 0 tags none"),
+        shown(0, 10, 'route "" none', locked="yes"),
+    )
+    yield case(
+        "a lock, and then a batch of another proxy of which one transaction is lock aware",
+        turns(
+            sequence(0, lock),
+            sequence(1, transaction(10, [], [], [put_servers("", SERVER_1)]), transaction(10, [], [], [put(METADATA_VERSION, "v")], True)),
+            sequence(0, transaction(0, [], [], [put("a", "1")])), offers(0, 1, 2), finish(0), finish(0),
+        ),
+        sequenced(3), offered_to_both(0, "committed"), offered_to_both(1, "committed committed", "10"), offered_to_both(2, "none", "20"),
+        finished(0, 10, "txn 0 committed 10 0", "mutation 0 0 tags none"), finished(0, 30, "txn 0 locked 1038"),
+        shown(0, 30, locked="yes", metadata_version='"v"'), shown(1, 0),
+    )
+    yield case(
+        "a lock that one resolver alone committed",
+        turns(
+            move("m", "t", 1), sequence(0, written("n")), sequence(1, transaction(5, [one_key("n")], [], [put(LOCKED, "L")], True)),
+            sequence(0, transaction(0, [], [], [put("a", "1")])), offers(0, 1, 2), finish(0), finish(0),
+        ),
+        "move date 1", sequenced(3), offered(0, 0), offered(0, 1, "committed"), offered(1, 0, "committed", "10"),
+        offered(1, 1, "conflict", "10"), offered_to_both(2, "none", "20"), finished(0, 10, "txn 0 committed 10 0"),
+        finished(0, 30, "txn 0 committed 30 0", "mutation 0 0 tags none"), shown(0, 30), shown(1, 0),
+    )
+
+
 def told_rows():
     """A proxy is told what it has not seen, and ends with the same rows."""
     batches = [sequence(0, transaction(0, [], [], [put_servers(key, SERVER_1)])) for key in "abcde"]
@@ -288,9 +321,16 @@ def tags():
         sequenced(2), offered_to_both(0, "committed"), offered_to_both(1, "committed"), FOUR_FINISHED,
         finished(0, 20, "txn 0 committed 20 0", "mutation 0 0 tags none"), shown(0, 20), shown(1, 0),
     )
-    asked = [("", "0:1"), ("a", "0:1"), ("b", "0:2"), ("e", "0:2"), ("f", "0:1 0:3"), ("q", "0:4"), ("\\xff\\xff\\xff", "0:4")]
-    sets = transaction(0, [], [], [put(key, "1") for key, _ in asked[:6]] + [clear("a", "b"), clear("b", "b\\x00"), clear("c", "q")])
-    listed = [found for _, found in asked[:6]] + ["0:1", "0:2", "0:1 0:2 0:3"]
+    asked = [
+        ("", "0:1"), ("a", "0:1"), ("a\\xff", "0:1"), ("b", "0:2"), ("b\\x00", "0:2"), ("e", "0:2"), ("f", "0:1 0:3"), ("q", "0:4"),
+        ("\\xff\\xff\\xff", "0:4"),
+    ]
+    cleared = [
+        (("a", "b"), "0:1"), (("b", "b\\x00"), "0:2"), (("b", "f"), "0:2"), (("b", "f\\x00"), "0:1 0:2 0:3"), (("c", "d"), "0:2"),
+        (("c", "q"), "0:1 0:2 0:3"), (("p", "z"), "0:1 0:3 0:4"),
+    ]
+    sets = transaction(0, [], [], [put(key, "1") for key, _ in asked[:-1]] + [clear(*ends) for ends, _ in cleared])
+    listed = [found for _, found in asked[:-1] + cleared]
     yield case(
         "a mutation at each border", turns(
             sequence(0, four_servers()), sequence(0, sets), offers(0, 1), finish(0), finish(0), ask=[key for key, _ in asked], proxies=1,
@@ -299,6 +339,48 @@ def tags():
         finished(0, 20, "txn 0 committed 20 0", *["mutation 0 %d tags %s" % pair for pair in enumerate(listed)]),
         shown(0, 20, *FOUR_ROUTES, *['tags "%s" %s' % pair for pair in asked]),
     )
+
+
+# the keys split at `m`, in a batch of three transactions, and what a proxy routes then
+SPLIT = [
+    transaction(0, [], [], [put("a", "1")]),
+    transaction(0, [], [], [put_tag(SERVER_1, "\\x00\\x00\\x01"), put_tag(SERVER_2, "\\x00\\x00\\x02")], True),
+    transaction(0, [], [], [put_servers("", SERVER_1), put_servers("m", SERVER_2)], True),
+]
+ALL_TO_1, REST_TO_1, REST_TO_2 = 'route "" 0:1', 'route "m" 0:1', 'route "m" 0:2'
+WRITTEN, JOINED, NOTHING = put("z", "1"), clear(KEY_SERVERS + "m", KEY_SERVERS + "n"), put(METADATA_VERSION, "v")
+
+# what another proxy changes and then the own batch, the tags of each of its mutations, and the routes after it
+AFTER_THE_SPLIT = {
+    "a key after a boundary": (NOTHING, [NOTHING, WRITTEN], ["0:2", "0:2"], [ALL_TO_1, REST_TO_2]),
+    "tags after a Clear of the batch": (NOTHING, [WRITTEN, JOINED, WRITTEN], ["0:1", "0:1", "0:1"], [ALL_TO_1]),
+    "a Set after a Clear": (NOTHING, [JOINED, put_servers("m", SERVER_1), WRITTEN], ["0:1", "0:1", "0:1"], [ALL_TO_1, REST_TO_1]),
+    "a Set before a Clear": (NOTHING, [put_servers("m", SERVER_1), JOINED, WRITTEN], ["0:1", "0:1", "0:1"], [ALL_TO_1]),
+    "a Clear of another proxy": (JOINED, [NOTHING, WRITTEN], ["0:1", "0:1"], [ALL_TO_1]),
+    "a Set after a Clear of another proxy": (JOINED, [put_servers("m", SERVER_2), WRITTEN], ["0:2", "0:2"], [ALL_TO_1, REST_TO_2]),
+    "Clears of both": (JOINED, [clear(SERVER_TAG, "\\xff/serverTag0"), WRITTEN], ["none", "none"], ['route "" none']),
+}
+
+
+def clears_and_sets():
+    """The metadata after the rows of two proxies, of which one splits the keys and the other one joins them or not."""
+    for name, (told, own, listed, routes) in AFTER_THE_SPLIT.items():
+        mark = '"v"' if NOTHING in [told, *own] else "none"
+        yield case(
+            name,
+            turns(
+                sequence(0, *SPLIT), sequence(1, transaction(0, [], [], [told], True)), sequence(0, transaction(0, [], [], own, True)),
+                offers(0, 1, 2), finish(0), finish(0),
+            ),
+            sequenced(3), offered(0, 0, "committed committed"), offered(0, 1, "committed committed"),
+            offered_to_both(1, "committed", "10"), offered_to_both(2, "committed", "20"),
+            finished(
+                0, 10, "txn 0 committed 10 0", "mutation 0 0 tags 0:1", "txn 1 committed 10 1", "mutation 1 0 tags 0:2",
+                "mutation 1 1 tags 0:2", "txn 2 committed 10 2", "mutation 2 0 tags 0:2", "mutation 2 1 tags 0:2",
+            ),
+            finished(0, 30, "txn 0 committed 30 0", *["mutation 0 %d tags %s" % pair for pair in enumerate(listed)]),
+            shown(0, 30, *routes, metadata_version=mark), shown(1, 0),
+        )
 
 
 def refused_events():
@@ -314,8 +396,10 @@ def refused_events():
     )
     half = 4611686018427387904
     yield case(
-        "a step after which no version is left", turns(sequence(0), sequence(0), sequence(2), move("a", "b", 0), step=half),
-        "sequence row 0 version %d" % half, "refused 51 VersionsEnd", "refused 32 NoSuchProxy", "move date %d" % (half + 1),
+        "a step after which no version is left",
+        turns(sequence(0), sequence(0), offer(0, 0), sequence(1), sequence(2), move("a", "b", 0), step=half),
+        "sequence row 0 version %d" % half, "refused 51 VersionsEnd", offered(0, 0), "refused 51 VersionsEnd", "refused 32 NoSuchProxy",
+        "move date %d" % (half + 1),
         shown(0, 0), shown(1, 0),
     )
     last = 2**63 - 1
@@ -402,6 +486,6 @@ def many_events():
 
 
 CASES = (
-    small_ones, stamps, moved_ranges, verdicts, refused_writes, state_transactions, locks, outcomes, told_rows, tags, refused_events,
-    last_numbers, many_events,
+    small_ones, stamps, moved_ranges, verdicts, refused_writes, state_transactions, locks, outcomes, locks_among_rows, told_rows, tags,
+    clears_and_sets, refused_events, last_numbers, many_events,
 )

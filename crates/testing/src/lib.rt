@@ -18,12 +18,12 @@ pub use key_ranges::{Ends, given_range, given_ranges, range, ranges};
 pub use lists::{bytes, list, none, one, repeated, room};
 pub use random::Random;
 pub use replies::{
-    Content, Joined, ReplyLine, Told, ToldRow, carried, carried_if, journal_row, reply, reply_by,
+    Joined, ReplyLine, Told, ToldRow, carried, carried_if, journal_row, reply, reply_by,
     unseen_rows,
 };
 pub use shares::{PartLine, part, parts};
 pub use texts::{is_shown_as, joined, text_room};
 pub use transactions::{
-    Given, NOTHING, Step, admitted, batch, batch_of, change, changes, mutation, mutations,
-    plain_batch, transaction, transaction_of,
+    Content, Given, NOTHING, Step, admitted, batch, batch_of, change, changes, content_batch,
+    mutation, mutations, plain_batch, transaction, transaction_of,
 };

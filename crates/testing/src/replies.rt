@@ -1,14 +1,11 @@
 //! State transactions, as a request carries them, as a reply tells them and in a row of the journal.
 
 use crate::lists::{list, room};
-use crate::transactions::{Step, changes};
+use crate::transactions::{Content, changes};
 use model::{Carried, JournalRow, Reply, StateTxn, UnseenRow, UnseenState, Verdict};
 use std::alloc::Global;
 use std::test::Fail;
 use system_keys::Items;
-
-/// What a state transaction changes, and whether it is lock aware.
-pub type Content<'a> = (&'a [Step<'a>], bool);
 
 /// A state transaction of an unseen row: the resolver's verdict, and the content.
 pub type Told<'a> = (Verdict, Content<'a>);

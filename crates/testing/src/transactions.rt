@@ -19,6 +19,9 @@ pub enum Step<'a> {
     SetStamped(&'a [u8], &'a [u8]),
 }
 
+/// What a transaction changes, and whether it is lock aware.
+pub type Content<'a> = (&'a [Step<'a>], bool);
+
 /// A transaction as plain data.
 #[derive(Clone, Copy)]
 pub struct Given<'a> {
@@ -152,6 +155,27 @@ pub fn plain_batch(alloc: Global, lines: &[PartLine<'_>]) -> Result<Batch, Fail>
     let mut list = room(alloc, lines.len())?;
     for line in lines {
         list.push(admit(alloc, &plain(alloc, *line)?)?)?;
+    }
+    batch_of(list)
+}
+
+/// The transaction of this content, without ranges, at snapshot 0.
+fn of_content(alloc: Global, content: Content<'_>) -> Result<Transaction, AllocError> {
+    let (steps, lock_aware) = content;
+    Ok(Transaction {
+        snapshot: 0,
+        reads: none(alloc),
+        writes: none(alloc),
+        mutations: mutations(alloc, steps)?,
+        lock_aware,
+    })
+}
+
+/// The batch of transactions without ranges, which have no fault.
+pub fn content_batch(alloc: Global, contents: &[Content<'_>]) -> Result<Batch, Fail> {
+    let mut list = room(alloc, contents.len())?;
+    for content in contents {
+        list.push(admit(alloc, &of_content(alloc, *content)?)?)?;
     }
     batch_of(list)
 }

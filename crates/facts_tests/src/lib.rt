@@ -1,6 +1,0 @@
-//! The tests of facts, through its public calls.
-
-#![tactic(auto)]
-
-#[cfg(test)]
-mod tests;
