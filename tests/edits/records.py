@@ -1,6 +1,7 @@
-"""Which edits a run tries: those of crates whose text is not the recorded one, and a sixth of the others."""
+"""Which edits a run tries: those of crates whose text is not the recorded one, and of a sixth of the other crates."""
 import collections
 import hashlib
+import itertools
 import json
 import os
 
@@ -9,7 +10,8 @@ from room import SOURCES, run
 
 HERE = os.path.dirname(os.path.abspath(__file__))
 
-# In how many parts the edits of crates with their recorded text are tried, a part at each commit.
+# In how many parts the crates with their recorded text are tried, a part at each commit. A crate's edits are tried
+# together, since its first check costs more than each further edit.
 PARTS = 6
 
 # Of the files of the runner, those that decide no verdict.
@@ -22,11 +24,6 @@ def digest(words):
 
 def texts_below(folder):
     return [(it, read(f"{folder}/{it}")) for it in files_below(folder)]
-
-
-def part_of(edit):
-    """The part that an edit is in: no other edit moves if one comes or goes."""
-    return int(digest([edit.crate, edit.name]), 16) % PARTS
 
 
 class Records:
@@ -42,6 +39,9 @@ class Records:
         files = [it for it in sorted(os.listdir(HERE)) if it == "run" or it.endswith(".py") and it not in OF_COSTS]
         kit = run(["rt", "version"], HERE).printed
         self.runner = [(it, read(f"{HERE}/{it}")) for it in files] + [kit]
+        self.read_kept()
+
+    def read_kept(self):
         self.written = read(self.path) if os.path.isfile(self.path) else ""
         self.kept = dict(it for it in map(str.split, self.written.splitlines()) if len(it) == 2)
 
@@ -57,8 +57,15 @@ class Records:
         why = {True: "it has changed since its record", False: "it has no record"}
         return {it: why[it in self.kept] for it in sums if self.kept.get(it) != sums[it]}
 
+    def parts(self):
+        """The part that each crate is in: neighbours in the alphabet, so that each part has about as many edits."""
+        counts = [(it, len(self.edits[it])) for it in sorted(self.edits)]
+        all_edits = sum(count for _, count in counts)
+        before = itertools.accumulate((count for _, count in counts), initial=0)
+        return {crate: PARTS * front // all_edits for (crate, _), front in zip(counts, before)}
+
     def part_now(self):
-        """Which part of the edits is tried at the present commit; nothing without a history of commits."""
+        """Which part of the crates is tried at the present commit; nothing without a history of commits."""
         git = ["git", "-C", self.room.root]
         is_shallow = run([*git, "rev-parse", "--is-shallow-repository"], HERE).printed.strip()
         count = run([*git, "rev-list", "--count", "HEAD"], HERE).printed.strip()
@@ -68,8 +75,9 @@ class Records:
     def write(self, tried):
         """Records the crates all of whose edits were tried and are refused; one with a wrong answer has no record.
 
-        Returns whether the records have changed.
+        What another run has written in the meantime stays. Returns whether the records have changed.
         """
+        self.read_kept()
         for crate, edits in self.edits.items():
             if any(it.answer and not it.is_well() for it in edits):
                 self.kept.pop(crate, None)

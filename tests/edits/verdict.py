@@ -12,6 +12,8 @@ OF_CALLEES = re.compile(r"(; )?(it calls|it passes|a call of) .*?, which (is|are
 WRONG = re.compile(r"(?m)^(?:\./)?(\S+):\d+:\d+: error: (?:`([^`]*)`: )?(.*)$")
 # A proof that names what the edit took away: such an error says little of the contract.
 NAME_IS_GONE = re.compile(r"has no field|is not in scope|has no `|was not admitted")
+# What rests on a declaration that fell is not checked: no fault of its own.
+OF_OTHERS = re.compile(r"^\d+ declarations? that depends? on ")
 ENDED = re.compile(r"(?m)^(logic=(not-)?proved|only=)")
 PROOF_FILES = ("Answers.antt", "Invariants.antt", "Proof.antt")
 
@@ -24,7 +26,7 @@ class Said:
         self.first_error = (re.findall(r"(?m)^\S*:\d+:\d+: error.*", text) or text.split("\n"))[0][:300]
         self.answers, self.lemmas = collections.defaultdict(list), {}
         for file, name, why in WRONG.findall(text):
-            if name or NAME_IS_GONE.search(why):
+            if name or NAME_IS_GONE.search(why) and not OF_OTHERS.search(why):
                 self.answers[os.path.dirname(file)].append((name or "use", why))
             if name and os.path.basename(file) not in PROOF_FILES:
                 self.lemmas.setdefault(name, []).append(why)
