@@ -6,7 +6,7 @@ use Rattle.std.specs.Prelude.{option_map, All}
 use Rattle.std.specs.List.{slice_get}
 use Rattle.std.specs.declared.option.Option.TheVariants.{Some}
 use Rattle.model.specs.Journal.{list_at}
-use Rattle.agreed_ledger.specs.Cells.{Cells, IsLedger, verdict_cells}
+use Rattle.agreed_ledger.specs.Cells.{AllHaveRows, Cells, IsLedger, verdict_cells}
 
 -- ---- lists
 
@@ -34,6 +34,9 @@ list_at_there (y ∷ ys) (suc i) below = list_at_there ys i (omega arith)
 pub verdict_cells_length : (cells : Cells) (r : ℕ) → IsLedger cells → r < cells.config.resolvers → length (verdict_cells cells r) ≡ length cells.records
 verdict_cells_length cells r is below =
     is.columns r (verdict_cells cells r) (list_at_there cells.verdicts r (omega (arith, is.resolvers)))
+
+pub all_have_rows : (cells : Cells) → IsLedger cells → AllHaveRows cells
+all_have_rows cells is r below = verdict_cells_length cells r is below
 
 -- the names of the cells of a list of columns, which are any lists of cells
 module _ {V C : Type 0} (inner : V → List C) (name : C → ℕ) where

@@ -12,9 +12,9 @@ use mathlib.Core.Logic.{inl, inr}
 use Rattle.model.specs.Configs.{version_limit}
 use Rattle.model.specs.Records.{records_of_proxy}
 use Rattle.model.specs.Stamps.{Given, stamped_from}
-use Rattle.model.proofs.ChainLaws.{next_follows_moves}
-use Rattle.model.proofs.HistoryLaws.{moves_follow_move, moves_follow_record, last_version-push, records_of_proxy-append}
-use Rattle.model.proofs.MemoryGrows.{set_found}
+use Rattle.model.proofs.History.Chain.{next_follows_moves}
+use Rattle.model.proofs.History.Growth.{moves_follow_move, moves_follow_record, last_version-push, records_of_proxy-append}
+use Rattle.model.proofs.Resolvers.Growth.{set_found}
 use Rattle.model.specs.World.{record_after}
 use Rattle.agreed_ledger.specs.Sequencing.{KeepsVersions}
 

@@ -1,31 +1,22 @@
 -- Stretches of facts about the cells of a ledger.
-use Rattle.std.proofs.Common.{◌≡◌, refl, sym, ap, ◌∙◌, ℕ, zero, suc, ◌+◌, ◌-◌, ◌≤◌, List, [], ◌∷◌, ◌++◌, length, map, take, drop, Bool, true, false, cond, nat_le, min, max, arith}
+use Rattle.std.proofs.Common.{◌≡◌, refl, sym, subst, ap, ◌∙◌, ℕ, zero, suc, ◌+◌, ◌-◌, ◌<◌, ◌≤◌, List, [], ◌∷◌, ◌++◌, length, map, take, drop, Bool, true, false, cond, nat_le, min, max, arith}
 use Rattle.std.proofs.lemmas.List.{length-map, map-append, take-map}
-use Rattle.std.proofs.lemmas.Bool.{leb-true}
-use Rattle.std.specs.Prelude.{◌⊎◌}
+use Rattle.std.specs.Prelude.{IfSome, MatchOption}
+use Rattle.std.specs.declared.option.Option.{Option}
 use Rattle.std.specs.List.{slice_get, between}
-use Rattle.std.specs.declared.option.Option.TheVariants.{Some}
+use Rattle.std.specs.declared.option.Option.TheVariants.{None, Some}
 use mathlib.Core.Logic.{inl, inr}
 use Rattle.facts.specs.declared.fact.Fact.{Fact}
-use Rattle.facts.specs.Stretches.{Stretch, StretchesAgree, end_of, part_first, part_end, part_of, rest_from, extended, cells, cells_of, values, values_of}
-use Rattle.model.proofs.Places.{slice_get-take}
-use Rattle.model.proofs.ChainLaws.{slice_get-drop}
-use Rattle.agreed_ledger.specs.Cells.{AreAbout}
+use Rattle.facts.specs.Stretches.{Stretch, StretchesAgree, HasAt, Lacks, end_of, part_first, part_end, part_of, rest_from, extended, cells, cells_of, values, values_of}
+use Rattle.std.proofs.lemmas.Option.{slice_get_within}
+use Rattle.facts.specs.Unsets.{IfTaken}
+use Rattle.facts.specs.declared.setting.Unset.{Unset}
+use Rattle.facts.specs.declared.setting.Unset.TheVariants.{Taken}
+use Rattle.once_cell.specs.Once.{Agrees}
+use Rattle.agreed_ledger.specs.Cells.{AreAbout, IsWithin, NoteAgreesWith, NoteView}
 use Rattle.agreed_ledger.proofs.CellLaws.{mapped_at}
 
 -- ---- lists
-
-abbrev InSecond : {X : Type 0} (xs ys : List X) (i : ℕ) (x : X) → Type 0
-InSecond xs ys i x = (k : ℕ) × (i ≡ length xs + k) × (slice_get ys k ≡ Some x)
-
-appended_cases : {X : Type 0} (xs ys : List X) (i : ℕ) (x : X) → slice_get (xs ++ ys) i ≡ Some x → (slice_get xs i ≡ Some x) ⊎ InSecond xs ys i x
-appended_cases [] ys i x at = inr (i, omega arith, at)
-appended_cases (y ∷ xs) ys zero x at = inl at
-appended_cases (y ∷ xs) ys (suc i) x at = go (appended_cases xs ys i x at)
-  where
-    go : (slice_get xs i ≡ Some x) ⊎ InSecond xs ys i x → (slice_get (y ∷ xs) (suc i) ≡ Some x) ⊎ InSecond (y ∷ xs) ys (suc i) x
-    go (inl first) = inl first
-    go (inr second) = inr (second.0, omega (arith, second.1), second.2)
 
 drop-map : {X Y : Type 0} (f : X → Y) (n : ℕ) (xs : List X) → drop n (map f xs) ≡ map f (drop n xs)
 drop-map f zero xs = refl
@@ -34,6 +25,10 @@ drop-map f (suc n) (x ∷ xs) = drop-map f n xs
 
 between-map : {X Y : Type 0} (f : X → Y) (i j : ℕ) (xs : List X) → between i j (map f xs) ≡ map f (between i j xs)
 between-map f i j xs = ap (λ ys. take (j - i) ys) (drop-map f i xs) ∙ take-map f (j - i) (drop i xs)
+
+last_there : {X : Type 0} (x : X) (xs : List X) → (y : X) × (slice_get (x ∷ xs) (length xs) ≡ Some y)
+last_there x [] = (x, refl)
+last_there x (y ∷ ys) = last_there y ys
 
 -- ---- what is known of each row
 
@@ -73,55 +68,22 @@ extended_mapped {X} {Y} f s other =
 -- ---- facts about the cells of a ledger
 
 module _ {T : Type 0} (names : List ℕ) where
-  pub about_row : (s : Stretch (Fact T)) (row : ℕ) (fact : Fact T) → AreAbout names s → s.first ≤ row → slice_get s.known (row - s.first) ≡ Some fact
+  about_row : (s : Stretch (Fact T)) (row : ℕ) (fact : Fact T) → AreAbout names s → s.first ≤ row → slice_get s.known (row - s.first) ≡ Some fact
       → slice_get names row ≡ Some fact.cell
   about_row s row fact about from at =
       let there : s.first + (row - s.first) ≡ row = omega arith in
       ap (slice_get names) (sym there) ∙ about (row - s.first) fact at
 
-  pub about_part : (start end : ℕ) (s : Stretch (Fact T)) → AreAbout names s → AreAbout names (part_of start end s)
-  about_part start end s about i fact at =
-      let first = part_first start s in
-      let skipped = first - s.first in
-      let above : s.first ≤ first = omega arith in
-      let in_rest : slice_get (drop skipped s.known) i ≡ Some fact = (slice_get-take (drop skipped s.known) (part_end start end s - s.first - skipped) i fact at).1 in
-      let in_all : slice_get s.known (skipped + i) ≡ Some fact = slice_get-drop s.known skipped i (skipped + i) fact refl in_rest in
-      let same : s.first + (skipped + i) ≡ first + i = omega (arith, above) in
-      ap (slice_get names) (sym same) ∙ about (skipped + i) fact in_all
-
-  pub about_extended : (s other : Stretch (Fact T)) → AreAbout names s → AreAbout names other → AreAbout names (extended s other)
-  about_extended s other about other_about i fact at = go (appended_cases s.known (rest_from (end_of s) other) i fact at)
+  -- a stretch that has a row ends where its cells end, or before
+  ends_within : (s : Stretch (Fact T)) → AreAbout names s → IsWithin (length names) s
+  ends_within s about some = go s.known about some
     where
-      in_other : (k : ℕ) (b : Bool) → nat_le other.first (end_of s) ≡ b → slice_get (cond b (drop (end_of s - other.first) other.known) []) k ≡ Some fact
-          → slice_get names (end_of s + k) ≡ Some fact.cell
-      in_other k true from at_k =
-          let begins : other.first ≤ end_of s = leb-true other.first (end_of s) from in
-          let place = end_of s - other.first + k in
-          let there : slice_get other.known place ≡ Some fact = slice_get-drop other.known (end_of s - other.first) k place fact refl at_k in
-          let same : other.first + place ≡ end_of s + k = omega (arith, begins) in
-          ap (slice_get names) (sym same) ∙ other_about place fact there
-      in_other k false from at_k = absurd (cc)
-
-      go : (slice_get s.known i ≡ Some fact) ⊎ InSecond s.known (rest_from (end_of s) other) i fact → slice_get names (s.first + i) ≡ Some fact.cell
-      go (inl first) = about i fact first
-      go (inr second) =
-          let same : end_of s + second.0 ≡ s.first + i = omega (arith, second.1) in
-          ap (slice_get names) (sym same) ∙ in_other second.0 (nat_le other.first (end_of s)) refl second.2
-
-  pub about_pushed : (s : Stretch (Fact T)) (fact : Fact T) → AreAbout names s → slice_get names (end_of s) ≡ Some fact.cell
-      → AreAbout names (record { first = s.first; known = s.known ++ fact ∷ [] })
-  about_pushed s fact about next i at_i at = go (appended_cases s.known (fact ∷ []) i at_i at)
-    where
-      last : (k : ℕ) → i ≡ length s.known + k → slice_get (fact ∷ []) k ≡ Some at_i → slice_get names (s.first + i) ≡ Some at_i.cell
-      last zero place is =
-          let same : fact ≡ at_i = cc in
-          let there : end_of s ≡ s.first + i = omega (arith, place) in
-          ap (slice_get names) (sym there) ∙ next ∙ ap (λ (f : Fact T). Some f.cell) same
-      last (suc k) place is = absurd (cc)
-
-      go : (slice_get s.known i ≡ Some at_i) ⊎ InSecond s.known (fact ∷ []) i at_i → slice_get names (s.first + i) ≡ Some at_i.cell
-      go (inl first) = about i at_i first
-      go (inr second) = last second.0 second.1 second.2
+      go : (known : List (Fact T)) → AreAbout names (record { first = s.first; known = known }) → 0 < length known → s.first + length known ≤ length names
+      go [] about_it there = absurd (omega (arith, there))
+      go (fact ∷ rest) about_it there =
+          let last = last_there fact rest in
+          let below : s.first + length rest < length names = slice_get_within names (s.first + length rest) last.0.cell (about_it (length rest) last.0 last.1) in
+          omega (arith, below)
 
   pub about_agree : (s other : Stretch (Fact T)) → AreAbout names s → AreAbout names other → StretchesAgree (cells_of s) (cells_of other)
   about_agree s other about other_about i j x y same at_x at_y =
@@ -141,7 +103,7 @@ module _ {T : Type 0} (names : List ℕ) where
 
 -- ---- the values known
 
-pub value_at : {T : Type 0} (s : Stretch (Fact T)) (i : ℕ) (fact : Fact T) → slice_get s.known i ≡ Some fact → slice_get (values s.known) i ≡ Some fact.value
+value_at : {T : Type 0} (s : Stretch (Fact T)) (i : ℕ) (fact : Fact T) → slice_get s.known i ≡ Some fact → slice_get (values s.known) i ≡ Some fact.value
 value_at {T} s i fact at = mapped_at (λ (f : Fact T). f.value) s.known i fact at
 
 pub values_part : {T : Type 0} (start end : ℕ) (s : Stretch (Fact T)) → values_of (part_of start end s) ≡ part_of start end (values_of s)
@@ -150,9 +112,47 @@ values_part {T} start end s = part_mapped (λ (f : Fact T). f.value) start end s
 pub values_extended : {T : Type 0} (s other : Stretch (Fact T)) → values_of (extended s other) ≡ extended (values_of s) (values_of other)
 values_extended {T} s other = extended_mapped (λ (f : Fact T). f.value) s other
 
-pub values_pushed : {T : Type 0} (s : Stretch (Fact T)) (fact : Fact T)
-    → values_of (record { first = s.first; known = s.known ++ fact ∷ [] }) ≡ record { first = s.first; known = values s.known ++ fact.value ∷ [] }
-values_pushed {T} s fact = ap (λ (ys : List T). record { first = s.first; known = ys }) (map-append (λ (f : Fact T). f.value) s.known (fact ∷ []))
-
 pub values_end : {T : Type 0} (s : Stretch (Fact T)) → end_of (values_of s) ≡ end_of s
 values_end {T} s = end_mapped (λ (f : Fact T). f.value) s
+
+pub values_within : {T : Type 0} (names : List ℕ) (s : Stretch (Fact T)) → AreAbout names s → IsWithin (length names) (values_of s)
+values_within {T} names s about some =
+    let ends : end_of s ≤ length names = ends_within names s about (omega (arith, length-map s.known (λ (f : Fact T). f.value), some)) in
+    omega (arith, values_end s, ends)
+
+values_lack : {T : Type 0} (s : Stretch (Fact T)) (row : ℕ) → Lacks s row → Lacks (values_of s) row
+values_lack s row (inl before) = inl before
+values_lack s row (inr after) = inr (omega (arith, values_end s, after))
+
+-- what a row has of a stretch of facts, and of the values
+pub values_get : {T : Type 0} (s : Stretch (Fact T)) (row : ℕ) (found : Option (Fact T)) → MatchOption found (Lacks s row) (HasAt s row)
+    → MatchOption found (Lacks (values_of s) row) (λ (fact : Fact T). HasAt (values_of s) row fact.value)
+values_get s row None lacks = values_lack s row lacks
+values_get s row (Some fact) has = (has.0, value_at s (row - s.first) fact has.1)
+
+pub cell_get : {T : Type 0} (names : List ℕ) (s : Stretch (Fact T)) (row : ℕ) (found : Option (Fact T)) → AreAbout names s → MatchOption found (Lacks s row) (HasAt s row)
+    → IfSome found (λ (fact : Fact T). slice_get names row ≡ Some fact.cell)
+cell_get names s row None about lacks = tt
+cell_get names s row (Some fact) about has = about_row names s row fact about has.0 has.1
+
+-- ---- notes
+
+-- a note that agrees with what a stretch has at its row agrees with the stretch
+pub agrees_with : {X : Type 0} (note : NoteView X) (s : Stretch X) (found : X) → HasAt s note.row found → Agrees note.known found → NoteAgreesWith note s
+agrees_with {X} note s found has agrees x has_x =
+    let one : slice_get s.known (note.row - s.first) ≡ Some found = has.1 in
+    let two : slice_get s.known (note.row - s.first) ≡ Some x = has_x.1 in
+    let same : found ≡ x = cc in
+    subst (λ (y : X). Agrees note.known y) same agrees
+
+pub lacking_agrees : {X : Type 0} (note : NoteView X) (s : Stretch X) → Lacks s note.row → NoteAgreesWith note s
+lacking_agrees note s (inl before) x has = let from = has.0 in absurd (omega (arith, before, from))
+lacking_agrees note s (inr after) x has =
+    let from = has.0 in
+    let below = slice_get_within s.known (note.row - s.first) x has.1 in
+    absurd (omega (arith, after, from, below))
+
+-- ---- refusals
+
+pub taken_cell : {T : Type 0} (why : Unset (Fact T)) (fact : Fact T) (cell : ℕ) → why ≡ Taken fact → IfTaken why (λ f. f.cell ≡ cell) → fact.cell ≡ cell
+taken_cell {T} why fact cell is taken = subst (λ (w : Unset (Fact T)). IfTaken w (λ (f : Fact T). f.cell ≡ cell)) is taken

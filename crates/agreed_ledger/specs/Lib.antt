@@ -1,3 +1,8 @@
+-- The definitions, in reading order.
+
+-- the cells of a ledger by their names, and when facts are about them
 pub mod Cells
-pub mod Refusals
+-- what the sequencer keeps, each refusal in order, and what its calls do
 pub mod Sequencing
+-- numbers and names
+pub mod Refusals

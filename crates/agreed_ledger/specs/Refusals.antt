@@ -35,6 +35,6 @@ refusal_fault OutOfMemory = None
 refusal_fault refusal = Some refusal
 
 -- the refusal that says why a cell was not set
-abbrev pub refusal_of : Unset → Refusal
+abbrev pub refusal_of : {K : Type 0} → Unset K → Refusal
 refusal_of unset.OutOfMemory = OutOfMemory
-refusal_of unset.Taken = CellTaken
+refusal_of (unset.Taken known) = CellTaken

@@ -2,28 +2,30 @@
 
 ghost use Rattle.std.specs.Prelude.{
   ◌≡◌,
-  ◌-◌,
   ◌<◌,
   ◌≤◌,
   ◌⊎◌,
   [],
-  ◌∷◌,
-  ◌++◌,
   length,
   slice_get,
   MatchResult,
   MatchOption,
+  IfErr,
   IfOk,
+  IfSome,
 };
 ghost use Rattle.std.specs.declared.option.Option.TheVariants.{Some};
-ghost use Rattle.facts.specs.Stretches.{StretchesAgree, end_of, extended, part_of, rows_limit};
-ghost use Rattle.agreed_ledger.specs.Cells.{verdict_cells};
+ghost use Rattle.facts.specs.Stretches.{HasAt, Lacks, StretchesAgree, appended, end_of, extended};
+ghost use Rattle.facts.specs.Stretches.{part_of, rows_limit};
+ghost use Rattle.facts.specs.Unsets.{IfTaken};
+ghost use Rattle.agreed_ledger.specs.Cells.{AreKnownAt, IsWithin, verdict_cells, with_rows};
 ghost use Rattle.agreed_ledger.specs.declared.refusal.Refusal.TheVariants as refusals;
 
 use crate::ledger::Ledger;
 use crate::naming::Naming;
+use crate::notes::VerdictNote;
 use crate::refusal::Refusal;
-use facts::Stretch;
+use facts::{Fact, Stretch, Unset};
 use share_judge::Verdicts;
 use std::alloc::Global;
 use std::marker::{Model, PhantomData};
@@ -73,13 +75,14 @@ impl<N: Naming> Column<N> {
         ensures value { result ≡ self.now.rows.first }
         ensures limit { end_of self.now.rows ≤ rows_limit }
     {
-        let _end = self.stretch.end();
         self.stretch.first()
     }
 
-    /// The row after the last one.
+    /// The row after the last one. The ledger has a verdict cell for each row before it.
     pub fn end(&self) -> usize
         ensures value { result ≡ end_of self.now.rows }
+        ensures within { IsWithin
+            (length (verdict_cells N.cells self.now.resolver)) self.now.rows }
         ensures limit { end_of self.now.rows ≤ rows_limit }
     {
         self.stretch.end()
@@ -89,12 +92,20 @@ impl<N: Naming> Column<N> {
     /// and needs no memory.
     pub fn get<'a>(&self, ledger: &'a Ledger<N>, row: usize) -> Option<&'a Verdicts>
         ensures { MatchOption result
-            ((row < self.now.rows.first) ⊎ (end_of self.now.rows ≤ row))
-            (λ verdicts. (self.now.rows.first ≤ row)
-            × (slice_get self.now.rows.known (row - self.now.rows.first) ≡ Some verdicts.now)) }
+            (Lacks self.now.rows row) (λ verdicts. HasAt self.now.rows row verdicts.now) }
     {
-        let fact = self.stretch.get(row)?;
+        let fact = self.fact(row)?;
         Some(fact.value(ledger.verdict_cell(row, self.resolver)))
+    }
+
+    /// Returns the fact about the row's verdicts, or `None` if the column lacks the row.
+    pub(crate) fn fact(&self, row: usize) -> Option<Fact<Verdicts>>
+        ensures value { MatchOption result
+            (Lacks self.now.rows row) (λ fact. HasAt self.now.rows row fact.value) }
+        ensures cell { IfSome result (λ fact.
+            slice_get (verdict_cells N.cells self.now.resolver) row ≡ Some fact.cell) }
+    {
+        self.stretch.get(row)
     }
 
     /// Returns a copy. It copies no verdicts. Fails only with `OutOfMemory`.
@@ -111,10 +122,7 @@ impl<N: Naming> Column<N> {
     /// Returns a copy of the rows from `start` up to, not including, `end`, as far as the column
     /// has these. Fails only with `OutOfMemory`.
     pub fn part(&self, start: usize, end: usize) -> Result<Column<N>, OutOfMemory>
-        ensures { IfOk result (λ part. part ≡ record {
-          resolver = self.now.resolver;
-          rows = part_of start end self.now.rows;
-        }) }
+        ensures { IfOk result (λ part. part ≡ with_rows self.now (part_of start end self.now.rows)) }
     {
         Ok(Column {
             resolver: self.resolver,
@@ -129,10 +137,7 @@ impl<N: Naming> Column<N> {
     pub fn extend_from(&mut self, other: &Column<N>) -> Result<(), OutOfMemory>
         requires { self.old.resolver ≡ other.now.resolver }
         ensures { MatchResult result
-            (λ _. self.new ≡ record {
-              resolver = self.old.resolver;
-              rows = extended self.old.rows other.now.rows;
-            })
+            (λ _. self.new ≡ with_rows self.old (extended self.old.rows other.now.rows))
             (λ _. self.new ≡ self.old) }
     {
         let Ok(()) = self.stretch.extend_from(&other.stretch) else {
@@ -155,23 +160,55 @@ impl<N: Naming> Column<N> {
     /// held verdicts, or with `OutOfMemory`.
     pub fn set(&mut self, ledger: &Ledger<N>, verdicts: Verdicts) -> Result<(), (Refusal, Verdicts)>
         requires { end_of self.old.rows < length (verdict_cells N.cells self.old.resolver) }
-        ensures { MatchResult result
-            (λ _. self.new ≡ record {
-              resolver = self.old.resolver;
-              rows = record {
-                first = self.old.rows.first;
-                known = self.old.rows.known ++ verdicts ∷ [];
-              };
-            })
-            (λ refused. (self.new ≡ self.old) × (refused.1 ≡ verdicts)
-            × ((refused.0 ≡ refusals.CellTaken) ⊎ (refused.0 ≡ refusals.OutOfMemory))) }
+        ensures gained { IfOk result (λ _.
+            self.new ≡ with_rows self.old (appended self.old.rows verdicts)) }
+        ensures back { IfErr result (λ refused. (self.new ≡ self.old) × (refused.1 ≡ verdicts)) }
+        ensures refused { IfErr result (λ refused.
+            (refused.0 ≡ refusals.CellTaken) ⊎ (refused.0 ≡ refusals.OutOfMemory)) }
     {
+        // (its contract says that a ledger has few rows, so the column can grow)
         let _rows = ledger.rows();
         let cell = ledger.verdict_cell(self.stretch.end(), self.resolver);
         match self.stretch.set(cell, verdicts) {
             Ok(()) => {}
-            Err((why, verdicts)) => return Err((Refusal::of(why), verdicts)),
+            Err((why, verdicts)) => return Err((Refusal::of(&why), verdicts)),
         }
         Ok(())
+    }
+
+    /// Sets the verdict cell of the next row as [`Column::set`] does, and returns a copy of all
+    /// that is then known. Nothing is allocated once the cell is set.
+    ///
+    /// Otherwise returns the verdicts and leaves the column unchanged: with `Taken` and a note that
+    /// knows the cell's verdicts if it held some, or with `OutOfMemory`.
+    pub fn set_and_copy(
+        &mut self,
+        ledger: &Ledger<N>,
+        verdicts: Verdicts,
+    ) -> Result<Column<N>, (Unset<VerdictNote<N>>, Verdicts)>
+        requires { end_of self.old.rows < length (verdict_cells N.cells self.old.resolver) }
+        ensures gained { IfOk result (λ _.
+            self.new ≡ with_rows self.old (appended self.old.rows verdicts)) }
+        ensures copied { IfOk result (λ copy. copy ≡ self.new) }
+        ensures back { IfErr result (λ refused. (self.new ≡ self.old) × (refused.1 ≡ verdicts)) }
+        ensures taken { IfErr result (λ refused.
+            IfTaken refused.0 (AreKnownAt (end_of self.old.rows) self.old.resolver)) }
+    {
+        // (its contract says that a ledger has few rows, so the column can grow)
+        let _rows = ledger.rows();
+        let row = self.stretch.end();
+        let cell = ledger.verdict_cell(row, self.resolver);
+        let stretch = match self.stretch.set_and_copy(cell, verdicts) {
+            Ok(stretch) => stretch,
+            Err((why, verdicts)) => {
+                let why = VerdictNote::from_unset(row, self.resolver, cell, why);
+                return Err((why, verdicts));
+            }
+        };
+        Ok(Column {
+            resolver: self.resolver,
+            stretch,
+            of: PhantomData,
+        })
     }
 }

@@ -13,7 +13,7 @@ ghost use Rattle.std.specs.Prelude.{
 };
 ghost use Rattle.std.specs.declared.option.Option.TheVariants.{Some};
 ghost use Rattle.once_cell.specs.Once.{cell_name};
-ghost use Rattle.agreed_ledger.specs.Cells.{Cells, IsLedger, ledger_limit, names, verdict_cells};
+ghost use Rattle.agreed_ledger.specs.Cells.{AllHaveRows, IsLedger, ledger_limit, verdict_cells};
 ghost use Rattle.agreed_ledger.specs.declared.refusal.Refusal.TheVariants as refusals;
 
 use crate::naming::Naming;
@@ -141,8 +141,10 @@ impl<N: Naming> Ledger<N> {
     pub fn rows(&self) -> usize
         ensures value { result ≡ length N.cells.records }
         ensures kept { IsLedger N.cells }
+        ensures columns { AllHaveRows N.cells }
     {
-        let _config = self.blank.config();
+        // (its contract says what the type keeps of the cells)
+        let _config = self.config();
         self.blank.rows()
     }
 

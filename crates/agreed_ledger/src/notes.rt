@@ -1,13 +1,22 @@
 //! Notes: what a caller has learnt by looking at a cell.
 
-ghost use Rattle.std.specs.Prelude.{◌≡◌, ◌<◌, ◌≤◌, ◌⊎◌, length, MatchOption};
-ghost use Rattle.std.specs.declared.option.Option.TheVariants.{None, Some};
-ghost use Rattle.once_cell.specs.Once.{Agrees};
+ghost use Rattle.std.specs.Prelude.{◌≡◌, ◌<◌, ◌≤◌, length, slice_get, MatchOption};
+ghost use Rattle.std.specs.declared.option.Option.TheVariants.{Some};
+ghost use Rattle.once_cell.specs.Once.{cell_name};
+ghost use Rattle.facts.specs.Unsets.{IfTaken};
+ghost use Rattle.agreed_ledger.specs.Refusals.{refusal_of};
+ghost use Rattle.agreed_ledger.specs.Cells.{AreKnownAt, IsKnownAt};
+ghost use Rattle.agreed_ledger.specs.Cells.{HasVerdictCell, LacksVerdictCell, NoteAgreesWith};
+ghost use Rattle.agreed_ledger.specs.Cells.{NotesAgree, Shows, ShowsNoVerdicts, ShowsNothing};
+ghost use Rattle.agreed_ledger.specs.Cells.{ShowsVerdicts, new_note, new_verdict_note, row_note};
 ghost use Rattle.agreed_ledger.specs.Cells.{verdict_cells};
 
+use crate::column::Column;
 use crate::ledger::Ledger;
 use crate::naming::Naming;
-use once_cell::race::Note;
+use crate::records::Records;
+use facts::{Fact, Unset};
+use once_cell::race::{Note, OnceBox};
 use request_builder::Record;
 use share_judge::Verdicts;
 use std::marker::{Model, PhantomData};
@@ -25,9 +34,9 @@ impl<N: Naming> Model for RecordNote<N> {
     ghost use Rattle.std.specs.Prelude.{◌≡◌, slice_get};
     ghost use Rattle.std.specs.declared.option.Option.TheVariants.{Some};
     ghost use Rattle.model.specs.Records.{Record};
-    ghost use Rattle.agreed_ledger.specs.Cells.{Noted};
+    ghost use Rattle.agreed_ledger.specs.Cells.{NoteView};
 
-    ghost Value = { Noted Record };
+    ghost Value = { NoteView Record };
 
     ghost view = { λ n. record { row = n.row; known = n.note.known } };
 
@@ -56,12 +65,148 @@ impl<N: Naming> Model for VerdictNote<N> {
         slice_get (verdict_cells N.cells n.resolver) n.row ≡ Some n.note.cell };
 }
 
+impl<N: Naming> RecordNote<N> {
+    /// The note that knows what the fact says of the row's record.
+    pub(crate) fn from_fact(
+        row: usize,
+        cell: &OnceBox<Record>,
+        fact: &Fact<Record>,
+    ) -> RecordNote<N>
+        requires row { slice_get N.cells.records row ≡ Some (cell_name cell.now) }
+        requires cell { fact.now.cell ≡ cell_name cell.now }
+        ensures { result ≡ record { row = row; known = Some fact.now.value } }
+    {
+        let mut note = cell.note();
+        fact.tell(&mut note);
+        RecordNote {
+            row,
+            note,
+            of: PhantomData,
+        }
+    }
+
+    /// Why the row's record cell was not set, with a note in place of the fact.
+    pub(crate) fn from_unset(
+        row: usize,
+        cell: &OnceBox<Record>,
+        why: Unset<Fact<Record>>,
+    ) -> Unset<RecordNote<N>>
+        requires row { slice_get N.cells.records row ≡ Some (cell_name cell.now) }
+        requires taken { IfTaken why (λ fact. fact.cell ≡ cell_name cell.now) }
+        ensures same { refusal_of result ≡ refusal_of why }
+        ensures taken { IfTaken result (IsKnownAt row) }
+    {
+        match why {
+            Unset::OutOfMemory => Unset::OutOfMemory,
+            Unset::Taken(fact) => Unset::Taken(RecordNote::from_fact(row, cell, &fact)),
+        }
+    }
+
+    /// If both notes are of one row, and both know a record, they know the same one. Each stays as
+    /// it was.
+    pub fn agree(&mut self, other: &mut RecordNote<N>)
+        ensures kept { (self.new ≡ self.old) × (other.new ≡ other.old) }
+        ensures agree { NotesAgree self.old other.old }
+    {
+        if self.row != other.row {
+            return;
+        }
+        self.note.compare(other.note.again());
+    }
+
+    /// If the records have the note's row, and the note knows a record, it is the same one. The
+    /// note stays as it was.
+    pub fn agree_with(&mut self, records: &Records<N>)
+        ensures kept { self.new ≡ self.old }
+        ensures agree { NoteAgreesWith self.old records.now }
+    {
+        let Some(fact) = records.fact(self.row) else {
+            return;
+        };
+        fact.agrees_with(&mut self.note);
+    }
+}
+
+impl<N: Naming> VerdictNote<N> {
+    /// The note that knows what the fact says of the resolver's verdicts in the row.
+    pub(crate) fn from_fact(
+        row: usize,
+        resolver: usize,
+        cell: &OnceBox<Verdicts>,
+        fact: &Fact<Verdicts>,
+    ) -> VerdictNote<N>
+        requires row { slice_get (verdict_cells N.cells resolver) row ≡ Some (cell_name cell.now) }
+        requires cell { fact.now.cell ≡ cell_name cell.now }
+        ensures { result
+            ≡ record { row = row; resolver = resolver; known = Some fact.now.value } }
+    {
+        let mut note = cell.note();
+        fact.tell(&mut note);
+        VerdictNote {
+            row,
+            resolver,
+            note,
+            of: PhantomData,
+        }
+    }
+
+    /// Why the verdict cell of the row and the resolver was not set, with a note in place of the
+    /// fact.
+    pub(crate) fn from_unset(
+        row: usize,
+        resolver: usize,
+        cell: &OnceBox<Verdicts>,
+        why: Unset<Fact<Verdicts>>,
+    ) -> Unset<VerdictNote<N>>
+        requires row { slice_get (verdict_cells N.cells resolver) row ≡ Some (cell_name cell.now) }
+        requires taken { IfTaken why (λ fact. fact.cell ≡ cell_name cell.now) }
+        ensures same { refusal_of result ≡ refusal_of why }
+        ensures taken { IfTaken result (AreKnownAt row resolver) }
+    {
+        match why {
+            Unset::OutOfMemory => Unset::OutOfMemory,
+            Unset::Taken(fact) => {
+                Unset::Taken(VerdictNote::from_fact(row, resolver, cell, &fact))
+            }
+        }
+    }
+
+    /// If both notes are of one row and one resolver, and both know verdicts, they know the same
+    /// ones. Each stays as it was.
+    pub fn agree(&mut self, other: &mut VerdictNote<N>)
+        ensures kept { (self.new ≡ self.old) × (other.new ≡ other.old) }
+        ensures agree { self.old.resolver ≡ other.old.resolver
+            → NotesAgree (row_note self.old) (row_note other.old) }
+    {
+        if self.row != other.row || self.resolver != other.resolver {
+            return;
+        }
+        self.note.compare(other.note.again());
+    }
+
+    /// If the column is of the note's resolver and has its row, and the note knows verdicts, they
+    /// are the same ones. The note stays as it was.
+    pub fn agree_with(&mut self, column: &Column<N>)
+        ensures kept { self.new ≡ self.old }
+        ensures agree { self.old.resolver ≡ column.now.resolver
+            → NoteAgreesWith (row_note self.old) column.now.rows }
+    {
+        if self.resolver != column.resolver() {
+            return;
+        }
+        let Some(fact) = column.fact(self.row) else {
+            return;
+        };
+        fact.agrees_with(&mut self.note);
+    }
+}
+
 impl<N: Naming> Ledger<N> {
     /// Returns a note of the row's record that knows nothing yet, or `None` past the rows.
     pub fn record_note(&self, row: usize) -> Option<RecordNote<N>>
         ensures { MatchOption result
             (length N.cells.records ≤ row)
-            (λ note. (row < length N.cells.records) × (note ≡ record { row = row; known = None })) }
+            (λ note. (row < length N.cells.records) × (note ≡ new_note row)) }
     {
         if self.rows() <= row {
             return None;
@@ -81,9 +226,8 @@ impl<N: Naming> Ledger<N> {
     pub fn record_at<'a>(&'a self, row: usize, note: &mut RecordNote<N>) -> Option<&'a Record>
         ensures row { note.new.row ≡ note.old.row }
         ensures value { MatchOption result
-            ((note.new ≡ note.old) × (row ≡ note.old.row → note.old.known ≡ None))
-            (λ rec. (row ≡ note.old.row) × (note.new.known ≡ Some rec.now)
-            × Agrees note.old.known rec.now) }
+            (ShowsNothing row note.old note.new)
+            (λ rec. Shows row note.old note.new rec.now) }
     {
         if row != note.row {
             return None;
@@ -95,9 +239,8 @@ impl<N: Naming> Ledger<N> {
     /// the rows or the resolvers.
     pub fn verdict_note(&self, row: usize, resolver: usize) -> Option<VerdictNote<N>>
         ensures { MatchOption result
-            ((length N.cells.records ≤ row) ⊎ (N.cells.config.resolvers ≤ resolver))
-            (λ note. (row < length N.cells.records) × (resolver < N.cells.config.resolvers)
-            × (note ≡ record { row = row; resolver = resolver; known = None })) }
+            (LacksVerdictCell N.cells row resolver)
+            (λ note. HasVerdictCell N.cells row resolver × (note ≡ new_verdict_note row resolver)) }
     {
         if self.rows() <= row || self.config().resolvers() <= resolver {
             return None;
@@ -119,10 +262,8 @@ impl<N: Naming> Ledger<N> {
     ) -> Option<&'a Verdicts>
         ensures place { (note.new.row ≡ note.old.row) × (note.new.resolver ≡ note.old.resolver) }
         ensures value { MatchOption result
-            ((note.new ≡ note.old)
-            × (row ≡ note.old.row → resolver ≡ note.old.resolver → note.old.known ≡ None))
-            (λ verdicts. (row ≡ note.old.row) × (resolver ≡ note.old.resolver)
-            × (note.new.known ≡ Some verdicts.now) × Agrees note.old.known verdicts.now) }
+            (ShowsNoVerdicts row resolver note.old note.new)
+            (λ verdicts. ShowsVerdicts row resolver note.old note.new verdicts.now) }
     {
         if row != note.row || resolver != note.resolver {
             return None;

@@ -2,27 +2,27 @@
 
 ghost use Rattle.std.specs.Prelude.{
   ◌≡◌,
-  ◌-◌,
   ◌<◌,
   ◌≤◌,
-  ◌⊎◌,
   [],
-  ◌∷◌,
-  ◌++◌,
   length,
   slice_get,
   MatchResult,
   MatchOption,
+  IfErr,
   IfOk,
+  IfSome,
 };
 ghost use Rattle.std.specs.declared.option.Option.TheVariants.{Some};
-ghost use Rattle.facts.specs.Stretches.{StretchesAgree, end_of, extended, part_of, rows_limit};
-ghost use Rattle.agreed_ledger.specs.declared.refusal.Refusal.TheVariants as refusals;
+ghost use Rattle.facts.specs.Stretches.{HasAt, Lacks, StretchesAgree, appended, end_of, extended};
+ghost use Rattle.facts.specs.Stretches.{part_of, rows_limit};
+ghost use Rattle.facts.specs.Unsets.{IfTaken};
+ghost use Rattle.agreed_ledger.specs.Cells.{IsKnownAt, IsWithin};
 
 use crate::ledger::Ledger;
 use crate::naming::Naming;
-use crate::refusal::Refusal;
-use facts::Stretch;
+use crate::notes::RecordNote;
+use facts::{Fact, Stretch, Unset};
 use request_builder::Record;
 use std::alloc::Global;
 use std::marker::{Model, PhantomData};
@@ -64,13 +64,13 @@ impl<N: Naming> Records<N> {
         ensures value { result ≡ self.now.first }
         ensures limit { end_of self.now ≤ rows_limit }
     {
-        let _end = self.stretch.end();
         self.stretch.first()
     }
 
-    /// The row after the last one.
+    /// The row after the last one, which is no row beyond the ledger's end.
     pub fn end(&self) -> usize
         ensures value { result ≡ end_of self.now }
+        ensures within { IsWithin (length N.cells.records) self.now }
         ensures limit { end_of self.now ≤ rows_limit }
     {
         self.stretch.end()
@@ -79,13 +79,19 @@ impl<N: Naming> Records<N> {
     /// Returns the record known of the row, or `None` if the stretch lacks the row. It never waits
     /// and needs no memory.
     pub fn get<'a>(&self, ledger: &'a Ledger<N>, row: usize) -> Option<&'a Record>
-        ensures { MatchOption result
-            ((row < self.now.first) ⊎ (end_of self.now ≤ row))
-            (λ rec. (self.now.first ≤ row)
-            × (slice_get self.now.known (row - self.now.first) ≡ Some rec.now)) }
+        ensures { MatchOption result (Lacks self.now row) (λ rec. HasAt self.now row rec.now) }
     {
-        let fact = self.stretch.get(row)?;
+        let fact = self.fact(row)?;
         Some(fact.value(ledger.record_cell(row)))
+    }
+
+    /// Returns the fact about the row's record, or `None` if the stretch lacks the row.
+    pub(crate) fn fact(&self, row: usize) -> Option<Fact<Record>>
+        ensures value { MatchOption result
+            (Lacks self.now row) (λ fact. HasAt self.now row fact.value) }
+        ensures cell { IfSome result (λ fact. slice_get N.cells.records row ≡ Some fact.cell) }
+    {
+        self.stretch.get(row)
     }
 
     /// Returns a copy. It copies no record. Fails only with `OutOfMemory`.
@@ -132,27 +138,27 @@ impl<N: Naming> Records<N> {
 
     /// Sets the record cell of the next row, and returns a copy of all that is then known.
     ///
-    /// Otherwise returns the record and leaves the stretch unchanged: with `CellTaken` if the cell
-    /// held a record, or with `OutOfMemory`.
+    /// Otherwise returns the record and leaves the stretch unchanged: with `Taken` and a note that
+    /// knows the cell's record if it held one, or with `OutOfMemory`.
     pub(crate) fn set(
         &mut self,
         ledger: &Ledger<N>,
         rec: Record,
-    ) -> Result<Records<N>, (Refusal, Record)>
+    ) -> Result<Records<N>, (Unset<RecordNote<N>>, Record)>
         requires { end_of self.old < length N.cells.records }
-        ensures { MatchResult result
-            (λ copy. (self.new ≡ record {
-              first = self.old.first;
-              known = self.old.known ++ rec ∷ [];
-            }) × (copy ≡ self.new))
-            (λ refused. (self.new ≡ self.old) × (refused.1 ≡ rec)
-            × ((refused.0 ≡ refusals.CellTaken) ⊎ (refused.0 ≡ refusals.OutOfMemory))) }
+        ensures gained { IfOk result (λ _. self.new ≡ appended self.old rec) }
+        ensures copied { IfOk result (λ copy. copy ≡ self.new) }
+        ensures back { IfErr result (λ refused. (self.new ≡ self.old) × (refused.1 ≡ rec)) }
+        ensures taken { IfErr result (λ refused.
+            IfTaken refused.0 (IsKnownAt (end_of self.old))) }
     {
+        // (its contract says that a ledger has few rows, so the stretch can grow)
         let _rows = ledger.rows();
-        let cell = ledger.record_cell(self.stretch.end());
+        let row = self.stretch.end();
+        let cell = ledger.record_cell(row);
         let stretch = match self.stretch.set_and_copy(cell, rec) {
             Ok(stretch) => stretch,
-            Err((why, rec)) => return Err((Refusal::of(why), rec)),
+            Err((why, rec)) => return Err((RecordNote::from_unset(row, cell, why), rec)),
         };
         Ok(Records {
             stretch,

@@ -71,14 +71,14 @@ impl Refusal {
 impl Refusal {
     ghost use Rattle.agreed_ledger.specs.Refusals.{refusal_of};
 
-    /// Why a cell was not set.
-    pub(crate) fn of(unset: Unset) -> Refusal
-        ensures value { result ≡ refusal_of unset }
+    /// Says why a cell was not set: `CellTaken` only if it held a value.
+    pub fn of<K>(unset: &Unset<K>) -> Refusal
+        ensures value { result ≡ refusal_of unset.now }
         ensures either { (result ≡ refusals.CellTaken) ⊎ (result ≡ refusals.OutOfMemory) }
     {
         match unset {
             Unset::OutOfMemory => Refusal::OutOfMemory,
-            Unset::Taken => Refusal::CellTaken,
+            Unset::Taken(_) => Refusal::CellTaken,
         }
     }
 }

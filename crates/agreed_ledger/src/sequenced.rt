@@ -1,6 +1,6 @@
 //! What the sequencer keeps: the records that it gave out, and the moves.
 
-ghost use Rattle.std.specs.Prelude.{◌≡◌, ◌+◌, ◌<◌, [], IfOk, IfErr, OnOk, None};
+ghost use Rattle.std.specs.Prelude.{◌≡◌, ◌+◌, ◌<◌, [], IfOk, IfErr, OnOk, OnErr, None};
 ghost use Rattle.model.specs.Records.{MovesFollow, last_version};
 ghost use Rattle.model.specs.World.{record_after};
 ghost use Rattle.agreed_ledger.specs.Refusals.{refusal_fault};
@@ -16,15 +16,12 @@ use crate::naming::Naming;
 use crate::records::Records;
 use crate::refusal::Refusal;
 use crate::ticket::Ticket;
-use model::Move;
+use model::{Move, VERSION_LIMIT};
 use mutation::Batch;
 use request_builder::Record;
 use std::alloc::Global;
 use std::marker::Model;
-use system_keys::{Items, KeyRange, OutOfMemory};
-
-/// The greatest version is below this limit.
-const VERSION_LIMIT: u64 = 1 << 63;
+use system_keys::{KeyRange, OutOfMemory};
 
 /// What the sequencer's lock keeps: the records given out, which are a history; the version of the
 /// last one and of each proxy's last one; and all moves.
@@ -83,13 +80,12 @@ impl<N: Naming> Sequenced<N> {
         proxy: usize,
         batch: Batch,
     ) -> Result<Ticket<N>, (Refusal, Batch)>
-        ensures ok { let fault = sequence_fault N.cells self.old proxy in
-            OnOk result (fault ≡ None) }
+        ensures ok { OnOk result (sequence_fault N.cells self.old proxy ≡ None) }
         ensures sequenced { IfOk result (λ ticket.
             HasSequenced N.cells.config self.old proxy batch self.new ticket) }
-        ensures refused { let fault = sequence_fault N.cells self.old proxy in
-            IfErr result (λ refused. (refusal_fault refused.0 ≡ fault)
-            × (self.new ≡ self.old) × (refused.1 ≡ batch)) }
+        ensures refused { IfErr result (λ refused.
+            refusal_fault refused.0 ≡ sequence_fault N.cells self.old proxy) }
+        ensures back { IfErr result (λ refused. (self.new ≡ self.old) × (refused.1 ≡ batch)) }
     {
         if ledger.config().proxies() <= proxy {
             return Err((Refusal::NoSuchProxy, batch));
@@ -112,7 +108,7 @@ impl<N: Naming> Sequenced<N> {
         };
         let records = match self.records.set(ledger, rec) {
             Ok(records) => records,
-            Err((refusal, _rec)) => return Err((refusal, batch)),
+            Err((why, _rec)) => return Err((Refusal::of(&why), batch)),
         };
         self.version = version;
         self.own_versions[proxy] = version;
@@ -134,7 +130,7 @@ impl<N: Naming> Sequenced<N> {
             version,
             self.own_versions[proxy],
             proxy,
-            copied_moves(alloc, &self.moves)?,
+            &self.moves,
             batch,
         )
     }
@@ -150,10 +146,11 @@ impl<N: Naming> Sequenced<N> {
         range: &KeyRange,
         dest: usize,
     ) -> Result<u64, Refusal>
-        ensures ok { let fault = move_fault N.cells.config dest in OnOk result (fault ≡ None) }
+        ensures ok { OnOk result (move_fault N.cells.config dest ≡ None) }
         ensures moved { IfOk result (λ date. HasMoved self.old range.now dest self.new date) }
-        ensures refused { let fault = move_fault N.cells.config dest in
-            IfErr result (λ refusal. (refusal_fault refusal ≡ fault) × (self.new ≡ self.old)) }
+        ensures refused { IfErr result (λ refusal.
+            refusal_fault refusal ≡ move_fault N.cells.config dest) }
+        ensures unchanged { OnErr result (self.new ≡ self.old) }
     {
         if ledger.config().resolvers() <= dest {
             return Err(Refusal::NoSuchResolver);
@@ -166,15 +163,4 @@ impl<N: Naming> Sequenced<N> {
         self.moves.push_reserved(Move { range, date, dest });
         Ok(date)
     }
-}
-
-/// Copies of the moves.
-fn copied_moves(alloc: Global, moves: &[Move]) -> Result<Items<Move>, OutOfMemory>
-    ensures { IfOk result (λ copied. copied ≡ moves.now) }
-{
-    let mut copied = Vec::with_capacity(alloc, moves.len())?;
-    for one in moves {
-        copied.push(one.copy()?)?;
-    }
-    Ok(Items::from(copied))
 }

@@ -1,6 +1,6 @@
 //! The sequencer that threads share.
 
-ghost use Rattle.std.specs.Prelude.{◌≡◌, IfOk, IfErr, OnOk, None};
+ghost use Rattle.std.specs.Prelude.{◌≡◌, IfOk, IfErr, OnOk, OnErr, None};
 ghost use Rattle.model.specs.Records.{MovesFollow};
 ghost use Rattle.agreed_ledger.specs.Refusals.{refusal_fault};
 ghost use Rattle.agreed_ledger.specs.Sequencing.{
@@ -79,23 +79,23 @@ impl<'a, N: Naming> SequencerGuard<'a, N> {
 
     /// Gives the batch of the proxy the next row and version, as [`Sequenced::sequence`] does.
     pub fn sequence(&mut self, proxy: usize, batch: Batch) -> Result<Ticket<N>, (Refusal, Batch)>
-        ensures ok { let fault = sequence_fault N.cells self.old proxy in
-            OnOk result (fault ≡ None) }
+        ensures ok { OnOk result (sequence_fault N.cells self.old proxy ≡ None) }
         ensures sequenced { IfOk result (λ ticket.
             HasSequenced N.cells.config self.old proxy batch self.new ticket) }
-        ensures refused { let fault = sequence_fault N.cells self.old proxy in
-            IfErr result (λ refused. (refusal_fault refused.0 ≡ fault)
-            × (self.new ≡ self.old) × (refused.1 ≡ batch)) }
+        ensures refused { IfErr result (λ refused.
+            refusal_fault refused.0 ≡ sequence_fault N.cells self.old proxy) }
+        ensures back { IfErr result (λ refused. (self.new ≡ self.old) × (refused.1 ≡ batch)) }
     {
         self.guard.sequence(self.ledger, proxy, batch)
     }
 
     /// Moves the keys of the range to the resolver, as [`Sequenced::move_range`] does.
     pub fn move_range(&mut self, range: &KeyRange, dest: usize) -> Result<u64, Refusal>
-        ensures ok { let fault = move_fault N.cells.config dest in OnOk result (fault ≡ None) }
+        ensures ok { OnOk result (move_fault N.cells.config dest ≡ None) }
         ensures moved { IfOk result (λ date. HasMoved self.old range.now dest self.new date) }
-        ensures refused { let fault = move_fault N.cells.config dest in
-            IfErr result (λ refusal. (refusal_fault refusal ≡ fault) × (self.new ≡ self.old)) }
+        ensures refused { IfErr result (λ refusal.
+            refusal_fault refusal ≡ move_fault N.cells.config dest) }
+        ensures unchanged { OnErr result (self.new ≡ self.old) }
     {
         self.guard.move_range(self.ledger, range, dest)
     }

@@ -44,8 +44,10 @@ impl<N: Naming> Ticket<N> {
     /// The row.
     pub fn row(&self) -> usize
         ensures value { result ≡ self.now.row }
+        ensures within { self.now.row < length N.cells.records }
         ensures kept { IsTicket N.cells.config self.now }
     {
+        // (its contract says that the records lie within the ledger)
         let _end = self.records.end();
         self.row
     }

@@ -7,14 +7,14 @@ use Rattle.mode_choice.specs.declared.mode.Mode.{Mode}
 use Rattle.mode_choice.specs.declared.mode.Mode.TheVariants.{Fold, Turns}
 use Rattle.command_line.specs.declared.status.Status.{Status}
 use Rattle.command_line.specs.declared.status.Status.TheVariants.{CommandLineRefused, Ran}
-use Rattle.fold_run.specs.FoldText.{fold_text}
+use Rattle.fold_run.specs.Text.{fold_text}
 use Rattle.scripts.specs.Answers.{Answer}
 use Rattle.scripts.specs.Runs.{LeavesDevices, WritesTextOf}
 use Rattle.scripts.specs.declared.devices.Sink.{Ghosts as SinkView}
 use Rattle.scripts.specs.declared.devices.Source.{Ghosts as SourceView}
 use Rattle.scripts.specs.declared.status.RunStatus.{RunStatus}
 use Rattle.scripts.specs.declared.status.RunStatus.TheVariants.{OutOfMemory}
-use Rattle.turns_run.specs.TurnsText.{turns_text}
+use Rattle.turns_run.specs.Text.{turns_text}
 
 -- the answer to a script in this mode
 abbrev pub answer_in : Mode → List ℕ → Answer

@@ -1,13 +1,13 @@
 //! A run of the program by the words after its name.
 ghost use Rattle.std.specs.Prelude.{◌≡◌, ◌-◌, ◌^◌, ◌<◌, map};
-ghost use Rattle.fold_run.specs.FoldText.{fold_text};
+ghost use Rattle.fold_run.specs.Text.{fold_text};
 ghost use Rattle.mode_choice.specs.KnownLines.{IsFoldLine, IsRejectedLine, IsTurnsLine};
 ghost use Rattle.mode_choice.specs.declared.mode.Mode.{Mode as TheMode};
 ghost use Rattle.scripts.specs.Runs.{LeavesDevices};
 ghost use Rattle.command_line.specs.Statuses.{IfRan, IsRejected};
 ghost use Rattle.command_line.specs.WordRuns.{LeavesByStatus, RunsBy, RunsOrRunsOut, RunsWords};
 ghost use Rattle.command_line.specs.WordRuns.{answer_in};
-ghost use Rattle.turns_run.specs.TurnsText.{turns_text};
+ghost use Rattle.turns_run.specs.Text.{turns_text};
 
 use crate::status::Status;
 use fold_run::run_fold;

@@ -1,4 +1,4 @@
 pub mod Askers
 pub mod MadeMaps
-pub mod MarkLaws
+pub mod FlagLaws
 pub mod WalkedMoves

@@ -7,9 +7,9 @@ use Rattle.system_keys.specs.Keys.{Key, holds}
 use Rattle.model.specs.declared.moves.Move.{Move}
 use Rattle.model.specs.Owners.{Owner, later_owners, owners, is_last, none_dated_below, walk_visits}
 use Rattle.model.specs.OwnerMaps.{owner_of}
-use Rattle.model.proofs.AskedLaws.{owners_append}
-use Rattle.dated_owners.specs.Marks.{Marks}
-use Rattle.dated_owners.proofs.MarkLaws.{marks_then, marks_alike, marks_none}
+use Rattle.model.proofs.Owners.Asked.{owners_append}
+use Rattle.dated_owners.specs.Flags.{Flags}
+use Rattle.dated_owners.proofs.FlagLaws.{flags_then, flags_alike, flags_none}
 
 -- ---- the owners that the moves from i on added
 
@@ -61,25 +61,25 @@ last_is_first moves i key start none r =
 -- ---- the walk
 
 -- the walk has visited the owners that the moves from i on added, and none of them stopped it
-pub record IsWalked (moves : List Move) (bound : ℕ) (key : Key) (before : List Bool) (i : ℕ) (marks : List Bool) : Type 0 where
+pub record IsWalked (moves : List Move) (bound : ℕ) (key : Key) (before : List Bool) (i : ℕ) (flags : List Bool) : Type 0 where
   pub not_stopped : none_dated_below bound (later_owners (drop i moves) key) ≡ true
-  pub marked : Marks before (λ r. walk_visits bound r (later_owners (drop i moves) key)) marks
+  pub flagged : Flags before (λ r. walk_visits bound r (later_owners (drop i moves) key)) flags
 
-pub walk_start : (moves : List Move) (bound : ℕ) (key : Key) (marks : List Bool) (i : ℕ) → length moves ≤ i → IsWalked moves bound key marks i marks
-walk_start moves bound key marks i past =
+pub walk_start : (moves : List Move) (bound : ℕ) (key : Key) (flags : List Bool) (i : ℕ) → length moves ≤ i → IsWalked moves bound key flags i flags
+walk_start moves bound key flags i past =
     let none = later_past moves i key past in
     record {
       not_stopped = ap (none_dated_below bound) none;
-      marked = marks_none marks (λ r. walk_visits bound r (later_owners (drop i moves) key)) (λ r. ap (walk_visits bound r) none);
+      flagged = flags_none flags (λ r. walk_visits bound r (later_owners (drop i moves) key)) (λ r. ap (walk_visits bound r) none);
     }
 
-pub walk_passed : (moves : List Move) (bound : ℕ) (key : Key) (before : List Bool) (i j : ℕ) (marks : List Bool) (m : Move) → j ≡ suc i → i < length moves → m ≡ get_or moves i m → holds m.range key ≡ false → IsWalked moves bound key before j marks → IsWalked moves bound key before i marks
-walk_passed moves bound key before i j marks m next there is held at =
-    let walked = subst (λ (k : ℕ). IsWalked moves bound key before k marks) next at in
+pub walk_passed : (moves : List Move) (bound : ℕ) (key : Key) (before : List Bool) (i j : ℕ) (flags : List Bool) (m : Move) → j ≡ suc i → i < length moves → m ≡ get_or moves i m → holds m.range key ≡ false → IsWalked moves bound key before j flags → IsWalked moves bound key before i flags
+walk_passed moves bound key before i j flags m next there is held at =
+    let walked = subst (λ (k : ℕ). IsWalked moves bound key before k flags) next at in
     let same = later_passed moves i m key there is held in
     record {
       not_stopped = ap (none_dated_below bound) same ∙ walked.not_stopped;
-      marked = marks_alike before marks (λ r. walk_visits bound r (later_owners (drop (suc i) moves) key)) (λ r. walk_visits bound r (later_owners (drop i moves) key)) walked.marked (λ r. ap (walk_visits bound r) (sym same));
+      flagged = flags_alike before flags (λ r. walk_visits bound r (later_owners (drop (suc i) moves) key)) (λ r. walk_visits bound r (later_owners (drop i moves) key)) walked.flagged (λ r. ap (walk_visits bound r) (sym same));
     }
 
 turned : (visited here free : Bool) → free ≡ true → (visited || here) ≡ ((here && free) || visited)
@@ -90,20 +90,20 @@ turned false false true e = refl
 turned visited here false e = absurd (cc)
 
 -- one owner more is visited
-with_owner : (bound : ℕ) (o : Owner) (later : List Owner) (before marks after : List Bool) → none_dated_below bound later ≡ true → Marks before (λ r. walk_visits bound r later) marks → Marks marks (λ r. nat_eq o.resolver r) after → Marks before (λ r. walk_visits bound r (o ∷ later)) after
-with_owner bound o later before marks after free marked one =
-    marks_then before marks after (λ r. walk_visits bound r later) (λ r. nat_eq o.resolver r) (λ r. walk_visits bound r (o ∷ later)) marked one
+with_owner : (bound : ℕ) (o : Owner) (later : List Owner) (before flags after : List Bool) → none_dated_below bound later ≡ true → Flags before (λ r. walk_visits bound r later) flags → Flags flags (λ r. nat_eq o.resolver r) after → Flags before (λ r. walk_visits bound r (o ∷ later)) after
+with_owner bound o later before flags after free flagged one =
+    flags_then before flags after (λ r. walk_visits bound r later) (λ r. nat_eq o.resolver r) (λ r. walk_visits bound r (o ∷ later)) flagged one
     (λ r. turned (walk_visits bound r later) (nat_eq o.resolver r) (none_dated_below bound later) free)
 
-pub walk_visited : (moves : List Move) (bound : ℕ) (key : Key) (before : List Bool) (i j : ℕ) (marks after : List Bool) (m : Move) → j ≡ suc i → i < length moves → m ≡ get_or moves i m → holds m.range key ≡ true → bound ≤ m.date → IsWalked moves bound key before j marks → Marks marks (λ r. nat_eq m.dest r) after → IsWalked moves bound key before i after
-walk_visited moves bound key before i j marks after m next there is held young at one =
-    let walked = subst (λ (k : ℕ). IsWalked moves bound key before k marks) next at in
+pub walk_visited : (moves : List Move) (bound : ℕ) (key : Key) (before : List Bool) (i j : ℕ) (flags after : List Bool) (m : Move) → j ≡ suc i → i < length moves → m ≡ get_or moves i m → holds m.range key ≡ true → bound ≤ m.date → IsWalked moves bound key before j flags → Flags flags (λ r. nat_eq m.dest r) after → IsWalked moves bound key before i after
+walk_visited moves bound key before i j flags after m next there is held young at one =
+    let walked = subst (λ (k : ℕ). IsWalked moves bound key before k flags) next at in
     let same = later_held moves i m key there is held in
     let later = later_owners (drop (suc i) moves) key in
     record {
       not_stopped = ap (none_dated_below bound) same ∙ ap₂ (λ s t. not s && t) (le-ltb m.date bound young) walked.not_stopped;
-      marked = marks_alike before after (λ r. walk_visits bound r (owner_of m ∷ later)) (λ r. walk_visits bound r (later_owners (drop i moves) key))
-          (with_owner bound (owner_of m) later before marks after walked.not_stopped walked.marked one) (λ r. ap (walk_visits bound r) (sym same));
+      flagged = flags_alike before after (λ r. walk_visits bound r (owner_of m ∷ later)) (λ r. walk_visits bound r (later_owners (drop i moves) key))
+          (with_owner bound (owner_of m) later before flags after walked.not_stopped walked.flagged one) (λ r. ap (walk_visits bound r) (sym same));
     }
 
 not_free : (bound : ℕ) (front : List Owner) (o : Owner) (later : List Owner) → nat_lt o.date bound ≡ true → none_dated_below bound (front ++ o ∷ later) ≡ false
@@ -124,16 +124,16 @@ hidden bound r (p ∷ front) o later old =
     none true t = refl
     none false t = refl
 
-pub walk_stopped : (moves : List Move) (bound : ℕ) (key : Key) (before : List Bool) (i j : ℕ) (marks after : List Bool) (m : Move) → j ≡ suc i → i < length moves → m ≡ get_or moves i m → holds m.range key ≡ true → m.date < bound → IsWalked moves bound key before j marks → Marks marks (λ r. nat_eq m.dest r) after → Marks before (λ r. walk_visits bound r (owners moves key)) after
-walk_stopped moves bound key before i j marks after m next there is held old at one =
-    let walked = subst (λ (k : ℕ). IsWalked moves bound key before k marks) next at in
+pub walk_stopped : (moves : List Move) (bound : ℕ) (key : Key) (before : List Bool) (i j : ℕ) (flags after : List Bool) (m : Move) → j ≡ suc i → i < length moves → m ≡ get_or moves i m → holds m.range key ≡ true → m.date < bound → IsWalked moves bound key before j flags → Flags flags (λ r. nat_eq m.dest r) after → Flags before (λ r. walk_visits bound r (owners moves key)) after
+walk_stopped moves bound key before i j flags after m next there is held old at one =
+    let walked = subst (λ (k : ℕ). IsWalked moves bound key before k flags) next at in
     let later = later_owners (drop (suc i) moves) key in
-    marks_alike before after (λ r. walk_visits bound r (owner_of m ∷ later)) (λ r. walk_visits bound r (owners moves key))
-    (with_owner bound (owner_of m) later before marks after walked.not_stopped walked.marked one)
+    flags_alike before after (λ r. walk_visits bound r (owner_of m ∷ later)) (λ r. walk_visits bound r (owners moves key))
+    (with_owner bound (owner_of m) later before flags after walked.not_stopped walked.flagged one)
     (λ r.
     sym (ap (walk_visits bound r) (owners_split moves i key ∙ ap (λ owners_later. owners (take i moves) key ++ owners_later) (later_held moves i m key there is held))
     ∙ hidden bound r (owners (take i moves) key) (owner_of m) later (lt-ltb m.date bound old)))
 
-pub walk_ended : (moves : List Move) (bound : ℕ) (key : Key) (before marks after : List Bool) → IsWalked moves bound key before 0 marks → Marks marks (λ r. nat_eq 0 r) after → Marks before (λ r. walk_visits bound r (owners moves key)) after
-walk_ended moves bound key before marks after walked one =
-    with_owner bound (record { date = 0; resolver = 0 }) (later_owners moves key) before marks after walked.not_stopped walked.marked one
+pub walk_ended : (moves : List Move) (bound : ℕ) (key : Key) (before flags after : List Bool) → IsWalked moves bound key before 0 flags → Flags flags (λ r. nat_eq 0 r) after → Flags before (λ r. walk_visits bound r (owners moves key)) after
+walk_ended moves bound key before flags after walked one =
+    with_owner bound (record { date = 0; resolver = 0 }) (later_owners moves key) before flags after walked.not_stopped walked.flagged one

@@ -2,26 +2,26 @@
 use Rattle.std.specs.Prelude.{◌≡◌, ℕ, List, [], ◌∷◌, ◌++◌, max}
 use Rattle.system_keys.specs.Keys.{Range}
 use Rattle.model.specs.declared.moves.Move.{Move}
-use Rattle.model.specs.OwnerMaps.{Owned, StandsForMoves, readers, writers}
+use Rattle.model.specs.OwnerMaps.{OwnerMapView, StandsForMoves, readers, writers}
 
 -- the map stands for one more move than before
-abbrev pub GainsMove : (before : Owned) (m : Move) (after : Owned) → Type 0
+abbrev pub GainsMove : (before : OwnerMapView) (m : Move) (after : OwnerMapView) → Type 0
 GainsMove before m after =
     (moves : List Move) → StandsForMoves before moves → StandsForMoves after (moves ++ m ∷ [])
 
 -- the map stands for the same moves as before
-abbrev pub KeepsMoves : (before after : Owned) → Type 0
+abbrev pub KeepsMoves : (before after : OwnerMapView) → Type 0
 KeepsMoves before after =
     (moves : List Move) → StandsForMoves before moves → StandsForMoves after moves
 
 -- these are the resolvers that a read of the range at the snapshot asks, in rising order: back to
 -- the greater of the snapshot and the map's oldest version
-abbrev pub AreReaders : (map : Owned) (range : Range) (snapshot : ℕ) (list : List ℕ) → Type 0
+abbrev pub AreReaders : (map : OwnerMapView) (range : Range) (snapshot : ℕ) (list : List ℕ) → Type 0
 AreReaders map range snapshot list =
     (moves : List Move) → StandsForMoves map moves
     → list ≡ readers map.resolvers moves (max snapshot map.oldest) range
 
 -- these are the resolvers that a write of the range asks, in rising order
-abbrev pub AreWriters : (map : Owned) (range : Range) (list : List ℕ) → Type 0
+abbrev pub AreWriters : (map : OwnerMapView) (range : Range) (list : List ℕ) → Type 0
 AreWriters map range list =
     (moves : List Move) → StandsForMoves map moves → list ≡ writers map.resolvers moves range

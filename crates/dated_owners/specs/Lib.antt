@@ -1,4 +1,10 @@
+-- The definitions, in reading order.
+
+-- what the calls promise, over every list of moves that the map stands for
 pub mod Answers
-pub mod Asking
-pub mod Marks
+-- which owners of a key are asked
+pub mod Walks
+-- a list of resolvers by a flag for each
+pub mod Flags
+-- which moves are refused; numbers and names
 pub mod Refusals

@@ -2,7 +2,7 @@
 -- profile).
 use Rattle.std.specs.Prelude.{ℕ, List, codes, Option, Some, None, nat_le, nat_lt}
 use Rattle.std.specs.Prelude.{if◌then◌else◌}
-use Rattle.model.specs.OwnerMaps.{Owned}
+use Rattle.model.specs.OwnerMaps.{OwnerMapView}
 use Rattle.dated_owners.specs.declared.refusal.Refusal.{Refusal}
 use Rattle.dated_owners.specs.declared.refusal.Refusal.TheVariants.{NoSuchResolver, DateGoesBack}
 use Rattle.dated_owners.specs.declared.refusal.Refusal.TheVariants.{OutOfMemory}
@@ -24,7 +24,7 @@ refusal_fault OutOfMemory = None
 refusal_fault refusal = Some refusal
 
 -- the first fault of a move at this date to this resolver; a date equal to the last one is none
-abbrev pub move_fault : (map : Owned) (date dest : ℕ) → Option Refusal
+abbrev pub move_fault : (map : OwnerMapView) (date dest : ℕ) → Option Refusal
 move_fault map date dest =
     if nat_le map.resolvers dest then Some NoSuchResolver
     else if nat_lt date map.last_date then Some DateGoesBack

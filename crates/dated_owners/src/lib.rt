@@ -8,11 +8,11 @@
 //! ResolutionRequestBuilder); what differs is marked *this project's profile*.
 #![tactic(auto)]
 
-mod asking;
-mod marks;
+mod flags;
 mod owner_map;
 mod refusal;
+mod walks;
 
-pub use marks::{mark, marked};
+pub use flags::{flag, flagged};
 pub use owner_map::OwnerMap;
 pub use refusal::Refusal;

@@ -4,12 +4,12 @@ ghost use Rattle.std.specs.Prelude.{◌≡◌, ◌≤◌, ◌++◌, ◌∷◌, [
 ghost use Rattle.model.specs.declared.moves.Move.{Move};
 ghost use Rattle.model.specs.OwnerMaps.{StandsForMoves};
 ghost use Rattle.dated_owners.specs.Answers.{GainsMove, KeepsMoves, AreReaders, AreWriters};
-ghost use Rattle.dated_owners.specs.Asking.{askers};
+ghost use Rattle.dated_owners.specs.Walks.{askers};
 ghost use Rattle.dated_owners.specs.Refusals.{move_fault, refusal_fault};
 
-use crate::asking::{Walk, askers};
 use crate::refusal::Refusal;
-use model::Move;
+use crate::walks::{Walk, askers};
+use model::{Move, ResolverNumber, Version};
 use std::alloc::Global;
 use std::marker::Model;
 use system_keys::{Items, KeyRange, OutOfMemory};
@@ -20,15 +20,15 @@ use system_keys::{Items, KeyRange, OutOfMemory};
 #[derive(Clone, Debug, Drop)]
 pub struct OwnerMap {
     resolvers: usize,
-    last_date: u64,
-    oldest: u64,
+    last_date: Version,
+    oldest: Version,
     moves: Vec<Move>,
 }
 
 impl Model for OwnerMap {
-    ghost use Rattle.model.specs.OwnerMaps.{Owned};
+    ghost use Rattle.model.specs.OwnerMaps.{OwnerMapView};
 
-    ghost Value = { Owned };
+    ghost Value = { OwnerMapView };
 
     ghost view = { λ map. record {
       resolvers = map.resolvers;
@@ -62,12 +62,24 @@ impl OwnerMap {
         self.resolvers
     }
 
+    /// Returns the date of the last move that was made, or 0 if there is none.
+    pub fn last_date(&self) -> Version
+        ensures { result ≡ self.now.last_date }
+    {
+        self.last_date
+    }
+
     /// Gives the keys of `range` to resolver `dest`, from version `date` on.
     ///
     /// Fails with `NoSuchResolver` if `dest` is not below the number of resolvers, otherwise with
     /// `DateGoesBack` if `date` is below the date of the last move (an equal date is allowed), and
     /// otherwise only with `OutOfMemory`. Each failure leaves the map unchanged.
-    pub fn move_range(&mut self, range: &KeyRange, date: u64, dest: usize) -> Result<(), Refusal>
+    pub fn move_range(
+        &mut self,
+        range: &KeyRange,
+        date: Version,
+        dest: ResolverNumber,
+    ) -> Result<(), Refusal>
         ensures ok { OnOk result (move_fault self.old date dest ≡ None) }
         ensures refused { let fault = move_fault self.old date dest in
             IfErr result (λ refusal. refusal_fault refusal ≡ fault) }
@@ -88,7 +100,12 @@ impl OwnerMap {
     }
 
     /// Adds the move after the others.
-    fn add_move(&mut self, range: &KeyRange, date: u64, dest: usize) -> Result<(), OutOfMemory>
+    fn add_move(
+        &mut self,
+        range: &KeyRange,
+        date: Version,
+        dest: ResolverNumber,
+    ) -> Result<(), OutOfMemory>
         ensures ok { let m : Move = record { range = range.now; date = date; dest = dest } in
             OnOk result (self.new.moves ≡ self.old.moves ++ m ∷ []) }
         ensures date { OnOk result (self.new.last_date ≡ date) }
@@ -107,7 +124,11 @@ impl OwnerMap {
     /// It asks the owners of each key, from the newest back to the first one dated below `snapshot`
     /// or below the oldest version remembered (this project's profile). Fails only with
     /// `OutOfMemory`.
-    pub fn read_owners(&self, range: &KeyRange, snapshot: u64) -> Result<Items<usize>, OutOfMemory>
+    pub fn read_owners(
+        &self,
+        range: &KeyRange,
+        snapshot: Version,
+    ) -> Result<Items<ResolverNumber>, OutOfMemory>
         ensures { IfOk result (λ list. AreReaders self.now range.now snapshot list) }
     {
         let walk = Walk::BackTo(snapshot.max(self.oldest));
@@ -116,14 +137,14 @@ impl OwnerMap {
 
     /// Returns the resolvers that a write of `range` asks, in rising order: the last owner of each
     /// key. Fails only with `OutOfMemory`.
-    pub fn write_owners(&self, range: &KeyRange) -> Result<Items<usize>, OutOfMemory>
+    pub fn write_owners(&self, range: &KeyRange) -> Result<Items<ResolverNumber>, OutOfMemory>
         ensures { IfOk result (λ list. AreWriters self.now range.now list) }
     {
         self.askers(Walk::LastOwner, range)
     }
 
     /// The resolvers that are asked about the range.
-    fn askers(&self, walk: Walk, range: &KeyRange) -> Result<Items<usize>, OutOfMemory>
+    fn askers(&self, walk: Walk, range: &KeyRange) -> Result<Items<ResolverNumber>, OutOfMemory>
         ensures { let map = self.now in
             IfOk result (λ list. list ≡ askers map.resolvers map.moves walk range.now) }
     {
@@ -135,7 +156,7 @@ impl OwnerMap {
     /// nothing.
     ///
     /// The oldest owner of a key then no longer counts if the next one is dated below that version.
-    pub fn forget(&mut self, oldest: u64)
+    pub fn forget(&mut self, oldest: Version)
         ensures resolvers { self.new.resolvers ≡ self.old.resolvers }
         ensures oldest { self.new.oldest ≡ max self.old.oldest oldest }
         ensures stands { KeepsMoves self.old self.new }

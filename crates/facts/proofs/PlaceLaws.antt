@@ -8,7 +8,7 @@ use Rattle.std.specs.List.{slice_get, between}
 use Rattle.std.specs.declared.option.Option.TheVariants.{Some}
 use mathlib.Core.Logic.{inl, inr}
 use Rattle.facts.specs.declared.fact.Fact.{Fact}
-use Rattle.facts.specs.Stretches.{Stretch, StretchesAgree, Agree, cells, cells_of, values, values_of}
+use Rattle.facts.specs.Stretches.{Stretch, StretchesAgree, Agree, cells, cells_of, values}
 
 -- ---- lists
 
@@ -73,9 +73,6 @@ agree_everywhere {T} xs ys start n upto within i j x y same at_x at_y =
 pub agree_shifted : {X : Type 0} (a b : ℕ) (xs ys : List X) → a ≤ b → Agree a xs b ys → Agree 0 xs (b - a) ys
 agree_shifted a b xs ys before agree i j x y same at_x at_y = agree i j x y (omega (arith, same)) at_x at_y
 
-pub agree_shifted_back : {X : Type 0} (a b : ℕ) (xs ys : List X) → a ≤ b → Agree 0 xs (b - a) ys → Agree a xs b ys
-agree_shifted_back a b xs ys before agree i j x y same at_x at_y = agree i j x y (omega (arith, same)) at_x at_y
-
 pub agree_flipped : {X : Type 0} (a b : ℕ) (xs ys : List X) → Agree a xs b ys → Agree b ys a xs
 agree_flipped a b xs ys agree i j x y same at_x at_y = sym (agree j i y x (sym same) at_y at_x)
 
@@ -83,8 +80,3 @@ pub cells_agree_at : {T : Type 0} (s other v w : Stretch (Fact T)) → v ≡ s �
 cells_agree_at {T} s other v w is other_is agree =
     subst (λ (t : Stretch (Fact T)). StretchesAgree (cells_of v) (cells_of t)) (sym other_is)
     (subst (λ (t : Stretch (Fact T)). StretchesAgree (cells_of t) (cells_of other)) (sym is) agree)
-
-pub values_agree_at : {T : Type 0} (s other v w : Stretch (Fact T)) → v ≡ s → w ≡ other → StretchesAgree (values_of v) (values_of w) → StretchesAgree (values_of s) (values_of other)
-values_agree_at {T} s other v w is other_is agree =
-    subst (λ (t : Stretch (Fact T)). StretchesAgree (values_of s) (values_of t)) other_is
-    (subst (λ (t : Stretch (Fact T)). StretchesAgree (values_of t) (values_of w)) is agree)

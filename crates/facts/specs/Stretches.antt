@@ -1,6 +1,6 @@
 -- What is known of consecutive rows, from a first row on. *Profile*: all of it.
-use Rattle.std.specs.Prelude.{◌≡◌, ℕ, ◌+◌, ◌-◌, ◌^◌, List, [], ◌++◌, length, map, drop}
-use Rattle.std.specs.Prelude.{nat_le, cond, slice_get, Some, min, max}
+use Rattle.std.specs.Prelude.{◌≡◌, ◌<◌, ◌≤◌, ◌⊎◌, ℕ, ◌+◌, ◌-◌, ◌^◌, List, [], ◌∷◌, ◌++◌, length}
+use Rattle.std.specs.Prelude.{map, drop, nat_le, cond, slice_get, Some, min, max}
 use Rattle.std.specs.List.{between}
 use Rattle.facts.specs.declared.fact.Fact.{Fact}
 
@@ -16,6 +16,18 @@ end_of s = s.first + length s.known
 -- no stretch goes beyond this row
 abbrev pub rows_limit : ℕ
 rows_limit = 2 ^ 62
+
+-- the stretch lacks the row
+abbrev pub Lacks : {X : Type 0} → Stretch X → (row : ℕ) → Type 0
+Lacks s row = (row < s.first) ⊎ (end_of s ≤ row)
+
+-- the stretch has this at the row
+abbrev pub HasAt : {X : Type 0} → Stretch X → (row : ℕ) → X → Type 0
+HasAt s row x = (s.first ≤ row) × (slice_get s.known (row - s.first) ≡ Some x)
+
+-- the stretch, and this for the row after its last one
+abbrev pub appended : {X : Type 0} → Stretch X → X → Stretch X
+appended s x = record { first = s.first; known = s.known ++ x ∷ [] }
 
 -- the row where the part of a stretch from row `start` on begins: no row that the stretch lacks
 abbrev pub part_first : {X : Type 0} → (start : ℕ) → Stretch X → ℕ
@@ -50,6 +62,13 @@ Agree a xs b ys =
 -- wherever both stretches have a row, they are equal
 abbrev pub StretchesAgree : {X : Type 0} → (s other : Stretch X) → Type 0
 StretchesAgree s other = Agree s.first s.known other.first other.known
+
+-- the stretch gains one fact: that the cell of this name holds this value
+abbrev pub GainsFact :
+    {T : Type 0} → (before after : Stretch (Fact T)) (cell : ℕ) (value : T) → Type 0
+GainsFact before after cell value =
+    (fact : Fact _) × (fact.cell ≡ cell) × (fact.value ≡ value)
+    × (after ≡ appended before fact)
 
 -- the names of the cells, and the values that they hold
 abbrev pub cells : {T : Type 0} → List (Fact T) → List ℕ

@@ -1,7 +1,7 @@
 ghost use Rattle.std.specs.Prelude.{◌≡◌, ℕ, IsSome};
 ghost use Rattle.std.specs.declared.option.Option.TheVariants.{Some};
 ghost use denote.Sharing.{said};
-ghost use Rattle.once_cell.specs.Once.{cell_name, noted};
+ghost use Rattle.once_cell.specs.Once.{Agrees, cell_name, noted};
 
 use once_cell::race::{Note, OnceBox};
 use std::marker::{Model, PhantomData};
@@ -55,6 +55,16 @@ impl<T> Fact<T> {
         ensures { (note.new.cell ≡ note.old.cell) × (note.new.known ≡ Some self.now.value) }
     {
         let _ = note;
+    }
+
+    /// If a note of the same cell knows a value, it is the fact's. The note is unchanged.
+    pub fn agrees_with(&self, note: &mut Note<T>)
+        requires { note.old.cell ≡ self.now.cell }
+        ensures { (note.new ≡ note.old) × Agrees note.old.known self.now.value }
+    {
+        let mut told = note.again();
+        self.tell(&mut told);
+        note.compare(told);
     }
 
     /// Returns the value, which the cell lends. It never waits, and needs no memory.

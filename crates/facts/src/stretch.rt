@@ -5,24 +5,23 @@ ghost use Rattle.std.specs.Prelude.{
   ◌-◌,
   ◌<◌,
   ◌≤◌,
-  ◌⊎◌,
   [],
-  ◌∷◌,
   ◌++◌,
-  slice_get,
   min,
   max,
   MatchResult,
   MatchOption,
+  IfErr,
   IfOk,
 };
-ghost use Rattle.std.specs.declared.option.Option.TheVariants.{Some};
 ghost use Rattle.std.specs.List.{between};
 ghost use Rattle.std.specs.Vec.{vec_len, vec_capacity};
 ghost use Rattle.once_cell.specs.Once.{cell_name};
-ghost use Rattle.facts.specs.declared.fact.Fact.{Fact as TheFact};
 ghost use Rattle.facts.specs.Stretches.{
   Agree,
+  GainsFact,
+  HasAt,
+  Lacks,
   StretchesAgree,
   cells,
   cells_of,
@@ -33,6 +32,7 @@ ghost use Rattle.facts.specs.Stretches.{
   values,
   values_of,
 };
+ghost use Rattle.facts.specs.Unsets.{IfTaken};
 
 use crate::fact::Fact;
 use crate::setting::{Unset, set};
@@ -90,10 +90,7 @@ impl<T> Stretch<T> {
 
     /// Returns the fact about the row, or `None` if the stretch lacks the row.
     pub fn get(&self, row: usize) -> Option<Fact<T>>
-        ensures { MatchOption result
-            ((row < self.now.first) ⊎ (end_of self.now ≤ row))
-            (λ fact. (self.now.first ≤ row)
-            × (slice_get self.now.known (row - self.now.first) ≡ Some fact)) }
+        ensures { MatchOption result (Lacks self.now row) (HasAt self.now row) }
     {
         if row < self.first {
             return None;
@@ -171,14 +168,15 @@ impl<T> Stretch<T> {
 impl<T: Drop> Stretch<T> {
     /// Sets the cell of the next row, and appends the fact.
     ///
-    /// Otherwise returns the value and leaves the stretch unchanged: with `Taken` if the cell held
-    /// a value, or with `OutOfMemory`, and then the cell is as it was.
-    pub fn set(&mut self, cell: &OnceBox<T>, value: T) -> Result<(), (Unset, T)>
+    /// Otherwise returns the value and leaves the stretch unchanged: with `Taken` and the fact
+    /// about the cell if it held a value, or with `OutOfMemory`, and then the cell is as it was.
+    pub fn set(&mut self, cell: &OnceBox<T>, value: T) -> Result<(), (Unset<Fact<T>>, T)>
         requires { end_of self.old < rows_limit }
-        ensures { MatchResult result
-            (λ _. (fact : TheFact T) × (fact.cell ≡ cell_name cell.now) × (fact.value ≡ value)
-            × (self.new ≡ record { first = self.old.first; known = self.old.known ++ fact ∷ [] }))
-            (λ refused. (self.new ≡ self.old) × (refused.1 ≡ value)) }
+        ensures gained { IfOk result (λ _.
+            GainsFact self.old self.new (cell_name cell.now) value) }
+        ensures back { IfErr result (λ refused. (self.new ≡ self.old) × (refused.1 ≡ value)) }
+        ensures taken { IfErr result (λ refused. IfTaken refused.0 (λ fact.
+            fact.cell ≡ cell_name cell.now)) }
     {
         let alloc = *self.facts.allocator();
         let Ok(()) = self.facts.reserve(1) else {
@@ -191,13 +189,18 @@ impl<T: Drop> Stretch<T> {
 
     /// Sets the cell of the next row as [`Stretch::set`] does, and returns a copy of all the facts,
     /// that of the new row among them.
-    pub fn set_and_copy(&mut self, cell: &OnceBox<T>, value: T) -> Result<Stretch<T>, (Unset, T)>
+    pub fn set_and_copy(
+        &mut self,
+        cell: &OnceBox<T>,
+        value: T,
+    ) -> Result<Stretch<T>, (Unset<Fact<T>>, T)>
         requires { end_of self.old < rows_limit }
-        ensures { MatchResult result
-            (λ copy. (fact : TheFact T) × (fact.cell ≡ cell_name cell.now) × (fact.value ≡ value)
-            × (self.new ≡ record { first = self.old.first; known = self.old.known ++ fact ∷ [] })
-            × (copy ≡ self.new))
-            (λ refused. (self.new ≡ self.old) × (refused.1 ≡ value)) }
+        ensures gained { IfOk result (λ _.
+            GainsFact self.old self.new (cell_name cell.now) value) }
+        ensures copied { IfOk result (λ copy. copy ≡ self.new) }
+        ensures back { IfErr result (λ refused. (self.new ≡ self.old) × (refused.1 ≡ value)) }
+        ensures taken { IfErr result (λ refused. IfTaken refused.0 (λ fact.
+            fact.cell ≡ cell_name cell.now)) }
     {
         let alloc = *self.facts.allocator();
         let Ok(mut copied) = copied_with_room(alloc, &self.facts) else {

@@ -4,16 +4,15 @@
 //! Source: this project's profile (scripts, lines and statuses).
 #![tactic(auto)]
 
-mod answer;
-mod fold_checks;
-mod fold_limits;
-mod fold_reading;
-mod fold_script;
-mod fold_shapes;
-mod fold_streams;
+mod checks;
+mod limits;
+mod reading;
 mod run;
+mod script;
+mod shapes;
+mod streams;
+mod text;
 
-pub use answer::print_metadata;
-pub use fold_reading::{read_script, stream_script};
-pub use fold_script::FoldScript;
+pub use reading::{read_script, stream_script};
 pub use run::run_fold;
+pub use script::FoldScript;

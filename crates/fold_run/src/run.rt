@@ -1,22 +1,32 @@
 //! A run of a fold script, over any source and sink.
-ghost use Rattle.std.specs.Prelude.{◌-◌, ◌^◌, ◌<◌};
+ghost use Rattle.std.specs.Prelude.{◌-◌, ◌^◌, ◌<◌, refl};
 ghost use Rattle.scripts.specs.Runs.{LeavesDevices};
-ghost use Rattle.fold_run.specs.FoldText.{Folds, fold_text};
+ghost use Rattle.fold_run.specs.Scripts.{script_of};
+ghost use Rattle.fold_run.specs.Text.{Folds, fold_text, folded_text};
 
-use crate::answer::answer;
-use scripts::{Output, RunStatus, ScriptKind, Sink, Source, run_script};
+use crate::script::{FoldScript, RawScript};
+use crate::text::print_folded;
+use scripts::{RunStatus, ScriptKind, Sink, Source, run_script};
 use std::alloc::Global;
 use system_keys::OutOfMemory;
 
 /// The kind of fold scripts.
-pub struct FoldKind;
+pub(crate) struct FoldKind;
 
 impl ScriptKind for FoldKind {
+    type Raw = RawScript;
+
+    type Script = FoldScript;
+
+    ghost printed = { folded_text };
+
     ghost answer_to = { fold_text };
 
-    fn answer(alloc: Global, bytes: &[u8]) -> Result<Output, OutOfMemory> {
-        answer(alloc, bytes)
+    fn print(alloc: Global, text: &mut String, script: &FoldScript) -> Result<(), OutOfMemory> {
+        print_folded(alloc, text, script)
     }
+
+    ghost answers = { λ bytes. unfold fold_text in unfold script_of in refl };
 }
 
 /// Reads a fold script from the source to its end, and writes the text that it comes to. If a read

@@ -1,4 +1,10 @@
+-- The definitions, in reading order.
+
+-- the postcondition of a choice
 pub mod Choices
+-- what the words are to `clap`
 pub mod CommandLine
+-- command lines that are written out
 pub mod KnownLines
+-- the modes that there are, and their names
 pub mod Modes

@@ -1,5 +1,5 @@
 -- Each edge case computes, or follows by comparing numbers.
-use Rattle.std.proofs.Common.{refl, arith}
+use Rattle.std.proofs.Common.{refl, arith, [], ◌∷◌}
 use Rattle.model.specs.Configs.{IsConfig}
 use Rattle.model.specs.Edges.{TheOutcomesUnderTheLock, TheOwnersAfterAMove}
 use Rattle.model.specs.Edges.{TheOldestVersionOfARecord, ARepeatGetsTheSameReply}
@@ -9,6 +9,10 @@ use Rattle.model.specs.Edges.{RowsThatDoNotDecode, TheBytesOfAStamp, AStampAmong
 use Rattle.model.specs.Edges.{EachStampHasItsNumber, TheSharesOfARecord, TheRequestsForARecord}
 use Rattle.model.specs.Edges.{TheJournalRowOfARecord, CellsWithoutVerdicts, AHistoryWithoutVerdicts}
 use Rattle.model.specs.Edges.{TooFewVerdicts, TheFirstMissingReply, TheLimitsOfACluster, of_numbers}
+use Rattle.model.specs.Edges.{TheDatesOfMoves, moved_at, TheResolversAskedOfThree}
+use Rattle.model.specs.Edges.{StrangersAreRefusedFirst}
+use Rattle.model.specs.OwnerMaps.{DatesInOrder}
+use Rattle.model.specs.Finishing.{MayBeMade}
 use Rattle.model.proofs.Definitions.{the_definitions}
 
 pub an_empty_value_is_no_lock : AnEmptyValueIsNoLock
@@ -17,6 +21,16 @@ an_empty_value_is_no_lock = (refl, refl)
 
 pub the_outcomes_under_the_lock : TheOutcomesUnderTheLock
 the_outcomes_under_the_lock = (refl, refl, refl)
+
+pub the_dates_of_moves : TheDatesOfMoves
+the_dates_of_moves = (
+  (omega arith, (omega arith, (omega arith, tt))),
+  λ (falling : DatesInOrder 0 (moved_at 21 ∷ moved_at 20 ∷ [])). let second = falling.1.0 in omega (arith, second),
+  (omega arith, omega arith, (omega arith, omega arith, (omega arith, omega arith, tt))),
+  λ (falling : MayBeMade 2 0 (moved_at 21 ∷ moved_at 20 ∷ [])). let second = falling.2.0 in omega (arith, second),
+  λ (early : MayBeMade 2 22 (moved_at 21 ∷ [])). let first = early.0 in omega (arith, first),
+  λ (outside : MayBeMade 1 0 (moved_at 21 ∷ [])). let destination = outside.1 in omega (arith, destination),
+)
 
 pub the_owners_after_a_move : TheOwnersAfterAMove
 the_owners_after_a_move = refl
@@ -60,6 +74,10 @@ pub the_shares_of_a_record : TheSharesOfARecord
 unfolding the_definitions
 the_shares_of_a_record = (refl, refl)
 
+pub the_resolvers_asked_of_three : TheResolversAskedOfThree
+unfolding the_definitions
+the_resolvers_asked_of_three = refl
+
 pub the_requests_for_a_record : TheRequestsForARecord
 unfolding the_definitions
 the_requests_for_a_record = (refl, refl)
@@ -78,6 +96,10 @@ a_history_without_verdicts = (refl, refl)
 
 pub too_few_verdicts : TooFewVerdicts
 too_few_verdicts = refl
+
+pub strangers_are_refused_first : StrangersAreRefusedFirst
+unfolding the_definitions
+strangers_are_refused_first = (refl, refl)
 
 pub the_first_missing_reply : TheFirstMissingReply
 unfolding the_definitions

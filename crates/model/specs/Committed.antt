@@ -1,16 +1,35 @@
--- Two consequences of the rule of commit: what it means for the lock row, and which outcome a
--- committed transaction gets. The rule is that of the 2021 paper "FoundationDB: A Distributed
--- Unbundled Transactional Key Value Store".
+-- The rule of commit key by key, and two consequences of it: what it means for the lock row, and
+-- which outcome a committed transaction gets. The rule is that of the 2021 paper "FoundationDB: A
+-- Distributed Unbundled Transactional Key Value Store".
 use Rattle.std.specs.Prelude.{◌≡◌, ◌↔◌, ◌⊎◌, List, take, slice_get, Some, Contains, IsTrue, IsFalse}
-use Rattle.system_keys.specs.Keys.{Range, holds}
+use Rattle.system_keys.specs.Keys.{Key, Range, Overlap, holds, only}
 use Rattle.model.specs.Numbers.{Version, TransactionNumber}
 use Rattle.model.specs.Configs.{Config, IsConfig}
 use Rattle.model.specs.declared.outcome.Outcome.TheVariants.{Committed}
-use Rattle.model.specs.Transactions.{Transaction, is_state_transaction, locked_key}
+use Rattle.model.specs.Transactions.{Transaction, is_state_transaction, locked_key, all_reads}
 use Rattle.model.specs.Records.{Record, IsHistory}
 use Rattle.model.specs.Journal.{history_verdicts}
 use Rattle.model.specs.Outcomes.{outcomes}
 use Rattle.model.specs.Serial.{Place, IsBetween, IsCommitted, IsSerial}
+
+-- ---- the rule key by key
+
+-- the ranges cover the key: one of them holds it
+pub record Cover (ranges : List Range) (key : Key) : Type 0 where
+  pub range : Range
+  pub range_in : Contains ranges range
+  pub inside : IsTrue (holds range key)
+
+-- Take two committed transactions, the second of which comes after the first and does not have it
+-- in its snapshot. No key that the first wrote is one that the second read.
+abbrev pub IsSerialByKeys : Config → List Record → Type 0
+IsSerialByKeys config h =
+    (a b : Place h) → IsCommitted config h a → IsCommitted config h b → IsBetween a b
+    → (key : Key) → Cover a.transaction.writes key → ¬ Cover (all_reads b.transaction) key
+
+-- the rule of commit is the same by ranges and by keys
+abbrev pub SerialIsByKeys : Type 0
+SerialIsByKeys = (config : Config) (h : List Record) → IsSerial config h ↔ IsSerialByKeys config h
 
 -- ---- the lock row
 
@@ -19,6 +38,14 @@ pub record WritesLockRow (t : Transaction) : Type 0 where
   pub write : Range
   pub write_in : Contains t.writes write
   pub over : IsTrue (holds write locked_key)
+
+-- a transaction, lock aware or not, writes over the lock row exactly if some range of its writes
+-- overlaps the range of the lock row alone
+abbrev pub WritingTheLockRowIsOverlap : Type 0
+WritingTheLockRowIsOverlap =
+    (t : Transaction)
+    → WritesLockRow t
+    ↔ ((write : Range) × Contains t.writes write × Overlap write (only locked_key))
 
 -- Take two committed transactions, the second of which comes after the first and does not have it
 -- in its snapshot. If the first writes over the lock row, the second is no state transaction or is
@@ -39,6 +66,17 @@ abbrev pub HistoriesKeepTheLockRow : Type 0
 HistoriesKeepTheLockRow =
     (config : Config) (h : List Record)
     → IsConfig config → IsHistory config h → IsLockRowKept config h
+
+-- Records that keep the lock row have no committed state transaction that is not lock aware and
+-- meets a lock: a write over the lock row by a committed transaction, lock aware or not, after its
+-- snapshot.
+abbrev pub ALockStopsPlainStateTransactions : Type 0
+ALockStopsPlainStateTransactions =
+    (config : Config) (h : List Record) (a b : Place h)
+    → IsLockRowKept config h → IsCommitted config h a → IsBetween a b
+    → Cover a.transaction.writes locked_key
+    → IsTrue (is_state_transaction b.transaction) → IsFalse b.transaction.lock_aware
+    → ¬ IsCommitted config h b
 
 -- ---- the outcome of a committed transaction
 

@@ -1,7 +1,7 @@
 -- Edge cases: small values for which one definition has exactly this value. They compute, or follow
 -- by comparing numbers.
 use Rattle.std.specs.Prelude.{◌≡◌, ℕ, List, [], ◌∷◌, ◌++◌, map, replicate, codes, true, false}
-use Rattle.std.specs.Prelude.{nat_eq, if◌then◌else◌, Some, None, ◌+◌, Option}
+use Rattle.std.specs.Prelude.{nat_eq, if◌then◌else◌, Some, None, ◌+◌, Option, Err}
 use Rattle.system_keys.specs.declared.change.Change.{Change}
 use Rattle.system_keys.specs.declared.change.Change.TheVariants as changes
 use Rattle.system_keys.specs.declared.tag.Tag.{Tag}
@@ -14,7 +14,9 @@ use Rattle.model.specs.declared.journal.StateTxn.{StateTxn}
 use Rattle.model.specs.declared.journal.JournalRow.{JournalRow}
 use Rattle.model.specs.declared.outcome.Outcome.TheVariants as outcomes
 use Rattle.model.specs.Outcomes.{outcome_by}
+use Rattle.model.specs.declared.moves.Move.{Move}
 use Rattle.model.specs.Owners.{owners}
+use Rattle.model.specs.OwnerMaps.{DatesInOrder}
 use Rattle.model.specs.World.{Again, NoSuchRow}
 use Rattle.model.specs.Stamps.{Set, SetStamped, Given, stamped_value, stamp, stamped_from}
 use Rattle.model.specs.Transactions.{locked_key, Transaction}
@@ -27,6 +29,9 @@ use Rattle.model.specs.declared.unseen.UnseenState.{UnseenState}
 use Rattle.model.specs.Journal.{VerdictSource, history_verdicts, cell_verdicts, journal_row}
 use Rattle.model.specs.Journal.{reply_row, reply_state_of}
 use Rattle.model.specs.Requests.{request}
+use Rattle.model.specs.Offers.{OfferResult, answer_to}
+use Rattle.model.specs.Offers as offers
+use Rattle.model.specs.Finishing.{MayBeMade}
 use Rattle.model.specs.Agreed.{Columns}
 use Rattle.model.specs.Examples.{cluster, told, a, b, m, n, range, m_to_t, mutating, judged}
 use Rattle.model.specs.Examples.{completed, tag, s1, s2, s3, one_source, source_and_destination}
@@ -191,6 +196,20 @@ mixed_record =
           ∷ [];
     }
 
+-- a move of `[m, t)` to resolver 1
+abbrev pub moved_at : ℕ → Move
+moved_at date = record { range = m_to_t; date = date; dest = 1 }
+
+-- moves may have the same date, but no move is dated before the one in front of it
+abbrev pub TheDatesOfMoves : Type 0
+TheDatesOfMoves =
+    DatesInOrder 0 (moved_at 21 ∷ moved_at 21 ∷ moved_at 31 ∷ [])
+    × ¬ DatesInOrder 0 (moved_at 21 ∷ moved_at 20 ∷ [])
+    × MayBeMade 2 21 (moved_at 21 ∷ moved_at 21 ∷ moved_at 31 ∷ [])
+    × ¬ MayBeMade 2 0 (moved_at 21 ∷ moved_at 20 ∷ [])
+    × ¬ MayBeMade 2 22 (moved_at 21 ∷ [])
+    × ¬ MayBeMade 1 0 (moved_at 21 ∷ [])
+
 -- a move adds its destination to the owners of a key, from its own date on
 abbrev pub TheOwnersAfterAMove : Type 0
 TheOwnersAfterAMove =
@@ -221,6 +240,13 @@ TheSharesOfARecord =
     ≡ share_of_0 ∷ share_of_1 ∷ (part 2 10 [] [] ∷ part 3 0 [] [] ∷ []) ∷ [])
     × (map (asked narrow mixed_record) mixed_record.batch
     ≡ (0 ∷ 1 ∷ []) ∷ (0 ∷ []) ∷ (0 ∷ 1 ∷ []) ∷ (0 ∷ 1 ∷ []) ∷ [])
+
+-- in a cluster with more resolvers than proxies a state transaction asks each resolver, the last
+-- one too
+abbrev pub TheResolversAskedOfThree : Type 0
+TheResolversAskedOfThree =
+    map (asked (record narrow { resolvers = 3 }) mixed_record) mixed_record.batch
+    ≡ (0 ∷ 1 ∷ []) ∷ (0 ∷ []) ∷ (0 ∷ 1 ∷ 2 ∷ []) ∷ (0 ∷ 1 ∷ 2 ∷ []) ∷ []
 
 -- a request has the numbers of its record, the version received and the share; its marks carry
 -- state mutations alone, and those to resolver 0 alone
@@ -377,6 +403,19 @@ ARepeatGetsTheSameReply =
 -- an unknown row is refused before an unknown resolver
 abbrev pub AnUnknownRowIsRefusedFirst : Type 0
 AnUnknownRowIsRefusedFirst = told cluster (Offer 9 2 ∷ []) ≡ Refused NoSuchRow ∷ []
+
+-- what resolver 0 of two proxies answers to a request of proxy 2 whose version is not above its
+-- previous version, to this resolver
+abbrev pub answer_to_stranger : (resolver : ℕ) → OfferResult
+answer_to_stranger resolver =
+    answer_to 0 2 100 []
+    (record (request narrow mixed_record 5 resolver) { proxy = 2; previous = 30 })
+
+-- an unknown resolver is refused first, then an unknown proxy, and then versions out of order
+abbrev pub StrangersAreRefusedFirst : Type 0
+StrangersAreRefusedFirst =
+    (answer_to_stranger 1 ≡ Err offers.WrongResolver)
+    × (answer_to_stranger 0 ≡ Err offers.NoSuchProxy)
 
 -- of several missing replies the one with the least number is named
 abbrev pub TheFirstMissingReply : Type 0

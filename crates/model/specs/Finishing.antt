@@ -21,7 +21,7 @@ use Rattle.model.specs.declared.reply.Reply.{Reply}
 use Rattle.model.specs.declared.outcome.Finished.{Finished}
 use Rattle.model.specs.Transactions.{Transaction}
 use Rattle.model.specs.Records.{Record}
-use Rattle.model.specs.OwnerMaps.{Owned, StandsForMoves}
+use Rattle.model.specs.OwnerMaps.{OwnerMapView, StandsForMoves}
 use Rattle.model.specs.Shares.{share, asks, each_below}
 use Rattle.model.specs.Journal.{VerdictSource, verdict_at, journal_row, reply_row_of}
 use Rattle.model.specs.Journal.{HaveVerdictCount}
@@ -237,10 +237,10 @@ disagreements config version rec replies =
 -- A proxy: its number, its cluster, the map of owners after the moves of the record last begun, and
 -- how many moves these are; the version last begun, the records begun and not finished, the
 -- earliest first, its version, which is that of the record last finished, and its journal.
-pub record Follower : Type 0 where
+pub record ProxyView : Type 0 where
   pub number : ProxyNumber
   pub config : Config
-  pub owned : Owned
+  pub owned : OwnerMapView
   pub moved : ℕ
   pub last_begun : Version
   pub begun : List Record
@@ -248,7 +248,7 @@ pub record Follower : Type 0 where
   pub journal : List JournalRow
 
 -- the map of the proxy stands for these moves, and they are as many as the proxy counts
-pub record HoldsMoves (v : Follower) (moves : List Move) : Type 0 where
+pub record HoldsMoves (v : ProxyView) (moves : List Move) : Type 0 where
   pub stands : StandsForMoves v.owned moves
   pub count : v.moved ≡ length moves
 
@@ -262,7 +262,7 @@ MayBeMade resolvers date (m ∷ moves) =
 -- What a caller of `begin` keeps. The version of the record is one step after its previous version,
 -- which is not below the version of this proxy's record before. Its moves begin with those that the
 -- map of the proxy stands for, and the further ones may be made.
-pub record MayBegin (v : Follower) (rec : Record) : Type 0 where
+pub record MayBegin (v : ProxyView) (rec : Record) : Type 0 where
   pub moves : List Move
   pub holds : HoldsMoves v moves
   pub version : rec.version ≡ rec.previous + v.config.step
@@ -272,7 +272,7 @@ pub record MayBegin (v : Follower) (rec : Record) : Type 0 where
       MayBeMade v.config.resolvers v.owned.last_date (drop (length moves) rec.moves)
 
 -- the proxy began a record: the record is the last of those begun, and the map holds its moves
-pub record HasBegun (v new : Follower) (rec : Record) : Type 0 where
+pub record HasBegun (v new : ProxyView) (rec : Record) : Type 0 where
   pub number : new.number ≡ v.number
   pub config : new.config ≡ v.config
   pub holds : HoldsMoves new rec.moves
@@ -283,9 +283,9 @@ pub record HasBegun (v new : Follower) (rec : Record) : Type 0 where
 
 -- The proxy after it finished a record by these replies, with these unseen rows; `rest` are the
 -- records begun later. Its journal grows by the unseen rows and by the record's own row.
-abbrev pub follower_after :
-    Follower → Record → (rest : List Record) → Replies → (rows : List JournalRow) → Follower
-follower_after v rec rest replies rows =
+abbrev pub proxy_view_after :
+    ProxyView → Record → (rest : List Record) → Replies → (rows : List JournalRow) → ProxyView
+proxy_view_after v rec rest replies rows =
     let own_row = journal_row v.config (replied_verdicts v.config rec replies) rec in
     record v {
       begun = rest;
@@ -295,14 +295,14 @@ follower_after v rec rest replies rows =
 
 -- the proxy finished the earliest record that it had begun, by these replies: they agree on the
 -- rows that it had not seen, and the finished batch is that of the record after these rows
-pub record HasFinished (v new : Follower) (replies : Replies) (finished : Finished) :
+pub record HasFinished (v new : ProxyView) (replies : Replies) (finished : Finished) :
     Type 0 where
   pub rec : Record
   pub rest : List Record
   pub rows : List JournalRow
   pub begun : v.begun ≡ rec ∷ rest
   pub agree : AgreeOnRows v.config v.version rec replies rows
-  pub after : new ≡ follower_after v rec rest replies rows
+  pub after : new ≡ proxy_view_after v rec rest replies rows
   pub finished_is :
       finished
       ≡ finished_after v.config (replied_verdicts v.config rec replies) (v.journal ++ rows) rec

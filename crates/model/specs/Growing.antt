@@ -65,6 +65,17 @@ HistoriesAreAgreed =
     (config : Config) (h : List Record)
     → IsHistory config h → IsAgreed config h (all_columns config h) (length h)
 
+-- these columns have a cell for each record
+abbrev pub AllColumnsHaveCells : Type 0
+AllColumnsHaveCells =
+    (config : Config) (h : List Record) → HaveCells config (all_columns config h) (length h)
+
+-- with one record more, they gain the verdicts on it
+abbrev pub AllColumnsGainVerdicts : Type 0
+AllColumnsGainVerdicts =
+    (config : Config) (h : List Record) (rec : Record)
+    → GainVerdicts config h rec (all_columns config h) (all_columns config (h ++ rec ∷ []))
+
 -- all these cells hold the verdicts of their resolvers
 abbrev pub AllColumnsAreVerdicts : Type 0
 AllColumnsAreVerdicts =

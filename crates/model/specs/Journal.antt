@@ -2,7 +2,7 @@
 -- replies and remembers of it. Release 7.1, `Resolver.actor.cpp`, resolveBatch; what differs is
 -- marked *profile*. These are the definitions, over records. Requests.antt defines the replies and
 -- the memory of a resolver over requests, which follow these by `request_law`. Within this module
--- `journal_row` is the definition, and `reply_row` follows it by `told_law`.
+-- `journal_row` is the definition, and `reply_row` follows it by `reply_rows_law`.
 use Rattle.std.specs.Prelude.{◌≡◌, ℕ, zero, suc, ◌<◌, min, List, [], ◌∷◌, take, map, filter, Bool}
 use Rattle.std.specs.Prelude.{nat_eq, nat_lt, IsTrue, if◌then◌else◌, slice_get, Option, Some, None}
 use Rattle.std.specs.Prelude.{unwrap_or, length, Contains}

@@ -1,22 +1,13 @@
--- The statements of the laws, by topic. The functions of src/*_laws.rt ensure them.
-pub mod Chain
-pub mod Changes
-pub mod Columns
-pub mod Finished
-pub mod Finishing
-pub mod Histories
-pub mod Holders
-pub mod Journals
-pub mod Judging
-pub mod Memory
-pub mod Moves
-pub mod Offers
+-- The statements of the laws, by topic. The functions of src/laws ensure them.
+pub mod History
 pub mod Owners
-pub mod Requests
-pub mod ResolverMemory
-pub mod Routes
-pub mod Rows
-pub mod Runs
-pub mod Sources
-pub mod Turns
-pub mod WriteHistories
+pub mod Verdicts
+pub mod Shares
+pub mod Journal
+pub mod Metadata
+pub mod Outcomes
+pub mod Serializability
+pub mod Agreement
+pub mod Worlds
+pub mod Resolvers
+pub mod Proxies

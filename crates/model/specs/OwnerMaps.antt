@@ -7,14 +7,14 @@ use Rattle.model.specs.Shares.{each_below}
 
 -- a map of owners: some moves that give each key its owners, the date of the last move that was
 -- made, and the version below which the fronts of the lists of owners are forgotten
-pub record Owned : Type 0 where
+pub record OwnerMapView : Type 0 where
   pub resolvers : ℕ
   pub last_date : ℕ
   pub oldest : ℕ
   pub moves : List Move
 
 -- the owners of a key that the map still has
-abbrev pub owners_left : (map : Owned) (key : Key) → List Owner
+abbrev pub owners_left : (map : OwnerMapView) (key : Key) → List Owner
 owners_left map key = trimmed map.oldest (owners map.moves key)
 
 -- the dates of the moves never decrease, from `date` on
@@ -29,7 +29,7 @@ last_date date (m ∷ moves) = last_date m.date moves
 
 -- the map stands for these moves: each key has the owners that the moves give it, without the
 -- oldest ones as far as the map drops them
-pub record StandsForMoves (map : Owned) (moves : List Move) : Type 0 where
+pub record StandsForMoves (map : OwnerMapView) (moves : List Move) : Type 0 where
   pub in_order : DatesInOrder 0 moves
   pub last : map.last_date ≡ last_date 0 moves
   pub same : (key : Key) → owners_left map key ≡ trimmed map.oldest (owners moves key)
@@ -52,7 +52,7 @@ abbrev pub owner_of : (m : Move) → Owner
 owner_of m = record { date = m.date; resolver = m.dest }
 
 -- the owners that are left at a key once a move is made
-abbrev pub left_after_move : (map : Owned) (m : Move) (key : Key) → List Owner
+abbrev pub left_after_move : (map : OwnerMapView) (m : Move) (key : Key) → List Owner
 left_after_move map m key =
     if holds m.range key
     then trimmed map.oldest (owners_left map key ++ owner_of m ∷ [])
@@ -61,14 +61,14 @@ left_after_move map m key =
 -- a map in which each key has its first owner alone stands for no moves
 abbrev pub NewStandsForNoMoves : Type 0
 NewStandsForNoMoves =
-    (map : Owned)
+    (map : OwnerMapView)
     → ((key : Key) → owners map.moves key ≡ owners [] key) → map.last_date ≡ 0
     → StandsForMoves map []
 
 -- a map that at each key has gained the owner of one more move stands for one more move
 abbrev pub MoveAddsOneMove : Type 0
 MoveAddsOneMove =
-    (map next : Owned) (moves : List Move) (m : Move)
+    (map next : OwnerMapView) (moves : List Move) (m : Move)
     → StandsForMoves map moves → map.last_date ≤ m.date
     → next.oldest ≡ map.oldest → next.last_date ≡ m.date
     → ((key : Key) → owners_left next key ≡ left_after_move map m key)
@@ -78,7 +78,7 @@ MoveAddsOneMove =
 -- greater bound
 abbrev pub ForgettingKeepsTheMoves : Type 0
 ForgettingKeepsTheMoves =
-    (map next : Owned) (moves : List Move)
+    (map next : OwnerMapView) (moves : List Move)
     → StandsForMoves map moves → map.oldest ≤ next.oldest → next.last_date ≡ map.last_date
     → ((key : Key) → owners_left next key ≡ trimmed next.oldest (owners_left map key))
     → StandsForMoves next moves
@@ -86,7 +86,7 @@ ForgettingKeepsTheMoves =
 -- two maps that stand for the same moves, with the same bound, have the same owners left
 abbrev pub SameMovesLeaveTheSame : Type 0
 SameMovesLeaveTheSame =
-    (map other : Owned) (moves : List Move) (key : Key)
+    (map other : OwnerMapView) (moves : List Move) (key : Key)
     → StandsForMoves map moves → StandsForMoves other moves → map.oldest ≡ other.oldest
     → owners_left map key ≡ owners_left other key
 
@@ -94,7 +94,7 @@ SameMovesLeaveTheSame =
 -- greater of the bound and the map's
 abbrev pub LeftOwnersAreEnough : Type 0
 LeftOwnersAreEnough =
-    (map : Owned) (moves : List Move) (bound r : ℕ) (key : Key)
+    (map : OwnerMapView) (moves : List Move) (bound r : ℕ) (key : Key)
     → StandsForMoves map moves
     → walk_visits bound r (owners_left map key)
     ≡ walk_visits (max bound map.oldest) r (owners moves key)
@@ -103,7 +103,7 @@ LeftOwnersAreEnough =
 -- moves say
 abbrev pub ReadersAreThoseOfTheMap : Type 0
 ReadersAreThoseOfTheMap =
-    (map : Owned) (moves : List Move) (bound : ℕ) (range : Range)
+    (map : OwnerMapView) (moves : List Move) (bound : ℕ) (range : Range)
     → StandsForMoves map moves
     → readers map.resolvers map.moves (max bound map.oldest) range
     ≡ readers map.resolvers moves (max bound map.oldest) range
@@ -111,12 +111,12 @@ ReadersAreThoseOfTheMap =
 -- and the same resolvers are asked to write it
 abbrev pub WritersAreThoseOfTheMap : Type 0
 WritersAreThoseOfTheMap =
-    (map : Owned) (moves : List Move) (range : Range)
+    (map : OwnerMapView) (moves : List Move) (range : Range)
     → StandsForMoves map moves
     → writers map.resolvers map.moves range ≡ writers map.resolvers moves range
 
 -- the same resolvers are asked by both maps
-pub record AnswerAlike (map other : Owned) : Type 0 where
+pub record AnswerAlike (map other : OwnerMapView) : Type 0 where
   pub reads : (bound : ℕ) (range : Range)
       → readers map.resolvers map.moves (max bound map.oldest) range
       ≡ readers other.resolvers other.moves (max bound other.oldest) range
@@ -126,7 +126,7 @@ pub record AnswerAlike (map other : Owned) : Type 0 where
 -- so two maps that stand for the same moves, with as many resolvers and one bound, answer alike
 abbrev pub SameMovesAnswerAlike : Type 0
 SameMovesAnswerAlike =
-    (map other : Owned) (moves : List Move)
+    (map other : OwnerMapView) (moves : List Move)
     → StandsForMoves map moves → StandsForMoves other moves
     → map.resolvers ≡ other.resolvers → map.oldest ≡ other.oldest
     → AnswerAlike map other

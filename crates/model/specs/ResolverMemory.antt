@@ -11,7 +11,7 @@ use Rattle.model.specs.Journal.{least}
 use Rattle.model.specs.Requests.{Request, request_reply_row, request_reply_rows, requests_of_proxy}
 use Rattle.model.specs.Requests.{last_request_version, request_oldest_proxy_version}
 use Rattle.model.specs.Acknowledged.{acknowledged_requests}
-use Rattle.model.specs.WriteHistories.{Written, StandsForShares, shares_of}
+use Rattle.model.specs.WriteHistories.{WriteHistoryView, StandsForShares, shares_of}
 use Rattle.model.specs.Offers.{OfferFault, WrongResolver, NoSuchProxy, OutsideChain, GivenUp, Early}
 use Rattle.model.specs.Offers.{kept_replies, reply_at, is_in_order, AreInTurn}
 
@@ -27,10 +27,10 @@ pub record ProxyMemory : Type 0 where
 -- What a resolver keeps: its number, the version of the last request that it judged, the writes of
 -- the transactions that it committed, the rows that some proxy has not seen, in the order of their
 -- versions, and its memory of each proxy.
-pub record Memory : Type 0 where
+pub record ResolverView : Type 0 where
   pub number : ResolverNumber
   pub version : Version
-  pub written : Written
+  pub written : WriteHistoryView
   pub rows : List UnseenRow
   pub proxies : List ProxyMemory
 
@@ -49,7 +49,7 @@ proxy_memory window judged p =
 
 -- The resolver stands for these requests: they came in their turn, and it keeps what a resolver
 -- keeps after it judged them. Of their writes it may have forgotten those up to some version.
-pub record StandsForRequests (v : Memory) (judged : List Request) : Type 0 where
+pub record StandsForRequests (v : ResolverView) (judged : List Request) : Type 0 where
   pub in_turn : AreInTurn v.number (length v.proxies) judged
   pub version : v.version ≡ last_request_version judged
   pub forgotten : Version
@@ -90,17 +90,17 @@ course_of_proxy last q (Some one) =
     else Ok Judge
 
 -- what it does with any request, by what it keeps alone
-unfoldable pub course : Memory → Request → Result Course OfferFault
+unfoldable pub course : ResolverView → Request → Result Course OfferFault
 course v q =
     if not (nat_eq q.resolver v.number) then Err WrongResolver
     else course_of_proxy v.version q (slice_get v.proxies q.proxy)
 
 -- the rows that it tells the proxy of which it keeps this
-abbrev pub rows_to_tell : Memory → ProxyMemory → List UnseenRow
+abbrev pub rows_to_tell : ResolverView → ProxyMemory → List UnseenRow
 rows_to_tell v one = filter (is_row_above one.last) v.rows
 
 -- the reply to a request with these verdicts
-abbrev pub reply_by_memory : Memory → ProxyMemory → Request → List Verdict → Reply
+abbrev pub reply_by_memory : ResolverView → ProxyMemory → Request → List Verdict → Reply
 reply_by_memory v one q verdicts =
     record {
       resolver = q.resolver;
@@ -129,7 +129,7 @@ reached_by_all proxies = least (map (λ (one : ProxyMemory). one.last) proxies)
 -- what a resolver keeps after it judged a request of this proxy with these verdicts, where it keeps
 -- these writes
 abbrev pub memory_after :
-    Memory → ProxyMemory → Request → List Verdict → (written : Written) → Memory
+    ResolverView → ProxyMemory → Request → List Verdict → (written : WriteHistoryView) → ResolverView
 memory_after v one q verdicts written =
     let reply = reply_by_memory v one q verdicts in
     let proxies = slice_set v.proxies q.proxy (proxy_after one q reply) in

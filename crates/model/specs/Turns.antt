@@ -8,14 +8,14 @@ use Rattle.model.specs.Records.{Record, last_version, last_moves, records_of_pro
 use Rattle.model.specs.Shares.{each_below}
 use Rattle.model.specs.Requests.{Request}
 use Rattle.model.specs.Offers.{sent_request, judged_requests}
-use Rattle.model.specs.ResolverMemory.{Memory, StandsForRequests}
-use Rattle.model.specs.Finishing.{Follower, HoldsMoves}
+use Rattle.model.specs.ResolverMemory.{ResolverView, StandsForRequests}
+use Rattle.model.specs.Finishing.{ProxyView, HoldsMoves}
 use Rattle.model.specs.World.{World, Event, Answer, Refusal, IsSound, handle_event}
 use Rattle.model.specs.World.{finished_version, proxy_journal}
 use Rattle.model.specs.World as world
 
 -- a cluster: its numbers, and the state of its world
-pub record Cluster : Type 0 where
+pub record TurnCluster : Type 0 where
   pub config : Config
   pub world : World
 
@@ -29,19 +29,19 @@ success_or_refusal (world.Completed finished) = Ok (world.Completed finished)
 success_or_refusal (world.Refused refusal) = Err refusal
 
 -- the answer of a cluster to an event
-abbrev pub answer_to_event : Cluster → Event → Result Answer Refusal
+abbrev pub answer_to_event : TurnCluster → Event → Result Answer Refusal
 answer_to_event cluster event =
     success_or_refusal (handle_event cluster.config cluster.world event).answer
 
 -- the cluster after an event
-abbrev pub after_event : Cluster → Event → Cluster
+abbrev pub after_event : TurnCluster → Event → TurnCluster
 after_event cluster event =
     record cluster { world = (handle_event cluster.config cluster.world event).world }
 
 -- ---- what the parts keep
 
 -- the resolver is number r of the world: it stands for the requests that r has judged
-pub record IsResolver (config : Config) (w : World) (r : ResolverNumber) (v : Memory) :
+pub record IsResolverOf (config : Config) (w : World) (r : ResolverNumber) (v : ResolverView) :
     Type 0 where
   pub number : v.number ≡ r
   pub proxies : length v.proxies ≡ config.proxies
@@ -51,7 +51,7 @@ pub record IsResolver (config : Config) (w : World) (r : ResolverNumber) (v : Me
 -- The proxy is number p of the world. Its map of owners holds the moves of its last record. It has
 -- begun all its records, and finished as many of them as the world says; its journal is that of the
 -- history up to its version.
-pub record IsProxy (config : Config) (w : World) (p : ProxyNumber) (v : Follower) : Type 0 where
+pub record IsProxyOf (config : Config) (w : World) (p : ProxyNumber) (v : ProxyView) : Type 0 where
   pub number : v.number ≡ p
   pub config_is : v.config ≡ config
   pub holds : HoldsMoves v (last_moves (records_of_proxy p w.history))
@@ -69,16 +69,16 @@ sent_requests config w rec =
 -- record has received more than its proxy has finished, so the resolvers still keep the replies to
 -- each record that is not finished.
 pub record AreInStep
-    (config : Config) (w : World) (resolvers : List Memory) (proxies : List Follower)
+    (config : Config) (w : World) (resolvers : List ResolverView) (proxies : List ProxyView)
     (requests : List (List Request)) : Type 0 where
   pub limits : IsConfig config
   pub sound : IsSound config w
   pub resolver_count : length resolvers ≡ config.resolvers
   pub proxy_count : length proxies ≡ config.proxies
   pub each_resolver :
-      (r : ResolverNumber) (v : Memory) → slice_get resolvers r ≡ Some v → IsResolver config w r v
+      (r : ResolverNumber) (v : ResolverView) → slice_get resolvers r ≡ Some v → IsResolverOf config w r v
   pub each_proxy :
-      (p : ProxyNumber) (v : Follower) → slice_get proxies p ≡ Some v → IsProxy config w p v
+      (p : ProxyNumber) (v : ProxyView) → slice_get proxies p ≡ Some v → IsProxyOf config w p v
   pub requests_are : requests ≡ map (sent_requests config w) w.history
   pub received :
       (i : RowNumber) (rec : Record) → slice_get w.history i ≡ Some rec
@@ -87,14 +87,14 @@ pub record AreInStep
 -- ---- what new parts keep
 
 -- a resolver before its first request
-pub record IsNewResolver (config : Config) (r : ResolverNumber) (v : Memory) : Type 0 where
+pub record IsNewResolver (config : Config) (r : ResolverNumber) (v : ResolverView) : Type 0 where
   pub number : v.number ≡ r
   pub proxies : length v.proxies ≡ config.proxies
   pub window : v.written.window ≡ config.window
   pub stands : StandsForRequests v []
 
 -- a proxy before its first record
-pub record IsNewProxy (config : Config) (p : ProxyNumber) (v : Follower) : Type 0 where
+pub record IsNewProxy (config : Config) (p : ProxyNumber) (v : ProxyView) : Type 0 where
   pub number : v.number ≡ p
   pub config_is : v.config ≡ config
   pub holds : HoldsMoves v []

@@ -23,7 +23,7 @@ pub record Write : Type 0 where
 
 -- A history of writes: the window, the version that was judged last, and some writes, which give
 -- each key the version at which it was last written.
-pub record Written : Type 0 where
+pub record WriteHistoryView : Type 0 where
   pub window : ℕ
   pub last : Version
   pub writes : List Write
@@ -88,7 +88,7 @@ last_committed window judged key = last_at (writes_of (committed_after window []
 -- key it has the last committed version, or 0 if that is forgotten. Only what lies at least the
 -- window before the last version is forgotten.
 pub record StandsForShares
-    (history : Written) (shares : List ShareAt) (forgotten : Version) : Type 0 where
+    (history : WriteHistoryView) (shares : List ShareAt) (forgotten : Version) : Type 0 where
   pub rising : IsRisingFrom 0 shares
   pub last : history.last ≡ last_judged 0 shares
   pub in_window : forgotten ≤ history.last - history.window

@@ -19,8 +19,11 @@ pub const RESOLVERS_LIMIT: u64 = 64;
 /// The greatest window of a cluster.
 const WINDOW_LIMIT: u64 = 1_000_000_000;
 
-/// The greatest version, and the greatest step from one version to the next.
-const STEP_LIMIT: u64 = 9_223_372_036_854_775_807;
+/// Each version is below this limit.
+pub const VERSION_LIMIT: u64 = 1 << 63;
+
+/// The greatest step from one version to the next: that from version 0 to the greatest version.
+const STEP_LIMIT: u64 = VERSION_LIMIT - 1;
 
 /// The numbers of a cluster, each within its limits: how many proxies and resolvers it has, how
 /// many versions back a snapshot may lie, and how many versions lie between batches.

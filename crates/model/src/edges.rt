@@ -10,6 +10,8 @@ ghost use Rattle.model.specs.Edges.{EachStampHasItsNumber, TheSharesOfARecord};
 ghost use Rattle.model.specs.Edges.{TheRequestsForARecord, TheJournalRowOfARecord};
 ghost use Rattle.model.specs.Edges.{CellsWithoutVerdicts, AHistoryWithoutVerdicts, TooFewVerdicts};
 ghost use Rattle.model.specs.Edges.{TheFirstMissingReply, TheLimitsOfACluster};
+ghost use Rattle.model.specs.Edges.{TheDatesOfMoves, TheResolversAskedOfThree};
+ghost use Rattle.model.specs.Edges.{StrangersAreRefusedFirst};
 
 /// A lock row with an empty value, and the outcomes under the lock.
 pub fn lock_edges()
@@ -31,11 +33,14 @@ pub fn stamp_edges()
     ensures numbers { EachStampHasItsNumber }
 {}
 
-/// The owners, the oldest version, the shares, the requests and the journal row of one record.
+/// The dates of moves, and the owners, the oldest version, the shares, the resolvers asked, the
+/// requests and the journal row of one record.
 pub fn record_edges()
+    ensures dates { TheDatesOfMoves }
     ensures owners { TheOwnersAfterAMove }
     ensures oldest { TheOldestVersionOfARecord }
     ensures shares { TheSharesOfARecord }
+    ensures three_resolvers { TheResolversAskedOfThree }
     ensures requests { TheRequestsForARecord }
     ensures journal_row { TheJournalRowOfARecord }
 {}
@@ -52,6 +57,7 @@ pub fn missing_edges()
 pub fn refusal_edges()
     ensures repeat { ARepeatGetsTheSameReply }
     ensures unknown_row { AnUnknownRowIsRefusedFirst }
+    ensures strangers { StrangersAreRefusedFirst }
     ensures missing { TheFirstMissingReply }
     ensures limits { TheLimitsOfACluster }
 {}

@@ -4,6 +4,7 @@
 
 ghost use Rattle.std.specs.Prelude.{◌≡◌, IfOk};
 
+use crate::numbers::Version;
 use crate::verdict::Verdict;
 use system_keys::{Change, Items, OutOfMemory};
 
@@ -31,7 +32,7 @@ impl StateTxn {
 #[derive(Clone, Debug, Drop)]
 pub struct JournalRow {
     /// The version of the batch.
-    pub version: u64,
+    pub version: Version,
     /// Its state transactions; a batch may have none.
     pub states: Items<StateTxn>,
 }

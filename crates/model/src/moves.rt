@@ -4,6 +4,7 @@
 
 ghost use Rattle.std.specs.Prelude.{◌≡◌, IfOk};
 
+use crate::numbers::{ResolverNumber, Version};
 use system_keys::{KeyRange, OutOfMemory};
 
 /// From version `date` on, the keys of `range` belong to resolver `dest`.
@@ -12,9 +13,9 @@ pub struct Move {
     /// The keys that move.
     pub range: KeyRange,
     /// The first version at which they belong to `dest`.
-    pub date: u64,
+    pub date: Version,
     /// The number of the resolver that they move to.
-    pub dest: usize,
+    pub dest: ResolverNumber,
 }
 
 impl Move {

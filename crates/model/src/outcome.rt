@@ -5,6 +5,7 @@
 
 ghost use Rattle.std.specs.Prelude.{◌≡◌, IfOk};
 
+use crate::numbers::{RowNumber, TransactionNumber, Version};
 use system_keys::{Change, Items, OutOfMemory, Tag};
 
 /// The outcome of a transaction, which its client gets. *Profile*: Locked is a separate outcome.
@@ -13,9 +14,9 @@ pub enum Outcome {
     /// The transaction is committed.
     Committed {
         /// The version of its batch.
-        version: u64,
+        version: Version,
         /// Its number in the batch, from 0.
-        number: usize,
+        number: TransactionNumber,
     },
     /// Some resolver's verdict is Conflict.
     Conflict,
@@ -38,7 +39,7 @@ impl Outcome {
 #[derive(Clone, Debug, Drop)]
 pub struct Tagged {
     /// The number of the transaction in its batch, from 0.
-    pub number: usize,
+    pub number: TransactionNumber,
     /// The place of the mutation in its transaction, from 0.
     pub place: usize,
     /// The mutation, with its versionstamp filled in.
@@ -60,9 +61,9 @@ impl Tagged {
 #[derive(Clone, Debug, Drop)]
 pub struct Finished {
     /// The row of its record, from 0.
-    pub row: usize,
+    pub row: RowNumber,
     /// The version of its record.
-    pub version: u64,
+    pub version: Version,
     /// One outcome for each transaction, in order.
     pub outcomes: Items<Outcome>,
     /// Each mutation of each committed transaction, in order.

@@ -4,6 +4,7 @@
 
 ghost use Rattle.std.specs.Prelude.{◌≡◌, IfOk};
 
+use crate::numbers::{TransactionNumber, Version};
 use system_keys::{Items, KeyRange, OutOfMemory};
 
 /// One transaction of a resolver's share: its number in the batch, its snapshot, and those of its
@@ -11,9 +12,9 @@ use system_keys::{Items, KeyRange, OutOfMemory};
 #[derive(Clone, Debug, Drop)]
 pub struct Part {
     /// The number of the transaction in its batch, from 0.
-    pub number: usize,
+    pub number: TransactionNumber,
     /// The version at which the transaction read.
-    pub snapshot: u64,
+    pub snapshot: Version,
     /// The ranges read that the resolver gets.
     pub reads: Items<KeyRange>,
     /// The ranges written that the resolver gets.

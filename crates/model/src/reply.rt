@@ -4,6 +4,7 @@
 
 ghost use Rattle.std.specs.Prelude.{◌≡◌, IfOk};
 
+use crate::numbers::{ProxyNumber, ResolverNumber, RowNumber, Version};
 use crate::unseen::UnseenRow;
 use crate::verdict::Verdict;
 use system_keys::{Items, OutOfMemory};
@@ -12,13 +13,13 @@ use system_keys::{Items, OutOfMemory};
 #[derive(Clone, Debug, Drop)]
 pub struct Reply {
     /// The resolver that replies.
-    pub resolver: usize,
+    pub resolver: ResolverNumber,
     /// The proxy that sent the request.
-    pub proxy: usize,
+    pub proxy: ProxyNumber,
     /// The row of the record.
-    pub row: usize,
+    pub row: RowNumber,
     /// The version of the record.
-    pub version: u64,
+    pub version: Version,
     /// One verdict for each transaction of the share, in order.
     pub verdicts: Items<Verdict>,
     /// The rows that the proxy has not seen, in the order of their versions.

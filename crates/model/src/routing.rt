@@ -5,6 +5,7 @@
 
 ghost use Rattle.std.specs.Prelude.{◌≡◌, IfOk};
 
+use crate::numbers::Version;
 use system_keys::{Bytes, Items, OutOfMemory, Tag};
 
 /// One keyServers row: the keys from `key` up to the key of the next route have these tags.
@@ -29,7 +30,7 @@ impl Route {
 #[derive(Clone, Debug, Drop)]
 pub struct Routing {
     /// The version.
-    pub version: u64,
+    pub version: Version,
     /// Whether the database is locked.
     pub locked: bool,
     /// The value of the metadata version row, if there is one.

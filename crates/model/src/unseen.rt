@@ -4,6 +4,7 @@
 
 ghost use Rattle.std.specs.Prelude.{◌≡◌, IfOk};
 
+use crate::numbers::{TransactionNumber, Version};
 use crate::verdict::Verdict;
 use std::alloc::AllocError;
 use system_keys::{Change, Items, OutOfMemory};
@@ -30,7 +31,7 @@ impl Carried {
 #[derive(Clone, Debug, Drop)]
 pub struct StateMark {
     /// The number of the transaction in its batch, from 0.
-    pub number: usize,
+    pub number: TransactionNumber,
     /// Its content in the request to resolver 0, and None in the others.
     pub carried: Option<Carried>,
 }
@@ -67,7 +68,7 @@ impl UnseenState {
 #[derive(Debug, Drop)]
 pub struct UnseenRow {
     /// The version of the batch.
-    pub version: u64,
+    pub version: Version,
     /// Its state transactions, in the order of their batch.
     pub states: Items<UnseenState>,
 }

@@ -3,6 +3,7 @@
 ghost use Rattle.std.specs.Prelude.{◌≡◌, None, IfOk};
 
 use crate::stamped::{Stamped, stamped_changes};
+use model::{TransactionNumber, Version};
 use std::alloc::Global;
 use std::marker::Model;
 use system_keys::{Bytes, Items, KeyRange, OutOfMemory};
@@ -44,7 +45,7 @@ impl AdmittedMutation {
 /// profile).
 #[derive(Clone, Debug, Drop)]
 pub struct Admitted {
-    snapshot: u64,
+    snapshot: Version,
     reads: Items<KeyRange>,
     writes: Items<KeyRange>,
     mutations: Items<AdmittedMutation>,
@@ -85,7 +86,7 @@ impl Admitted {
 
     /// Returns the transaction of these parts. Does not allocate.
     pub(crate) fn of_parts(
-        snapshot: u64,
+        snapshot: Version,
         reads: Vec<KeyRange>,
         writes: Vec<KeyRange>,
         mutations: Vec<AdmittedMutation>,
@@ -116,7 +117,7 @@ impl Admitted {
     }
 
     /// The version that it read at.
-    pub fn snapshot(&self) -> u64
+    pub fn snapshot(&self) -> Version
         ensures { result ≡ self.now.snapshot }
     {
         self.snapshot
@@ -159,8 +160,8 @@ impl Admitted {
     pub fn stamped(
         &self,
         alloc: Global,
-        version: u64,
-        number: usize,
+        version: Version,
+        number: TransactionNumber,
     ) -> Result<Stamped, OutOfMemory>
         ensures { IfOk result (λ transaction. transaction ≡ stamped version number self.now) }
     {

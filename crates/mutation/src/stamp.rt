@@ -8,6 +8,7 @@ ghost use Rattle.std.specs.Prelude.{◌≡◌, ◌<◌, ◌^◌, length, IfOk, I
 ghost use Rattle.model.specs.Stamps.{little_endian, stamp, stamped_value};
 ghost use Rattle.mutation.specs.Faults.{has_place};
 
+use model::{TransactionNumber, Version};
 use std::alloc::Global;
 use system_keys::OutOfMemory;
 
@@ -31,8 +32,8 @@ pub(crate) fn has_place(value: &[u8]) -> bool
 /// Returns the value with its stamp in.
 pub(crate) fn stamped_value(
     alloc: Global,
-    version: u64,
-    number: usize,
+    version: Version,
+    number: TransactionNumber,
     value: &[u8],
 ) -> Result<Vec<u8>, OutOfMemory>
     requires { IsTrue (has_place value.now) }
@@ -61,7 +62,7 @@ fn little_endian(bytes: &[u8]) -> usize
 
 /// The stamp of transaction `number` in the batch of `version`. It holds the low two bytes of a
 /// number above 65,535.
-fn stamp(version: u64, number: usize) -> [u8; 10]
+fn stamp(version: Version, number: TransactionNumber) -> [u8; 10]
     ensures { result ≡ stamp version number }
 {
     let [a, b, c, d, e, f, g, h] = version.to_be_bytes();

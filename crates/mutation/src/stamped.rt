@@ -1,21 +1,24 @@
 //! Transactions with their stamps in.
 
-ghost use Rattle.std.specs.Prelude.{◌≡◌, None, map, IfOk};
+ghost use Rattle.std.specs.Prelude.{◌≡◌, None, filter, map, IfOk};
+ghost use Rattle.system_keys.specs.Changes.{is_state};
 ghost use Rattle.model.specs.Stamps.{stamped_mutation};
+ghost use Rattle.model.specs.Transactions.{is_state_transaction};
 ghost use Rattle.mutation.specs.Admitted.{from_admitted};
 ghost use Rattle.mutation.specs.Faults.{first_fault, fault_of_mutation};
 
 use crate::admitted::AdmittedMutation;
 use crate::stamp::stamped_value;
+use model::{TransactionNumber, Version};
 use std::alloc::Global;
 use std::marker::Model;
-use system_keys::{Bytes, Change, Items, KeyRange, OutOfMemory};
+use system_keys::{Bytes, Change, Items, KeyRange, OutOfMemory, is_state};
 
 /// A transaction with its stamps in, and so with changes alone (release 7.1). It is within every
 /// limit.
 #[derive(Clone, Debug, Drop)]
 pub struct Stamped {
-    snapshot: u64,
+    snapshot: Version,
     reads: Items<KeyRange>,
     writes: Items<KeyRange>,
     changes: Items<Change>,
@@ -51,7 +54,7 @@ impl Stamped {
 
     /// Returns the transaction of these parts. Does not allocate.
     pub(crate) fn of_parts(
-        snapshot: u64,
+        snapshot: Version,
         reads: Items<KeyRange>,
         writes: Items<KeyRange>,
         changes: Vec<Change>,
@@ -82,7 +85,7 @@ impl Stamped {
     }
 
     /// The version that it read at.
-    pub fn snapshot(&self) -> u64
+    pub fn snapshot(&self) -> Version
         ensures { result ≡ self.now.snapshot }
     {
         self.snapshot
@@ -112,6 +115,26 @@ impl Stamped {
         self.changes.as_slice()
     }
 
+    /// Whether it is a state transaction: whether it changes the metadata. Does not allocate.
+    pub fn is_state(&self) -> bool
+        ensures { result ≡ is_state_transaction self.now }
+    {
+        self.changes().iter().any(|change| is_state(change))
+    }
+
+    /// Copies of its changes that change the metadata, in order. Fails only with `OutOfMemory`.
+    pub fn state_mutations(&self, alloc: Global) -> Result<Items<Change>, OutOfMemory>
+        ensures { IfOk result (λ mutations. mutations ≡ filter is_state self.now.changes) }
+    {
+        let mut mutations = Vec::new(alloc);
+        for change in self.changes() {
+            if is_state(change) {
+                mutations.push(change.copy()?)?;
+            }
+        }
+        Ok(Items::from(mutations))
+    }
+
     /// Whether it may commit while the database is locked.
     pub fn lock_aware(&self) -> bool
         ensures { result ≡ self.now.lock_aware }
@@ -130,8 +153,8 @@ impl Stamped {
 /// The changes of some admitted mutations of transaction `number` in the batch of `version`.
 pub(crate) fn stamped_changes(
     alloc: Global,
-    version: u64,
-    number: usize,
+    version: Version,
+    number: TransactionNumber,
     mutations: &[AdmittedMutation],
 ) -> Result<Vec<Change>, OutOfMemory>
     requires { first_fault fault_of_mutation (map from_admitted mutations.now) ≡ None }
@@ -148,8 +171,8 @@ pub(crate) fn stamped_changes(
 /// The change of an admitted mutation of transaction `number` in the batch of `version`.
 fn stamped_change(
     alloc: Global,
-    version: u64,
-    number: usize,
+    version: Version,
+    number: TransactionNumber,
     mutation: &AdmittedMutation,
 ) -> Result<Change, OutOfMemory>
     requires { fault_of_mutation (from_admitted mutation.now) ≡ None }

@@ -2,6 +2,7 @@
 
 ghost use Rattle.std.specs.Prelude.{◌≡◌, IfOk};
 
+use model::Version;
 use system_keys::{Bytes, Items, OutOfMemory};
 
 /// A range of keys as given: from `begin` up to `end`, without `end`. Nothing is checked.
@@ -62,7 +63,7 @@ impl Mutation {
 #[derive(Clone, Debug, Drop)]
 pub struct Transaction {
     /// The version that it read at.
-    pub snapshot: u64,
+    pub snapshot: Version,
     /// The ranges that it read.
     pub reads: Items<GivenRange>,
     /// The ranges that it wants to write.

@@ -5,7 +5,7 @@ use Rattle.model.specs.Configs.{Config}
 use Rattle.model.specs.Records.{Record}
 use Rattle.model.specs.Transactions.{Transaction}
 use Rattle.model.specs.Shares.{share, share_back_to, parts_from, part_of, asks, asked, each_below}
-use Rattle.model.proofs.HistoryLaws.{Has-each_below}
+use Rattle.model.proofs.History.Growth.{Has-each_below}
 use Rattle.model.proofs.Members.{list_any-from_Has, Passing-from_list_any, Has-filter, Has-from_filter}
 use Rattle.proxy_state.specs.Learning.{is_in, part_count}
 

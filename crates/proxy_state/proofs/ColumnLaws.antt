@@ -12,7 +12,7 @@ use Rattle.model.specs.Shares.{share_back_to, parts_from, part_of, asks, asked}
 use Rattle.model.specs.Journal.{verdict_at, AgreeOn}
 use Rattle.model.specs.Outcomes.{outcome, joined_verdict, outcomes_from}
 use Rattle.model.specs.Finishing.{Replies, reply_from, verdicts_of_reply, replied_verdicts}
-use Rattle.model.proofs.ToldLaws.{slice_get-each_below}
+use Rattle.model.proofs.Journals.ReplyRows.{slice_get-each_below}
 use Rattle.proxy_state.specs.Learning.{first_verdict, column_by, columns_of, by_columns}
 use Rattle.proxy_state.specs.Finishing.{outcomes_by}
 use Rattle.proxy_state.proofs.AskedParts.{is_in_asked}

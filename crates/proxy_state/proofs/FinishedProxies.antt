@@ -9,14 +9,14 @@ use Rattle.model.specs.declared.outcome.Finished.{Finished}
 use Rattle.model.specs.Records.{Record}
 use Rattle.model.specs.Shares.{asked}
 use Rattle.model.specs.Metadata.{Entries, metadata, after_journal_row, is_locked}
-use Rattle.model.specs.OwnerMaps.{Owned}
+use Rattle.model.specs.OwnerMaps.{OwnerMapView}
 use Rattle.model.specs.Journal.{AgreeOn, journal_row}
 use Rattle.model.specs.Outcomes.{outcomes_after}
 use Rattle.model.specs.World.{finished_after}
-use Rattle.model.specs.Finishing.{Follower, Replies, disagreements, told_rows, replied_verdicts, AgreeOnRows, HasFinished}
-use Rattle.model.proofs.AgreeingReplies.{agree_on_told}
-use Rattle.model.proofs.ShareLaws.{journal_row_alike}
-use Rattle.model.proofs.AlikeLaws.{finished_after_alike}
+use Rattle.model.specs.Finishing.{ProxyView, Replies, disagreements, told_rows, replied_verdicts, AgreeOnRows, HasFinished}
+use Rattle.model.proofs.Proxies.AgreeingReplies.{agree_on_told}
+use Rattle.model.proofs.Shares.Askers.{journal_row_alike}
+use Rattle.model.proofs.Agreement.AgreeingSources.{finished_after_alike}
 use Rattle.proxy_state.specs.declared.begun.BegunRecord.{BegunRecord}
 use Rattle.proxy_state.specs.declared.learned.Learned.{Learned}
 use Rattle.proxy_state.specs.Begun.{record_of, AreBegun, IsKept}
@@ -30,7 +30,7 @@ none_disagrees : (versions : List ℕ) → slice_get versions 0 ≡ None → ver
 none_disagrees [] none = refl
 none_disagrees (version ∷ versions) none = absurd (cc)
 
-pub replied_first : (config : Config) (owned : Owned) (version last : ℕ) (begun : List BegunRecord) (journal : List JournalRow) (entries : Entries) (v : Follower) (replies : Replies) (one : BegunRecord)
+pub replied_first : (config : Config) (owned : OwnerMapView) (version last : ℕ) (begun : List BegunRecord) (journal : List JournalRow) (entries : Entries) (v : ProxyView) (replies : Replies) (one : BegunRecord)
     → IsKept config owned version last begun journal entries → v.config ≡ config → v.version ≡ version → v.begun ≡ map record_of begun → 1 ≤ config.resolvers
     → slice_get begun 0 ≡ Some one → slice_get (disagreements config version one.rec replies) 0 ≡ None → IsReplied v replies one
 replied_first config owned version last [] journal entries v replies one kept same_config same_version same_begun some there none = absurd (cc)
@@ -45,7 +45,7 @@ replied_first config owned version last (first ∷ later) journal entries v repl
 
 -- ---- what the replies tell
 
-pub learned_from : (v : Follower) (config : Config) (replies : Replies) (one : BegunRecord) (learned : Learned)
+pub learned_from : (v : ProxyView) (config : Config) (replies : Replies) (one : BegunRecord) (learned : Learned)
     → IsReplied v replies one → config ≡ v.config → learned.told.items ≡ told_rows config.resolvers replies → learned.own ≡ journal_row config (by_columns learned.columns.items) one.rec
     → learned.columns.items ≡ columns_of config.resolvers one.asked replies → IsLearned v replies learned
 learned_from v config replies one learned replied same told own columns =
@@ -63,7 +63,7 @@ learned_from v config replies one learned replied same told own columns =
 -- ---- the proxy afterwards
 
 -- the calls by which a proxy finishes its earliest record
-pub record AreFinishing (v : Follower) (begun left : List BegunRecord) (grown : List JournalRow) (entries after : Entries) (one : BegunRecord) (learned : Learned) : Type 0 where
+pub record AreFinishing (v : ProxyView) (begun left : List BegunRecord) (grown : List JournalRow) (entries after : Entries) (one : BegunRecord) (learned : Learned) : Type 0 where
   pub some : 0 < length begun
   pub one_is : one ≡ slice_index_or begun 0 one
   pub left_is : left ≡ remove begun 0
@@ -78,11 +78,11 @@ metadata_told : (journal told : List JournalRow) → metadata (journal ++ told) 
 unfolding metadata
 metadata_told journal told = fold-append after_journal_row [] journal told
 
-metadata_after : (v : Follower) (begun left : List BegunRecord) (grown : List JournalRow) (entries after : Entries) (one : BegunRecord) (learned : Learned) → AreFinishing v begun left grown entries after one learned → entries ≡ metadata v.journal → after ≡ metadata grown
+metadata_after : (v : ProxyView) (begun left : List BegunRecord) (grown : List JournalRow) (entries after : Entries) (one : BegunRecord) (learned : Learned) → AreFinishing v begun left grown entries after one learned → entries ≡ metadata v.journal → after ≡ metadata grown
 metadata_after v begun left grown entries after one learned calls is =
     calls.after_is ∙ ap (λ (before : Entries). after_batch before learned) is ∙ sym (metadata_grown v.journal learned.told.items learned.own) ∙ ap metadata (sym calls.grown_is)
 
-pub kept_finish : (v : Follower) (owned : Owned) (version last next : ℕ) (begun left : List BegunRecord) (grown : List JournalRow) (entries after : Entries) (one : BegunRecord) (learned : Learned)
+pub kept_finish : (v : ProxyView) (owned : OwnerMapView) (version last next : ℕ) (begun left : List BegunRecord) (grown : List JournalRow) (entries after : Entries) (one : BegunRecord) (learned : Learned)
     → IsKept v.config owned version last begun v.journal entries → AreFinishing v begun left grown entries after one learned → next ≡ one.rec.version → IsKept v.config owned next last left grown after
 kept_finish v owned version last next [] left grown entries after one learned kept calls dated = absurd (omega (arith, calls.some))
 kept_finish v owned version last next (first ∷ later) left grown entries after one learned kept calls dated =
@@ -102,7 +102,7 @@ finished_columns config columns rec journal told own is =
     ∙ ap (λ (after : Entries). finished_by config columns (is_locked (metadata (journal ++ told))) after rec) (sym (metadata_grown journal told own))
     ∙ ap (λ (row : JournalRow). finished_by config columns (is_locked (metadata (journal ++ told))) (metadata ((journal ++ told) ++ row ∷ [])) rec) is
 
-first_of : (v : Follower) (begun left : List BegunRecord) (one : BegunRecord) (rec : Record) (rest : List Record) → 0 < length begun → one ≡ slice_index_or begun 0 one → left ≡ remove begun 0 → v.begun ≡ map record_of begun → v.begun ≡ rec ∷ rest → (one.rec ≡ rec) × (map record_of left ≡ rest)
+first_of : (v : ProxyView) (begun left : List BegunRecord) (one : BegunRecord) (rec : Record) (rest : List Record) → 0 < length begun → one ≡ slice_index_or begun 0 one → left ≡ remove begun 0 → v.begun ≡ map record_of begun → v.begun ≡ rec ∷ rest → (one.rec ≡ rec) × (map record_of left ≡ rest)
 first_of v [] left one rec rest some one_is left_is are is = absurd (omega (arith, some))
 first_of v (first ∷ later) left one rec rest some one_is left_is are is =
     let both : first.rec ∷ map record_of later ≡ rec ∷ rest = sym are ∙ is in
@@ -110,7 +110,7 @@ first_of v (first ∷ later) left one rec rest some one_is left_is are is =
     let tail : map record_of later ≡ rest = cc in
     (ap (λ (b : BegunRecord). b.rec) one_is ∙ head, ap (map record_of) left_is ∙ tail)
 
-pub has_finished : (v : Follower) (next : ℕ) (begun left : List BegunRecord) (grown : List JournalRow) (entries after : Entries) (one : BegunRecord) (learned : Learned) (replies : Replies) (finished : Finished)
+pub has_finished : (v : ProxyView) (next : ℕ) (begun left : List BegunRecord) (grown : List JournalRow) (entries after : Entries) (one : BegunRecord) (learned : Learned) (replies : Replies) (finished : Finished)
     → AreFinishing v begun left grown entries after one learned → v.begun ≡ map record_of begun → entries ≡ metadata v.journal → next ≡ one.rec.version → IsLearned v replies learned
     → finished ≡ finished_by v.config learned.columns.items (is_locked (after_told entries learned)) after one.rec
     → HasFinished v (record v { begun = map record_of left; version = next; journal = grown }) replies finished

@@ -8,8 +8,8 @@ use Rattle.model.specs.declared.journal.JournalRow.{JournalRow}
 use Rattle.model.specs.Records.{Record}
 use Rattle.model.specs.Shares.{asked, asked_back_to}
 use Rattle.model.specs.Metadata.{Entries, metadata}
-use Rattle.model.specs.OwnerMaps.{Owned, StandsForMoves}
-use Rattle.model.specs.Finishing.{Follower, MayBegin, MayBeMade}
+use Rattle.model.specs.OwnerMaps.{OwnerMapView, StandsForMoves}
+use Rattle.model.specs.Finishing.{ProxyView, MayBegin, MayBeMade}
 use Rattle.dated_owners.specs.Answers.{KeepsMoves}
 use Rattle.proxy_state.specs.declared.begun.BegunRecord.{BegunRecord}
 use Rattle.proxy_state.specs.Begun.{FollowsOwn, AreBegun, IsKept}
@@ -17,7 +17,7 @@ use Rattle.proxy_state.specs.Beginning.{MayGain, HasGained, IsMapFor}
 
 -- ---- at the start, and in a copy
 
-pub kept_start : (config : Config) (owned : Owned) (begun : List BegunRecord) (journal : List JournalRow) (entries : Entries) → owned.resolvers ≡ config.resolvers → owned.oldest ≡ 0 → begun ≡ [] → journal ≡ [] → entries ≡ [] → IsKept config owned 0 0 begun journal entries
+pub kept_start : (config : Config) (owned : OwnerMapView) (begun : List BegunRecord) (journal : List JournalRow) (entries : Entries) → owned.resolvers ≡ config.resolvers → owned.oldest ≡ 0 → begun ≡ [] → journal ≡ [] → entries ≡ [] → IsKept config owned 0 0 begun journal entries
 unfolding metadata
 kept_start config owned begun journal entries resolvers none no_begun no_journal no_entries =
     record {
@@ -27,7 +27,7 @@ kept_start config owned begun journal entries resolvers none no_begun no_journal
       remembered = omega (arith, none);
     }
 
-pub kept_copy : (config : Config) (owned other : Owned) (version last : ℕ) (begun begun_copy : List BegunRecord) (journal journal_copy : List JournalRow) (entries entries_copy : Entries) → IsKept config owned version last begun journal entries → other ≡ owned → begun_copy ≡ begun → journal_copy ≡ journal → entries_copy ≡ entries → IsKept config other version last begun_copy journal_copy entries_copy
+pub kept_copy : (config : Config) (owned other : OwnerMapView) (version last : ℕ) (begun begun_copy : List BegunRecord) (journal journal_copy : List JournalRow) (entries entries_copy : Entries) → IsKept config owned version last begun journal entries → other ≡ owned → begun_copy ≡ begun → journal_copy ≡ journal → entries_copy ≡ entries → IsKept config other version last begun_copy journal_copy entries_copy
 kept_copy config owned other version last begun begun_copy journal journal_copy entries entries_copy kept same_owned same_begun same_journal same_entries =
     rw (same_owned, same_begun, same_journal, same_entries) kept
 
@@ -43,7 +43,7 @@ pub begun_push : (config : Config) (version last : ℕ) (begun : List BegunRecor
 begun_push config version last [] next same follows asking = (subst (λ (v : ℕ). FollowsOwn config v next.rec) same follows, asking, refl)
 begun_push config version last (x ∷ begun) next chain follows asking = (chain.0, chain.1, begun_push config x.rec.version last begun next chain.2 follows asking)
 
-pub kept_begin : (config : Config) (owned after : Owned) (version last : ℕ) (begun : List BegunRecord) (next : BegunRecord) (journal : List JournalRow) (entries : Entries) → IsKept config owned version last begun journal entries → FollowsOwn config last next.rec → next.asked ≡ map (asked config next.rec) next.rec.batch → IsMapFor config next.rec after → IsKept config after version next.rec.version (begun ++ next ∷ []) journal entries
+pub kept_begin : (config : Config) (owned after : OwnerMapView) (version last : ℕ) (begun : List BegunRecord) (next : BegunRecord) (journal : List JournalRow) (entries : Entries) → IsKept config owned version last begun journal entries → FollowsOwn config last next.rec → next.asked ≡ map (asked config next.rec) next.rec.batch → IsMapFor config next.rec after → IsKept config after version next.rec.version (begun ++ next ∷ []) journal entries
 kept_begin config owned after version last begun next journal entries kept follows asking is =
     let old = is.oldest in
     let step = follows.step in
@@ -54,7 +54,7 @@ kept_begin config owned after version last begun next journal entries kept follo
       remembered = omega (arith, old, step);
     }
 
-pub kept_begun : (config : Config) (owned after : Owned) (version last new_version : ℕ) (begun grown : List BegunRecord) (next : BegunRecord) (rec : Record) (lists : List (List ℕ)) (journal : List JournalRow) (entries : Entries)
+pub kept_begun : (config : Config) (owned after : OwnerMapView) (version last new_version : ℕ) (begun grown : List BegunRecord) (next : BegunRecord) (rec : Record) (lists : List (List ℕ)) (journal : List JournalRow) (entries : Entries)
     → IsKept config owned version last begun journal entries → rec.own_previous ≡ last → rec.own_previous ≤ rec.previous → rec.version ≡ rec.previous + config.step → next.rec ≡ rec → next.asked ≡ lists
     → (StandsForMoves after rec.moves → lists ≡ map (asked_back_to after.oldest after.resolvers rec) rec.batch) → IsMapFor config rec after → grown ≡ begun ++ next ∷ [] → new_version ≡ rec.version
     → IsKept config after version new_version grown journal entries
@@ -68,7 +68,7 @@ kept_begun config owned after version last new_version begun grown next rec list
 
 -- ---- the moves of a record that may begin
 
-pub may_gain : (v : Follower) (rec : Record) → v.owned.resolvers ≡ v.config.resolvers → MayBegin v rec → MayGain v.owned (drop v.moved rec.moves)
+pub may_gain : (v : ProxyView) (rec : Record) → v.owned.resolvers ≡ v.config.resolvers → MayBegin v rec → MayGain v.owned (drop v.moved rec.moves)
 may_gain v rec resolvers may =
     record {
       held = may.moves;
@@ -76,19 +76,19 @@ may_gain v rec resolvers may =
       may = subst (λ (n : ℕ). MayBeMade v.owned.resolvers v.owned.last_date (drop n rec.moves)) (sym may.holds.count) (subst (λ (r : ℕ). MayBeMade r v.owned.last_date (drop (length may.moves) rec.moves)) (sym resolvers) may.further_moves);
     }
 
-pub all_moves : (v : Follower) (rec : Record) (after : Owned) → MayBegin v rec → HasGained v.owned (drop v.moved rec.moves) after → StandsForMoves after rec.moves
+pub all_moves : (v : ProxyView) (rec : Record) (after : OwnerMapView) → MayBegin v rec → HasGained v.owned (drop v.moved rec.moves) after → StandsForMoves after rec.moves
 all_moves v rec after may gained =
     let moves : may.moves ++ drop v.moved rec.moves ≡ rec.moves =
     ap (λ (n : ℕ). may.moves ++ drop n rec.moves) may.holds.count ∙ ap (λ (ms : List Move). ms ++ drop (length may.moves) rec.moves) (sym may.kept_moves) ∙ take-append-drop (length may.moves) rec.moves in
     subst (StandsForMoves after) moves (gained.stands may.moves may.holds.stands)
 
-pub moves_within : (v : Follower) (rec : Record) → MayBegin v rec → v.moved ≤ length rec.moves
+pub moves_within : (v : ProxyView) (rec : Record) → MayBegin v rec → v.moved ≤ length rec.moves
 moves_within v rec may =
     let kept : length (take (length may.moves) rec.moves) ≡ length may.moves = ap (λ (ms : List Move). length ms) may.kept_moves in
     let size = length-take (length may.moves) rec.moves in
     omega (arith, kept, size, may.holds.count)
 
-pub map_for : (v : Follower) (rec : Record) (between after : Owned) → v.owned.resolvers ≡ v.config.resolvers → v.owned.oldest ≤ v.last_begun - v.config.window → rec.own_previous ≡ v.last_begun → MayBegin v rec → HasGained v.owned (drop v.moved rec.moves) between
+pub map_for : (v : ProxyView) (rec : Record) (between after : OwnerMapView) → v.owned.resolvers ≡ v.config.resolvers → v.owned.oldest ≤ v.last_begun - v.config.window → rec.own_previous ≡ v.last_begun → MayBegin v rec → HasGained v.owned (drop v.moved rec.moves) between
     → KeepsMoves between after → after.resolvers ≡ between.resolvers → after.oldest ≡ max between.oldest (rec.previous - v.config.window) → IsMapFor v.config rec after
 map_for v rec between after resolvers remembered own may gained keeps same forgotten =
     let before : between.oldest ≡ v.owned.oldest = gained.oldest in

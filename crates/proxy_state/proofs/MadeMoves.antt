@@ -2,23 +2,23 @@
 use Rattle.std.proofs.Common.{◌≡◌, refl, sym, ap, ◌∙◌, subst, ℕ, zero, suc, length, take, drop, get_or, ◌<◌, List, [], ◌∷◌, ◌++◌, append_assoc, append-nil, None, false, nat_le, nat_lt, arith}
 use Rattle.std.proofs.lemmas.Bool.{lt-leb, le-ltb}
 use Rattle.model.specs.declared.moves.Move.{Move}
-use Rattle.model.specs.OwnerMaps.{Owned, StandsForMoves}
+use Rattle.model.specs.OwnerMaps.{OwnerMapView, StandsForMoves}
 use Rattle.model.specs.Finishing.{MayBeMade}
-use Rattle.model.proofs.OwnerMapLaws.{last_date_more}
+use Rattle.model.proofs.Owners.Maps.{last_date_more}
 use Rattle.dated_owners.specs.Refusals.{move_fault}
 use Rattle.proxy_state.specs.Beginning.{MayGain, HasGained}
 
 -- a move that may be made has no fault
-pub may_move : (map : Owned) (m : Move) (moves : List Move) → MayGain map (m ∷ moves) → move_fault map m.date m.dest ≡ None
+pub may_move : (map : OwnerMapView) (m : Move) (moves : List Move) → MayGain map (m ∷ moves) → move_fault map m.date m.dest ≡ None
 may_move map m moves gain =
     let there : nat_le map.resolvers m.dest ≡ false = lt-leb map.resolvers m.dest gain.may.1 in
     let dated : nat_lt m.date map.last_date ≡ false = le-ltb m.date map.last_date gain.may.0 in
     rw (there, dated) refl
 
-pub gained_none : (map : Owned) → HasGained map [] map
+pub gained_none : (map : OwnerMapView) → HasGained map [] map
 gained_none map = record { stands = λ held stands. subst (StandsForMoves map) (sym (append-nil held)) stands; resolvers = refl; oldest = refl }
 
-pub gained_more : (before between after : Owned) (moves : List Move) (m : Move) → HasGained before moves between → HasGained between (m ∷ []) after → HasGained before (moves ++ m ∷ []) after
+pub gained_more : (before between after : OwnerMapView) (moves : List Move) (m : Move) → HasGained before moves between → HasGained between (m ∷ []) after → HasGained before (moves ++ m ∷ []) after
 gained_more before between after moves m first next =
     record {
       stands = λ held stands. subst (StandsForMoves after) (append_assoc held moves (m ∷ [])) (next.stands (held ++ moves) (first.stands held stands));
@@ -26,7 +26,7 @@ gained_more before between after moves m first next =
       oldest = next.oldest ∙ first.oldest;
     }
 
-pub may_next : (map after : Owned) (m : Move) (moves : List Move) → MayGain map (m ∷ moves) → HasGained map (m ∷ []) after → MayGain after moves
+pub may_next : (map after : OwnerMapView) (m : Move) (moves : List Move) → MayGain map (m ∷ moves) → HasGained map (m ∷ []) after → MayGain after moves
 may_next map after m moves gain gained =
     let stands = gained.stands gain.held gain.stands in
     let date : after.last_date ≡ m.date = stands.last ∙ last_date_more 0 gain.held m in

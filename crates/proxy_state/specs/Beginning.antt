@@ -7,8 +7,8 @@ use Rattle.model.specs.declared.journal.JournalRow.{JournalRow}
 use Rattle.model.specs.Records.{Record, oldest}
 use Rattle.model.specs.Shares.{each_below}
 use Rattle.model.specs.Requests.{Request, request}
-use Rattle.model.specs.OwnerMaps.{Owned, StandsForMoves}
-use Rattle.model.specs.Finishing.{Follower, MayBeMade}
+use Rattle.model.specs.OwnerMaps.{OwnerMapView, StandsForMoves}
+use Rattle.model.specs.Finishing.{ProxyView, MayBeMade}
 use Rattle.proxy_state.specs.declared.refusal.Refusal.{Refusal}
 use Rattle.proxy_state.specs.declared.refusal.Refusal.TheVariants.{NotMine, OutOfOrder, OutOfMemory}
 
@@ -18,14 +18,14 @@ refusal_fault OutOfMemory = None
 refusal_fault refusal = Some refusal
 
 -- the first fault of a record that is to begin
-abbrev pub begin_fault : Follower → Record → Option Refusal
+abbrev pub begin_fault : ProxyView → Record → Option Refusal
 begin_fault v rec =
     if not (nat_eq rec.proxy v.number) then Some NotMine
     else if not (nat_eq rec.own_previous v.last_begun) then Some (OutOfOrder v.last_begun)
     else None
 
 -- the requests for a record, one to each resolver
-abbrev pub requests_for : Follower → Record → List Request
+abbrev pub requests_for : ProxyView → Record → List Request
 requests_for v rec = map (request v.config rec v.version) (each_below v.config.resolvers)
 
 -- the rows of a journal up to a version
@@ -40,20 +40,20 @@ IsFirst records rec = (rest : List Record) × (records ≡ rec ∷ rest)
 -- ---- the map of owners
 
 -- these moves may be made in the map, which stands for some moves
-pub record MayGain (map : Owned) (moves : List Move) : Type 0 where
+pub record MayGain (map : OwnerMapView) (moves : List Move) : Type 0 where
   pub held : List Move
   pub stands : StandsForMoves map held
   pub may : MayBeMade map.resolvers map.last_date moves
 
 -- the map has gained these moves, and has as many resolvers and the same oldest version as before
-pub record HasGained (before : Owned) (moves : List Move) (after : Owned) : Type 0 where
+pub record HasGained (before : OwnerMapView) (moves : List Move) (after : OwnerMapView) : Type 0 where
   pub stands :
       (held : List Move) → StandsForMoves before held → StandsForMoves after (held ++ moves)
   pub resolvers : after.resolvers ≡ before.resolvers
   pub oldest : after.oldest ≡ before.oldest
 
 -- the map stands for the moves of the record, and remembers owners as far back as the record asks
-pub record IsMapFor (config : Config) (rec : Record) (map : Owned) : Type 0 where
+pub record IsMapFor (config : Config) (rec : Record) (map : OwnerMapView) : Type 0 where
   pub stands : StandsForMoves map rec.moves
   pub resolvers : map.resolvers ≡ config.resolvers
   pub oldest : map.oldest ≡ oldest config rec

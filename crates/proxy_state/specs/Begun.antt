@@ -7,7 +7,7 @@ use Rattle.model.specs.declared.journal.JournalRow.{JournalRow}
 use Rattle.model.specs.Records.{Record}
 use Rattle.model.specs.Shares.{asked}
 use Rattle.model.specs.Metadata.{Entries, metadata}
-use Rattle.model.specs.OwnerMaps.{Owned}
+use Rattle.model.specs.OwnerMaps.{OwnerMapView}
 use Rattle.proxy_state.specs.declared.begun.BegunRecord.{BegunRecord}
 
 -- the record of a begun record
@@ -32,7 +32,7 @@ AreBegun config version last (begun ∷ later) =
 -- What the type of a proxy keeps: its metadata is that of its journal, its begun records follow one
 -- another, and its map of owners has the resolvers of the cluster and remembers far enough back.
 pub record IsKept
-    (config : Config) (owned : Owned) (version last : Version) (begun : List BegunRecord)
+    (config : Config) (owned : OwnerMapView) (version last : Version) (begun : List BegunRecord)
     (journal : List JournalRow) (entries : Entries) : Type 0 where
   pub metadata_is : entries ≡ metadata journal
   pub chain : AreBegun config version last begun

@@ -1,6 +1,6 @@
 -- Which replies a proxy refuses to finish a record by (this project's profile), and the finished
 -- batch by the verdicts of columns.
-use Rattle.std.specs.Prelude.{◌≡◌, ℕ, suc, List, [], ◌∷◌, map, fold, Bool, Option, Some, None}
+use Rattle.std.specs.Prelude.{◌≡◌, ℕ, suc, List, [], ◌∷◌, map, Bool, Option, Some, None}
 use Rattle.model.specs.Numbers.{Version, TransactionNumber}
 use Rattle.model.specs.Configs.{Config}
 use Rattle.model.specs.declared.verdict.Verdict.{Verdict}
@@ -9,14 +9,14 @@ use Rattle.model.specs.declared.outcome.Finished.{Finished}
 use Rattle.model.specs.Transactions.{Transaction}
 use Rattle.model.specs.Records.{Record}
 use Rattle.model.specs.Verdicts.{joined}
-use Rattle.model.specs.declared.journal.JournalRow.{JournalRow}
 use Rattle.model.specs.Metadata.{Entries, after_journal_row}
 use Rattle.model.specs.Outcomes.{outcome_by, is_refused, outcomes_from}
 use Rattle.model.specs.World.{tagged_all}
 use Rattle.model.specs.Journal.{journal_row, AgreeOn}
-use Rattle.model.specs.Finishing.{Follower, Replies, unreplied, disagreements, told_rows}
+use Rattle.model.specs.Finishing.{ProxyView, Replies, unreplied, disagreements, told_rows}
 use Rattle.model.specs.Finishing.{replied_verdicts, AgreeOnRows}
-use Rattle.proxy_state.specs.Learning.{IsAsking, by_columns}
+use Rattle.metadata.specs.Started.{after_rows}
+use Rattle.proxy_state.specs.Learning.{AskedAreKept, by_columns}
 use Rattle.proxy_state.specs.declared.begun.BegunRecord.{BegunRecord}
 use Rattle.proxy_state.specs.declared.learned.Learned.{Learned}
 use Rattle.proxy_state.specs.declared.refusal.Refusal.{Refusal}
@@ -31,7 +31,7 @@ replies_fault [] (version ∷ later) = Some (RepliesDisagree version)
 replies_fault [] [] = None
 
 -- the fault of replies by which a proxy is to finish the first of these records
-abbrev pub fault_for : Follower → Replies → (begun : List Record) → Option Refusal
+abbrev pub fault_for : ProxyView → Replies → (begun : List Record) → Option Refusal
 fault_for v replies [] = Some (OutOfTurn None)
 fault_for v replies (rec ∷ rest) =
     replies_fault (unreplied v.config.resolvers replies) (disagreements v.config v.version rec replies)
@@ -39,23 +39,23 @@ fault_for v replies (rec ∷ rest) =
 -- The first fault of replies by which a proxy is to finish its earliest record: it has begun none; or
 -- else a resolver has not replied, and the least such one is named; or else the replies disagree, and
 -- the first version at which they do is named.
-abbrev pub finish_fault : Follower → Replies → Option Refusal
+abbrev pub finish_fault : ProxyView → Replies → Option Refusal
 finish_fault v replies = fault_for v replies v.begun
 
 -- ---- the earliest record
 
 -- the begun record is the earliest of the proxy, beside it are the resolvers that it asks, and the
 -- replies to it agree on the rows that they tell
-pub record IsReplied (v : Follower) (replies : Replies) (begun : BegunRecord) : Type 0 where
+pub record IsReplied (v : ProxyView) (replies : Replies) (begun : BegunRecord) : Type 0 where
   pub rest : List Record
   pub begun_is : v.begun ≡ begun.rec ∷ rest
-  pub asking : IsAsking v.config begun
+  pub asking : AskedAreKept v.config begun
   pub agree :
       AgreeOnRows v.config v.version begun.rec replies (told_rows v.config.resolvers replies)
 
 -- what the replies to the earliest record of the proxy tell: the rows that it has not seen, on which
 -- they agree, and its own row by columns of verdicts that are those of the replies
-pub record IsLearned (v : Follower) (replies : Replies) (learned : Learned) : Type 0 where
+pub record IsLearned (v : ProxyView) (replies : Replies) (learned : Learned) : Type 0 where
   pub rec : Record
   pub rest : List Record
   pub begun_is : v.begun ≡ rec ∷ rest
@@ -97,10 +97,6 @@ finished_by config columns locked entries rec =
       outcomes = results;
       tagged = tagged_all entries rec.batch results;
     }
-
--- the metadata after some rows of the journal, one after another
-abbrev pub after_rows : Entries → List JournalRow → Entries
-after_rows entries rows = fold after_journal_row entries rows
 
 -- the metadata after the rows that the replies tell, and after the record's own row
 abbrev pub after_told : Entries → Learned → Entries

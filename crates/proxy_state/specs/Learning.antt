@@ -13,8 +13,8 @@ use Rattle.model.specs.declared.verdict.Verdict.TheVariants.{Conflict}
 use Rattle.proxy_state.specs.declared.begun.BegunRecord.{BegunRecord}
 
 -- beside the record stand the resolvers that it asks about each transaction
-abbrev pub IsAsking : Config → BegunRecord → Type 0
-IsAsking config begun = begun.asked ≡ map (asked config begun.rec) begun.rec.batch
+abbrev pub AskedAreKept : Config → BegunRecord → Type 0
+AskedAreKept config begun = begun.asked ≡ map (asked config begun.rec) begun.rec.batch
 
 -- the resolver is in the list
 abbrev pub is_in : (r : ℕ) → List ℕ → Bool

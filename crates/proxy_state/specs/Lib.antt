@@ -1,8 +1,12 @@
-pub mod Begun
-pub mod Beginning
-pub mod Finishing
-pub mod Learning
-pub mod MapEntries
-pub mod Overwrites
-pub mod OwnRoutes
+-- The definitions, in reading order.
+
+-- numbers, names, and the fault of a reply
 pub mod Refusals
+-- which records are refused, and what becomes of the map of owners
+pub mod Beginning
+-- what the type of a proxy keeps
+pub mod Begun
+-- what lists of asked resolvers say of shares, and columns of verdicts
+pub mod Learning
+-- which replies are refused, what they tell, and the finished batch by columns
+pub mod Finishing

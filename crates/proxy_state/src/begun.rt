@@ -2,6 +2,7 @@
 
 ghost use Rattle.std.specs.Prelude.{◌≡◌, IfOk};
 
+use model::ResolverNumber;
 use request_builder::{Record, Requests};
 use std::alloc::AllocError;
 use system_keys::{Items, OutOfMemory};
@@ -12,7 +13,7 @@ pub(crate) struct BegunRecord {
     /// The record.
     pub(crate) rec: Record,
     /// For each transaction, the resolvers that get a part of it, in rising order.
-    pub(crate) asked: Items<Items<usize>>,
+    pub(crate) asked: Items<Items<ResolverNumber>>,
 }
 
 impl BegunRecord {

@@ -11,7 +11,7 @@ ghost use Rattle.proxy_state.specs.Learning.{column_by, columns_of, by_columns};
 
 use crate::joining::least_of;
 use crate::learning::{is_in, reply_from};
-use model::{Reply, Verdict};
+use model::{Reply, ResolverNumber, TransactionNumber, Verdict};
 use std::alloc::Global;
 use system_keys::{Items, OutOfMemory};
 
@@ -20,7 +20,7 @@ use system_keys::{Items, OutOfMemory};
 pub(crate) fn columns_of(
     alloc: Global,
     resolvers: usize,
-    lists: &[Items<usize>],
+    lists: &[Items<ResolverNumber>],
     replies: &[Option<Reply>],
 ) -> Result<Vec<Items<Verdict>>, OutOfMemory>
     ensures { IfOk result (λ columns.
@@ -35,7 +35,7 @@ pub(crate) fn columns_of(
 }
 
 /// The verdicts that the resolver replied.
-fn replied_verdicts(replies: &[Option<Reply>], resolver: usize) -> &[Verdict]
+fn replied_verdicts(replies: &[Option<Reply>], resolver: ResolverNumber) -> &[Verdict]
     ensures { result.now ≡ verdicts_of_reply (reply_from replies.now resolver) }
 {
     match reply_from(replies, resolver) {
@@ -48,8 +48,8 @@ fn replied_verdicts(replies: &[Option<Reply>], resolver: usize) -> &[Verdict]
 /// Conflict.
 fn column_by(
     alloc: Global,
-    resolver: usize,
-    lists: &[Items<usize>],
+    resolver: ResolverNumber,
+    lists: &[Items<ResolverNumber>],
     verdicts: &[Verdict],
 ) -> Result<Items<Verdict>, OutOfMemory>
     ensures { IfOk result (λ column. column ≡ column_by resolver lists.now verdicts.now) }
@@ -70,7 +70,11 @@ fn column_by(
 }
 
 /// The verdict of the resolver on the transaction of this number, by the columns.
-fn verdict_by(columns: &[Items<Verdict>], resolver: usize, number: usize) -> Verdict
+fn verdict_by(
+    columns: &[Items<Verdict>],
+    resolver: ResolverNumber,
+    number: TransactionNumber,
+) -> Verdict
     ensures { result ≡ by_columns columns.now resolver 0 number }
 {
     match columns.get(resolver) {
@@ -87,7 +91,7 @@ pub(crate) fn verdicts_by(
     alloc: Global,
     resolvers: usize,
     columns: &[Items<Verdict>],
-    number: usize,
+    number: TransactionNumber,
 ) -> Result<Vec<Verdict>, OutOfMemory>
     ensures { IfOk result (λ verdicts. verdicts.items
         ≡ map (λ r. by_columns columns.now r 0 number) (each_below resolvers)) }
@@ -101,7 +105,11 @@ pub(crate) fn verdicts_by(
 
 /// The least verdict of the resolvers in the list on the transaction of this number.
 #[tactic(auto, using(crate::proofs::Joins::least_of_least))]
-pub(crate) fn joined_by(columns: &[Items<Verdict>], list: &[usize], number: usize) -> Verdict
+pub(crate) fn joined_by(
+    columns: &[Items<Verdict>],
+    list: &[ResolverNumber],
+    number: TransactionNumber,
+) -> Verdict
     ensures { result ≡ joined (map (λ r. by_columns columns.now r 0 number) list.now) }
 {
     let mut least = Verdict::Committed;

@@ -9,15 +9,15 @@ ghost use Rattle.model.specs.Shares.{each_below};
 ghost use Rattle.model.specs.Finishing.{reply_from, row_from, unseen_of_reply, unreplied};
 ghost use Rattle.model.specs.Finishing.{is_reply_to, are_replies_to, carries_as, row_fits};
 ghost use Rattle.model.specs.Finishing.{place_fits, version_at, misfits, disagreements};
-ghost use Rattle.proxy_state.specs.Learning.{IsAsking, is_in, part_count, has_numbers};
+ghost use Rattle.proxy_state.specs.Learning.{AskedAreKept, is_in, part_count, has_numbers};
 
 use crate::begun::BegunRecord;
-use model::{Config, Reply, UnseenRow, UnseenState};
+use model::{Config, Reply, ResolverNumber, UnseenRow, UnseenState, Version};
 use request_builder::Record;
 use system_keys::Items;
 
 /// The reply of the resolver, if it has come.
-pub(crate) fn reply_from(replies: &[Option<Reply>], resolver: usize) -> Option<&Reply>
+pub(crate) fn reply_from(replies: &[Option<Reply>], resolver: ResolverNumber) -> Option<&Reply>
     ensures { option_map (λ reply. reply.now) result ≡ reply_from replies.now resolver }
 {
     match replies.get(resolver) {
@@ -30,7 +30,7 @@ pub(crate) fn reply_from(replies: &[Option<Reply>], resolver: usize) -> Option<&
 pub(crate) fn row_from(
     replies: &[Option<Reply>],
     place: usize,
-    resolver: usize,
+    resolver: ResolverNumber,
 ) -> Option<&UnseenRow>
     ensures { option_map (λ row. row.now) result ≡ row_from replies.now place resolver }
 {
@@ -41,7 +41,7 @@ pub(crate) fn row_from(
 }
 
 /// The first of the resolvers whose replies have not come.
-pub(crate) fn first_unreplied(resolvers: usize, replies: &[Option<Reply>]) -> Option<usize>
+pub(crate) fn first_unreplied(resolvers: usize, replies: &[Option<Reply>]) -> Option<ResolverNumber>
     ensures { result ≡ slice_get (unreplied resolvers replies.now) 0 }
 {
     for resolver in 0..resolvers {
@@ -57,10 +57,10 @@ pub(crate) fn first_unreplied(resolvers: usize, replies: &[Option<Reply>]) -> Op
 pub(crate) fn first_disagreement(
     config: &Config,
     begun: &BegunRecord,
-    version: u64,
+    version: Version,
     replies: &[Option<Reply>],
-) -> Option<u64>
-    requires asked { IsAsking config.now begun.now }
+) -> Option<Version>
+    requires asked { AskedAreKept config.now begun.now }
     requires own { version ≤ begun.now.rec.previous }
     requires step { begun.now.rec.version ≡ begun.now.rec.previous + config.now.step }
     ensures { result
@@ -76,7 +76,7 @@ pub(crate) fn first_disagreement(
 
 /// Whether each resolver replied to this record.
 fn are_replies_to(config: &Config, begun: &BegunRecord, replies: &[Option<Reply>]) -> bool
-    requires { IsAsking config.now begun.now }
+    requires { AskedAreKept config.now begun.now }
     ensures { result ≡ are_replies_to config.now begun.now.rec replies.now }
 {
     for resolver in 0..config.resolvers() {
@@ -93,9 +93,9 @@ fn is_reply_to(
     config: &Config,
     begun: &BegunRecord,
     replies: &[Option<Reply>],
-    resolver: usize,
+    resolver: ResolverNumber,
 ) -> bool
-    requires asked { IsAsking config.now begun.now }
+    requires asked { AskedAreKept config.now begun.now }
     requires there { resolver < config.now.resolvers }
     ensures { result ≡ is_reply_to config.now begun.now.rec resolver
         (reply_from replies.now resolver) }
@@ -110,7 +110,7 @@ fn is_reply_to(
 }
 
 /// Whether the reply has the numbers of the resolver and of the record, and so many verdicts.
-fn has_numbers(rec: &Record, resolver: usize, count: usize, reply: &Reply) -> bool
+fn has_numbers(rec: &Record, resolver: ResolverNumber, count: usize, reply: &Reply) -> bool
     ensures { result ≡ has_numbers rec.now resolver count reply.now }
 {
     reply.resolver == resolver
@@ -121,7 +121,7 @@ fn has_numbers(rec: &Record, resolver: usize, count: usize, reply: &Reply) -> bo
 }
 
 /// How many of the lists have the resolver.
-fn part_count(resolver: usize, lists: &[Items<usize>]) -> usize
+fn part_count(resolver: ResolverNumber, lists: &[Items<ResolverNumber>]) -> usize
     ensures { result ≡ part_count resolver lists.now }
 {
     let mut count = 0;
@@ -134,7 +134,7 @@ fn part_count(resolver: usize, lists: &[Items<usize>]) -> usize
 }
 
 /// Whether the resolver is in the list.
-pub(crate) fn is_in(resolver: usize, list: &[usize]) -> bool
+pub(crate) fn is_in(resolver: ResolverNumber, list: &[ResolverNumber]) -> bool
     ensures { result ≡ is_in resolver list.now }
 {
     list.iter().any(|asked| *asked == resolver)
@@ -142,7 +142,12 @@ pub(crate) fn is_in(resolver: usize, list: &[usize]) -> bool
 
 /// The version that should stand at the first place of the unseen rows where the replies do not fit
 /// together: the rows after `version` up to `end`.
-fn first_misfit(config: &Config, version: u64, end: u64, replies: &[Option<Reply>]) -> Option<u64>
+fn first_misfit(
+    config: &Config,
+    version: Version,
+    end: Version,
+    replies: &[Option<Reply>],
+) -> Option<Version>
     requires own { version ≤ end }
     requires step { end + config.now.step < 2 ^ 64 }
     ensures { result ≡ slice_get (map (version_at config.now.step version)
@@ -167,8 +172,8 @@ fn first_misfit(config: &Config, version: u64, end: u64, replies: &[Option<Reply
 /// `before`.
 fn place_fits(
     config: &Config,
-    before: u64,
-    end: u64,
+    before: Version,
+    end: Version,
     replies: &[Option<Reply>],
     place: usize,
 ) -> bool
@@ -199,7 +204,7 @@ fn unseen_count(replies: &[Option<Reply>]) -> usize
 /// Whether each resolver has a row of this version at the place, with so many state transactions.
 fn rows_fit(
     resolvers: usize,
-    version: u64,
+    version: Version,
     count: usize,
     replies: &[Option<Reply>],
     place: usize,
@@ -217,11 +222,11 @@ fn rows_fit(
 
 /// Whether the row of the resolver is of this version, and has so many state transactions.
 fn row_fits(
-    version: u64,
+    version: Version,
     count: usize,
     replies: &[Option<Reply>],
     place: usize,
-    resolver: usize,
+    resolver: ResolverNumber,
 ) -> bool
     ensures { result ≡ row_fits version count resolver (row_from replies.now place resolver) }
 {
@@ -235,14 +240,14 @@ fn row_fits(
 }
 
 /// Whether the state transactions have their content exactly if the resolver is 0.
-fn carry_as(resolver: usize, states: &[UnseenState]) -> bool
+fn carry_as(resolver: ResolverNumber, states: &[UnseenState]) -> bool
     ensures { result ≡ list_all (carries_as resolver) states.now }
 {
     states.iter().all(|state| carries_as(resolver, state))
 }
 
 /// Whether the state transaction has its content exactly if the resolver is 0.
-fn carries_as(resolver: usize, state: &UnseenState) -> bool
+fn carries_as(resolver: ResolverNumber, state: &UnseenState) -> bool
     ensures { result ≡ carries_as resolver state.now }
 {
     if resolver == 0 {

@@ -6,14 +6,15 @@
 ghost use Rattle.std.specs.Prelude.{◌≡◌, ◌++◌, length, IfOk, OnOk};
 ghost use Rattle.model.specs.Outcomes.{outcome_by, is_refused, outcomes_from};
 ghost use Rattle.model.specs.World.{tagged_all, tagged_from};
-ghost use Rattle.proxy_state.specs.Learning.{by_columns, IsAsking};
+ghost use Rattle.proxy_state.specs.Learning.{by_columns, AskedAreKept};
 ghost use Rattle.proxy_state.specs.Finishing.{outcome_asked, outcomes_by, finished_by};
 
 use crate::begun::BegunRecord;
 use crate::columns::joined_by;
-use crate::entry_view::EntryView;
-use crate::tagging::tags_of;
-use model::{Config, Finished, Outcome, Tagged, Verdict};
+use metadata::{EntryView, tags_of};
+use model::{
+    Config, Finished, Outcome, ResolverNumber, Tagged, TransactionNumber, Verdict, Version,
+};
 use mutation::Stamped;
 use std::alloc::Global;
 use system_keys::{Change, Items, OutOfMemory};
@@ -28,7 +29,7 @@ pub(crate) fn finished_by(
     entries: &EntryView,
     begun: &BegunRecord,
 ) -> Result<Finished, OutOfMemory>
-    requires { IsAsking config.now begun.now }
+    requires { AskedAreKept config.now begun.now }
     ensures { IfOk result (λ finished.
         finished ≡ finished_by config.now columns.now locked entries.now begun.now.rec) }
 {
@@ -50,7 +51,7 @@ fn outcomes_of(
     locked: bool,
     begun: &BegunRecord,
 ) -> Result<Vec<Outcome>, OutOfMemory>
-    requires { IsAsking config.now begun.now }
+    requires { AskedAreKept config.now begun.now }
     ensures value { IfOk result (λ outcomes. outcomes.items ≡
         outcomes_from config.now (by_columns columns.now) locked begun.now.rec 0 begun.now.rec.batch) }
     ensures count { IfOk result (λ outcomes. length outcomes.items ≡ length begun.now.rec.batch) }
@@ -65,9 +66,9 @@ fn outcomes_by(
     alloc: Global,
     columns: &[Items<Verdict>],
     locked: bool,
-    version: u64,
+    version: Version,
     batch: &[Stamped],
-    lists: &[Items<usize>],
+    lists: &[Items<ResolverNumber>],
 ) -> Result<Vec<Outcome>, OutOfMemory>
     requires { length lists.now ≡ length batch.now }
     ensures value { IfOk result (λ outcomes. outcomes.items
@@ -86,10 +87,10 @@ fn outcomes_by(
 fn outcome_asked(
     columns: &[Items<Verdict>],
     locked: bool,
-    version: u64,
-    number: usize,
+    version: Version,
+    number: TransactionNumber,
     transaction: &Stamped,
-    list: &Items<usize>,
+    list: &Items<ResolverNumber>,
 ) -> Outcome
     ensures { result
         ≡ outcome_asked columns.now locked version number transaction.now list.now }
@@ -106,7 +107,12 @@ fn is_refused(locked: bool, transaction: &Stamped) -> bool
 }
 
 /// The outcome of a transaction by its joined verdict, and by whether the lock refuses it.
-fn outcome_by(verdict: Verdict, refused: bool, version: u64, number: usize) -> Outcome
+fn outcome_by(
+    verdict: Verdict,
+    refused: bool,
+    version: Version,
+    number: TransactionNumber,
+) -> Outcome
     ensures { result ≡ outcome_by verdict refused version number }
 {
     match verdict {
@@ -145,7 +151,7 @@ fn tagged_all(
 /// Adds the mutations of the transaction of this number, each with its tags.
 fn add_tagged(
     entries: &EntryView,
-    number: usize,
+    number: TransactionNumber,
     changes: &[Change],
     tagged: &mut Vec<Tagged>,
 ) -> Result<(), OutOfMemory>

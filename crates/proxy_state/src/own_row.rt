@@ -3,18 +3,16 @@
 //! Release 7.1, `CommitProxyServer.actor.cpp`, applyMetadataToCommittedTransactions; what differs is
 //! marked *profile*.
 
-ghost use Rattle.std.specs.Prelude.{◌≡◌, filter, IfOk};
-ghost use Rattle.system_keys.specs.Changes.{is_state};
-ghost use Rattle.model.specs.Transactions.{is_state_transaction};
+ghost use Rattle.std.specs.Prelude.{◌≡◌, IfOk};
 ghost use Rattle.model.specs.Journal.{journal_row, states_from, state_of};
 ghost use Rattle.proxy_state.specs.Learning.{by_columns};
 
 use crate::columns::verdicts_by;
-use model::{Config, JournalRow, StateTxn, Verdict};
+use model::{Config, JournalRow, StateTxn, TransactionNumber, Verdict};
 use mutation::Stamped;
 use request_builder::Record;
 use std::alloc::Global;
-use system_keys::{Change, Items, OutOfMemory, is_state};
+use system_keys::{Items, OutOfMemory};
 
 /// The journal row of the record, by the verdicts of the columns. Fails only with `OutOfMemory`.
 #[tactic(auto, unfolding(model::specs::Journal::journal_row))]
@@ -46,7 +44,7 @@ fn own_states(
     let batch = rec.batch();
     let mut states = Vec::new(alloc);
     for (number, transaction) in batch.iter().enumerate() {
-        if is_state_transaction(transaction) {
+        if transaction.is_state() {
             states.push(own_state(alloc, config, columns, rec, number, transaction)?)?;
         }
     }
@@ -59,7 +57,7 @@ fn own_state(
     config: &Config,
     columns: &[Items<Verdict>],
     _rec: &Record,
-    number: usize,
+    number: TransactionNumber,
     transaction: &Stamped,
 ) -> Result<StateTxn, OutOfMemory>
     ensures { IfOk result (λ state. state
@@ -67,27 +65,8 @@ fn own_state(
 {
     let verdicts = verdicts_by(alloc, config.resolvers(), columns, number)?;
     Ok(StateTxn {
-        mutations: Items::from(state_mutations(alloc, transaction.changes())?),
+        mutations: transaction.state_mutations(alloc)?,
         lock_aware: transaction.lock_aware(),
         verdicts: Items::from(verdicts),
     })
-}
-
-fn is_state_transaction(transaction: &Stamped) -> bool
-    ensures { result ≡ is_state_transaction transaction.now }
-{
-    transaction.changes().iter().any(|change| is_state(change))
-}
-
-/// Copies of the changes that change the metadata, in order.
-fn state_mutations(alloc: Global, changes: &[Change]) -> Result<Vec<Change>, OutOfMemory>
-    ensures { IfOk result (λ mutations. mutations.items ≡ filter is_state changes.now) }
-{
-    let mut mutations = Vec::new(alloc);
-    for change in changes {
-        if is_state(change) {
-            mutations.push(change.copy()?)?;
-        }
-    }
-    Ok(mutations)
 }

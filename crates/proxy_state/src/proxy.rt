@@ -16,12 +16,12 @@ use crate::begun::BegunRecord;
 use crate::finishing::finish_batch;
 use crate::learned::Learned;
 use crate::learning::{first_disagreement, first_unreplied};
-use crate::metadata::Metadata;
 use crate::moving::make_moves;
 use crate::refusal::Refusal;
 use crate::replies::Replies;
 use dated_owners::OwnerMap;
-use model::{Config, Finished, JournalRow, Reply};
+use metadata::Metadata;
+use model::{Config, Finished, JournalRow, ProxyNumber, Reply, Version};
 use request_builder::{Record, Requests, build};
 use std::alloc::Global;
 use std::marker::Model;
@@ -31,23 +31,23 @@ use system_keys::OutOfMemory;
 /// the same order. Its metadata is always that of its journal.
 #[derive(Drop)]
 pub struct Proxy {
-    number: usize,
+    number: ProxyNumber,
     config: Config,
     owners: OwnerMap,
     moved: usize,
-    last_begun: u64,
+    last_begun: Version,
     begun: Vec<BegunRecord>,
-    version: u64,
+    version: Version,
     journal: Vec<JournalRow>,
     metadata: Metadata,
 }
 
 impl Model for Proxy {
     ghost use Rattle.std.specs.Prelude.{map};
-    ghost use Rattle.model.specs.Finishing.{Follower};
+    ghost use Rattle.model.specs.Finishing.{ProxyView};
     ghost use Rattle.proxy_state.specs.Begun.{IsKept, record_of};
 
-    ghost Value = { Follower };
+    ghost Value = { ProxyView };
 
     ghost view = { λ p. record {
       number = p.number;
@@ -67,7 +67,7 @@ impl Model for Proxy {
 impl Proxy {
     /// Returns proxy `number` of the cluster, before its first record. Fails only with
     /// `OutOfMemory`.
-    pub fn new(alloc: Global, number: usize, config: &Config) -> Result<Proxy, OutOfMemory>
+    pub fn new(alloc: Global, number: ProxyNumber, config: &Config) -> Result<Proxy, OutOfMemory>
         ensures number { IfOk result (λ made. made.number ≡ number) }
         ensures config { IfOk result (λ made. made.config ≡ config.now) }
         ensures begun { IfOk result (λ made. (made.last_begun ≡ 0) × (made.begun ≡ [])) }
@@ -88,14 +88,14 @@ impl Proxy {
     }
 
     /// The version of the record last finished, or 0.
-    pub fn version(&self) -> u64
+    pub fn version(&self) -> Version
         ensures { result ≡ self.now.version }
     {
         self.version
     }
 
     /// The version of the record last begun, or 0.
-    pub fn last_begun(&self) -> u64
+    pub fn last_begun(&self) -> Version
         ensures { result ≡ self.now.last_begun }
     {
         self.last_begun
@@ -129,7 +129,7 @@ impl Proxy {
     ///
     /// Fails with `NotReached` and the proxy's version if `version` is above it, and otherwise only
     /// with `OutOfMemory`.
-    pub fn metadata_at(&self, version: u64) -> Result<Metadata, Refusal>
+    pub fn metadata_at(&self, version: Version) -> Result<Metadata, Refusal>
         ensures value { IfOk result (λ found.
             (version ≤ self.now.version)
             × (found ≡ metadata_of (rows_up_to version self.now.journal))) }
@@ -309,7 +309,7 @@ fn copied_rows(rows: &Vec<JournalRow>) -> Result<Vec<JournalRow>, OutOfMemory>
 #[tactic(auto, unfolding(model::specs::Metadata::metadata))]
 fn folded_up_to(
     alloc: Global,
-    version: u64,
+    version: Version,
     journal: &[JournalRow],
 ) -> Result<Metadata, OutOfMemory>
     ensures { IfOk result (λ found. found ≡ metadata_of (rows_up_to version journal.now)) }

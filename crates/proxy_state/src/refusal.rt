@@ -3,6 +3,7 @@
 ghost use Rattle.std.specs.Prelude.{◌≡◌};
 ghost use Rattle.proxy_state.specs.declared.refusal.Refusal.TheVariants as refusals;
 
+use model::{ResolverNumber, Version};
 use system_keys::OutOfMemory;
 use thiserror::Error;
 
@@ -18,22 +19,22 @@ pub enum Refusal {
     NotMine,
     /// The record does not follow the one last begun, whose version is expected.
     #[error("the record does not follow version {expected}, which was last begun")]
-    OutOfOrder { expected: u64 },
+    OutOfOrder { expected: Version },
     /// No record is begun, or another one is expected.
     #[error("no record is begun, or another one is expected")]
-    OutOfTurn { expected: Option<u64> },
+    OutOfTurn { expected: Option<Version> },
     /// A resolver has not replied: the least such one.
     #[error("resolver {resolver} has not replied")]
-    MissingReply { resolver: usize },
+    MissingReply { resolver: ResolverNumber },
     /// The replies disagree at this version.
     #[error("the replies disagree at version {version}")]
-    RepliesDisagree { version: u64 },
+    RepliesDisagree { version: Version },
     /// The proxy has only reached this version.
     #[error("the proxy is at version {version}")]
-    NotReached { version: u64 },
+    NotReached { version: Version },
     /// The resolver has replied already.
     #[error("resolver {resolver} has replied already")]
-    DoubleReply { resolver: usize },
+    DoubleReply { resolver: ResolverNumber },
     /// An allocation failed.
     #[error("out of memory")]
     OutOfMemory,

@@ -13,7 +13,7 @@ use std::marker::Model;
 use system_keys::OutOfMemory;
 
 /// The replies to one record: a place for each resolver of the cluster, filled once it has replied.
-#[derive(Debug, Drop)]
+#[derive(Clone, Debug, Drop)]
 pub struct Replies {
     places: Vec<Option<Reply>>,
 }
@@ -62,6 +62,14 @@ impl Replies {
         self.places[resolver] = Some(reply);
         Ok(())
     }
+
+    /// Returns a deep copy. Fails only with `OutOfMemory`.
+    pub fn copy(&self) -> Result<Replies, OutOfMemory>
+        ensures { IfOk result (λ copy. copy ≡ self.now) }
+    {
+        Ok(self.clone()?)
+    }
+
     /// The places in the order of the resolvers, each with the reply that has come.
     pub(crate) fn places(&self) -> &[Option<Reply>]
         ensures { result.now ≡ self.now }

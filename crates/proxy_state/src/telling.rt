@@ -8,7 +8,10 @@ ghost use Rattle.model.specs.Finishing.{reply_from, row_from, unseen_of_reply, v
 ghost use Rattle.model.specs.Finishing.{content_of, told_state, told_row, told_rows};
 
 use crate::learning::{reply_from, row_from};
-use model::{Carried, JournalRow, Reply, StateTxn, UnseenRow, UnseenState, Verdict};
+use model::{
+    Carried, JournalRow, Reply, ResolverNumber, StateTxn, TransactionNumber, UnseenRow,
+    UnseenState, Verdict,
+};
 use std::alloc::Global;
 use system_keys::{Items, OutOfMemory};
 
@@ -29,7 +32,7 @@ pub(crate) fn told_rows(
 }
 
 /// The unseen rows that the resolver replied.
-fn unseen_rows(replies: &[Option<Reply>], resolver: usize) -> &[UnseenRow]
+fn unseen_rows(replies: &[Option<Reply>], resolver: ResolverNumber) -> &[UnseenRow]
     ensures { result.now ≡ unseen_of_reply (reply_from replies.now resolver) }
 {
     match reply_from(replies, resolver) {
@@ -65,7 +68,7 @@ fn told_state(
     resolvers: usize,
     replies: &[Option<Reply>],
     place: usize,
-    number: usize,
+    number: TransactionNumber,
     state: &UnseenState,
 ) -> Result<StateTxn, OutOfMemory>
     ensures { IfOk result (λ told.
@@ -99,7 +102,7 @@ fn told_verdicts(
     resolvers: usize,
     replies: &[Option<Reply>],
     place: usize,
-    number: usize,
+    number: TransactionNumber,
 ) -> Result<Vec<Verdict>, OutOfMemory>
     ensures { IfOk result (λ verdicts. verdicts.items
         ≡ map (λ r. verdict_in_row (row_from replies.now place r) number) (each_below resolvers)) }
@@ -116,8 +119,8 @@ fn told_verdicts(
 fn verdict_in_row(
     replies: &[Option<Reply>],
     place: usize,
-    resolver: usize,
-    number: usize,
+    resolver: ResolverNumber,
+    number: TransactionNumber,
 ) -> Verdict
     ensures { result ≡ verdict_in_row (row_from replies.now place resolver) number }
 {

@@ -1,7 +1,7 @@
 pub mod AskedLists
 pub mod Built
+pub mod FlaggedLists
 pub mod KeptRule
-pub mod MarkedLists
 pub mod PartPlaces
 pub mod RequestTests
 pub mod Steps

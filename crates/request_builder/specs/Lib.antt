@@ -1,2 +1,6 @@
-pub mod Asking
+-- The definitions, in reading order.
+
+-- whom the map asks, as lists, and what such lists give each resolver
+pub mod AskedResolvers
+-- a request of its parts, and the tests of its rule
 pub mod Requests

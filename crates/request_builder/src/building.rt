@@ -9,10 +9,9 @@ ghost use Rattle.model.specs.Transactions.{locked_key};
 ghost use Rattle.model.specs.Shares.{each_below, asked_back_to};
 ghost use Rattle.model.specs.Requests.{request_back_to};
 ghost use Rattle.model.specs.OwnerMaps.{StandsForMoves};
-ghost use Rattle.request_builder.specs.Asking.{request_by};
+ghost use Rattle.request_builder.specs.AskedResolvers.{request_by};
 
-use crate::asked::asked_lists;
-use crate::asking::{Asking, askings, lock_row};
+use crate::asked_resolvers::{AskedResolvers, all_asked_resolvers, asked_lists, lock_row};
 use crate::header::RequestHeader;
 use crate::marks::marks_by;
 use crate::parts::parts_by;
@@ -21,6 +20,7 @@ use crate::request::Request;
 use crate::requests::Requests;
 use crate::share::Share;
 use dated_owners::OwnerMap;
+use model::{ResolverNumber, Version};
 use std::alloc::Global;
 use system_keys::{Items, KeyRange, OutOfMemory};
 
@@ -36,7 +36,7 @@ pub fn build(
     alloc: Global,
     rec: &Record,
     owners: &OwnerMap,
-    last_received: u64,
+    last_received: Version,
 ) -> Result<Requests, OutOfMemory>
     ensures requests { StandsForMoves owners.now rec.now.moves → IfOk result (λ built.
         built.requests ≡ map (request_back_to owners.now.oldest rec.now last_received)
@@ -46,7 +46,7 @@ pub fn build(
         ≡ map (asked_back_to owners.now.oldest owners.now.resolvers rec.now) rec.now.batch) }
 {
     let lock_row = lock_row(alloc)?;
-    let askings = askings(alloc, owners, rec.batch(), &lock_row)?;
+    let askings = all_asked_resolvers(alloc, owners, rec.batch(), &lock_row)?;
     let requests = requests_by(
         alloc,
         owners.resolvers(),
@@ -64,9 +64,9 @@ fn requests_by(
     alloc: Global,
     resolvers: usize,
     rec: &Record,
-    last_received: u64,
+    last_received: Version,
     lock_row: &[KeyRange],
-    askings: &[Asking],
+    askings: &[AskedResolvers],
 ) -> Result<Items<Request>, OutOfMemory>
     requires row { lock_row.now ≡ only locked_key ∷ [] }
     requires length { length askings.now ≡ length rec.now.batch }
@@ -83,11 +83,11 @@ fn requests_by(
 /// The request to one resolver.
 fn request_by(
     alloc: Global,
-    resolver: usize,
+    resolver: ResolverNumber,
     rec: &Record,
-    last_received: u64,
+    last_received: Version,
     lock_row: &[KeyRange],
-    askings: &[Asking],
+    askings: &[AskedResolvers],
 ) -> Result<Request, OutOfMemory>
     requires row { lock_row.now ≡ only locked_key ∷ [] }
     requires length { length askings.now ≡ length rec.now.batch }

@@ -4,8 +4,7 @@
 //! differs is marked *profile*.
 #![tactic(auto)]
 
-mod asked;
-mod asking;
+mod asked_resolvers;
 mod building;
 mod header;
 mod marks;

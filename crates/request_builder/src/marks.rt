@@ -1,22 +1,21 @@
 //! The marks of state transactions.
 
-ghost use Rattle.std.specs.Prelude.{◌≡◌, length, filter, IfOk};
-ghost use Rattle.system_keys.specs.Changes.{is_state};
+ghost use Rattle.std.specs.Prelude.{◌≡◌, length, IfOk};
 ghost use Rattle.model.specs.Journal.{carried_by};
-ghost use Rattle.request_builder.specs.Asking.{marks_by};
+ghost use Rattle.request_builder.specs.AskedResolvers.{marks_by};
 
-use crate::asking::Asking;
-use model::{Carried, StateMark};
+use crate::asked_resolvers::AskedResolvers;
+use model::{Carried, ResolverNumber, StateMark};
 use mutation::Stamped;
 use std::alloc::Global;
-use system_keys::{Change, Items, OutOfMemory, is_state};
+use system_keys::OutOfMemory;
 
 /// The marks of the state transactions of the batch, as the resolver gets them.
 pub(crate) fn marks_by(
     alloc: Global,
-    resolver: usize,
+    resolver: ResolverNumber,
     batch: &[Stamped],
-    askings: &[Asking],
+    askings: &[AskedResolvers],
 ) -> Result<Vec<StateMark>, OutOfMemory>
     requires { length askings.now ≡ length batch.now }
     ensures { IfOk result (λ marks. marks.items ≡ marks_by resolver 0 batch.now askings.now) }
@@ -34,7 +33,7 @@ pub(crate) fn marks_by(
 /// The content of the state transaction, if the resolver gets it: resolver 0 does.
 fn carried_by(
     alloc: Global,
-    resolver: usize,
+    resolver: ResolverNumber,
     transaction: &Stamped,
 ) -> Result<Option<Carried>, OutOfMemory>
     ensures { IfOk result (λ carried. carried ≡ carried_by resolver transaction.now) }
@@ -43,20 +42,7 @@ fn carried_by(
         return Ok(None);
     }
     Ok(Some(Carried {
-        mutations: Items::from(state_mutations(alloc, transaction.changes())?),
+        mutations: transaction.state_mutations(alloc)?,
         lock_aware: transaction.lock_aware(),
     }))
-}
-
-/// Copies of the changes that change the metadata, in order.
-fn state_mutations(alloc: Global, changes: &[Change]) -> Result<Vec<Change>, OutOfMemory>
-    ensures { IfOk result (λ mutations. mutations.items ≡ filter is_state changes.now) }
-{
-    let mut mutations = Vec::new(alloc);
-    for change in changes {
-        if is_state(change) {
-            mutations.push(change.copy()?)?;
-        }
-    }
-    Ok(mutations)
 }

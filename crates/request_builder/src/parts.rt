@@ -4,11 +4,11 @@ ghost use Rattle.std.specs.Prelude.{◌≡◌, ◌∷◌, ◌++◌, [], if◌the
 ghost use Rattle.system_keys.specs.Keys.{only};
 ghost use Rattle.model.specs.Transactions.{locked_key};
 ghost use Rattle.model.specs.Journal.{list_at};
-ghost use Rattle.request_builder.specs.Asking.{is_in, ranges_for, part_by, is_sent};
-ghost use Rattle.request_builder.specs.Asking.{sent_part, parts_by};
+ghost use Rattle.request_builder.specs.AskedResolvers.{is_in, ranges_for, part_by, is_sent};
+ghost use Rattle.request_builder.specs.AskedResolvers.{sent_part, parts_by};
 
-use crate::asking::Asking;
-use model::Part;
+use crate::asked_resolvers::AskedResolvers;
+use model::{Part, ResolverNumber, TransactionNumber};
 use mutation::Stamped;
 use std::alloc::Global;
 use system_keys::{Items, KeyRange, OutOfMemory};
@@ -16,10 +16,10 @@ use system_keys::{Items, KeyRange, OutOfMemory};
 /// The parts of the transactions that the resolver gets, in the order of the batch.
 pub(crate) fn parts_by(
     alloc: Global,
-    resolver: usize,
+    resolver: ResolverNumber,
     batch: &[Stamped],
     lock_row: &[KeyRange],
-    askings: &[Asking],
+    askings: &[AskedResolvers],
 ) -> Result<Vec<Part>, OutOfMemory>
     requires row { lock_row.now ≡ only locked_key ∷ [] }
     requires length { length askings.now ≡ length batch.now }
@@ -54,11 +54,11 @@ fn is_sent(is_state: bool, part: &Part) -> bool
 /// The part of the transaction that the resolver gets.
 fn part_by(
     alloc: Global,
-    resolver: usize,
-    number: usize,
+    resolver: ResolverNumber,
+    number: TransactionNumber,
     transaction: &Stamped,
     lock_row: &[KeyRange],
-    asking: &Asking,
+    asking: &AskedResolvers,
 ) -> Result<Part, OutOfMemory>
     requires { lock_row.now ≡ only locked_key ∷ [] }
     ensures { IfOk result (λ part. part ≡ part_by resolver number transaction.now asking.now) }
@@ -89,9 +89,9 @@ fn part_by(
 /// Adds copies of the ranges whose lists have the resolver.
 fn push_ranges(
     copies: &mut Vec<KeyRange>,
-    resolver: usize,
+    resolver: ResolverNumber,
     ranges: &[KeyRange],
-    lists: &[Items<usize>],
+    lists: &[Items<ResolverNumber>],
 ) -> Result<(), OutOfMemory>
     ensures { OnOk result
         (copies.new.items ≡ copies.old.items ++ ranges_for resolver ranges.now lists.now) }
@@ -114,7 +114,11 @@ fn push_if(copies: &mut Vec<KeyRange>, is_asked: bool, range: &KeyRange) -> Resu
 }
 
 /// Whether the list of this number has the resolver.
-fn is_listed(resolver: usize, lists: &[Items<usize>], number: usize) -> bool
+fn is_listed(
+    resolver: ResolverNumber,
+    lists: &[Items<ResolverNumber>],
+    number: TransactionNumber,
+) -> bool
     ensures { result ≡ is_in resolver (list_at lists.now number) }
 {
     match lists.get(number) {

@@ -3,12 +3,12 @@
 ghost use Rattle.std.specs.Prelude.{◌≡◌, Some, MatchOption, Contains, slice_get};
 ghost use Rattle.model.specs.RequestRules.{NumbersRise, part_numbers};
 
-use model::Part;
+use model::{Part, TransactionNumber};
 
 /// The place of the part with this number, in parts whose numbers rise.
 ///
 /// Halves the parts again and again, so it looks at few of them. Allocates nothing.
-pub(crate) fn place_of(parts: &[Part], number: usize) -> Option<usize>
+pub(crate) fn place_of(parts: &[Part], number: TransactionNumber) -> Option<usize>
     requires { NumbersRise 0 parts.now }
     ensures { let numbers = part_numbers parts.now in
         MatchOption result (Contains numbers number → ⊥)

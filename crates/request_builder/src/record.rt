@@ -5,7 +5,7 @@
 ghost use Rattle.std.specs.Prelude.{◌≡◌, ◌<◌, IfOk};
 ghost use Rattle.model.specs.Stamps.{stamped_from};
 
-use model::Move;
+use model::{Move, ProxyNumber, RowNumber, Version};
 use mutation::{Admitted, Batch, Stamped};
 use std::alloc::Global;
 use std::marker::Model;
@@ -15,11 +15,11 @@ use system_keys::{Items, OutOfMemory};
 /// version before it, and all moves so far. The transactions have their stamps in.
 #[derive(Clone, Debug, Drop)]
 pub struct Record {
-    row: usize,
-    previous: u64,
-    version: u64,
-    own_previous: u64,
-    proxy: usize,
+    row: RowNumber,
+    previous: Version,
+    version: Version,
+    own_previous: Version,
+    proxy: ProxyNumber,
     moves: Items<Move>,
     batch: Items<Stamped>,
 }
@@ -51,12 +51,12 @@ impl Record {
     /// all moves so far. Fails only with `OutOfMemory`.
     pub fn new(
         alloc: Global,
-        row: usize,
-        previous: u64,
-        version: u64,
-        own_previous: u64,
-        proxy: usize,
-        moves: Items<Move>,
+        row: RowNumber,
+        previous: Version,
+        version: Version,
+        own_previous: Version,
+        proxy: ProxyNumber,
+        moves: &[Move],
         batch: &Batch,
     ) -> Result<Record, OutOfMemory>
         requires { previous < version }
@@ -66,10 +66,11 @@ impl Record {
           version = version;
           own_previous = own_previous;
           proxy = proxy;
-          moves = moves;
+          moves = moves.now;
           batch = stamped_from version 0 batch.now;
         }) }
     {
+        let moves = copied_moves(alloc, moves)?;
         let batch = stamped_batch(alloc, version, batch.transactions())?;
         Ok(Record {
             row,
@@ -83,14 +84,14 @@ impl Record {
     }
 
     /// The place of the record in the order of all batches, from 0.
-    pub fn row(&self) -> usize
+    pub fn row(&self) -> RowNumber
         ensures { result ≡ self.now.row }
     {
         self.row
     }
 
     /// The version before the record's.
-    pub fn previous(&self) -> u64
+    pub fn previous(&self) -> Version
         ensures value { result ≡ self.now.previous }
         ensures kept { self.now.previous < self.now.version }
     {
@@ -98,7 +99,7 @@ impl Record {
     }
 
     /// The version of the record.
-    pub fn version(&self) -> u64
+    pub fn version(&self) -> Version
         ensures value { result ≡ self.now.version }
         ensures kept { self.now.previous < self.now.version }
     {
@@ -106,14 +107,14 @@ impl Record {
     }
 
     /// The version of this proxy's record before, or 0 if it has none.
-    pub fn own_previous(&self) -> u64
+    pub fn own_previous(&self) -> Version
         ensures { result ≡ self.now.own_previous }
     {
         self.own_previous
     }
 
     /// The number of the proxy whose batch it is.
-    pub fn proxy(&self) -> usize
+    pub fn proxy(&self) -> ProxyNumber
         ensures { result ≡ self.now.proxy }
     {
         self.proxy
@@ -141,10 +142,21 @@ impl Record {
     }
 }
 
+/// Copies of the moves.
+fn copied_moves(alloc: Global, moves: &[Move]) -> Result<Items<Move>, OutOfMemory>
+    ensures { IfOk result (λ copied. copied ≡ moves.now) }
+{
+    let mut copied = Vec::with_capacity(alloc, moves.len())?;
+    for one in moves {
+        copied.push(one.copy()?)?;
+    }
+    Ok(Items::from(copied))
+}
+
 /// The transactions of the batch of `version`, numbered from 0, with their stamps in.
 fn stamped_batch(
     alloc: Global,
-    version: u64,
+    version: Version,
     transactions: &[Admitted],
 ) -> Result<Vec<Stamped>, OutOfMemory>
     ensures { IfOk result (λ stamped. stamped.items ≡ stamped_from version 0 transactions.now) }

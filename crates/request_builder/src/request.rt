@@ -11,7 +11,7 @@ ghost use Rattle.request_builder.specs.Requests.{names_part, is_carried_to};
 use crate::header::RequestHeader;
 use crate::places::place_of;
 use crate::share::Share;
-use model::{Part, StateMark};
+use model::{Part, ProxyNumber, ResolverNumber, RowNumber, StateMark, TransactionNumber, Version};
 use std::alloc::AllocError;
 use std::marker::Model;
 use system_keys::{Items, OutOfMemory};
@@ -77,42 +77,42 @@ impl Request {
     }
 
     /// The resolver that it is to.
-    pub fn resolver(&self) -> usize
+    pub fn resolver(&self) -> ResolverNumber
         ensures { result ≡ self.now.resolver }
     {
         self.header.resolver
     }
 
     /// The proxy that sends it.
-    pub fn proxy(&self) -> usize
+    pub fn proxy(&self) -> ProxyNumber
         ensures { result ≡ self.now.proxy }
     {
         self.header.proxy
     }
 
     /// The row of the record: its place in the order of all batches.
-    pub fn row(&self) -> usize
+    pub fn row(&self) -> RowNumber
         ensures { result ≡ self.now.row }
     {
         self.header.row
     }
 
     /// The version before the record's.
-    pub fn previous(&self) -> u64
+    pub fn previous(&self) -> Version
         ensures { result ≡ self.now.previous }
     {
         self.header.previous
     }
 
     /// The version of the record.
-    pub fn version(&self) -> u64
+    pub fn version(&self) -> Version
         ensures { result ≡ self.now.version }
     {
         self.header.version
     }
 
     /// The version of the last record that the proxy had finished when it began this one, or 0.
-    pub fn last_received(&self) -> u64
+    pub fn last_received(&self) -> Version
         ensures { result ≡ self.now.last_received }
     {
         self.header.last_received
@@ -136,7 +136,7 @@ impl Request {
 
     /// The place in the share of the part with this number, or None if there is no such part. It
     /// looks at few parts, since their numbers rise. Does not allocate.
-    pub fn place_of(&self, number: usize) -> Option<usize>
+    pub fn place_of(&self, number: TransactionNumber) -> Option<usize>
         ensures place { let numbers = part_numbers self.now.share in
             MatchOption result (Contains numbers number → ⊥)
             (λ place. slice_get numbers place ≡ Some number) }
@@ -180,7 +180,7 @@ fn numbers_rise(parts: &[Part]) -> bool
 }
 
 /// Whether the number is at or below the last one, if there is a last one.
-fn is_at_or_below(number: usize, last: Option<usize>) -> bool
+fn is_at_or_below(number: TransactionNumber, last: Option<TransactionNumber>) -> bool
     ensures { result ≡ nat_lt number (least_after last) }
 {
     match last {
@@ -206,14 +206,14 @@ fn names_part(parts: &[Part], mark: &StateMark) -> bool
 }
 
 /// Whether the marks have the content of their transactions exactly if the resolver is 0.
-fn are_carried_to(resolver: usize, marks: &[StateMark]) -> bool
+fn are_carried_to(resolver: ResolverNumber, marks: &[StateMark]) -> bool
     ensures { result ≡ list_all (is_carried_to resolver) marks.now }
 {
     marks.iter().all(|mark| is_carried_to(resolver, mark))
 }
 
 /// Whether the mark has the content of its transaction exactly if the resolver is 0.
-fn is_carried_to(resolver: usize, mark: &StateMark) -> bool
+fn is_carried_to(resolver: ResolverNumber, mark: &StateMark) -> bool
     ensures { result ≡ is_carried_to resolver mark.now }
 {
     if resolver == 0 {

@@ -3,6 +3,7 @@
 ghost use Rattle.std.specs.Prelude.{◌≡◌, IfOk};
 
 use crate::request::Request;
+use model::ResolverNumber;
 use system_keys::{Items, OutOfMemory};
 
 /// The requests for a record, and the resolvers that they ask about each transaction.
@@ -11,7 +12,7 @@ pub struct Requests {
     /// One request for each resolver, in the order of the resolvers.
     pub requests: Items<Request>,
     /// One list for each transaction: the resolvers that get a part of it, in rising order.
-    pub asked: Items<Items<usize>>,
+    pub asked: Items<Items<ResolverNumber>>,
 }
 
 impl Requests {

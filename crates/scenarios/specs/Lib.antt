@@ -1,11 +1,24 @@
-pub mod ClearScenarios
-pub mod FoldScenarios
-pub mod LockScenarios
-pub mod MemoryScenarios
-pub mod OwnerScenarios
-pub mod ProxyScenarios
-pub mod RefusalScenarios
-pub mod ResolverScenarios
-pub mod StampScenarios
-pub mod VerdictScenarios
+-- The definitions, in reading order.
+
+-- the small values that scenarios speak of, beside those of the model's examples
 pub mod Vocabulary
+-- the fold of a journal
+pub mod FoldScenarios
+-- versionstamps
+pub mod StampScenarios
+-- moves of ranges
+pub mod OwnerScenarios
+-- verdicts
+pub mod VerdictScenarios
+-- the lock
+pub mod LockScenarios
+-- unseen and remembered rows, repeats, and proxies that run at once
+pub mod MemoryScenarios
+-- Clears
+pub mod ClearScenarios
+-- proxies
+pub mod ProxyScenarios
+-- refused events, the last versions, and replies given up
+pub mod RefusalScenarios
+-- what one resolver answers to requests that no proxy of a cluster would send it
+pub mod ResolverScenarios

@@ -32,6 +32,10 @@ abbrev pub strangers : List Request
 strangers =
     asking 1 2 20 30 0
     ∷ asking 0 2 20 30 0
+    ∷ asking 1 2 20 20 0
+    ∷ asking 1 0 20 30 21
+    ∷ asking 0 2 20 20 0
+    ∷ asking 0 2 20 30 21
     ∷ asking 0 0 20 20 0
     ∷ asking 0 0 20 30 21
     ∷ asking 0 0 0 10 0
@@ -42,11 +46,16 @@ strangers =
     ∷ asking 0 1 15 30 0
     ∷ []
 
--- strangers are refused in the order of the checks, and a repeat gets its reply
+-- strangers are refused in the order of the checks: an unknown resolver, an unknown proxy, and then
+-- versions out of order; a repeat gets its reply
 abbrev pub RequestsOfStrangers : Type 0
 RequestsOfStrangers =
     map answered strangers
     ≡ Err WrongResolver
+    ∷ Err NoSuchProxy
+    ∷ Err WrongResolver
+    ∷ Err WrongResolver
+    ∷ Err NoSuchProxy
     ∷ Err NoSuchProxy
     ∷ Err (OutsideChain 20)
     ∷ Err (OutsideChain 20)

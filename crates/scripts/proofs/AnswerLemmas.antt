@@ -1,9 +1,9 @@
 -- What the bytes of a script come to.
-use Rattle.std.proofs.Common.{ℕ, List}
+use Rattle.std.proofs.Common.{◌≡◌, ◌∙◌, ℕ, List, ap}
 use Rattle.std.specs.Prelude.{None, Result, Ok, Err, IfOk, OnOk, IsSome}
 use Rattle.system_keys.specs.declared.memory.OutOfMemory.{OutOfMemory}
 use Rattle.system_keys.specs.AsSpecified.{IsFaultIfAllocated}
-use Rattle.scripts.specs.Answers.{IsOutput, answer_of, refused_answer}
+use Rattle.scripts.specs.Answers.{Answer, IsOutput, answer_of, refused_answer}
 use Rattle.scripts.specs.ScriptFaults.{fault_number, script_fault}
 use Rattle.scripts.specs.declared.output.Output.{Output}
 use Rattle.scripts.specs.declared.script_fault.ScriptFault.{ScriptFault}
@@ -19,3 +19,8 @@ answer_of-fault printed said (faults.Refused refusal) result fails numbered is =
 answer_of-fault printed said faults.OutOfMemory (Ok output) fails numbered is =
     let none : IsSome {T = ℕ} None = numbered in cc
 answer_of-fault printed said faults.OutOfMemory (Err memory) fails numbered is = tt
+
+-- the answer to a script, by what was read
+pub answer_of-read : {X : Type 0} (printed : X → List ℕ) (answer : Answer) (said found : Result X ScriptFault)
+    → said ≡ found → answer ≡ answer_of printed said → answer ≡ answer_of printed found
+answer_of-read printed answer said found is answers = answers ∙ ap (answer_of printed) is

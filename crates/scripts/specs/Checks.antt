@@ -5,8 +5,11 @@ use Rattle.system_keys.specs.declared.refusal.Refusal.{Refusal}
 use Rattle.system_keys.specs.AsSpecified.{unless_fault}
 use Rattle.system_keys.specs.declared.change.Change.{Change}
 use Rattle.system_keys.specs.declared.change.Change.TheVariants as changes
+use Rattle.system_keys.specs.Keys.{Range}
 use Rattle.system_keys.specs.Limits.{set_fault, range_fault}
+use Rattle.mutation.specs.Transactions.{range_from}
 use Rattle.mutation.specs.declared.refusal.Refusal.TheVariants.{Key}
+use Rattle.mutation.specs.declared.transaction.GivenRange.{GivenRange}
 use Rattle.scripts.specs.declared.raw_change.RawChange.{RawChange}
 use Rattle.scripts.specs.declared.raw_change.RawChange.TheVariants as raw
 use Rattle.scripts.specs.declared.script_fault.ScriptFault.{ScriptFault}
@@ -21,6 +24,11 @@ abbrev pub ◌>>=◌ : {A B : Type 0}
 -- the fault of a script that has this fault of a key, a value or a range
 abbrev pub of_key : Refusal → ScriptFault
 of_key refusal = faults.Refused (Key refusal)
+
+-- the range, or its fault
+abbrev pub checked_range : GivenRange → Result Range ScriptFault
+checked_range range =
+    unless_fault (option_map of_key (range_fault range.begin range.end)) (range_from range)
 
 -- the change, or its fault
 abbrev pub checked_change : RawChange → Result Change ScriptFault

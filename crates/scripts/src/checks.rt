@@ -1,12 +1,13 @@
 //! Checks of the keys, values and ranges of a script, in the order of its lists.
 
 ghost use Rattle.std.specs.Prelude.{◌≡◌, Result};
-ghost use Rattle.scripts.specs.Checks.{of_key, checked_change, each_checked};
+ghost use Rattle.scripts.specs.Checks.{checked_change, checked_range, each_checked, of_key};
 ghost use Rattle.scripts.specs.ScriptFaults.{IsReadAs};
 ghost use Rattle.scripts.specs.declared.script_fault.ScriptFault.{ScriptFault as Fault};
 
 use crate::raw_change::RawChange;
 use crate::script_fault::ScriptFault;
+use mutation::GivenRange;
 use std::alloc::Global;
 use system_keys::{Change, Items, KeyRange};
 
@@ -39,6 +40,13 @@ impl Checked<RawChange> for Change {
             }
         }
     }
+}
+
+/// Returns the range, or its fault.
+pub fn check_range(range: GivenRange) -> Result<KeyRange, ScriptFault>
+    ensures { IsReadAs (λ found. found) result (checked_range range) }
+{
+    Ok(KeyRange::new(Vec::from(range.begin), Vec::from(range.end))?)
 }
 
 /// Returns all of the list, or the first fault.

@@ -4,6 +4,7 @@
 //! Source: this project's profile (scripts, lines and statuses).
 #![tactic(auto)]
 
+mod answer;
 mod batch_checks;
 mod batch_reading;
 mod batch_shapes;
@@ -15,6 +16,7 @@ mod devices;
 mod lines;
 mod output;
 mod raw_change;
+mod reading;
 mod run;
 mod script_fault;
 mod shaped;
@@ -25,14 +27,16 @@ mod stream_tokens;
 mod streams;
 mod value_reading;
 
+pub use answer::ScriptKind;
 pub use batch_checks::admit_batch;
 pub use batch_reading::{read_batch, stream_batch};
-pub use checks::{Checked, check_each};
+pub use checks::{Checked, check_each, check_range};
 pub use devices::{Failed, Reader, Sink, Source, Writer};
 pub use lines::{print_asked, print_routing, push_tags};
-pub use output::{Output, refused};
+pub use output::Output;
 pub use raw_change::RawChange;
-pub use run::{ScriptKind, run_script};
+pub use reading::{read_checked, stream_checked};
+pub use run::run_script;
 pub use script_fault::ScriptFault;
 pub use shaped::{Shaped, field, has_fields, pair};
 pub use status::RunStatus;

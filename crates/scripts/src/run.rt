@@ -1,25 +1,11 @@
 //! A run of a script of any kind, over any source and sink.
-ghost use Rattle.std.specs.Prelude.{◌-◌, ◌^◌, ◌<◌, ℕ, List, IfOk};
-ghost use Rattle.scripts.specs.Answers.{Answer, IsOutput};
+ghost use Rattle.std.specs.Prelude.{◌-◌, ◌^◌, ◌<◌};
 ghost use Rattle.scripts.specs.Runs.{LeavesDevices, WritesTextOf};
-ghost use Rattle.scripts.specs.Statuses.{IsAnswered};
 
+use crate::answer::{ScriptKind, answer};
 use crate::devices::{Failed, ReadFault, Sink, Source, read_all, write_all};
-use crate::output::Output;
 use crate::status::RunStatus;
 use std::alloc::Global;
-use system_keys::OutOfMemory;
-
-/// A kind of script, with the answer to the bytes of one.
-pub trait ScriptKind {
-    ghost answer_to: { List ℕ → Answer };
-
-    /// The output for a script of this kind (this project's profile). Fails only with
-    /// `OutOfMemory`.
-    fn answer(alloc: Global, bytes: &[u8]) -> Result<Output, OutOfMemory>
-        ensures output { IfOk result (IsOutput (answer_to bytes.now)) }
-        ensures answered { IfOk result (λ output. IsAnswered output.status) };
-}
 
 /// Reads a script from the source to its end, and writes the text that it comes to. If a read
 /// fails, or the limit on read calls is passed, nothing is written.
@@ -42,7 +28,7 @@ pub fn run_script<K: ScriptKind, S: Source, T: Sink>(
         Err(ReadFault::Device) => return RunStatus::DeviceFailed,
         Err(ReadFault::Limit) => return RunStatus::DeviceFailed,
     };
-    let Ok(output) = K::answer(alloc, &bytes) else {
+    let Ok(output) = answer::<K>(alloc, &bytes) else {
         return RunStatus::OutOfMemory;
     };
     match write_all(sink, output.text.as_bytes()) {

@@ -3,10 +3,10 @@ use Rattle.std.specs.Prelude.{◌≡◌, ◌-◌, max, min, List, [], ◌∷◌,
 use Rattle.model.specs.Numbers.{Version}
 use Rattle.model.specs.declared.verdict.Verdict.{Verdict}
 use Rattle.model.specs.Verdicts.{judged_at, verdicts_after}
-use Rattle.model.specs.WriteHistories.{Written, ShareAt, all_judged, StandsForShares}
+use Rattle.model.specs.WriteHistories.{WriteHistoryView, ShareAt, all_judged, StandsForShares}
 
 -- the verdicts are those on the share after every list of shares that the history stands for
-abbrev pub AreVerdicts : (history : Written) (s : ShareAt) (verdicts : List Verdict) → Type 0
+abbrev pub AreVerdicts : (history : WriteHistoryView) (s : ShareAt) (verdicts : List Verdict) → Type 0
 AreVerdicts history s verdicts =
     (shares : List ShareAt) (forgotten : Version)
     → StandsForShares history shares forgotten
@@ -14,7 +14,7 @@ AreVerdicts history s verdicts =
     ≡ verdicts_after history.window (all_judged shares) (judged_at s.version s.parts)
 
 -- whatever shares the history stands for, the next one stands for these and then one more
-abbrev pub GainsShare : (history : Written) (s : ShareAt) (next : Written) → Type 0
+abbrev pub GainsShare : (history : WriteHistoryView) (s : ShareAt) (next : WriteHistoryView) → Type 0
 GainsShare history s next =
     (shares : List ShareAt) (forgotten : Version)
     → StandsForShares history shares forgotten
@@ -22,7 +22,7 @@ GainsShare history s next =
 
 -- Whatever shares the history stands for, the next one stands for the same. It has forgotten what
 -- is at or below `oldest` and lies at least the window before the last version.
-abbrev pub Forgets : (history : Written) (oldest : Version) (next : Written) → Type 0
+abbrev pub Forgets : (history : WriteHistoryView) (oldest : Version) (next : WriteHistoryView) → Type 0
 Forgets history oldest next =
     (shares : List ShareAt) (forgotten : Version)
     → StandsForShares history shares forgotten

@@ -11,7 +11,7 @@ ghost use Rattle.share_judge.specs.Kept.{NeverDecrease, last_written, AreAt, ove
 ghost use Rattle.share_judge.specs.Kept.{writes_above, is_first_up_to};
 
 use crate::write::Write;
-use model::{Part, Verdict};
+use model::{Part, Verdict, Version};
 use std::alloc::Global;
 use std::collections::VecDeque;
 use system_keys::{KeyRange, OutOfMemory};
@@ -22,7 +22,7 @@ pub(crate) fn judge_parts(
     alloc: Global,
     window: u64,
     kept: &VecDeque<Write>,
-    version: u64,
+    version: Version,
     parts: &[Part],
 ) -> Result<(Vec<Verdict>, VecDeque<Write>), OutOfMemory>
     requires order { NeverDecrease 0 kept.now.items }
@@ -49,7 +49,7 @@ fn verdict_on(
     window: u64,
     kept: &VecDeque<Write>,
     written: &VecDeque<Write>,
-    version: u64,
+    version: Version,
     part: &Part,
 ) -> Verdict
     requires order { NeverDecrease 0 kept.now.items }
@@ -69,7 +69,7 @@ fn verdict_on(
 
 /// Whether the part has a read, and its snapshot lies more than the window before the version (this
 /// project's profile: the window is counted back from the version of the part's own record).
-fn is_too_old(window: u64, version: u64, part: &Part) -> bool
+fn is_too_old(window: u64, version: Version, part: &Part) -> bool
     ensures { let t : JudgedPart = record { version = version; part = part.now } in
         result ≡ is_too_old window t }
 {
@@ -81,7 +81,7 @@ fn is_too_old(window: u64, version: u64, part: &Part) -> bool
 fn has_overwritten_read(
     kept: &VecDeque<Write>,
     written: &VecDeque<Write>,
-    version: u64,
+    version: Version,
     part: &Part,
 ) -> bool
     requires order { NeverDecrease 0 kept.now.items }
@@ -104,7 +104,7 @@ fn has_overwritten_read(
 fn is_overwritten(
     kept: &VecDeque<Write>,
     written: &VecDeque<Write>,
-    version: u64,
+    version: Version,
     part: &Part,
     read: &KeyRange,
 ) -> bool
@@ -120,7 +120,7 @@ fn is_overwritten(
 /// Whether the read overlaps a write above the snapshot.
 ///
 /// Goes from the newest write back to the first one that is not above the snapshot.
-fn is_overwritten_since(kept: &VecDeque<Write>, snapshot: u64, read: &KeyRange) -> bool
+fn is_overwritten_since(kept: &VecDeque<Write>, snapshot: Version, read: &KeyRange) -> bool
     requires { NeverDecrease 0 kept.now.items }
     ensures { result ≡ list_any (overwrites snapshot read.now) kept.now.items }
 {
@@ -147,7 +147,7 @@ fn is_written(written: &VecDeque<Write>, read: &KeyRange) -> bool
 fn push_writes_if_committed(
     written: &mut VecDeque<Write>,
     verdict: Verdict,
-    version: u64,
+    version: Version,
     part: &Part,
 ) -> Result<(), OutOfMemory>
     ensures { OnOk result (written.new.items ≡ (if is_committed verdict
@@ -163,7 +163,7 @@ fn push_writes_if_committed(
 /// Adds the ranges as writes of the version.
 fn push_writes(
     written: &mut VecDeque<Write>,
-    version: u64,
+    version: Version,
     ranges: &[KeyRange],
 ) -> Result<(), OutOfMemory>
     ensures { OnOk result (written.new.items ≡ written.old.items ++ writes_at version ranges.now) }
@@ -176,7 +176,7 @@ fn push_writes(
 }
 
 /// Drops the writes at or below the bound, from the front.
-pub(crate) fn forget_up_to(kept: &mut VecDeque<Write>, bound: u64)
+pub(crate) fn forget_up_to(kept: &mut VecDeque<Write>, bound: Version)
     requires { NeverDecrease 0 kept.old.items }
     ensures { kept.new.items ≡ writes_above bound kept.old.items }
 {
@@ -186,7 +186,7 @@ pub(crate) fn forget_up_to(kept: &mut VecDeque<Write>, bound: u64)
 }
 
 /// Whether the first write is at or below the bound.
-fn is_first_up_to(kept: &VecDeque<Write>, bound: u64) -> bool
+fn is_first_up_to(kept: &VecDeque<Write>, bound: Version) -> bool
     ensures { result ≡ is_first_up_to bound kept.now.items }
 {
     match kept.front() {

@@ -1,5 +1,6 @@
 //! A range that was written at a version.
 
+use model::Version;
 use std::marker::Model;
 use system_keys::KeyRange;
 
@@ -7,7 +8,7 @@ use system_keys::KeyRange;
 #[derive(Clone, Debug, Drop)]
 pub(crate) struct Write {
     pub(crate) range: KeyRange,
-    pub(crate) version: u64,
+    pub(crate) version: Version,
 }
 
 impl Model for Write {

@@ -7,6 +7,7 @@ ghost use Rattle.share_judge.specs.Answers.{AreVerdicts, GainsShare, Forgets};
 use crate::judging::{forget_up_to, judge_parts};
 use crate::verdicts::Verdicts;
 use crate::write::Write;
+use model::Version;
 use request_builder::Share;
 use std::alloc::Global;
 use std::collections::VecDeque;
@@ -19,15 +20,15 @@ use system_keys::{Items, OutOfMemory};
 #[derive(Clone, Debug, Drop)]
 pub struct WriteHistory {
     window: u64,
-    last: u64,
+    last: Version,
     writes: VecDeque<Write>,
 }
 
 impl Model for WriteHistory {
-    ghost use Rattle.model.specs.WriteHistories.{Written};
+    ghost use Rattle.model.specs.WriteHistories.{WriteHistoryView};
     ghost use Rattle.share_judge.specs.Kept.{AreInOrder};
 
-    ghost Value = { Written };
+    ghost Value = { WriteHistoryView };
 
     ghost view = { λ history. record {
       window = history.window;
@@ -54,7 +55,7 @@ impl WriteHistory {
     }
 
     /// Returns the version that was judged last, or 0.
-    pub fn last(&self) -> u64
+    pub fn last(&self) -> Version
         ensures { result ≡ self.now.last }
     {
         self.last
@@ -68,7 +69,7 @@ impl WriteHistory {
     /// above its snapshot or earlier in the same share. Fails only with `OutOfMemory`, and then
     /// leaves the history unchanged. What is judged cannot be undone: a caller that needs further
     /// memory allocates it first.
-    pub fn judge(&mut self, version: u64, share: &Share) -> Result<Verdicts, OutOfMemory>
+    pub fn judge(&mut self, version: Version, share: &Share) -> Result<Verdicts, OutOfMemory>
         requires { self.old.last < version }
         ensures verdicts { let s : ShareAt = record { version = version; parts = share.now } in
             IfOk result (λ verdicts. AreVerdicts self.old s verdicts) }
@@ -88,7 +89,7 @@ impl WriteHistory {
 
     /// Forgets the writes at or below `oldest` that no later verdict needs: those at least the
     /// window before the version judged last. Allocates nothing.
-    pub fn forget(&mut self, oldest: u64)
+    pub fn forget(&mut self, oldest: Version)
         ensures window { self.new.window ≡ self.old.window }
         ensures last { self.new.last ≡ self.old.last }
         ensures stands { Forgets self.old oldest self.new }

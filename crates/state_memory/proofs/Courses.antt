@@ -8,14 +8,14 @@ use Rattle.model.specs.Requests.{Request}
 use Rattle.model.specs.Offers.{WrongResolver, NoSuchProxy, OutsideChain, Early, reply_at, is_in_order}
 use Rattle.state_memory.specs.declared.proxy_memory.ProxyMemory.{ProxyMemory as Raw}
 use Rattle.state_memory.specs.Kept.{kept_of, all_kept}
-use Rattle.model.specs.ResolverMemory.{Memory, ProxyMemory, Judge, course, course_again, course_of_proxy}
+use Rattle.model.specs.ResolverMemory.{ResolverView, ProxyMemory, Judge, course, course_again, course_of_proxy}
 
-pub wrong_resolver : (v : Memory) (q : Request) → (q.resolver ≡ v.number → ⊥) → course v q ≡ Err WrongResolver
+pub wrong_resolver : (v : ResolverView) (q : Request) → (q.resolver ≡ v.number → ⊥) → course v q ≡ Err WrongResolver
 unfolding course
 wrong_resolver v q other = let apart : nat_eq q.resolver v.number ≡ false = ne_eqb q.resolver v.number other in rw apart refl
 
 -- the resolver is right, and this is kept of the proxy
-pub own_course : (v : Memory) (q : Request) (found : Option ProxyMemory) → q.resolver ≡ v.number → slice_get v.proxies q.proxy ≡ found → course v q ≡ course_of_proxy v.version q found
+pub own_course : (v : ResolverView) (q : Request) (found : Option ProxyMemory) → q.resolver ≡ v.number → slice_get v.proxies q.proxy ≡ found → course v q ≡ course_of_proxy v.version q found
 unfolding course
 own_course v q found own at = let same : nat_eq q.resolver v.number ≡ true = eq-eqb q.resolver v.number own in rw same (ap (course_of_proxy v.version q) at)
 
@@ -54,41 +54,41 @@ comes_next last q one right new chained =
 
 -- ---- the same, by the facts that the code has
 
-pub refused_resolver : (v : Memory) (q : Request) (r n : ℕ) → r ≡ q.resolver → n ≡ v.number → (r ≡ n → ⊥) → course v q ≡ Err WrongResolver
+pub refused_resolver : (v : ResolverView) (q : Request) (r n : ℕ) → r ≡ q.resolver → n ≡ v.number → (r ≡ n → ⊥) → course v q ≡ Err WrongResolver
 refused_resolver v q r n r_is n_is other = wrong_resolver v q (λ same. other (r_is ∙ same ∙ sym n_is))
 
-pub refused_proxy : (v : Memory) (q : Request) (r n p : ℕ) (raw : List Raw) → r ≡ q.resolver → n ≡ v.number → r ≡ n → p ≡ q.proxy → all_kept raw ≡ v.proxies → length raw ≤ p → course v q ≡ Err NoSuchProxy
+pub refused_proxy : (v : ResolverView) (q : Request) (r n p : ℕ) (raw : List Raw) → r ≡ q.resolver → n ≡ v.number → r ≡ n → p ≡ q.proxy → all_kept raw ≡ v.proxies → length raw ≤ p → course v q ≡ Err NoSuchProxy
 refused_proxy v q r n p raw r_is n_is own p_is kept past =
     own_course v q None (sym r_is ∙ own ∙ n_is)
     (slice_get_past v.proxies q.proxy (omega (arith, sym (ap length kept) ∙ length-map raw kept_of, past, p_is)))
 
 -- the request is to this resolver, from a proxy of which this is kept
-pub record Known (v : Memory) (q : Request) (one : Raw) : Type 0 where
+pub record Known (v : ResolverView) (q : Request) (one : Raw) : Type 0 where
   pub own : q.resolver ≡ v.number
   pub at : slice_get v.proxies q.proxy ≡ Some (kept_of one)
 
-pub known : (v : Memory) (q : Request) (r n p : ℕ) (raw : List Raw) (one : Raw) → r ≡ q.resolver → n ≡ v.number → r ≡ n → p ≡ q.proxy → all_kept raw ≡ v.proxies → p < length raw → one ≡ get_or raw p one → Known v q one
+pub known : (v : ResolverView) (q : Request) (r n p : ℕ) (raw : List Raw) (one : Raw) → r ≡ q.resolver → n ≡ v.number → r ≡ n → p ≡ q.proxy → all_kept raw ≡ v.proxies → p < length raw → one ≡ get_or raw p one → Known v q one
 known v q r n p raw one r_is n_is own p_is kept within is =
     record {
       own = sym r_is ∙ own ∙ n_is;
       at = (λ k. slice_get (sym kept k) (sym p_is k)) ∙ slice_get-map kept_of raw p ∙ ap (option_map kept_of) (slice_get_read raw (length raw) p one refl within is);
     }
 
-pub known_course : (v : Memory) (q : Request) (one : Raw) → Known v q one → course v q ≡ course_of_proxy v.version q (Some (kept_of one))
+pub known_course : (v : ResolverView) (q : Request) (one : Raw) → Known v q one → course v q ≡ course_of_proxy v.version q (Some (kept_of one))
 known_course v q one k = own_course v q (Some (kept_of one)) k.own k.at
 
-pub known_wrong : (v : Memory) (q : Request) (one : Raw) (last : ℕ) → Known v q one → last ≡ v.version → is_in_order q ≡ false → course v q ≡ Err (OutsideChain last)
+pub known_wrong : (v : ResolverView) (q : Request) (one : Raw) (last : ℕ) → Known v q one → last ≡ v.version → is_in_order q ≡ false → course v q ≡ Err (OutsideChain last)
 known_wrong v q one last k last_is wrong = known_course v q one k ∙ out_of_order v.version q (kept_of one) wrong ∙ ap (λ n. Err (OutsideChain n)) (sym last_is)
 
-pub known_again : (v : Memory) (q : Request) (one : Raw) (last version : ℕ) → Known v q one → last ≡ v.version → version ≡ q.version → is_in_order q ≡ true → version ≤ last → course v q ≡ course_again (reply_at version (kept_of one).replies) version one.acknowledged last
+pub known_again : (v : ResolverView) (q : Request) (one : Raw) (last version : ℕ) → Known v q one → last ≡ v.version → version ≡ q.version → is_in_order q ≡ true → version ≤ last → course v q ≡ course_again (reply_at version (kept_of one).replies) version one.acknowledged last
 known_again v q one last version k last_is version_is right passed =
     known_course v q one k ∙ repeated v.version q (kept_of one) right (omega (arith, last_is, version_is, passed)) ∙ (λ i. course_again (reply_at (sym version_is i) (kept_of one).replies) (sym version_is i) one.acknowledged (sym last_is i))
 
-pub known_early : (v : Memory) (q : Request) (one : Raw) (last : ℕ) → Known v q one → last ≡ v.version → is_in_order q ≡ true → last < q.version → last < q.previous → course v q ≡ Err (Early last)
+pub known_early : (v : ResolverView) (q : Request) (one : Raw) (last : ℕ) → Known v q one → last ≡ v.version → is_in_order q ≡ true → last < q.version → last < q.previous → course v q ≡ Err (Early last)
 known_early v q one last k last_is right new early = known_course v q one k ∙ too_early v.version q (kept_of one) right (omega (arith, last_is, new)) (omega (arith, last_is, early)) ∙ ap (λ n. Err (Early n)) (sym last_is)
 
-pub known_late : (v : Memory) (q : Request) (one : Raw) (last : ℕ) → Known v q one → last ≡ v.version → is_in_order q ≡ true → last < q.version → q.previous < last → course v q ≡ Err (OutsideChain last)
+pub known_late : (v : ResolverView) (q : Request) (one : Raw) (last : ℕ) → Known v q one → last ≡ v.version → is_in_order q ≡ true → last < q.version → q.previous < last → course v q ≡ Err (OutsideChain last)
 known_late v q one last k last_is right new late = known_course v q one k ∙ passed_by v.version q (kept_of one) right (omega (arith, last_is, new)) (omega (arith, last_is, late)) ∙ ap (λ n. Err (OutsideChain n)) (sym last_is)
 
-pub known_next : (v : Memory) (q : Request) (one : Raw) (last : ℕ) → Known v q one → last ≡ v.version → is_in_order q ≡ true → last < q.version → q.previous ≡ last → course v q ≡ Ok Judge
+pub known_next : (v : ResolverView) (q : Request) (one : Raw) (last : ℕ) → Known v q one → last ≡ v.version → is_in_order q ≡ true → last < q.version → q.previous ≡ last → course v q ≡ Ok Judge
 known_next v q one last k last_is right new chained = known_course v q one k ∙ comes_next v.version q (kept_of one) right (omega (arith, last_is, new)) (omega (arith, last_is, chained))

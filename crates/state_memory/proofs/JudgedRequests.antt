@@ -7,31 +7,31 @@ use Rattle.model.specs.declared.reply.Reply.{Reply}
 use Rattle.model.specs.declared.unseen.UnseenRow.{UnseenRow}
 use Rattle.model.specs.declared.verdict.Verdict.{Verdict}
 use Rattle.model.specs.Requests.{Request}
-use Rattle.model.specs.ResolverMemory.{Memory, ProxyMemory as Kept, Judge, StandsForRequests, course, proxy_after, is_row_above, reply_by_memory, memory_after, reached_by_all}
+use Rattle.model.specs.ResolverMemory.{ResolverView, ProxyMemory as Kept, Judge, StandsForRequests, course, proxy_after, is_row_above, reply_by_memory, memory_after, reached_by_all}
 use Rattle.model.specs.Requests.{request_reply, request_reply_row, request_verdicts, reply_state_of_mark}
 use Rattle.model.specs.declared.unseen.UnseenState.{UnseenState}
-use Rattle.model.specs.Laws.ResolverMemory.{share_of}
+use Rattle.model.specs.Laws.Resolvers.{share_of}
 use Rattle.model.specs.Verdicts.{judged_at}
-use Rattle.model.specs.WriteHistories.{Written, ShareAt, StandsForShares, shares_of, all_judged}
+use Rattle.model.specs.WriteHistories.{WriteHistoryView, ShareAt, StandsForShares, shares_of, all_judged}
 use Rattle.share_judge.specs.Answers.{AreVerdicts, GainsShare, Forgets}
-use Rattle.model.proofs.MemoryAnswers.{is_next}
-use Rattle.model.proofs.MemoryAnswers.{memory_replies, verdicts_of_shares}
-use Rattle.model.proofs.JudgingLaws.{length-verdicts_after}
-use Rattle.model.proofs.MemoryGrows.{judging_adds, set_found}
+use Rattle.model.proofs.Resolvers.Answers.{is_next}
+use Rattle.model.proofs.Resolvers.Answers.{memory_replies, verdicts_of_shares}
+use Rattle.model.proofs.Shares.Forgetting.{length-verdicts_after}
+use Rattle.model.proofs.Resolvers.Growth.{judging_adds, set_found}
 use Rattle.state_memory.specs.declared.proxy_memory.ProxyMemory.{ProxyMemory}
 use Rattle.state_memory.specs.Kept.{kept_of, all_kept, AllIncrease, rows_above, reply_of}
 use Rattle.state_memory.specs.Order.{RowsRise, RepliesRise, RowsIncrease, AreInOrder}
 use Rattle.state_memory.proofs.RowLaws.{rise_increases, rise_push, rise_filter, rise_higher}
 
 -- the proxy of the request is there
-pub place_within : (v : Memory) (q : Request) (raw : List ProxyMemory) → course v q ≡ Ok Judge → all_kept raw ≡ v.proxies → q.proxy < length raw
+pub place_within : (v : ResolverView) (q : Request) (raw : List ProxyMemory) → course v q ≡ Ok Judge → all_kept raw ≡ v.proxies → q.proxy < length raw
 place_within v q raw is kept =
     let next = is_next v q is in
     let within : q.proxy < length v.proxies = slice_get_within v.proxies q.proxy next.one next.there in
     omega (arith, within, ap length kept, length-map raw kept_of)
 
 -- the request is above the resolver's version
-pub version_above : (v : Memory) (q : Request) (version last : ℕ) → course v q ≡ Ok Judge → version ≡ v.version → last ≡ version → last < q.version
+pub version_above : (v : ResolverView) (q : Request) (version last : ℕ) → course v q ≡ Ok Judge → version ≡ v.version → last ≡ version → last < q.version
 version_above v q version last is same kept = let next = is_next v q is in omega (arith, next.above, next.chained, same, kept)
 
 pub kept_rows_increase : (version : ℕ) (rows : List UnseenRow) (proxies : List Kept) → AreInOrder version rows proxies → RowsIncrease rows
@@ -69,7 +69,7 @@ order_after version bound rows with_row left before after one q row reply order 
     by p found (inl here) = subst (λ (kept : Kept). RepliesRise q.version kept.replies) (sym here.1) own
     by p found (inr other) = rise_higher (λ (kept : Reply). kept.version) 0 version q.version found.replies (omega (arith, new)) (order.replies_rise p found other.1)
 
-pub next_there : (v : Memory) (q : Request) (raw : List ProxyMemory) → course v q ≡ Ok Judge → all_kept raw ≡ v.proxies → (one : Kept) × (slice_get (all_kept raw) q.proxy ≡ Some one)
+pub next_there : (v : ResolverView) (q : Request) (raw : List ProxyMemory) → course v q ≡ Ok Judge → all_kept raw ≡ v.proxies → (one : Kept) × (slice_get (all_kept raw) q.proxy ≡ Some one)
 next_there v q raw is kept = let next = is_next v q is in (next.one, ap (λ xs. slice_get xs q.proxy) kept ∙ next.there)
 
 pub noted_count : (before after : List Kept) (one : Kept) (q : Request) (reply : Reply) → after ≡ slice_set before q.proxy (proxy_after one q reply) → length after ≡ length before
@@ -77,19 +77,19 @@ noted_count before after one q reply is = ap length is ∙ length-set before q.p
 
 -- ---- the reply, and what the resolver then stands for
 
-verdicts_are : (v : Memory) (judged : List Request) (q : Request) (verdicts : List Verdict) → StandsForRequests v judged → AreVerdicts v.written (share_of q) verdicts → verdicts ≡ request_verdicts v.written.window judged q
+verdicts_are : (v : ResolverView) (judged : List Request) (q : Request) (verdicts : List Verdict) → StandsForRequests v judged → AreVerdicts v.written (share_of q) verdicts → verdicts ≡ request_verdicts v.written.window judged q
 verdicts_are v judged q verdicts stands are = are (shares_of judged) stands.forgotten stands.written ∙ verdicts_of_shares v.written.window judged q
 
-pub judged_reply : (v : Memory) (one : Kept) (judged : List Request) (q : Request) (verdicts : List Verdict) (unseen : List UnseenRow) → StandsForRequests v judged → slice_get v.proxies q.proxy ≡ Some one → AreVerdicts v.written (share_of q) verdicts → unseen ≡ rows_above one.last v.rows → reply_of q verdicts unseen ≡ request_reply v.written.window judged q
+pub judged_reply : (v : ResolverView) (one : Kept) (judged : List Request) (q : Request) (verdicts : List Verdict) (unseen : List UnseenRow) → StandsForRequests v judged → slice_get v.proxies q.proxy ≡ Some one → AreVerdicts v.written (share_of q) verdicts → unseen ≡ rows_above one.last v.rows → reply_of q verdicts unseen ≡ request_reply v.written.window judged q
 judged_reply v one judged q verdicts unseen stands at are told =
     (λ k. reply_of q (verdicts_are v judged q verdicts stands are k) (told k)) ∙ memory_replies v one judged q stands at
 
 -- the memory after the request, by its parts
-pub judged_memory : (v new : Memory) (one : Kept) (judged : List Request) (q : Request) (verdicts : List Verdict) (reply : Reply) (row : UnseenRow) (with_share : Written) (bound : ℕ) → StandsForRequests v judged → course v q ≡ Ok Judge → slice_get v.proxies q.proxy ≡ Some one → AreVerdicts v.written (share_of q) verdicts →
+pub judged_memory : (v new : ResolverView) (one : Kept) (judged : List Request) (q : Request) (verdicts : List Verdict) (reply : Reply) (row : UnseenRow) (with_share : WriteHistoryView) (bound : ℕ) → StandsForRequests v judged → course v q ≡ Ok Judge → slice_get v.proxies q.proxy ≡ Some one → AreVerdicts v.written (share_of q) verdicts →
     GainsShare v.written (share_of q) with_share → Forgets with_share bound new.written → new.written.window ≡ v.written.window → new.number ≡ v.number → new.version ≡ q.version → row ≡ request_reply_row q verdicts → reply ≡ reply_of q verdicts (rows_above one.last v.rows) →
     new.proxies ≡ slice_set v.proxies q.proxy (proxy_after one q reply) → new.rows ≡ rows_above (reached_by_all new.proxies) (v.rows ++ row ∷ []) → StandsForRequests new (judged ++ q ∷ [])
 judged_memory v new one judged q verdicts reply row with_share bound stands is at are gains forgets window number version row_is reply_is proxies rows =
-    subst (λ (w : Memory). StandsForRequests w (judged ++ q ∷ [])) (sym same)
+    subst (λ (w : ResolverView). StandsForRequests w (judged ++ q ∷ [])) (sym same)
     (judging_adds v one judged q new.written _ stands is at window (forgets _ _ (gains (shares_of judged) stands.forgotten stands.written)))
   where
     told : List Verdict
@@ -108,7 +108,7 @@ judged_memory v new one judged q verdicts reply row with_share bound stands is a
     same = λ k. record { number = number k; version = version k; written = new.written; rows = rows_are k; proxies = proxies_are k }
 
 -- the writes that lie at least the window before the request are forgotten
-pub judged_forgets : (v : Memory) (judged : List Request) (q : Request) (with_share written : Written) (bound : ℕ) → StandsForRequests v judged → GainsShare v.written (share_of q) with_share → Forgets with_share bound written → v.written.last < q.version → bound ≡ q.version → with_share.last ≡ q.version →
+pub judged_forgets : (v : ResolverView) (judged : List Request) (q : Request) (with_share written : WriteHistoryView) (bound : ℕ) → StandsForRequests v judged → GainsShare v.written (share_of q) with_share → Forgets with_share bound written → v.written.last < q.version → bound ≡ q.version → with_share.last ≡ q.version →
     with_share.window ≡ v.written.window → written.window ≡ with_share.window → StandsForShares written (shares_of (judged ++ q ∷ [])) (q.version - written.window)
 judged_forgets v judged q with_share written bound stands gains forgets above bound_is last kept window =
     let low = stands.written.in_window in
@@ -117,7 +117,7 @@ judged_forgets v judged q with_share written bound stands gains forgets above bo
     (subst (StandsForShares written (shares_of judged ++ share_of q ∷ [])) all (forgets (shares_of judged ++ share_of q ∷ []) stands.forgotten (gains (shares_of judged) stands.forgotten stands.written)))
 
 -- as many verdicts as parts
-pub as_many_verdicts : (v : Memory) (judged : List Request) (q : Request) (verdicts : List Verdict) → StandsForRequests v judged → AreVerdicts v.written (share_of q) verdicts → length verdicts ≡ length q.share
+pub as_many_verdicts : (v : ResolverView) (judged : List Request) (q : Request) (verdicts : List Verdict) → StandsForRequests v judged → AreVerdicts v.written (share_of q) verdicts → length verdicts ≡ length q.share
 as_many_verdicts v judged q verdicts stands are =
     ap length (are (shares_of judged) stands.forgotten stands.written) ∙ length-verdicts_after v.written.window (all_judged (shares_of judged)) (judged_at q.version q.share) ∙ length-map q.share (λ part. record { version = q.version; part = part })
 

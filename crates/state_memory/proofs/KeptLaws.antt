@@ -7,7 +7,7 @@ use Rattle.model.specs.declared.unseen.UnseenRow.{UnseenRow}
 use Rattle.std.proofs.lemmas.List.{map-append}
 use Rattle.model.specs.Requests.{Request}
 use Rattle.model.specs.ResolverMemory.{ProxyMemory as Kept, reached_by_all, proxy_after}
-use Rattle.model.proofs.HistoryLaws.{push_cases}
+use Rattle.model.proofs.History.Growth.{push_cases}
 use Rattle.state_memory.specs.declared.proxy_memory.ProxyMemory.{ProxyMemory}
 use Rattle.state_memory.specs.Kept.{AreNew, HasNoted, nothing_kept, kept_of, all_kept, rows_above, replies_above, is_first_row_up_to, is_first_reply_up_to}
 use Rattle.state_memory.specs.Order.{RowsIncrease, RepliesIncrease}

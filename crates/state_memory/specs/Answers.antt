@@ -7,7 +7,7 @@ use Rattle.model.specs.declared.reply.Reply.{Reply}
 use Rattle.model.specs.Requests.{Request, request_reply, remembered_requests}
 use Rattle.model.specs.Offers.{OfferAnswer, OfferFault, answer_to}
 use Rattle.model.specs.Offers as offers
-use Rattle.model.specs.ResolverMemory.{Memory, StandsForRequests, Course as Way}
+use Rattle.model.specs.ResolverMemory.{ResolverView, StandsForRequests, Course as Way}
 use Rattle.model.specs.ResolverMemory as way
 use Rattle.model.specs.WriteHistories.{StandsForShares, shares_of}
 use Rattle.state_memory.specs.declared.answer.Answer.{Answer}
@@ -56,43 +56,43 @@ refusal_name refusals.OutOfMemory = codes "OutOfMemory"
 -- whatever requests the resolver stands for, the result is the answer of the definition after these
 -- requests; or it is out of memory, and then the definition does not refuse the request
 abbrev pub AnswersAfterJudged :
-    (before : Memory) (q : Request) (result : Result Answer Refusal) → Type 0
+    (before : ResolverView) (q : Request) (result : Result Answer Refusal) → Type 0
 AnswersAfterJudged before q result =
     (judged : List Request) → StandsForRequests before judged
     → IsAsSpecified fault_of answer_of result
     (answer_to before.number (length before.proxies) before.written.window judged q)
 
 -- whatever requests the resolver stood for, it stands for this one too
-abbrev pub GainsRequest : (before : Memory) (q : Request) (after : Memory) → Type 0
+abbrev pub GainsRequest : (before : ResolverView) (q : Request) (after : ResolverView) → Type 0
 GainsRequest before q after =
     (judged : List Request) → StandsForRequests before judged
     → StandsForRequests after (judged ++ q ∷ [])
 
 -- Whatever requests the resolver stood for, it has forgotten the writes of these and of this one that
 -- lie at least the window before its version.
-abbrev pub ForgetsOldWrites : (before : Memory) (q : Request) (after : Memory) → Type 0
+abbrev pub ForgetsOldWrites : (before : ResolverView) (q : Request) (after : ResolverView) → Type 0
 ForgetsOldWrites before q after =
     (judged : List Request) → StandsForRequests before judged
     → StandsForShares after.written (shares_of (judged ++ q ∷ [])) (q.version - after.written.window)
 
 -- a request that was judged makes the resolver forget old writes
-abbrev pub ForgetsIfJudged : (before : Memory) (q : Request) (after : Memory) → Answer → Type 0
+abbrev pub ForgetsIfJudged : (before : ResolverView) (q : Request) (after : ResolverView) → Answer → Type 0
 ForgetsIfJudged before q after (answers.Judged reply) = ForgetsOldWrites before q after
 ForgetsIfJudged before q after (answers.Again reply) = Unit {0}
 
 -- a request that was judged adds to what the resolver stands for, and a repeat changes nothing
-abbrev pub IsAfterAnswer : (before : Memory) (q : Request) (after : Memory) → Answer → Type 0
+abbrev pub IsAfterAnswer : (before : ResolverView) (q : Request) (after : ResolverView) → Answer → Type 0
 IsAfterAnswer before q after (answers.Judged reply) = GainsRequest before q after
 IsAfterAnswer before q after (answers.Again reply) = after ≡ before
 
 -- whatever requests the resolver stands for, this is the reply to the next one
-abbrev pub RepliesAfterJudged : (before : Memory) (q : Request) (reply : Reply) → Type 0
+abbrev pub RepliesAfterJudged : (before : ResolverView) (q : Request) (reply : Reply) → Type 0
 RepliesAfterJudged before q reply =
     (judged : List Request) → StandsForRequests before judged
     → reply ≡ request_reply before.written.window judged q
 
 -- whatever requests the resolver stands for, so many of them are remembered
-abbrev pub IsRememberedCount : (memory : Memory) (count : ℕ) → Type 0
+abbrev pub IsRememberedCount : (memory : ResolverView) (count : ℕ) → Type 0
 IsRememberedCount memory count =
     (judged : List Request) → StandsForRequests memory judged
     → count ≡ length (remembered_requests (length memory.proxies) judged)

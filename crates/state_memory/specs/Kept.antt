@@ -8,7 +8,7 @@ use Rattle.model.specs.declared.unseen.UnseenRow.{UnseenRow}
 use Rattle.model.specs.declared.verdict.Verdict.{Verdict}
 use Rattle.model.specs.Requests.{Request}
 use Rattle.model.specs.Offers.{reply_at}
-use Rattle.model.specs.ResolverMemory.{Memory, ProxyMemory as Kept, is_row_above, proxy_after}
+use Rattle.model.specs.ResolverMemory.{ResolverView, ProxyMemory as Kept, is_row_above, proxy_after}
 use Rattle.state_memory.specs.Order.{RepliesIncrease}
 use Rattle.state_memory.specs.declared.proxy_memory.ProxyMemory.{ProxyMemory}
 
@@ -60,7 +60,7 @@ reply_of_proxy version None = None
 reply_of_proxy version (Some one) = reply_at version one.replies
 
 -- the reply that a resolver keeps for a proxy at a version
-abbrev pub kept_reply : Memory → (p : ProxyNumber) (version : Version) → Option Reply
+abbrev pub kept_reply : ResolverView → (p : ProxyNumber) (version : Version) → Option Reply
 kept_reply v p version = reply_of_proxy version (slice_get v.proxies p)
 
 -- there is room for one more reply to the proxy

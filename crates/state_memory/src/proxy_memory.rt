@@ -11,7 +11,7 @@ ghost use Rattle.state_memory.specs.Order.{RepliesIncrease};
 
 use crate::answer::Course;
 use crate::refusal::Refusal;
-use model::Reply;
+use model::{Reply, Version};
 use request_builder::Request;
 use std::alloc::{AllocError, Global};
 use std::collections::VecDeque;
@@ -21,9 +21,9 @@ use system_keys::OutOfMemory;
 #[derive(Debug, Drop)]
 pub(crate) struct ProxyMemory {
     /// The version of its last request.
-    pub(crate) last: u64,
+    pub(crate) last: Version,
     /// The version that it has acknowledged.
-    pub(crate) acknowledged: u64,
+    pub(crate) acknowledged: Version,
     /// The replies above that version, in the order of their versions.
     pub(crate) replies: VecDeque<Reply>,
 }
@@ -41,7 +41,7 @@ impl ProxyMemory {
     }
 
     /// What the resolver, which has come to version `last`, does with a repeat of this version.
-    pub(crate) fn again(&self, version: u64, last: u64) -> Result<Course, Refusal>
+    pub(crate) fn again(&self, version: Version, last: Version) -> Result<Course, Refusal>
         ensures { let kept = reply_at version (kept_of self.now).replies in
             IsAsSpecified fault_of course_of result
             (course_again kept version self.now.acknowledged last) }
@@ -58,7 +58,7 @@ impl ProxyMemory {
     }
 
     /// The reply that is kept at the version.
-    pub(crate) fn reply_at(&self, version: u64) -> Option<&Reply>
+    pub(crate) fn reply_at(&self, version: Version) -> Option<&Reply>
         ensures { let kept = reply_at version self.now.replies.items in
             MatchOption result (kept ≡ None) (λ reply. kept ≡ Some reply.now) }
     {
@@ -107,7 +107,7 @@ impl Clone for ProxyMemory {
 }
 
 /// Forgets the replies at or below the version. Allocates nothing.
-fn forget_replies(replies: &mut VecDeque<Reply>, version: u64)
+fn forget_replies(replies: &mut VecDeque<Reply>, version: Version)
     requires { RepliesIncrease replies.old.items }
     ensures items { replies.new.items ≡ replies_above version replies.old.items }
     ensures room { deque_len replies.old < deque_capacity replies.old
@@ -119,7 +119,7 @@ fn forget_replies(replies: &mut VecDeque<Reply>, version: u64)
 }
 
 /// Whether the first reply is at or below the version.
-fn is_first_up_to(replies: &VecDeque<Reply>, version: u64) -> bool
+fn is_first_up_to(replies: &VecDeque<Reply>, version: Version) -> bool
     ensures { result ≡ is_first_reply_up_to version replies.now.items }
 {
     match replies.front() {
@@ -129,7 +129,7 @@ fn is_first_up_to(replies: &VecDeque<Reply>, version: u64) -> bool
 }
 
 /// The version that every proxy has reached with its requests, or 0 if there is no proxy.
-pub(crate) fn reached_by_all(proxies: &[ProxyMemory]) -> u64
+pub(crate) fn reached_by_all(proxies: &[ProxyMemory]) -> Version
     ensures { result ≡ reached_by_all (all_kept proxies.now) }
 {
     let Some(first) = proxies.first() else {

@@ -3,6 +3,7 @@
 ghost use Rattle.std.specs.Prelude.{◌≡◌};
 ghost use Rattle.state_memory.specs.declared.refusal.Refusal.TheVariants as refusals;
 
+use model::Version;
 use system_keys::OutOfMemory;
 use thiserror::Error;
 
@@ -19,13 +20,13 @@ pub enum Refusal {
     /// The request does not continue the resolver's chain of versions, which has come to `version`,
     /// and no reply to it is kept.
     #[error("the request is outside the chain of versions, which has come to {version}")]
-    OutsideChain { version: u64 },
+    OutsideChain { version: Version },
     /// The proxy has acknowledged the reply: it has received everything up to `acknowledged`.
     #[error("the reply is given up, since the proxy acknowledged {acknowledged}")]
-    GivenUp { acknowledged: u64 },
+    GivenUp { acknowledged: Version },
     /// The request comes too early: the resolver has come to `version` only.
     #[error("the request is early, since the resolver has come to {version}")]
-    Early { version: u64 },
+    Early { version: Version },
     /// An allocation failed.
     #[error("out of memory")]
     OutOfMemory,

@@ -15,7 +15,7 @@ use crate::answer::{Answer, Course};
 use crate::proxy_memory::{ProxyMemory, reached_by_all};
 use crate::refusal::Refusal;
 use crate::rows::{copies_above, forget_rows, judge_states, unjudged_states};
-use model::{Reply, UnseenRow, Verdict};
+use model::{ProxyNumber, Reply, ResolverNumber, UnseenRow, Verdict, Version};
 use request_builder::Request;
 use share_judge::WriteHistory;
 use std::alloc::Global;
@@ -28,8 +28,8 @@ use system_keys::{Items, OutOfMemory};
 /// Contracts say which lists of requests the resolver stands for, and not how it keeps them.
 #[derive(Debug, Drop)]
 pub struct Resolver {
-    number: usize,
-    version: u64,
+    number: ResolverNumber,
+    version: Version,
     history: WriteHistory,
     rows: VecDeque<UnseenRow>,
     proxies: Vec<ProxyMemory>,
@@ -37,11 +37,11 @@ pub struct Resolver {
 
 impl Model for Resolver {
     ghost use Rattle.std.specs.Prelude.{◌≡◌};
-    ghost use Rattle.model.specs.ResolverMemory.{Memory};
+    ghost use Rattle.model.specs.ResolverMemory.{ResolverView};
     ghost use Rattle.state_memory.specs.Kept.{all_kept};
     ghost use Rattle.state_memory.specs.Order.{AreInOrder};
 
-    ghost Value = { Memory };
+    ghost Value = { ResolverView };
 
     ghost view = { λ r. record {
       number = r.number;
@@ -61,7 +61,7 @@ impl Resolver {
     /// version that is judged. Fails only with `OutOfMemory`.
     pub fn new(
         alloc: Global,
-        number: usize,
+        number: ResolverNumber,
         proxies: usize,
         window: u64,
     ) -> Result<Resolver, OutOfMemory>
@@ -80,7 +80,7 @@ impl Resolver {
     }
 
     /// Returns the version of the last request that it judged, or 0.
-    pub fn version(&self) -> u64
+    pub fn version(&self) -> Version
         ensures { result ≡ self.now.version }
     {
         self.version
@@ -95,7 +95,7 @@ impl Resolver {
     }
 
     /// Returns the reply that it keeps for a proxy at a version, or None if it keeps none.
-    pub fn kept_reply(&self, proxy: usize, version: u64) -> Option<&Reply>
+    pub fn kept_reply(&self, proxy: ProxyNumber, version: Version) -> Option<&Reply>
         ensures { let kept = kept_reply self.now proxy version in
             MatchOption result (kept ≡ None) (λ reply. kept ≡ Some reply.now) }
     {

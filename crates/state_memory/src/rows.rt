@@ -6,7 +6,7 @@ ghost use Rattle.model.specs.Requests.{reply_state_of_mark};
 ghost use Rattle.state_memory.specs.Kept.{rows_above, is_first_row_up_to};
 ghost use Rattle.state_memory.specs.Order.{RowsIncrease};
 
-use model::{StateMark, UnseenRow, UnseenState, Verdict};
+use model::{StateMark, TransactionNumber, UnseenRow, UnseenState, Verdict, Version};
 use request_builder::Request;
 use std::alloc::Global;
 use std::collections::VecDeque;
@@ -16,7 +16,7 @@ use system_keys::{Items, OutOfMemory};
 pub(crate) fn copies_above(
     alloc: Global,
     rows: &VecDeque<UnseenRow>,
-    version: u64,
+    version: Version,
 ) -> Result<Items<UnseenRow>, OutOfMemory>
     requires { RowsIncrease rows.now.items }
     ensures { IfOk result (λ copies. copies ≡ rows_above version rows.now.items) }
@@ -32,7 +32,7 @@ pub(crate) fn copies_above(
 /// The place of the first row above the version.
 ///
 /// Goes from the newest row back to the first one that is not above the version.
-fn first_above(rows: &VecDeque<UnseenRow>, version: u64) -> usize
+fn first_above(rows: &VecDeque<UnseenRow>, version: Version) -> usize
     requires { RowsIncrease rows.now.items }
     ensures place { result ≤ length rows.now.items }
     ensures rows { drop result rows.now.items ≡ rows_above version rows.now.items }
@@ -46,7 +46,7 @@ fn first_above(rows: &VecDeque<UnseenRow>, version: u64) -> usize
 }
 
 /// Forgets the rows at or below the version. Allocates nothing.
-pub(crate) fn forget_rows(rows: &mut VecDeque<UnseenRow>, version: u64)
+pub(crate) fn forget_rows(rows: &mut VecDeque<UnseenRow>, version: Version)
     requires { RowsIncrease rows.old.items }
     ensures { rows.new.items ≡ rows_above version rows.old.items }
 {
@@ -56,7 +56,7 @@ pub(crate) fn forget_rows(rows: &mut VecDeque<UnseenRow>, version: u64)
 }
 
 /// Whether the first row is at or below the version.
-fn is_first_up_to(rows: &VecDeque<UnseenRow>, version: u64) -> bool
+fn is_first_up_to(rows: &VecDeque<UnseenRow>, version: Version) -> bool
     ensures { result ≡ is_first_row_up_to version rows.now.items }
 {
     match rows.front() {
@@ -104,7 +104,7 @@ pub(crate) fn judge_states(states: &mut Vec<UnseenState>, request: &Request, ver
 }
 
 /// The verdict on the part of the request with this number, or Conflict if there is none.
-fn verdict_at(request: &Request, verdicts: &[Verdict], number: usize) -> Verdict
+fn verdict_at(request: &Request, verdicts: &[Verdict], number: TransactionNumber) -> Verdict
     ensures { result ≡ verdict_at request.now.share verdicts.now number }
 {
     let Some(place) = request.place_of(number) else {

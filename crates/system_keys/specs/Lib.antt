@@ -1,8 +1,18 @@
-pub mod AsSpecified
-pub mod Changes
-pub mod Families
+-- The definitions, in reading order.
+
+-- a key, the order of keys, a range, which keys it holds, and when two ranges overlap
 pub mod Keys
-pub mod Limits
-pub mod Refusals
+-- the four families of rows that the metadata keeps, as data, and the kind of any key
+pub mod Families
+-- what servers and tags a row value names: its encoding, and reading it from the front
 pub mod Rows
+-- the first fault of a range and of a Set
+pub mod Limits
+-- which changes are state mutations, those that go to every proxy
+pub mod Changes
+-- the text of bytes, and the bytes of a text
 pub mod Text
+-- the numbers and names that are printed
+pub mod Refusals
+-- when a result is the specified value or fault, where an allocation may fail
+pub mod AsSpecified

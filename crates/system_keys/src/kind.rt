@@ -1,7 +1,7 @@
 //! The kinds of keys.
 
 ghost use Rattle.std.specs.Prelude.{◌≡◌};
-ghost use Rattle.system_keys.specs.Families.{kind_of};
+ghost use Rattle.system_keys.specs.Families.{is_kept, kind_of};
 
 /// What a key is to the metadata (release 7.1; that the four families are all that is kept is this
 /// project's profile).
@@ -59,5 +59,18 @@ pub fn classify(key: &[u8]) -> RowKind
         RowKind::OtherSystem
     } else {
         RowKind::Normal
+    }
+}
+
+/// Whether the metadata keeps an entry at this key (release 7.1).
+pub fn is_kept(key: &[u8]) -> bool
+    ensures { result ≡ is_kept key.now }
+{
+    match classify(key) {
+        RowKind::KeyServers
+        | RowKind::ServerTag
+        | RowKind::DatabaseLocked
+        | RowKind::MetadataVersion => true,
+        RowKind::OtherSystem | RowKind::NonMetadata | RowKind::Normal => false,
     }
 }

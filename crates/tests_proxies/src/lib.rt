@@ -1,4 +1,4 @@
-//! The tests of proxy_state and shared_cluster, by their public calls.
+//! The tests of proxy_state and turn_world, by their public calls.
 #![tactic(auto)]
 
 #[cfg(test)]

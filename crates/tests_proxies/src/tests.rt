@@ -2,4 +2,4 @@
 //! made again after a failed allocation; a test that wants memory for its data ends with that error.
 
 mod of_proxy_state;
-mod of_shared_cluster;
+mod of_turn_world;

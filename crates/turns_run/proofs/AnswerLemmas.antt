@@ -1,18 +1,13 @@
--- What the bytes of a turns script come to.
+-- The lines of events, by what they returned.
 use Rattle.std.proofs.Common.{◌≡◌, ◌++◌, ◌∷◌, [], ℕ, List, map, refl, ap}
-use Rattle.std.specs.Prelude.{Some, None, IsSome, Result, Ok, Err}
+use Rattle.std.specs.Prelude.{Some, None, IsSome, Result, Err}
 use Rattle.model.specs.World.{Event, Answer}
-use Rattle.scripts.specs.Answers.{answer_of}
-use Rattle.scripts.specs.declared.script_fault.ScriptFault.{ScriptFault}
-use Rattle.shared_cluster.specs.Events.{refusal_number}
-use Rattle.shared_cluster.specs.Steps.{told_by}
-use Rattle.shared_cluster.specs.declared.answer.Answer.{Answer as TurnAnswer}
-use Rattle.shared_cluster.specs.declared.refusal.Refusal.{Refusal}
-use Rattle.shared_cluster.specs.declared.refusal.Refusal.TheVariants as refusals
-use Rattle.turns_run.specs.declared.turns_script.TurnsScript.{TurnsScript}
-use Rattle.turns_run.specs.TurnsLines.{event_text, events_text, refusal_line, results_text, told_text}
-use Rattle.turns_run.specs.TurnsScripts.{script_of}
-use Rattle.turns_run.specs.TurnsText.{played_text, turns_text}
+use Rattle.turn_world.specs.Events.{refusal_number}
+use Rattle.turn_world.specs.Steps.{told_by}
+use Rattle.turn_world.specs.declared.answer.Answer.{Answer as TurnAnswer}
+use Rattle.turn_world.specs.declared.refusal.Refusal.{Refusal}
+use Rattle.turn_world.specs.declared.refusal.Refusal.TheVariants as refusals
+use Rattle.turns_run.specs.Lines.{event_text, events_text, refusal_line, results_text, told_text}
 
 -- the line of an event that was refused
 pub refusal_told : (event : Event) (refusal : Refusal) → IsSome (refusal_number refusal) → told_text event (told_by (Err refusal)) ≡ refusal_line refusal
@@ -39,8 +34,3 @@ results_text-answers (event ∷ events) (result ∷ results) (answer ∷ told) i
     let first : told_by result ≡ Some answer = cc in
     let rest : map told_by results ≡ map (λ (a : Answer). Some a) told = cc in
     rw first (ap (λ text. event_text event answer ++ text) (results_text-answers events results told rest))
-
--- the answer is that of the script
-pub turns_text-script : (bytes : List ℕ) (said : Result TurnsScript ScriptFault) → script_of bytes ≡ said → turns_text bytes ≡ answer_of played_text said
-unfolding turns_text
-turns_text-script bytes said is = rw is refl

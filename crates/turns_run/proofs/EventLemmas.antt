@@ -5,9 +5,9 @@ use Rattle.json.specs.Token.{Token}
 use Rattle.serde_json.specs.Data.{Data, object, Members, no_members, member, put}
 use Rattle.scripts.specs.Streams.{Takes, TakesData}
 use Rattle.scripts.proofs.StreamLemmas.{taken_data}
-use Rattle.turns_run.specs.TurnsShapes.{event_shape}
-use Rattle.turns_run.specs.TurnsStreams.{Holds}
-use Rattle.turns_run.specs.declared.turns_script.RawEvent.{RawEvent}
+use Rattle.turns_run.specs.Shapes.{event_shape}
+use Rattle.turns_run.specs.Streams.{Holds}
+use Rattle.turns_run.specs.declared.script.RawEvent.{RawEvent}
 
 -- the field of this name, as an event
 pub named_field : (shape : Data → Option RawEvent) (k : List ℕ) (depth : ℕ) (old new : List Token) (event : RawEvent) → ((d : Data) → event_shape (object (member k d no_members)) ≡ shape d) → Takes shape depth old event new

@@ -1,5 +1,5 @@
 pub mod AnswerLemmas
 pub mod ConfigLemmas
 pub mod EventLemmas
-pub mod TextLemmas
+pub mod OrderLemmas
 pub mod WorldLemmas

@@ -6,29 +6,29 @@ use Rattle.std.proofs.lemmas.Grind.{flat_map-append}
 use Rattle.std.proofs.lemmas.List.{append-nil}
 use Rattle.system_keys.specs.Keys.{Key}
 use Rattle.model.specs.Configs.{Config}
-use Rattle.model.specs.Finishing.{Follower}
+use Rattle.model.specs.Finishing.{ProxyView}
 use Rattle.model.specs.Metadata.{metadata}
 use Rattle.model.specs.Shares.{each_below}
-use Rattle.model.specs.Turns.{Cluster, IsProxy}
+use Rattle.model.specs.Turns.{TurnCluster, IsProxyOf}
 use Rattle.model.specs.World.{World, answers, initial_world, world_after}
-use Rattle.fold_run.specs.FoldText.{metadata_text}
-use Rattle.shared_cluster.specs.Events.{event_of}
-use Rattle.shared_cluster.specs.Steps.{HasCarriedOut}
-use Rattle.shared_cluster.specs.declared.answer.Answer.{Answer as TurnAnswer}
-use Rattle.shared_cluster.specs.declared.refusal.Refusal.{Refusal}
-use Rattle.turns_run.specs.declared.turns_script.TurnsScript.{TurnsScript}
-use Rattle.turns_run.specs.TurnsLines.{events_text, results_text}
-use Rattle.turns_run.specs.TurnsText.{played_text, proxies_text, proxy_line, proxy_text}
+use Rattle.cluster_lines.specs.MetadataLines.{metadata_text, proxy_line}
+use Rattle.turn_world.specs.Events.{event_of}
+use Rattle.turn_world.specs.Steps.{HasCarriedOut}
+use Rattle.turn_world.specs.declared.answer.Answer.{Answer as TurnAnswer}
+use Rattle.turn_world.specs.declared.refusal.Refusal.{Refusal}
+use Rattle.turns_run.specs.declared.script.TurnsScript.{TurnsScript}
+use Rattle.turns_run.specs.Lines.{events_text, results_text}
+use Rattle.turns_run.specs.Text.{played_text, proxies_text, proxy_text}
 use Rattle.turns_run.proofs.AnswerLemmas.{results_text-answers}
 
 -- a proxy of the world is printed as the world says
-proxy_text-is : (config : Config) (w : World) (ask : List Key) (p : ℕ) (v : Follower) → IsProxy config w p v
+proxy_text-is : (config : Config) (w : World) (ask : List Key) (p : ℕ) (v : ProxyView) → IsProxyOf config w p v
     → proxy_line p ++ metadata_text v.version (metadata v.journal) ask ≡ proxy_text config w ask p
 proxy_text-is config w ask p v is = ap₂ (λ version journal. proxy_line p ++ metadata_text version (metadata journal) ask) is.version is.journal
 
 -- one more proxy is printed
-pub one_more_proxy : (config : Config) (w : World) (ask : List Key) (p : ℕ) (v : Follower) (start before after : List ℕ)
-    → IsProxy config w p v → before ≡ start ++ flat_map (proxy_text config w ask) (each_below p)
+pub one_more_proxy : (config : Config) (w : World) (ask : List Key) (p : ℕ) (v : ProxyView) (start before after : List ℕ)
+    → IsProxyOf config w p v → before ≡ start ++ flat_map (proxy_text config w ask) (each_below p)
     → after ≡ before ++ (proxy_line p ++ metadata_text v.version (metadata v.journal) ask)
     → after ≡ start ++ flat_map (proxy_text config w ask) (each_below (p + 1))
 one_more_proxy config w ask p v start before after is printed more =
@@ -40,7 +40,7 @@ one_more_proxy config w ask p v start before after is printed more =
     ∙ append_assoc start (flat_map f (each_below p)) (f p) ∙ ap (λ text. start ++ text) (sym grown)
 
 -- the events were carried out and printed, and then the proxies
-pub played_text-is : (script : TurnsScript) (results : List (Result TurnAnswer Refusal)) (before after : Cluster) (start between new : List ℕ)
+pub played_text-is : (script : TurnsScript) (results : List (Result TurnAnswer Refusal)) (before after : TurnCluster) (start between new : List ℕ)
     → before ≡ record { config = script.config; world = initial_world script.config }
     → HasCarriedOut before after (map event_of script.events) results
     → between ≡ start ++ results_text (map event_of script.events) results
@@ -48,9 +48,9 @@ pub played_text-is : (script : TurnsScript) (results : List (Result TurnAnswer R
     → new ≡ start ++ played_text script
 played_text-is script results before after start between new first carried events proxies =
     let told = answers script.config (initial_world script.config) (map event_of script.events) in
-    let cluster : Cluster = record { config = script.config; world = initial_world script.config } in
+    let cluster : TurnCluster = record { config = script.config; world = initial_world script.config } in
     let run : HasCarriedOut cluster after (map event_of script.events) results = rw first at carried in
-    let world : after.world ≡ world_after script.config (initial_world script.config) (map event_of script.events) = ap (λ (c : Cluster). c.world) run.after_is in
+    let world : after.world ≡ world_after script.config (initial_world script.config) (map event_of script.events) = ap (λ (c : TurnCluster). c.world) run.after_is in
     let lines : results_text (map event_of script.events) results ≡ events_text (map event_of script.events) told = results_text-answers (map event_of script.events) results told run.results_are in
     proxies ∙ ap₂ (λ text w. text ++ proxies_text script.config w script.ask) (events ∙ ap (λ text. start ++ text) lines) world
     ∙ append_assoc start (events_text (map event_of script.events) told) (proxies_text script.config (world_after script.config (initial_world script.config) (map event_of script.events)) script.ask)

@@ -5,11 +5,11 @@ ghost use Rattle.serde_json.specs.Data.{Data, member, no_members, object};
 ghost use Rattle.scripts.specs.BatchShapes.{batch_shape, range_shape};
 ghost use Rattle.scripts.specs.Shapes.{count_members, number_shape};
 ghost use Rattle.scripts.specs.Streams.{Slot, Takes, TakesData, one};
-ghost use Rattle.turns_run.specs.TurnsShapes.{event_shape, finish_shape, move_shape, offer_shape};
-ghost use Rattle.turns_run.specs.TurnsShapes.{sequence_shape};
-ghost use Rattle.turns_run.specs.TurnsStreams.{Holds};
+ghost use Rattle.turns_run.specs.Shapes.{event_shape, finish_shape, move_shape, offer_shape};
+ghost use Rattle.turns_run.specs.Shapes.{sequence_shape};
+ghost use Rattle.turns_run.specs.Streams.{Holds};
 
-use crate::turns_script::RawEvent;
+use crate::script::RawEvent;
 use json::Reader as TokenReader;
 use mutation::{GivenRange, Transaction};
 use scripts::{Fields, Streamed, take_into, take_object};

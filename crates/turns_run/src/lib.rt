@@ -4,18 +4,19 @@
 //! Source: this project's profile (scripts, lines and statuses).
 #![tactic(auto)]
 
-mod answer;
+mod checks;
 mod event_streams;
+mod events;
+mod lines;
+mod proxies;
+mod reading;
 mod run;
-mod turns_checks;
-mod turns_events;
-mod turns_lines;
-mod turns_proxies;
-mod turns_reading;
-mod turns_script;
-mod turns_shapes;
-mod turns_streams;
+mod script;
+mod shapes;
+mod streams;
+mod text;
+mod transactions;
 
+pub use reading::{read_turns, stream_turns};
 pub use run::run_turns;
-pub use turns_reading::{read_turns, stream_turns};
-pub use turns_script::TurnsScript;
+pub use script::TurnsScript;

@@ -1,22 +1,32 @@
 //! A run of a turns script, over any source and sink.
-ghost use Rattle.std.specs.Prelude.{◌-◌, ◌^◌, ◌<◌};
+ghost use Rattle.std.specs.Prelude.{◌-◌, ◌^◌, ◌<◌, refl};
 ghost use Rattle.scripts.specs.Runs.{LeavesDevices};
-ghost use Rattle.turns_run.specs.TurnsText.{Plays, turns_text};
+ghost use Rattle.turns_run.specs.Scripts.{script_of};
+ghost use Rattle.turns_run.specs.Text.{Plays, played_text, turns_text};
 
-use crate::answer::answer;
-use scripts::{Output, RunStatus, ScriptKind, Sink, Source, run_script};
+use crate::script::{RawTurns, TurnsScript};
+use crate::text::print_played;
+use scripts::{RunStatus, ScriptKind, Sink, Source, run_script};
 use std::alloc::Global;
 use system_keys::OutOfMemory;
 
 /// The kind of turns scripts.
-pub struct TurnsKind;
+pub(crate) struct TurnsKind;
 
 impl ScriptKind for TurnsKind {
+    type Raw = RawTurns;
+
+    type Script = TurnsScript;
+
+    ghost printed = { played_text };
+
     ghost answer_to = { turns_text };
 
-    fn answer(alloc: Global, bytes: &[u8]) -> Result<Output, OutOfMemory> {
-        answer(alloc, bytes)
+    fn print(alloc: Global, text: &mut String, script: &TurnsScript) -> Result<(), OutOfMemory> {
+        print_played(alloc, text, script)
     }
+
+    ghost answers = { λ bytes. unfold turns_text in unfold script_of in refl };
 }
 
 /// Reads a turns script from the source to its end, and writes the text that it comes to. If a read

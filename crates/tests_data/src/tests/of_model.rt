@@ -78,58 +78,101 @@ fn printed<T: Debug>(alloc: Global, value: &T) -> Result<String, AllocError> {
     format!(in alloc; "{value:?}")
 }
 
-/// The copy was made, and is alike.
-fn assert_copied<T: Debug + Drop>(
-    rt: &impl Abort,
-    alloc: Global,
-    copy: Result<T, OutOfMemory>,
-    value: &T,
-) -> Result<(), Fail> {
-    let copy = printed(alloc, &copy?)?;
-    assert_eq!(rt; copy, printed(alloc, value)?);
+/// A copy of the value, made again after a failed allocation, is alike.
+fn assert_copied<T: Debug + Drop, F: Fn(&T) -> Result<T, OutOfMemory>>(
+    rt: &(impl Abort + AllocGlobal),
+    value: Result<T, Fail>,
+    copy: F,
+) -> Result<(), Fail>
+    requires { F.IsAlwaysCallable copy }
+{
+    let value = value?;
+    let made = twice!(copy(&value), OutOfMemory)?;
+    assert_eq!(rt; printed(rt.alloc(), &made)?, printed(rt.alloc(), &value)?);
     Ok(())
+}
+
+fn is_copied_config(config: &Config) -> Result<bool, OutOfMemory> {
+    Ok(config.copy()? == *config)
+}
+
+fn is_copied_outcome(outcome: &Outcome) -> Result<bool, OutOfMemory> {
+    Ok(outcome.copy()? == *outcome)
 }
 
 #[test]
 fn numbers_are_copied(rt: HostRuntime) -> Result<(), Fail> {
-    let config = Config::new(2, 3, 100, 10).expect(&rt, "numbers within their limits");
+    let config = Config::new(2, 3, 100, 10)?;
+    assert!(rt; is_copied_config(&config)?);
     let outcome = Outcome::Committed {
         version: 10,
         number: 1,
     };
-    assert_eq!(rt; config.copy()?, config);
-    assert_eq!(rt; outcome.copy()?, outcome);
+    assert!(rt; is_copied_outcome(&outcome)?);
     Ok(())
 }
 
+/// Numbers of a configuration: proxies, resolvers, window, step.
+type Numbers = (usize, usize, u64, u64);
+
+fn made(numbers: Numbers) -> Result<Config, Refusal> {
+    Config::new(numbers.0, numbers.1, numbers.2, numbers.3)
+}
+
+fn has_numbers(config: &Config, numbers: Numbers) -> bool {
+    config.proxies() == numbers.0
+        && config.resolvers() == numbers.1
+        && config.window() == numbers.2
+        && config.step() == numbers.3
+}
+
+/// Whether there is a configuration of these numbers, and it has them.
+fn are_within(numbers: Numbers) -> bool {
+    match made(numbers) {
+        Ok(config) => has_numbers(&config, numbers),
+        Err(_) => false,
+    }
+}
+
+fn are_refused(numbers: Numbers) -> bool {
+    match made(numbers) {
+        Ok(_) => false,
+        Err(refusal) => refusal == Refusal::BadConfig,
+    }
+}
+
+/// The least numbers of a configuration, and the greatest.
+const WITHIN: [Numbers; 2] = [
+    (1, 1, 1, 1),
+    (64, 64, 1_000_000_000, 9_223_372_036_854_775_807),
+];
+
+/// Numbers of which one is too small or too great.
+const OUTSIDE: [Numbers; 8] = [
+    (0, 1, 1, 1),
+    (65, 1, 1, 1),
+    (1, 0, 1, 1),
+    (1, 65, 1, 1),
+    (1, 1, 0, 1),
+    (1, 1, 1_000_000_001, 1),
+    (1, 1, 1, 0),
+    (1, 1, 1, 9_223_372_036_854_775_808),
+];
+
 #[test]
 fn numbers_outside_their_limits_are_refused(rt: HostRuntime) {
-    for (proxies, resolvers, window, step) in [
-        (1, 1, 1, 1),
-        (64, 64, 1_000_000_000, 9_223_372_036_854_775_807),
-    ] {
-        let config = Config::new(proxies, resolvers, window, step).expect(&rt, "within limits");
-        assert_eq!(rt;
-            (config.proxies(), config.resolvers()),
-            (proxies, resolvers)
-        );
-        assert_eq!(rt; (config.window(), config.step()), (window, step));
+    for numbers in WITHIN {
+        assert!(rt; are_within(numbers));
     }
-    for (proxies, resolvers, window, step) in [
-        (0, 1, 1, 1),
-        (65, 1, 1, 1),
-        (1, 0, 1, 1),
-        (1, 65, 1, 1),
-        (1, 1, 0, 1),
-        (1, 1, 1_000_000_001, 1),
-        (1, 1, 1, 0),
-        (1, 1, 1, 9_223_372_036_854_775_808),
-    ] {
-        let refusal = Config::new(proxies, resolvers, window, step).err();
-        assert_eq!(rt; refusal, Some(Refusal::BadConfig));
+    for numbers in OUTSIDE {
+        assert!(rt; are_refused(numbers));
     }
-    assert_eq!(rt; Refusal::BadConfig.number(), Some(17));
-    assert_eq!(rt; Refusal::BadConfig.name(), "BadConfig");
+}
+
+#[test]
+fn a_bad_configuration_has_its_number_and_name(rt: HostRuntime) {
+    assert!(rt; Refusal::BadConfig.number() == Some(17));
+    assert!(rt; Refusal::BadConfig.name() == "BadConfig");
 }
 
 fn moved(alloc: Global) -> Result<Move, Fail> {
@@ -142,9 +185,7 @@ fn moved(alloc: Global) -> Result<Move, Fail> {
 
 #[test]
 fn moves_are_copied(rt: HostRuntime) -> Result<(), Fail> {
-    let moved = moved(rt.alloc())?;
-    let copy = twice!(moved.copy(), OutOfMemory);
-    assert_copied(&rt, rt.alloc(), copy, &moved)
+    assert_copied(&rt, moved(rt.alloc()), Move::copy)
 }
 
 fn part(alloc: Global) -> Result<Part, Fail> {
@@ -159,16 +200,12 @@ fn part(alloc: Global) -> Result<Part, Fail> {
 
 #[test]
 fn parts_are_copied(rt: HostRuntime) -> Result<(), Fail> {
-    let part = part(rt.alloc())?;
-    let copy = twice!(part.copy(), OutOfMemory);
-    assert_copied(&rt, rt.alloc(), copy, &part)
+    assert_copied(&rt, part(rt.alloc()), Part::copy)
 }
 
 #[test]
 fn state_transactions_are_copied(rt: HostRuntime) -> Result<(), Fail> {
-    let txn = state_txn(rt.alloc())?;
-    let copy = twice!(txn.copy(), OutOfMemory);
-    assert_copied(&rt, rt.alloc(), copy, &txn)
+    assert_copied(&rt, state_txn(rt.alloc()), StateTxn::copy)
 }
 
 fn journal_row(alloc: Global) -> Result<JournalRow, Fail> {
@@ -180,30 +217,22 @@ fn journal_row(alloc: Global) -> Result<JournalRow, Fail> {
 
 #[test]
 fn journal_rows_are_copied(rt: HostRuntime) -> Result<(), Fail> {
-    let row = journal_row(rt.alloc())?;
-    let copy = twice!(row.copy(), OutOfMemory);
-    assert_copied(&rt, rt.alloc(), copy, &row)
+    assert_copied(&rt, journal_row(rt.alloc()), JournalRow::copy)
 }
 
 #[test]
 fn carried_changes_are_copied(rt: HostRuntime) -> Result<(), Fail> {
-    let carried = carried(rt.alloc())?;
-    let copy = twice!(carried.copy(), OutOfMemory);
-    assert_copied(&rt, rt.alloc(), copy, &carried)
+    assert_copied(&rt, carried(rt.alloc()), Carried::copy)
 }
 
 #[test]
 fn unseen_states_are_copied(rt: HostRuntime) -> Result<(), Fail> {
-    let state = unseen_state(rt.alloc())?;
-    let copy = twice!(state.copy(), OutOfMemory);
-    assert_copied(&rt, rt.alloc(), copy, &state)
+    assert_copied(&rt, unseen_state(rt.alloc()), UnseenState::copy)
 }
 
 #[test]
 fn unseen_rows_are_copied(rt: HostRuntime) -> Result<(), Fail> {
-    let row = unseen_row(rt.alloc())?;
-    let copy = twice!(row.copy(), OutOfMemory);
-    assert_copied(&rt, rt.alloc(), copy, &row)
+    assert_copied(&rt, unseen_row(rt.alloc()), UnseenRow::copy)
 }
 
 fn mark(alloc: Global) -> Result<StateMark, Fail> {
@@ -215,9 +244,7 @@ fn mark(alloc: Global) -> Result<StateMark, Fail> {
 
 #[test]
 fn marks_are_copied(rt: HostRuntime) -> Result<(), Fail> {
-    let mark = mark(rt.alloc())?;
-    let copy = twice!(mark.copy(), OutOfMemory);
-    assert_copied(&rt, rt.alloc(), copy, &mark)
+    assert_copied(&rt, mark(rt.alloc()), StateMark::copy)
 }
 
 fn reply(alloc: Global) -> Result<Reply, Fail> {
@@ -235,16 +262,12 @@ fn reply(alloc: Global) -> Result<Reply, Fail> {
 
 #[test]
 fn replies_are_copied(rt: HostRuntime) -> Result<(), Fail> {
-    let reply = reply(rt.alloc())?;
-    let copy = twice!(reply.copy(), OutOfMemory);
-    assert_copied(&rt, rt.alloc(), copy, &reply)
+    assert_copied(&rt, reply(rt.alloc()), Reply::copy)
 }
 
 #[test]
 fn routes_are_copied(rt: HostRuntime) -> Result<(), Fail> {
-    let route = route(rt.alloc())?;
-    let copy = twice!(route.copy(), OutOfMemory);
-    assert_copied(&rt, rt.alloc(), copy, &route)
+    assert_copied(&rt, route(rt.alloc()), Route::copy)
 }
 
 fn routing(alloc: Global) -> Result<Routing, Fail> {
@@ -259,16 +282,12 @@ fn routing(alloc: Global) -> Result<Routing, Fail> {
 
 #[test]
 fn routings_are_copied(rt: HostRuntime) -> Result<(), Fail> {
-    let routing = routing(rt.alloc())?;
-    let copy = twice!(routing.copy(), OutOfMemory);
-    assert_copied(&rt, rt.alloc(), copy, &routing)
+    assert_copied(&rt, routing(rt.alloc()), Routing::copy)
 }
 
 #[test]
 fn tagged_changes_are_copied(rt: HostRuntime) -> Result<(), Fail> {
-    let tagged = tagged(rt.alloc())?;
-    let copy = twice!(tagged.copy(), OutOfMemory);
-    assert_copied(&rt, rt.alloc(), copy, &tagged)
+    assert_copied(&rt, tagged(rt.alloc()), Tagged::copy)
 }
 
 fn finished(alloc: Global) -> Result<Finished, Fail> {
@@ -284,7 +303,5 @@ fn finished(alloc: Global) -> Result<Finished, Fail> {
 
 #[test]
 fn finished_batches_are_copied(rt: HostRuntime) -> Result<(), Fail> {
-    let finished = finished(rt.alloc())?;
-    let copy = twice!(finished.copy(), OutOfMemory);
-    assert_copied(&rt, rt.alloc(), copy, &finished)
+    assert_copied(&rt, finished(rt.alloc()), Finished::copy)
 }

@@ -1,13 +1,14 @@
 //! Tests of mutation.
 
+use crate::tests::assert_shown_as;
 use mutation::*;
 use std::alloc::{AllocError, Global};
 use std::process::Abort;
 use std::test::Fail;
 use system_keys::{Bytes, Change, KeyRange, OutOfMemory};
 use testing::{
-    Given, NOTHING, Step, batch, given_range, is_shown_as, repeated, room, transaction,
-    transaction_of, twice, twice_on,
+    Given, NOTHING, Step, batch, given_range, repeated, room, transaction, transaction_of, twice,
+    twice_on,
 };
 
 const SERVER_TAG_KEY: &[u8] = b"\xff/serverTag/server0000000001";
@@ -71,93 +72,99 @@ fn stamped_value(
     value_set(stamped.changes())
 }
 
-/// The value that a SetStamped of `m` sets, as transaction `number` of the batch of `version`.
-fn value_stamped(
+/// Whether a SetStamped of `m` sets `expected`, as transaction `number` of the batch of `version`.
+fn is_stamped_as(
     alloc: Global,
     value: &[u8],
     version: u64,
     number: usize,
-) -> Result<Option<Bytes>, Fail> {
+    expected: &[u8],
+) -> Result<bool, Fail> {
     let given = transaction_of(alloc, Step::SetStamped(b"m", value))?;
     let stamp = admit(alloc, &given)?;
-    stamped_value(alloc, &stamp, version, number)
+    is_value(stamped_value(alloc, &stamp, version, number)?, expected)
+}
+
+fn is_value(value: Option<Bytes>, expected: &[u8]) -> Result<bool, Fail> {
+    match value {
+        Some(value) => Ok(value.as_slice() == expected),
+        None => Err(Fail::from("no Set")),
+    }
 }
 
 #[test]
 fn a_stamp_takes_ten_bytes_at_its_offset(rt: HostRuntime) -> Result<(), Fail> {
-    let value = value_stamped(rt.alloc(), AT_TWO, 258, 3)?;
-    assert_eq!(rt; value.ok_or("no Set")?.as_slice(), AT_TWO_STAMPED);
+    assert!(rt; is_stamped_as(rt.alloc(), AT_TWO, 258, 3, AT_TWO_STAMPED)?);
     Ok(())
 }
+
+/// A bare stamp, of transaction 0 in the batch of version 10.
+const BARE: &[u8] = b"\x00\x00\x00\x00\x00\x00\x00\x0a\x00\x00";
 
 #[test]
 fn fourteen_zero_bytes_become_a_bare_stamp(rt: HostRuntime) -> Result<(), Fail> {
-    let value = value_stamped(rt.alloc(), &[0u8; 14], 10, 0)?;
-    let expected: &[u8] = b"\x00\x00\x00\x00\x00\x00\x00\x0a\x00\x00";
-    assert_eq!(rt; value.ok_or("no Set")?.as_slice(), expected);
+    assert!(rt; is_stamped_as(rt.alloc(), &[0u8; 14], 10, 0, BARE)?);
     Ok(())
 }
+
+/// Mutations, each of a transaction of its own, and why it is refused.
+type Refused = (Step<'static>, Option<Refusal>);
+
+/// Admission says just this of the mutations.
+fn assert_refused(rt: &(impl Abort + AllocGlobal), table: &[Refused]) -> Result<(), Fail> {
+    for (step, refusal) in table {
+        assert!(rt; refusal_of(rt.alloc(), *step)? == *refusal);
+    }
+    Ok(())
+}
+
+const BAD_STAMP: Option<Refusal> = Some(Refusal::BadStamp);
+
+const WITHOUT_ROOM: &[Refused] = &[
+    (
+        Step::SetStamped(b"m", b"ab0123456789\x03\x00\x00\x00"),
+        BAD_STAMP,
+    ),
+    (
+        Step::SetStamped(b"m", b"ab0123456789\x02\x00\x00\x01"),
+        BAD_STAMP,
+    ),
+    (Step::SetStamped(b"m", b"\x00\x00\x00"), BAD_STAMP),
+];
 
 #[test]
 fn a_stamp_without_room_is_refused(rt: HostRuntime) -> Result<(), Fail> {
-    let alloc = rt.alloc();
-    let refused = Some(Refusal::BadStamp);
-    assert_eq!(rt;
-        refusal_of(
-            alloc,
-            Step::SetStamped(b"m", b"ab0123456789\x03\x00\x00\x00")
-        )?,
-        refused
-    );
-    assert_eq!(rt;
-        refusal_of(
-            alloc,
-            Step::SetStamped(b"m", b"ab0123456789\x02\x00\x00\x01")
-        )?,
-        refused
-    );
-    assert_eq!(rt;
-        refusal_of(alloc, Step::SetStamped(b"m", b"\x00\x00\x00"))?,
-        refused
-    );
-    Ok(())
+    assert_refused(&rt, WITHOUT_ROOM)
 }
 
-fn is_bad_row(refusal: Option<Refusal>) -> bool {
-    refusal == Some(Refusal::Key(system_keys::Refusal::BadRow))
-}
+const BAD_ROW: Option<Refusal> = Some(Refusal::Key(system_keys::Refusal::BadRow));
+
+const STAMPED_ROWS: &[Refused] = &[
+    (Step::SetStamped(SERVER_TAG_KEY, b"\x00\x00\x01"), BAD_ROW),
+    (Step::SetStamped(b"\xff/keyServers/a", &[0u8; 14]), BAD_ROW),
+    (Step::SetStamped(b"\xff/metadataVersion", &[0u8; 14]), None),
+];
 
 #[test]
 fn rows_of_a_fixed_form_take_no_stamp(rt: HostRuntime) -> Result<(), Fail> {
-    let alloc = rt.alloc();
-    let server_tag = refusal_of(alloc, Step::SetStamped(SERVER_TAG_KEY, b"\x00\x00\x01"))?;
-    assert!(rt; is_bad_row(server_tag));
-    let key_servers = refusal_of(alloc, Step::SetStamped(b"\xff/keyServers/a", &[0u8; 14]))?;
-    assert!(rt; is_bad_row(key_servers));
-    let metadata_version = refusal_of(
-        alloc,
-        Step::SetStamped(b"\xff/metadataVersion", &[0u8; 14]),
-    )?;
-    assert!(rt; metadata_version.is_none());
-    Ok(())
+    assert_refused(&rt, STAMPED_ROWS)
 }
+
+const SET_ROWS: &[Refused] = &[
+    (Step::Set(SERVER_TAG_KEY, b"\x00\x00\x01"), None),
+    (
+        Step::Set(b"\xff/keyServers/", b"\x01server0000000001\x00"),
+        None,
+    ),
+    (
+        Step::Set(b"\xff/keyServers/", b"\x01server000000000"),
+        BAD_ROW,
+    ),
+];
 
 #[test]
 fn rows_of_a_fixed_form_take_values_that_decode(rt: HostRuntime) -> Result<(), Fail> {
-    let alloc = rt.alloc();
-    let server_tag = refusal_of(alloc, Step::Set(SERVER_TAG_KEY, b"\x00\x00\x01"))?;
-    assert!(rt; server_tag.is_none());
-    let key_servers = refusal_of(
-        alloc,
-        Step::Set(b"\xff/keyServers/", b"\x01server0000000001\x00"),
-    )?;
-    assert!(rt; key_servers.is_none());
-    let cut_off = refusal_of(
-        alloc,
-        Step::Set(b"\xff/keyServers/", b"\x01server000000000"),
-    )?;
-    assert!(rt; is_bad_row(cut_off));
-    Ok(())
+    assert_refused(&rt, SET_ROWS)
 }
 
 /// What admission says of the transaction at once, with no second call.
@@ -176,10 +183,7 @@ const OF_TWO_FAULTS: Given<'static> = Given {
 #[test]
 fn reads_are_looked_at_first(rt: HostRuntime) -> Result<(), Fail> {
     let refusal = refusal_at_once(rt.alloc(), OF_TWO_FAULTS)?;
-    assert_eq!(rt;
-        refusal,
-        Some(Refusal::Key(system_keys::Refusal::EmptyRange))
-    );
+    assert!(rt; refusal == Some(Refusal::Key(system_keys::Refusal::EmptyRange)));
     Ok(())
 }
 
@@ -193,10 +197,7 @@ const OF_A_FAULTY_WRITE: Given<'static> = Given {
 #[test]
 fn writes_are_looked_at_before_mutations(rt: HostRuntime) -> Result<(), Fail> {
     let refusal = refusal_at_once(rt.alloc(), OF_A_FAULTY_WRITE)?;
-    assert_eq!(rt;
-        refusal,
-        Some(Refusal::Key(system_keys::Refusal::KeyOutside))
-    );
+    assert!(rt; refusal == Some(Refusal::Key(system_keys::Refusal::KeyOutside)));
     Ok(())
 }
 
@@ -212,15 +213,19 @@ fn end_refusal(alloc: Global, length: usize) -> Result<Option<Refusal>, AllocErr
     refusal_of(alloc, Step::Clear(b"k", &end))
 }
 
+const KEY_TOO_LONG: Option<Refusal> = Some(Refusal::Key(system_keys::Refusal::KeyTooLong));
+
+fn are_keys_bounded(alloc: Global) -> Result<bool, AllocError> {
+    Ok(
+        key_refusal(alloc, 10_000)?.is_none()
+            && key_refusal(alloc, 10_001)? == KEY_TOO_LONG
+            && end_refusal(alloc, 10_001)?.is_none(),
+    )
+}
+
 #[test]
 fn a_key_has_at_most_10_000_bytes(rt: HostRuntime) -> Result<(), Fail> {
-    let alloc = rt.alloc();
-    assert_eq!(rt; key_refusal(alloc, 10_000)?, None);
-    assert_eq!(rt;
-        key_refusal(alloc, 10_001)?,
-        Some(Refusal::Key(system_keys::Refusal::KeyTooLong))
-    );
-    assert_eq!(rt; end_refusal(alloc, 10_001)?, None);
+    assert!(rt; are_keys_bounded(rt.alloc())?);
     Ok(())
 }
 
@@ -236,13 +241,19 @@ fn stamped_value_refusal(alloc: Global, length: usize) -> Result<Option<Refusal>
     refusal_of(alloc, Step::SetStamped(b"k", &value))
 }
 
+const VALUE_TOO_LONG: Option<Refusal> = Some(Refusal::Key(system_keys::Refusal::ValueTooLong));
+
+fn are_values_bounded(alloc: Global) -> Result<bool, AllocError> {
+    Ok(
+        value_refusal(alloc, 100_000)?.is_none()
+            && value_refusal(alloc, 100_001)? == VALUE_TOO_LONG
+            && stamped_value_refusal(alloc, 100_001)? == VALUE_TOO_LONG,
+    )
+}
+
 #[test]
 fn a_value_has_at_most_100_000_bytes(rt: HostRuntime) -> Result<(), Fail> {
-    let alloc = rt.alloc();
-    let refused = Some(Refusal::Key(system_keys::Refusal::ValueTooLong));
-    assert_eq!(rt; value_refusal(alloc, 100_000)?, None);
-    assert_eq!(rt; value_refusal(alloc, 100_001)?, refused);
-    assert_eq!(rt; stamped_value_refusal(alloc, 100_001)?, refused);
+    assert!(rt; are_values_bounded(rt.alloc())?);
     Ok(())
 }
 
@@ -261,18 +272,18 @@ fn batch_length(transactions: Vec<Admitted>) -> Option<usize> {
     Some(batch.transactions().len())
 }
 
-/// Why these transactions are no batch, and how many come back.
-fn handed_back(transactions: Vec<Admitted>) -> Option<(Refusal, usize)> {
-    let (refusal, back) = Batch::new(transactions).err()?;
-    Some((refusal, back.len()))
+/// Whether these transactions are too many for a batch, and so many come back.
+fn are_handed_back(transactions: Vec<Admitted>, count: usize) -> bool {
+    match Batch::new(transactions) {
+        Ok(_batch) => false,
+        Err((refusal, back)) => refusal == Refusal::BatchTooLarge && back.len() == count,
+    }
 }
 
 #[test]
 fn a_batch_has_at_most_1_024_transactions(rt: HostRuntime) -> Result<(), Fail> {
-    let full = batch_length(transactions(rt.alloc(), 1_024)?);
-    assert_eq!(rt; full, Some(1_024));
-    let past = handed_back(transactions(rt.alloc(), 1_025)?);
-    assert_eq!(rt; past, Some((Refusal::BatchTooLarge, 1_025)));
+    assert!(rt; batch_length(transactions(rt.alloc(), 1_024)?) == Some(1_024));
+    assert!(rt; are_handed_back(transactions(rt.alloc(), 1_025)?, 1_025));
     Ok(())
 }
 
@@ -391,6 +402,14 @@ fn is_stamped(stamped: &Stamped) -> bool {
         && are_changes(stamped.changes())
 }
 
+fn one_each(alloc: Global) -> Result<Transaction, AllocError> {
+    transaction(alloc, ONE_EACH)
+}
+
+fn admitted_one_each(alloc: Global) -> Result<Admitted, Fail> {
+    testing::admitted(alloc, ONE_EACH)
+}
+
 /// Admits the transaction of one each.
 fn admit_whole(rt: &impl Abort, alloc: Global, given: &Transaction) -> Result<Admitted, Refusal> {
     twice_on!(rt; is_of_one_each(given), admit(alloc, given), Refusal::OutOfMemory)
@@ -405,7 +424,7 @@ fn admit_one_each(rt: &impl Abort, alloc: Global, given: &Transaction) -> Result
 
 #[test]
 fn admission_keeps_every_field(rt: HostRuntime) -> Result<(), Fail> {
-    let given = transaction(rt.alloc(), ONE_EACH)?;
+    let given = one_each(rt.alloc())?;
     admit_one_each(&rt, rt.alloc(), &given)
 }
 
@@ -429,7 +448,7 @@ fn stamp_and_copy(rt: &impl Abort, alloc: Global, admitted: &Admitted) -> Result
 
 #[test]
 fn stamping_keeps_every_field(rt: HostRuntime) -> Result<(), Fail> {
-    let admitted = testing::admitted(rt.alloc(), ONE_EACH)?;
+    let admitted = admitted_one_each(rt.alloc())?;
     stamp_and_copy(&rt, rt.alloc(), &admitted)
 }
 
@@ -471,7 +490,7 @@ fn copy_given_and_mutations(rt: &impl Abort, given: &Transaction) -> Result<(), 
 #[test]
 fn given_transactions_are_copied(rt: HostRuntime) -> Result<(), Fail> {
     copy_new_range(&rt, rt.alloc())?;
-    let given = transaction(rt.alloc(), ONE_EACH)?;
+    let given = one_each(rt.alloc())?;
     copy_given_and_mutations(&rt, &given)
 }
 
@@ -505,7 +524,7 @@ fn copy_admitted_and_mutations(rt: &impl Abort, admitted: &Admitted) -> Result<(
 
 #[test]
 fn admitted_transactions_are_copied(rt: HostRuntime) -> Result<(), Fail> {
-    let admitted = testing::admitted(rt.alloc(), ONE_EACH)?;
+    let admitted = admitted_one_each(rt.alloc())?;
     copy_admitted_and_mutations(&rt, &admitted)
 }
 
@@ -525,9 +544,12 @@ fn copy_batch(rt: &impl Abort, batch: &Batch) -> Result<(), Fail> {
     Ok(())
 }
 
+/// Two transactions with nothing in them, and that of one each.
+const THREE: &[Given<'static>] = &[AT_SEVEN, AT_SEVEN, ONE_EACH];
+
 #[test]
 fn batches_are_copied(rt: HostRuntime) -> Result<(), Fail> {
-    let batch = batch(rt.alloc(), &[AT_SEVEN, AT_SEVEN, ONE_EACH])?;
+    let batch = batch(rt.alloc(), THREE)?;
     copy_batch(&rt, &batch)
 }
 
@@ -543,41 +565,45 @@ fn refusals_have_numbers_and_names(rt: HostRuntime) {
     assert!(rt; is_called(Refusal::BatchTooLarge, 16, "BatchTooLarge"));
 }
 
+/// Each refusal in words.
+const WORDS: &[(Refusal, &str)] = &[
+    (
+        Refusal::Key(system_keys::Refusal::KeyTooLong),
+        "a key is too long",
+    ),
+    (
+        Refusal::Key(system_keys::Refusal::ValueTooLong),
+        "a value is too long",
+    ),
+    (
+        Refusal::Key(system_keys::Refusal::KeyOutside),
+        "a key lies outside the key space",
+    ),
+    (
+        Refusal::Key(system_keys::Refusal::EmptyRange),
+        "a range is empty",
+    ),
+    (
+        Refusal::Key(system_keys::Refusal::BadRow),
+        "the value of a system row does not decode",
+    ),
+    (Refusal::BadStamp, "a value has no place for its stamp"),
+    (Refusal::BatchTooLarge, "a batch is too large"),
+    (Refusal::OutOfMemory, "out of memory"),
+];
+
 #[test]
 fn refusals_are_shown_in_words(rt: HostRuntime) -> Result<(), Fail> {
-    for (refusal, text) in [
-        (
-            Refusal::Key(system_keys::Refusal::KeyTooLong),
-            "a key is too long",
-        ),
-        (
-            Refusal::Key(system_keys::Refusal::ValueTooLong),
-            "a value is too long",
-        ),
-        (
-            Refusal::Key(system_keys::Refusal::KeyOutside),
-            "a key lies outside the key space",
-        ),
-        (
-            Refusal::Key(system_keys::Refusal::EmptyRange),
-            "a range is empty",
-        ),
-        (
-            Refusal::Key(system_keys::Refusal::BadRow),
-            "the value of a system row does not decode",
-        ),
-        (Refusal::BadStamp, "a value has no place for its stamp"),
-        (Refusal::BatchTooLarge, "a batch is too large"),
-        (Refusal::OutOfMemory, "out of memory"),
-    ] {
-        assert!(rt; is_shown_as(rt.alloc(), refusal, text)?);
-    }
-    Ok(())
+    assert_shown_as(&rt, WORDS)
 }
+
+/// The refusal of a configuration in words.
+const OF_CONFIG: &[(model::Refusal, &str)] = &[(
+    model::Refusal::BadConfig,
+    "a number of the configuration is outside its limits",
+)];
 
 #[test]
 fn a_refused_configuration_is_shown_in_words(rt: HostRuntime) -> Result<(), Fail> {
-    let text = "a number of the configuration is outside its limits";
-    assert!(rt; is_shown_as(rt.alloc(), model::Refusal::BadConfig, text)?);
-    Ok(())
+    assert_shown_as(&rt, OF_CONFIG)
 }

@@ -1,5 +1,6 @@
 //! Tests of system_keys.
 
+use crate::tests::assert_shown_as;
 use std::alloc::{AllocError, Global};
 use std::test::Fail;
 use system_keys::{
@@ -7,7 +8,7 @@ use system_keys::{
     TeamsFault, classify, decode_key_servers, decode_tag, encode_key_servers, encode_tag, is_state,
     print_bytes, read_bytes,
 };
-use testing::{bytes, is_shown_as, list, range, repeated, room, twice};
+use testing::{bytes, list, range, repeated, room, twice};
 
 /// `server0000000001`.
 const SERVER_1: [u8; 16] = [
@@ -60,16 +61,19 @@ fn is_copied_range(range: &KeyRange, begin: &[u8], end: &[u8]) -> Result<bool, O
     Ok(is_range(range, begin, end) && is_range(&copy, begin, end))
 }
 
+/// Keys, and whether they lie from `b` up to `d`, without `d`.
+const FROM_B_UP_TO_D: &[(&[u8], bool)] = &[
+    (b"a", false),
+    (b"b", true),
+    (b"c\xff", true),
+    (b"d", false),
+    (b"", false),
+];
+
 /// Whether the range holds the keys from `b` up to `d`, without `d`.
 fn holds_b_up_to_d(range: &KeyRange) -> bool {
-    for (key, held) in [
-        (b"a".as_slice(), false),
-        (b"b", true),
-        (b"c\xff", true),
-        (b"d", false),
-        (b"", false),
-    ] {
-        if range.contains(key) != held {
+    for (key, held) in FROM_B_UP_TO_D {
+        if range.contains(*key) != *held {
             return false;
         }
     }
@@ -100,17 +104,20 @@ fn is_overlap(
     Ok(middle.overlaps(&other) == overlapping && other.overlaps(middle) == overlapping)
 }
 
+/// Ranges, and whether they share a key with that from `b` up to `d`.
+const AROUND_B_UP_TO_D: &[(&[u8], &[u8], bool)] = &[
+    (b"a", b"b", false),
+    (b"d", b"e", false),
+    (b"a", b"b\x00", true),
+    (b"c", b"z", true),
+    (b"c", b"c\x00", true),
+    (b"a", b"z", true),
+];
+
 /// Whether the range from `b` up to `d` overlaps those that share a key with it, and no other.
 fn overlaps_by_shared_keys(alloc: Global, middle: &KeyRange) -> Result<bool, Fail> {
-    for (begin, end, overlapping) in [
-        (b"a".as_slice(), b"b".as_slice(), false),
-        (b"d", b"e", false),
-        (b"a", b"b\x00", true),
-        (b"c", b"z", true),
-        (b"c", b"c\x00", true),
-        (b"a", b"z", true),
-    ] {
-        if !is_overlap(alloc, middle, begin, end, overlapping)? {
+    for (begin, end, overlapping) in AROUND_B_UP_TO_D {
+        if !is_overlap(alloc, middle, *begin, *end, *overlapping)? {
             return Ok(false);
         }
     }
@@ -130,32 +137,44 @@ fn range_fault(alloc: Global, begin: &[u8], end: &[u8]) -> Result<Option<Refusal
     Ok(made_range(alloc, begin, end)?.err())
 }
 
-/// Whether each range is refused as it is to be: `longer` is a byte too long for an end.
-fn are_refused_ranges(alloc: Global, longer: &[u8]) -> Result<bool, AllocError> {
-    let long = longer.get(..10_001).unwrap_or(b"");
-    for (begin, end, fault) in [
-        (b"".as_slice(), b"\xff\xff".as_slice(), None),
-        (longer.get(..10_000).unwrap_or(b""), long, None),
-        (long, b"z", Some(Refusal::KeyTooLong)),
-        (b"a", longer, Some(Refusal::KeyTooLong)),
-        (b"z", longer, Some(Refusal::KeyTooLong)),
-        (b"z", b"\xff\xff\x00", Some(Refusal::KeyOutside)),
-        (b"\xff\xff", b"a", Some(Refusal::KeyOutside)),
-        (b"b", b"a", Some(Refusal::EmptyRange)),
-        (b"b", b"b", Some(Refusal::EmptyRange)),
-    ] {
-        if range_fault(alloc, begin, end)? != fault {
-            return Ok(false);
-        }
-    }
-    Ok(true)
-}
+/// Ranges, and the faults for which they are refused.
+const RANGES: &[(&[u8], &[u8], Option<Refusal>)] = &[
+    (b"", b"\xff\xff", None),
+    (b"z", b"\xff\xff\x00", Some(Refusal::KeyOutside)),
+    (b"\xff\xff", b"a", Some(Refusal::KeyOutside)),
+    (b"b", b"a", Some(Refusal::EmptyRange)),
+    (b"b", b"b", Some(Refusal::EmptyRange)),
+];
 
 #[test]
 fn a_range_is_refused_by_its_first_fault(rt: HostRuntime) -> Result<(), Fail> {
-    let alloc = rt.alloc();
-    let longer = repeated(alloc, b'k', 10_002)?;
-    assert!(rt; are_refused_ranges(alloc, &longer)?);
+    for (begin, end, fault) in RANGES {
+        assert!(rt; range_fault(rt.alloc(), *begin, *end)? == *fault);
+    }
+    Ok(())
+}
+
+fn is_too_long(alloc: Global, begin: &[u8], end: &[u8]) -> Result<bool, AllocError> {
+    Ok(range_fault(alloc, begin, end)? == Some(Refusal::KeyTooLong))
+}
+
+/// Whether the end may have this length, which a begin may not have, and a byte less is right for it.
+fn is_length_of_an_end(alloc: Global, long: &[u8]) -> Result<bool, AllocError> {
+    let begin = long.get(1..).unwrap_or(b"");
+    Ok(range_fault(alloc, begin, long)?.is_none() && is_too_long(alloc, long, b"z")?)
+}
+
+/// Whether no end may have this length, whatever else is wrong.
+fn is_past_all_ends(alloc: Global, longer: &[u8]) -> Result<bool, AllocError> {
+    Ok(is_too_long(alloc, b"a", longer)? && is_too_long(alloc, b"z", longer)?)
+}
+
+#[test]
+fn an_end_has_at_most_10_001_bytes(rt: HostRuntime) -> Result<(), Fail> {
+    let long = repeated(rt.alloc(), b'k', 10_001)?;
+    assert!(rt; is_length_of_an_end(rt.alloc(), &long)?);
+    let longer = repeated(rt.alloc(), b'k', 10_002)?;
+    assert!(rt; is_past_all_ends(rt.alloc(), &longer)?);
     Ok(())
 }
 
@@ -164,45 +183,54 @@ fn set_fault(alloc: Global, key: &[u8], value: &[u8]) -> Result<Option<Refusal>,
     Ok(made_set(alloc, key, value)?.err())
 }
 
-/// Whether each Set is refused as it is to be: the key is a byte too long, and so is the value.
-fn are_refused_sets(alloc: Global, key: &[u8], value: &[u8]) -> Result<bool, AllocError> {
-    for (key, value, fault) in [
-        (b"a".as_slice(), b"1".as_slice(), None),
-        (
-            key.get(..10_000).unwrap_or(b""),
-            value.get(..100_000).unwrap_or(b""),
-            None,
-        ),
-        (key, value, Some(Refusal::KeyTooLong)),
-        (b"\xff\xff", value, Some(Refusal::ValueTooLong)),
-        (b"\xff\xff", b"", Some(Refusal::KeyOutside)),
-        (
-            b"\xff/keyServers/m",
-            b"\x01server0000000001",
-            Some(Refusal::BadRow),
-        ),
-        (b"\xff/keyServers/m", ONE_SOURCE.as_slice(), None),
-        (
-            b"\xff/serverTag/server0000000001",
-            b"\x00\x00",
-            Some(Refusal::BadRow),
-        ),
-        (b"\xff/serverTag/server0000000001", b"\x00\x00\x01", None),
-        (b"\xff/serverTag/short", b"\x00\x00", None),
-    ] {
-        if set_fault(alloc, key, value)? != fault {
-            return Ok(false);
-        }
-    }
-    Ok(true)
-}
+/// Keys and values, and the faults for which their Sets are refused.
+const FAULTS_OF_SETS: &[(&[u8], &[u8], Option<Refusal>)] = &[
+    (b"a", b"1", None),
+    (b"\xff\xff", b"", Some(Refusal::KeyOutside)),
+    (
+        b"\xff/keyServers/m",
+        b"\x01server0000000001",
+        Some(Refusal::BadRow),
+    ),
+    (b"\xff/keyServers/m", &ONE_SOURCE, None),
+    (
+        b"\xff/serverTag/server0000000001",
+        b"\x00\x00",
+        Some(Refusal::BadRow),
+    ),
+    (b"\xff/serverTag/server0000000001", b"\x00\x00\x01", None),
+    (b"\xff/serverTag/short", b"\x00\x00", None),
+];
 
 #[test]
 fn a_set_is_refused_by_its_first_fault(rt: HostRuntime) -> Result<(), Fail> {
-    let alloc = rt.alloc();
-    let key = repeated(alloc, b'k', 10_001)?;
-    let value = repeated(alloc, b'v', 100_001)?;
-    assert!(rt; are_refused_sets(alloc, &key, &value)?);
+    for (key, value, fault) in FAULTS_OF_SETS {
+        assert!(rt; set_fault(rt.alloc(), *key, *value)? == *fault);
+    }
+    Ok(())
+}
+
+/// Whether a key and a value that are a byte too long are refused for the key, and without the
+/// byte are not.
+fn is_key_refused(alloc: Global, key: &[u8], value: &[u8]) -> Result<bool, AllocError> {
+    let (right_key, right_value) = (key.get(1..).unwrap_or(b""), value.get(1..).unwrap_or(b""));
+    Ok(
+        set_fault(alloc, key, value)? == Some(Refusal::KeyTooLong)
+            && set_fault(alloc, right_key, right_value)?.is_none(),
+    )
+}
+
+/// Whether the value is refused before a key outside the key space.
+fn is_value_refused(alloc: Global, value: &[u8]) -> Result<bool, AllocError> {
+    Ok(set_fault(alloc, b"\xff\xff", value)? == Some(Refusal::ValueTooLong))
+}
+
+#[test]
+fn long_keys_and_then_long_values_are_refused(rt: HostRuntime) -> Result<(), Fail> {
+    let key = repeated(rt.alloc(), b'k', 10_001)?;
+    let value = repeated(rt.alloc(), b'v', 100_001)?;
+    assert!(rt; is_key_refused(rt.alloc(), &key, &value)?);
+    assert!(rt; is_value_refused(rt.alloc(), &value)?);
     Ok(())
 }
 
@@ -294,45 +322,54 @@ fn is_state_clear(alloc: Global, begin: &[u8], end: &[u8]) -> Result<bool, Fail>
     Ok(is_state(&Change::clear(range(alloc, begin, end)?)))
 }
 
+/// Keys that are set, and whether that changes the state.
+const SETS: &[(&[u8], bool)] = &[(b"\xff", true), (b"\xff\x02a", false), (b"\xfe", false)];
+
 #[test]
-fn state_changes_are_those_of_the_metadata(rt: HostRuntime) -> Result<(), Fail> {
-    let alloc = rt.alloc();
-    for (key, state) in [
-        (b"\xff".as_slice(), true),
-        (b"\xff\x02a", false),
-        (b"\xfe", false),
-    ] {
-        assert!(rt; is_state_set(alloc, key)? == state);
-    }
-    for (begin, end, state) in [
-        (b"a".as_slice(), b"\xff".as_slice(), false),
-        (b"a", b"\xff\x02", true),
-        (b"\xff\x02a", b"\xff\x03", false),
-        (b"\xff\x02", b"\xff\x04", true),
-    ] {
-        assert!(rt; is_state_clear(alloc, begin, end)? == state);
+fn state_sets_are_those_of_the_metadata(rt: HostRuntime) -> Result<(), Fail> {
+    for (key, state) in SETS {
+        assert!(rt; is_state_set(rt.alloc(), *key)? == *state);
     }
     Ok(())
 }
 
+/// Ranges that are cleared, and whether that changes the state.
+const CLEARS: &[(&[u8], &[u8], bool)] = &[
+    (b"a", b"\xff", false),
+    (b"a", b"\xff\x02", true),
+    (b"\xff\x02a", b"\xff\x03", false),
+    (b"\xff\x02", b"\xff\x04", true),
+];
+
+#[test]
+fn state_clears_are_those_of_the_metadata(rt: HostRuntime) -> Result<(), Fail> {
+    for (begin, end, state) in CLEARS {
+        assert!(rt; is_state_clear(rt.alloc(), *begin, *end)? == *state);
+    }
+    Ok(())
+}
+
+/// Keys, and the kinds of their rows.
+const KINDS: &[(&[u8], RowKind)] = &[
+    (b"\xff/keyServers/", RowKind::KeyServers),
+    (b"\xff/keyServers/m\x00", RowKind::KeyServers),
+    (b"\xff/keyServers", RowKind::OtherSystem),
+    (b"\xff/serverTag/server0000000001", RowKind::ServerTag),
+    (b"\xff/serverTag/server000000001", RowKind::OtherSystem),
+    (b"\xff/serverTag/server00000000001", RowKind::OtherSystem),
+    (b"\xff/dbLocked", RowKind::DatabaseLocked),
+    (b"\xff/dbLocked\x00", RowKind::OtherSystem),
+    (b"\xff/metadataVersion", RowKind::MetadataVersion),
+    (b"\xff\x02", RowKind::NonMetadata),
+    (b"\xff", RowKind::OtherSystem),
+    (b"\xfe\xff", RowKind::Normal),
+    (b"", RowKind::Normal),
+];
+
 #[test]
 fn each_key_has_its_kind(rt: HostRuntime) {
-    for (key, kind) in [
-        (b"\xff/keyServers/".as_slice(), RowKind::KeyServers),
-        (b"\xff/keyServers/m\x00", RowKind::KeyServers),
-        (b"\xff/keyServers", RowKind::OtherSystem),
-        (b"\xff/serverTag/server0000000001", RowKind::ServerTag),
-        (b"\xff/serverTag/server000000001", RowKind::OtherSystem),
-        (b"\xff/serverTag/server00000000001", RowKind::OtherSystem),
-        (b"\xff/dbLocked", RowKind::DatabaseLocked),
-        (b"\xff/dbLocked\x00", RowKind::OtherSystem),
-        (b"\xff/metadataVersion", RowKind::MetadataVersion),
-        (b"\xff\x02", RowKind::NonMetadata),
-        (b"\xff", RowKind::OtherSystem),
-        (b"\xfe\xff", RowKind::Normal),
-        (b"", RowKind::Normal),
-    ] {
-        assert!(rt; classify(key) == kind);
+    for (key, kind) in KINDS {
+        assert!(rt; classify(*key) == *kind);
     }
 }
 
@@ -501,26 +538,28 @@ fn key_servers_fault(alloc: Global, value: &[u8]) -> Option<RowFault> {
     decode_key_servers(alloc, value).err()
 }
 
+/// Values of keyServers rows, and the faults for which they are refused.
+const BAD_VALUES: &[(&[u8], RowFault)] = &[
+    (b"", RowFault::Truncated),
+    (b"\x00", RowFault::Truncated),
+    (b"\x01server0000000001", RowFault::Truncated),
+    (b"\x01server000000001", RowFault::Truncated),
+    (b"\x02server0000000002a", RowFault::Truncated),
+    (b"\x02server0000000002server000000000", RowFault::Truncated),
+    (b"\x02server0000000002server0000000001", RowFault::NotRising),
+    (
+        b"\x02server0000000001server0000000001\x00",
+        RowFault::NotRising,
+    ),
+    (b"\x03server0000000002server0000000001", RowFault::NotRising),
+    (b"\x00\x00\x00", RowFault::Trailing),
+    (b"\x01server0000000001\x00\x00", RowFault::Trailing),
+];
+
 #[test]
 fn a_key_servers_value_is_refused_by_its_first_fault(rt: HostRuntime) {
-    let alloc = rt.alloc();
-    for (value, fault) in [
-        (b"".as_slice(), RowFault::Truncated),
-        (b"\x00", RowFault::Truncated),
-        (b"\x01server0000000001", RowFault::Truncated),
-        (b"\x01server000000001", RowFault::Truncated),
-        (b"\x02server0000000002a", RowFault::Truncated),
-        (b"\x02server0000000002server000000000", RowFault::Truncated),
-        (b"\x02server0000000002server0000000001", RowFault::NotRising),
-        (
-            b"\x02server0000000001server0000000001\x00",
-            RowFault::NotRising,
-        ),
-        (b"\x03server0000000002server0000000001", RowFault::NotRising),
-        (b"\x00\x00\x00", RowFault::Trailing),
-        (b"\x01server0000000001\x00\x00", RowFault::Trailing),
-    ] {
-        assert!(rt; key_servers_fault(alloc, value) == Some(fault));
+    for (value, fault) in BAD_VALUES {
+        assert!(rt; key_servers_fault(rt.alloc(), *value) == Some(*fault));
     }
 }
 
@@ -537,24 +576,30 @@ fn is_refused_tag(value: &[u8], fault: RowFault) -> bool {
     decode_tag(value) == Err(fault)
 }
 
+/// Tags and their values.
+const TAGS: &[(Tag, &[u8])] = &[
+    (Tag { locality: 0, id: 1 }, b"\x00\x00\x01"),
+    (
+        Tag {
+            locality: 3,
+            id: 258,
+        },
+        b"\x03\x01\x02",
+    ),
+];
+
 #[test]
 fn tags_are_those_of_the_vectors(rt: HostRuntime) -> Result<(), Fail> {
-    let alloc = rt.alloc();
-    for (tag, value) in [
-        (Tag { locality: 0, id: 1 }, b"\x00\x00\x01".as_slice()),
-        (
-            Tag {
-                locality: 3,
-                id: 258,
-            },
-            b"\x03\x01\x02",
-        ),
-    ] {
-        assert!(rt; is_value_of_tag(alloc, &tag, value)?);
+    for (tag, value) in TAGS {
+        assert!(rt; is_value_of_tag(rt.alloc(), tag, *value)?);
     }
+    Ok(())
+}
+
+#[test]
+fn a_tag_has_three_bytes(rt: HostRuntime) {
     assert!(rt; is_refused_tag(b"\x00\x00", RowFault::Truncated));
     assert!(rt; is_refused_tag(b"\x00\x00\x01\x00", RowFault::Trailing));
-    Ok(())
 }
 
 /// Whether the bytes are printed as this text.
@@ -578,23 +623,32 @@ fn is_bad_text(alloc: Global, text: &str) -> bool {
     read_bytes(alloc, text).err() == Some(RowFault::BadText)
 }
 
+/// Bytes, and the text of each.
+const TEXTS: &[(&[u8], &str)] = &[
+    (b"", ""),
+    (b"a~!", "a~!"),
+    (b"\xff/keyServers/", "\\xff/keyServers/"),
+    (b" \"\\\x00\x7f", "\\x20\\x22\\x5c\\x00\\x7f"),
+];
+
 #[test]
 fn bytes_have_one_text(rt: HostRuntime) -> Result<(), Fail> {
-    let alloc = rt.alloc();
-    for (bytes, text) in [
-        (b"".as_slice(), ""),
-        (b"a~!", "a~!"),
-        (b"\xff/keyServers/", "\\xff/keyServers/"),
-        (b" \"\\\x00\x7f", "\\x20\\x22\\x5c\\x00\\x7f"),
-    ] {
-        assert!(rt; is_text_of(alloc, text, bytes)?);
-    }
-    for text in [
-        "\\xFF", "\\x6d", "\\x0", "\\", "\\n00", " ", "\"", "\\x0g", "\u{e9}",
-    ] {
-        assert!(rt; is_bad_text(alloc, text));
+    for (bytes, text) in TEXTS {
+        assert!(rt; is_text_of(rt.alloc(), *text, *bytes)?);
     }
     Ok(())
+}
+
+/// Texts of no bytes.
+const BAD_TEXTS: &[&str] = &[
+    "\\xFF", "\\x6d", "\\x0", "\\", "\\n00", " ", "\"", "\\x0g", "\u{e9}",
+];
+
+#[test]
+fn other_texts_are_refused(rt: HostRuntime) {
+    for text in BAD_TEXTS {
+        assert!(rt; is_bad_text(rt.alloc(), *text), "{text}");
+    }
 }
 
 fn is_refusal(refusal: Refusal, number: u32, name: &str) -> bool {
@@ -605,62 +659,84 @@ fn is_row_fault(fault: RowFault, number: Option<u32>, name: &str) -> bool {
     fault.number() == number && fault.name() == name
 }
 
+/// Each refusal with its number and its name.
+const REFUSALS: &[(Refusal, u32, &str)] = &[
+    (Refusal::KeyTooLong, 10, "KeyTooLong"),
+    (Refusal::ValueTooLong, 11, "ValueTooLong"),
+    (Refusal::KeyOutside, 12, "KeyOutside"),
+    (Refusal::EmptyRange, 13, "EmptyRange"),
+    (Refusal::BadRow, 14, "BadRow"),
+];
+
 #[test]
 fn refusals_have_their_numbers_and_names(rt: HostRuntime) {
-    for (refusal, number, name) in [
-        (Refusal::KeyTooLong, 10, "KeyTooLong"),
-        (Refusal::ValueTooLong, 11, "ValueTooLong"),
-        (Refusal::KeyOutside, 12, "KeyOutside"),
-        (Refusal::EmptyRange, 13, "EmptyRange"),
-        (Refusal::BadRow, 14, "BadRow"),
-    ] {
-        assert!(rt; is_refusal(refusal, number, name));
-    }
-    for (fault, number, name) in [
-        (RowFault::Truncated, Some(1), "Truncated"),
-        (RowFault::NotRising, Some(2), "NotRising"),
-        (RowFault::Trailing, Some(3), "Trailing"),
-        (RowFault::BadText, Some(4), "BadText"),
-        (RowFault::OutOfMemory, None, "OutOfMemory"),
-    ] {
-        assert!(rt; is_row_fault(fault, number, name));
+    for (refusal, number, name) in REFUSALS {
+        assert!(rt; is_refusal(*refusal, *number, *name));
     }
 }
+
+/// Each fault of a value with its number and its name.
+const ROW_FAULTS: &[(RowFault, Option<u32>, &str)] = &[
+    (RowFault::Truncated, Some(1), "Truncated"),
+    (RowFault::NotRising, Some(2), "NotRising"),
+    (RowFault::Trailing, Some(3), "Trailing"),
+    (RowFault::BadText, Some(4), "BadText"),
+    (RowFault::OutOfMemory, None, "OutOfMemory"),
+];
+
+#[test]
+fn faults_have_their_numbers_and_names(rt: HostRuntime) {
+    for (fault, number, name) in ROW_FAULTS {
+        assert!(rt; is_row_fault(*fault, *number, *name));
+    }
+}
+
+/// Each refusal in words.
+const WORDS_OF_REFUSALS: &[(Refusal, &str)] = &[
+    (Refusal::KeyTooLong, "a key is too long"),
+    (Refusal::ValueTooLong, "a value is too long"),
+    (Refusal::KeyOutside, "a key lies outside the key space"),
+    (Refusal::EmptyRange, "a range is empty"),
+    (Refusal::BadRow, "the value of a system row does not decode"),
+];
 
 #[test]
 fn refusals_are_shown_in_words(rt: HostRuntime) -> Result<(), Fail> {
-    for (refusal, text) in [
-        (Refusal::KeyTooLong, "a key is too long"),
-        (Refusal::ValueTooLong, "a value is too long"),
-        (Refusal::KeyOutside, "a key lies outside the key space"),
-        (Refusal::EmptyRange, "a range is empty"),
-        (Refusal::BadRow, "the value of a system row does not decode"),
-    ] {
-        assert!(rt; is_shown_as(rt.alloc(), refusal, text)?);
-    }
-    Ok(())
+    assert_shown_as(&rt, WORDS_OF_REFUSALS)
 }
+
+/// Each fault of a value in words.
+const WORDS_OF_FAULTS: &[(RowFault, &str)] = &[
+    (RowFault::Truncated, "bytes are missing"),
+    (RowFault::NotRising, "server ids do not rise"),
+    (RowFault::Trailing, "bytes stand after the end"),
+    (RowFault::BadText, "the text is no spelling of bytes"),
+    (RowFault::OutOfMemory, "out of memory"),
+];
+
+/// Each fault of teams in words.
+const WORDS_OF_TEAMS_FAULTS: &[(TeamsFault, &str)] = &[
+    (
+        TeamsFault::TooManyServers,
+        "a list has more than 255 servers",
+    ),
+    (TeamsFault::NotRising, "server ids do not rise"),
+];
 
 #[test]
 fn faults_of_values_are_shown_in_words(rt: HostRuntime) -> Result<(), Fail> {
-    for (fault, text) in [
-        (RowFault::Truncated, "bytes are missing"),
-        (RowFault::NotRising, "server ids do not rise"),
-        (RowFault::Trailing, "bytes stand after the end"),
-        (RowFault::BadText, "the text is no spelling of bytes"),
-        (RowFault::OutOfMemory, "out of memory"),
-    ] {
-        assert!(rt; is_shown_as(rt.alloc(), fault, text)?);
-    }
-    for (fault, text) in [
-        (
-            TeamsFault::TooManyServers,
-            "a list has more than 255 servers",
-        ),
-        (TeamsFault::NotRising, "server ids do not rise"),
-    ] {
-        assert!(rt; is_shown_as(rt.alloc(), fault, text)?);
-    }
-    assert!(rt; is_shown_as(rt.alloc(), OutOfMemory, "out of memory")?);
-    Ok(())
+    assert_shown_as(&rt, WORDS_OF_FAULTS)
+}
+
+#[test]
+fn faults_of_teams_are_shown_in_words(rt: HostRuntime) -> Result<(), Fail> {
+    assert_shown_as(&rt, WORDS_OF_TEAMS_FAULTS)
+}
+
+/// The want of memory in words.
+const WORDS_OF_WANT: &[(OutOfMemory, &str)] = &[(OutOfMemory, "out of memory")];
+
+#[test]
+fn the_want_of_memory_is_shown_in_words(rt: HostRuntime) -> Result<(), Fail> {
+    assert_shown_as(&rt, WORDS_OF_WANT)
 }

@@ -4,7 +4,13 @@ use command_line::{Status, run_words};
 use scripts::{Reader, RunStatus, Writer};
 use std::process::Abort;
 
+const NO_WORDS: &[&str] = &[];
+
 const FOLD: &[&str] = &["fold"];
+
+const WORD_TURNS: &[&str] = &["turns"];
+
+const BAD_SHAPE: &str = "refused 71 BadShape\n";
 
 const SCRIPT: &[u8] = br#"{"resolvers":1,"rows":[],"ask":["a"]}"#;
 
@@ -86,29 +92,31 @@ fn run(rt: &impl AllocGlobal, words: &[&str], given: &[u8], says: &str, room: &m
     }
 }
 
+// Whether the text was written, and nothing after it.
+fn has_text_alone(room: &[u8], text: &[u8]) -> bool {
+    room.starts_with(text) && room.get(text.len()) == Some(&0)
+}
+
 // The words are taken, the whole script is read and answered by this text, and the status has this
 // number.
 fn answers(rt: &(impl Abort + AllocGlobal), words: &[&str], script: &[u8], text: &str, number: u8) {
     let mut room = ROOM;
     let ended = run(rt, words, script, "", &mut room);
-    assert_eq!(rt; ended.number, number);
-    assert_eq!(rt; ended.left, 0);
-    assert!(rt; room.starts_with(text.as_bytes()));
-    assert_eq!(rt; room.get(text.len()), Some(&0));
+    assert!(rt; ended.number == number && ended.left == 0);
+    assert!(rt; has_text_alone(&room, text.as_bytes()));
 }
 
 // The words are refused with exactly this text, and nothing is read or written.
 fn refuses(rt: &(impl Abort + AllocGlobal), words: &[&str], says: &str) {
     let mut room = ROOM;
     let ended = run(rt, words, SCRIPT, says, &mut room);
-    assert!(rt; ended.is_refused, "{says}");
-    assert_eq!(rt; ended.left, SCRIPT.len());
+    assert!(rt; ended.is_refused && ended.left == SCRIPT.len(), "{says}");
     assert!(rt; room.as_slice() == ROOM.as_slice(), "something was written");
 }
 
 #[test]
 fn no_words_fold(rt: HostRuntime) {
-    answers(&rt, &[], SCRIPT, TEXT, 0);
+    answers(&rt, NO_WORDS, SCRIPT, TEXT, 0);
 }
 
 #[test]
@@ -116,35 +124,55 @@ fn the_word_fold_folds(rt: HostRuntime) {
     answers(&rt, FOLD, SCRIPT, TEXT, 0);
 }
 
+// Words that fold, with two hyphens among them.
+const HYPHENS_AND_FOLD: &[&[&str]] = &[&["--"], &["--", "fold"], &["fold", "--"]];
+
 #[test]
 fn two_hyphens_alone_are_passed_over(rt: HostRuntime) {
-    answers(&rt, &["--"], SCRIPT, TEXT, 0);
-    answers(&rt, &["--", "fold"], SCRIPT, TEXT, 0);
-    answers(&rt, &["fold", "--"], SCRIPT, TEXT, 0);
-    answers(&rt, &["--", "turns"], TURNS, TURNS_TEXT, 0);
-    refuses(&rt, &["--", "threads"], THREADS);
+    for words in HYPHENS_AND_FOLD {
+        answers(&rt, *words, SCRIPT, TEXT, 0);
+    }
+}
+
+const HYPHENS_AND_TURNS: &[&str] = &["--", "turns"];
+
+const HYPHENS_AND_THREADS: &[&str] = &["--", "threads"];
+
+#[test]
+fn the_word_after_two_hyphens_is_the_mode(rt: HostRuntime) {
+    answers(&rt, HYPHENS_AND_TURNS, TURNS, TURNS_TEXT, 0);
+    refuses(&rt, HYPHENS_AND_THREADS, THREADS);
 }
 
 #[test]
 fn the_word_turns_carries_out_events(rt: HostRuntime) {
-    answers(&rt, &["turns"], TURNS, TURNS_TEXT, 0);
+    answers(&rt, WORD_TURNS, TURNS, TURNS_TEXT, 0);
 }
 
 #[test]
 fn a_mode_refuses_the_script_of_the_other(rt: HostRuntime) {
-    answers(&rt, &["turns"], SCRIPT, "refused 71 BadShape\n", 1);
-    answers(&rt, FOLD, TURNS, "refused 71 BadShape\n", 1);
+    answers(&rt, WORD_TURNS, SCRIPT, BAD_SHAPE, 1);
+    answers(&rt, FOLD, TURNS, BAD_SHAPE, 1);
 }
+
+// Words, and the text with which they are refused.
+type Refused = (&'static [&'static str], &'static str);
+
+fn refuses_each(rt: &(impl Abort + AllocGlobal), refused: &[Refused]) {
+    for (words, says) in refused {
+        refuses(rt, *words, *says);
+    }
+}
+
+const OTHER_MODES: &[Refused] = &[(&["threads"], THREADS)];
 
 #[test]
 fn other_modes_are_refused(rt: HostRuntime) {
-    refuses(&rt, &["threads"], THREADS);
+    refuses_each(&rt, OTHER_MODES);
 }
 
-#[test]
-fn a_path_is_no_mode(rt: HostRuntime) {
-    refuses(
-        &rt,
+const PATHS: &[Refused] = &[
+    (
         &["examples/two_servers.json"],
         "error: invalid value 'examples/two_servers.json' for '[MODE]'
   [possible values: fold, turns]
@@ -152,9 +180,8 @@ fn a_path_is_no_mode(rt: HostRuntime) {
 For more information, try '--help'.
 hint: the script is read on standard input: proxy_run < script.json
 ",
-    );
-    refuses(
-        &rt,
+    ),
+    (
         &["fold", "script.json"],
         "error: unexpected argument 'script.json' found
 
@@ -163,13 +190,16 @@ Usage: proxy_run [MODE]
 For more information, try '--help'.
 hint: the script is read on standard input: proxy_run < script.json
 ",
-    );
-}
+    ),
+];
 
 #[test]
-fn other_words_are_refused(rt: HostRuntime) {
-    refuses(
-        &rt,
+fn a_path_is_no_mode(rt: HostRuntime) {
+    refuses_each(&rt, PATHS);
+}
+
+const OTHER_WORDS: &[Refused] = &[
+    (
         &["fold", "fold"],
         "error: unexpected argument 'fold' found
 
@@ -178,9 +208,8 @@ Usage: proxy_run [MODE]
 For more information, try '--help'.
 hint: the script is read on standard input: proxy_run < script.json
 ",
-    );
-    refuses(
-        &rt,
+    ),
+    (
         &["--unknown"],
         "error: unexpected argument '--unknown' found
 
@@ -191,9 +220,8 @@ Usage: proxy_run [MODE]
 For more information, try '--help'.
 hint: the script is read on standard input: proxy_run < script.json
 ",
-    );
-    refuses(
-        &rt,
+    ),
+    (
         &[""],
         "error: a value is required for '[MODE]' but none was supplied
   [possible values: fold, turns]
@@ -201,20 +229,28 @@ hint: the script is read on standard input: proxy_run < script.json
 For more information, try '--help'.
 hint: the script is read on standard input: proxy_run < script.json
 ",
-    );
+    ),
+];
+
+#[test]
+fn other_words_are_refused(rt: HostRuntime) {
+    refuses_each(&rt, OTHER_WORDS);
 }
+
+const CALLS_FOR_HELP: &[Refused] = &[
+    (&["--help"], HELP),
+    (&["-h"], HELP),
+    (&["fold", "-h"], HELP),
+];
 
 #[test]
 fn a_call_for_help_is_refused_with_the_help(rt: HostRuntime) {
-    for words in [["--help"].as_slice(), &["-h"], &["fold", "-h"]] {
-        refuses(&rt, words, HELP);
-    }
+    refuses_each(&rt, CALLS_FOR_HELP);
 }
 
 #[test]
 fn a_full_writer_ends_the_run(rt: HostRuntime) {
     let mut room = [0u8; 3];
     let ended = run(&rt, FOLD, SCRIPT, "", &mut room);
-    assert_eq!(rt; ended.number, 3);
-    assert!(rt; room.as_slice() == b"ver".as_slice());
+    assert!(rt; ended.number == 3 && room.as_slice() == b"ver".as_slice());
 }

@@ -3,10 +3,10 @@
 mod streams;
 
 use scripts::ScriptFault;
-use shared_cluster::Event;
 use std::alloc::Global;
 use std::process::Abort;
 use testing::twice;
+use turn_world::Event;
 use turns_run::{TurnsScript, read_turns};
 
 /// A move between a write and a read of its range, offered and finished.
@@ -31,13 +31,17 @@ fn fault_of(alloc: Global, text: &[u8]) -> Option<ScriptFault> {
     read(alloc, text).err()
 }
 
+/// Whether the text is refused, with this number.
+fn is_refused(alloc: Global, text: &[u8], number: u32) -> bool {
+    match fault_of(alloc, text) {
+        Some(fault) => fault.number() == Some(number),
+        None => false,
+    }
+}
+
 /// The text is refused, with this number.
 fn refuses(rt: &(impl Abort + AllocGlobal), text: &[u8], number: u32) {
-    let refused = match fault_of(rt.alloc(), text) {
-        Some(fault) => fault.number(),
-        None => None,
-    };
-    assert_eq!(rt; refused, Some(number));
+    assert!(rt; is_refused(rt.alloc(), text, number));
 }
 
 /// Whether the event gives a batch of this many transactions to proxy 0.

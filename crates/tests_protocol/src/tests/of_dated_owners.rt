@@ -71,13 +71,19 @@ fn moved_twice(alloc: Global) -> Result<OwnerMap, Fail> {
     Ok(map)
 }
 
+/// Whether resolver 0 of three is asked for all keys.
+fn asks_resolver_0(map: &OwnerMap, alloc: Global) -> Result<bool, Fail> {
+    Ok(
+        map.resolvers() == 3
+            && read_asks(map, alloc, (b"", b"\xff\xff"), 0, &[0])?
+            && write_asks(map, alloc, (b"", b"\xff\xff"), &[0])?,
+    )
+}
+
 #[test]
 fn resolver_0_owns_all_keys_at_first(rt: HostRuntime) -> Result<(), Fail> {
-    let alloc = rt.alloc();
-    let map = map_of_three(alloc)?;
-    assert_eq!(rt; map.resolvers(), 3);
-    assert!(rt; read_asks(&map, alloc, (b"", b"\xff\xff"), 0, &[0])?);
-    assert!(rt; write_asks(&map, alloc, (b"", b"\xff\xff"), &[0])?);
+    let map = map_of_three(rt.alloc())?;
+    assert!(rt; asks_resolver_0(&map, rt.alloc())?);
     Ok(())
 }
 
@@ -125,45 +131,55 @@ fn writes_ask_the_last_owner_of_each_key(rt: HostRuntime) -> Result<(), Fail> {
     are_writes_right(&rt, &map)
 }
 
-/// What is dated before version 30 is forgotten, and then what is dated before version 10.
-fn forgets<R: Abort + AllocGlobal>(rt: &R, map: &mut OwnerMap) -> Result<(), Fail> {
-    for version in [30, 10] {
-        map.forget(version);
-        let is_right = read_asks(map, rt.alloc(), (b"m", b"t"), 20, &[1, 2])?;
-        assert!(rt; is_right, "forgotten below {version}");
-    }
-    assert!(rt; write_asks(map, rt.alloc(), (b"a", b"z"), &[0, 1, 2])?);
-    Ok(())
+/// Whether just the newer owners are asked after what is dated before the version is forgotten.
+fn asks_without(map: &mut OwnerMap, alloc: Global, version: u64) -> Result<bool, Fail> {
+    map.forget(version);
+    read_asks(map, alloc, (b"m", b"t"), 20, &[1, 2])
+}
+
+/// Whether what is forgotten before version 30 stays so, and the last owners are asked still.
+fn forgets(map: &mut OwnerMap, alloc: Global) -> Result<bool, Fail> {
+    Ok(
+        asks_without(map, alloc, 30)?
+            && asks_without(map, alloc, 10)?
+            && write_asks(map, alloc, (b"a", b"z"), &[0, 1, 2])?,
+    )
 }
 
 #[test]
 fn what_is_forgotten_does_not_come_back(rt: HostRuntime) -> Result<(), Fail> {
     let mut map = moved_twice(rt.alloc())?;
-    forgets(&rt, &mut map)
+    assert!(rt; forgets(&mut map, rt.alloc())?);
+    Ok(())
 }
 
-/// Moves of `[a, b)` that are refused: date, new resolver, and why.
-const REFUSED: [(u64, usize, Refusal); 2] = [
-    (40, 1, Refusal::DateGoesBack),
-    (40, 3, Refusal::NoSuchResolver),
-];
+/// What a move of `[a, b)` gets, and who is asked for writes of it then.
+fn move_gets(
+    map: &mut OwnerMap,
+    alloc: Global,
+    date: u64,
+    dest: usize,
+    refusal: Option<Refusal>,
+    resolvers: &[usize],
+) -> Result<bool, Fail> {
+    let found = moved(map, alloc, (b"a", b"b"), date, dest)?;
+    Ok(found == refusal && write_asks(map, alloc, (b"a", b"b"), resolvers)?)
+}
 
-/// Moves of `[a, b)` are refused, and then one is made at the date of the last move.
-fn goes_on<R: Abort + AllocGlobal>(rt: &R, map: &mut OwnerMap) -> Result<(), Fail> {
-    for (date, dest, refusal) in REFUSED {
-        let found = moved(map, rt.alloc(), (b"a", b"b"), date, dest)?;
-        assert_eq!(rt; found, Some(refusal));
-    }
-    assert!(rt; write_asks(map, rt.alloc(), (b"a", b"b"), &[0])?);
-    assert_eq!(rt; moved(map, rt.alloc(), (b"a", b"b"), 41, 2)?, None);
-    assert!(rt; write_asks(map, rt.alloc(), (b"a", b"b"), &[2])?);
-    Ok(())
+/// Whether moves of `[a, b)` are refused, and then one is made at the date of the last move.
+fn goes_on(map: &mut OwnerMap, alloc: Global) -> Result<bool, Fail> {
+    Ok(
+        move_gets(map, alloc, 40, 1, Some(Refusal::DateGoesBack), &[0])?
+            && move_gets(map, alloc, 40, 3, Some(Refusal::NoSuchResolver), &[0])?
+            && move_gets(map, alloc, 41, 2, None, &[2])?,
+    )
 }
 
 #[test]
 fn dates_may_be_equal_but_not_go_back(rt: HostRuntime) -> Result<(), Fail> {
     let mut map = moved_twice(rt.alloc())?;
-    goes_on(&rt, &mut map)
+    assert!(rt; goes_on(&mut map, rt.alloc())?);
+    Ok(())
 }
 
 fn copy_of(map: &OwnerMap) -> Result<OwnerMap, OutOfMemory> {
@@ -190,19 +206,21 @@ fn a_copy_goes_its_own_way(rt: HostRuntime) -> Result<(), Fail> {
 }
 
 /// Each refusal with the number and the name that are printed.
-const PRINTED: [(Refusal, u32, &str); 2] = [
-    (Refusal::NoSuchResolver, 20, "NoSuchResolver"),
-    (Refusal::DateGoesBack, 21, "DateGoesBack"),
+const PRINTED: &[(Refusal, Option<u32>, &str)] = &[
+    (Refusal::NoSuchResolver, Some(20), "NoSuchResolver"),
+    (Refusal::DateGoesBack, Some(21), "DateGoesBack"),
+    (Refusal::OutOfMemory, None, "OutOfMemory"),
 ];
 
+fn is_printed(refusal: Refusal, number: Option<u32>, name: &str) -> bool {
+    refusal.number() == number && refusal.name() == name
+}
+
 #[test]
-fn refusals_have_numbers_and_names(rt: HostRuntime) -> Result<(), Fail> {
-    for (refusal, number, name) in &PRINTED {
-        assert_eq!(rt; refusal.number(), Some(*number));
-        assert_eq!(rt; refusal.name(), *name);
+fn refusals_have_numbers_and_names(rt: HostRuntime) {
+    for (refusal, number, name) in PRINTED {
+        assert!(rt; is_printed(*refusal, *number, *name), "{name}");
     }
-    assert_eq!(rt; Refusal::OutOfMemory.number(), None);
-    Ok(())
 }
 
 // ---- random moves, against lists of owners that are kept key by key

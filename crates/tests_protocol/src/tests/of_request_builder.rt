@@ -34,10 +34,9 @@ pub(crate) struct Moved {
     moves: Vec<Move>,
 }
 
-/// The owners before any move. No test has more than 3 resolvers.
+/// The owners before any move. Each test has 2 or 3 resolvers.
 fn first_owners(alloc: Global, resolvers: usize) -> Result<OwnerMap, OutOfMemory> {
-    let resolvers = resolvers.clamp(1, 3);
-    OwnerMap::new(alloc, resolvers)
+    OwnerMap::new(alloc, if resolvers == 2 { 2 } else { 3 })
 }
 
 pub(crate) fn unmoved(alloc: Global, resolvers: usize) -> Result<Moved, Fail> {
@@ -59,8 +58,7 @@ impl Moved {
     }
 
     fn try_record(&self, alloc: Global, batch: &Batch) -> Result<Record, OutOfMemory> {
-        let moves = Items::from(self.moves.clone()?);
-        Record::new(alloc, 3, 30, 40, 20, 1, moves, batch)
+        Record::new(alloc, 3, 30, 40, 20, 1, &self.moves, batch)
     }
 }
 
@@ -98,10 +96,17 @@ fn are_asked(requests: &Requests, lists: &[&[usize]]) -> bool {
     asked.len() == lists.len()
 }
 
+fn is_range(range: &KeyRange, ends: &Ends<'_>) -> bool {
+    range.begin() == ends.0 && range.end() == ends.1
+}
+
 fn are_ranges(ranges: &[KeyRange], ends: &[Ends<'_>]) -> bool {
-    let alike = |(range, ends): (&KeyRange, &Ends<'_>)| range.begin() == ends.0
-        && range.end() == ends.1;
-    ranges.len() == ends.len() && ranges.iter().zip(ends).all(alike)
+    for (range, ends) in ranges.iter().zip(ends) {
+        if !is_range(range, ends) {
+            return false;
+        }
+    }
+    ranges.len() == ends.len()
 }
 
 fn is_part(
@@ -122,9 +127,16 @@ fn has_parts(requests: &Requests, resolver: usize, numbers: &[usize]) -> bool {
     let Some(request) = requests.requests.as_slice().get(resolver) else {
         return false;
     };
-    let parts = request.share().parts();
-    let alike = |(part, number): (&Part, &usize)| part.number == *number;
-    parts.len() == numbers.len() && parts.iter().zip(numbers).all(alike)
+    are_numbered(request.share().parts(), numbers)
+}
+
+fn are_numbered(parts: &[Part], numbers: &[usize]) -> bool {
+    for (part, number) in parts.iter().zip(numbers) {
+        if part.number != *number {
+            return false;
+        }
+    }
+    parts.len() == numbers.len()
 }
 
 /// Whether the request is to this resolver, with the numbers of the record of these tests.
@@ -158,13 +170,20 @@ fn requests_for_four(alloc: Global) -> Result<Requests, Fail> {
     built(alloc, &moved, &record)
 }
 
+/// Whom the four transactions ask.
+const ASKED_FOR_FOUR: &[&[usize]] = &[&[0, 1, 2], &[1, 2], &[0, 1, 2], &[1, 2]];
+
+fn have_parts_of_four(requests: &Requests) -> bool {
+    has_parts(requests, 0, &[0, 2])
+        && has_parts(requests, 1, &[0, 1, 2, 3])
+        && has_parts(requests, 2, &[0, 1, 2, 3])
+}
+
 #[test]
 fn each_range_goes_to_those_who_are_asked(rt: HostRuntime) -> Result<(), Fail> {
     let requests = requests_for_four(rt.alloc())?;
-    assert!(rt; are_asked(&requests, &[&[0, 1, 2], &[1, 2], &[0, 1, 2], &[1, 2]]));
-    assert!(rt; has_parts(&requests, 0, &[0, 2]));
-    assert!(rt; has_parts(&requests, 1, &[0, 1, 2, 3]));
-    assert!(rt; has_parts(&requests, 2, &[0, 1, 2, 3]));
+    assert!(rt; are_asked(&requests, ASKED_FOR_FOUR));
+    assert!(rt; have_parts_of_four(&requests));
     Ok(())
 }
 
@@ -179,18 +198,30 @@ fn has_four(share: &Share) -> bool {
         && is_part(fourth, 3, 0, &[], &[(b"m", b"t")])
 }
 
+/// Whether there are three requests without states, of which the later two have the four
+/// transactions.
+fn are_for_four(requests: &[Request]) -> bool {
+    let [first, second, third] = requests else {
+        return false;
+    };
+    is_to(first, 0)
+        && is_to(second, 1)
+        && is_to(third, 2)
+        && first.states().is_empty()
+        && third.states().is_empty()
+        && has_four(second.share())
+        && has_four(third.share())
+}
+
 #[test]
 fn ranges_are_whole(rt: HostRuntime) -> Result<(), Fail> {
     let requests = requests_for_four(rt.alloc())?;
-    let [first, second, third] = requests.requests.as_slice() else {
-        assert!(rt; false, "there are not three requests");
-        return Ok(());
-    };
-    assert!(rt; is_to(first, 0) && is_to(second, 1) && is_to(third, 2));
-    assert!(rt; first.states().is_empty() && third.states().is_empty());
-    assert!(rt; has_four(second.share()) && has_four(third.share()));
+    assert!(rt; are_for_four(requests.requests.as_slice()));
     Ok(())
 }
+
+/// Whom the four transactions ask where the first owner of `[m, t)` is forgotten.
+const ASKED_WITHOUT: &[&[usize]] = &[&[1, 2], &[1, 2], &[0, 1, 2], &[1, 2]];
 
 /// Forgets the owners up to `oldest`, and tells whether the rest alone are asked.
 fn asks_the_rest(
@@ -201,8 +232,7 @@ fn asks_the_rest(
 ) -> Result<bool, Fail> {
     moved.owners.forget(oldest);
     let requests = built(alloc, moved, record)?;
-    let are_those = are_asked(&requests, &[&[1, 2], &[1, 2], &[0, 1, 2], &[1, 2]]);
-    Ok(are_those && has_parts(&requests, 0, &[2]))
+    Ok(are_asked(&requests, ASKED_WITHOUT) && has_parts(&requests, 0, &[2]))
 }
 
 #[test]
@@ -210,9 +240,8 @@ fn owners_that_are_forgotten_are_not_asked(rt: HostRuntime) -> Result<(), Fail> 
     let alloc = rt.alloc();
     let mut moved = moved_twice(alloc)?;
     let record = record_of_four(alloc, &moved)?;
-    for oldest in [30, 10] {
-        assert!(rt; asks_the_rest(alloc, &mut moved, &record, oldest)?);
-    }
+    assert!(rt; asks_the_rest(alloc, &mut moved, &record, 30)?);
+    assert!(rt; asks_the_rest(alloc, &mut moved, &record, 10)?);
     Ok(())
 }
 
@@ -236,12 +265,17 @@ fn requests_around_the_move(alloc: Global) -> Result<Requests, Fail> {
     requests_for(alloc, &moved, &batch)
 }
 
+/// Whether the reads at snapshots before the move ask both owners, and the other one the new.
+fn go_around_the_move(requests: &Requests) -> bool {
+    are_asked(requests, &[&[0, 1], &[0, 1], &[1]])
+        && has_parts(requests, 0, &[0, 1])
+        && has_parts(requests, 1, &[0, 1, 2])
+}
+
 #[test]
 fn reads_before_a_move_ask_both_owners(rt: HostRuntime) -> Result<(), Fail> {
     let requests = requests_around_the_move(rt.alloc())?;
-    assert!(rt; are_asked(&requests, &[&[0, 1], &[0, 1], &[1]]));
-    assert!(rt; has_parts(&requests, 0, &[0, 1]));
-    assert!(rt; has_parts(&requests, 1, &[0, 1, 2]));
+    assert!(rt; go_around_the_move(&requests));
     Ok(())
 }
 
@@ -316,22 +350,28 @@ fn is_second(request: &Request) -> bool {
     has_locking(request.share(), false) && mark.number == 0 && mark.carried.is_none()
 }
 
+/// Whom a batch asks of which the first transaction is of state.
+const ASKED_FOR_STATE: &[&[usize]] = &[&[0, 1], &[]];
+
+/// Whether the requests are those to two resolvers for such a batch.
 fn are_first_and_second(requests: &Requests, lock_aware: bool) -> bool {
     let [first, second] = requests.requests.as_slice() else {
         return false;
     };
-    is_first(first, lock_aware) && is_second(second)
+    are_asked(requests, ASKED_FOR_STATE) && is_first(first, lock_aware) && is_second(second)
+}
+
+/// Whether the state transaction goes to both resolvers, with its content to the first alone.
+fn goes_to_both(alloc: Global, moved: &Moved, lock_aware: bool) -> Result<bool, Fail> {
+    let requests = requests_for_locking(alloc, moved, lock_aware)?;
+    Ok(are_first_and_second(&requests, lock_aware))
 }
 
 #[test]
 fn a_state_transaction_goes_to_every_resolver(rt: HostRuntime) -> Result<(), Fail> {
-    let alloc = rt.alloc();
-    let moved = unmoved(alloc, 2)?;
-    for lock_aware in [false, true] {
-        let requests = requests_for_locking(alloc, &moved, lock_aware)?;
-        assert!(rt; are_asked(&requests, &[&[0, 1], &[]]));
-        assert!(rt; are_first_and_second(&requests, lock_aware));
-    }
+    let moved = unmoved(rt.alloc(), 2)?;
+    assert!(rt; goes_to_both(rt.alloc(), &moved, false)?);
+    assert!(rt; goes_to_both(rt.alloc(), &moved, true)?);
     Ok(())
 }
 
@@ -375,14 +415,20 @@ fn has_stamp(record: &Record) -> bool {
     key.as_slice() == b"k".as_slice() && value.as_slice() == AT_ZERO_STAMPED
 }
 
+/// Whether the record has the numbers of the records of these tests, and two moves.
+fn has_its_numbers(record: &Record) -> bool {
+    record.row() == 3
+        && record.proxy() == 1
+        && record.previous() == 30
+        && record.version() == 40
+        && record.own_previous() == 20
+        && record.moves().len() == 2
+}
+
 #[test]
 fn a_record_has_its_numbers_and_stamps(rt: HostRuntime) -> Result<(), Fail> {
     let record = copied_record(rt.alloc())?;
-    assert_eq!(rt; (record.row(), record.proxy()), (3, 1));
-    assert_eq!(rt; (record.previous(), record.version()), (30, 40));
-    assert_eq!(rt; record.own_previous(), 20);
-    assert_eq!(rt; record.moves().len(), 2);
-    assert!(rt; has_stamp(&record));
+    assert!(rt; has_its_numbers(&record) && has_stamp(&record));
     Ok(())
 }
 
@@ -484,7 +530,7 @@ fn resolver_0_alone_gets_content(rt: HostRuntime) -> Result<(), Fail> {
 }
 
 /// Numbers, and the places of the parts with these numbers.
-const PLACES: [(usize, Option<usize>); 7] = [
+const PLACES: &[(usize, Option<usize>)] = &[
     (0, None),
     (1, Some(0)),
     (3, None),
@@ -503,7 +549,7 @@ fn request_of_four_parts(alloc: Global) -> Result<Request, Fail> {
 fn a_part_is_found_by_its_number(rt: HostRuntime) -> Result<(), Fail> {
     let request = request_of_four_parts(rt.alloc())?;
     for (number, place) in PLACES {
-        assert_eq!(rt; request.place_of(number), place);
+        assert!(rt; request.place_of(*number) == *place);
     }
     Ok(())
 }
@@ -526,7 +572,6 @@ fn copied_requests(alloc: Global) -> Result<Requests, Fail> {
 #[test]
 fn a_copy_of_requests_is_whole(rt: HostRuntime) -> Result<(), Fail> {
     let copies = copied_requests(rt.alloc())?;
-    assert!(rt; are_asked(&copies, &[&[0, 1], &[]]));
     assert!(rt; are_first_and_second(&copies, false));
     Ok(())
 }
@@ -558,14 +603,19 @@ fn is_copied_whole(share: &Share) -> Result<bool, OutOfMemory> {
     Ok(has_locking(&share, true))
 }
 
+/// Whether it is the request to resolver 0, and its share can be copied.
+fn is_whole_first(request: &Option<Request>) -> Result<bool, OutOfMemory> {
+    match request {
+        Some(request) => {
+            Ok(is_to(request, 0) && is_first(request, false) && is_copied_whole(request.share())?)
+        }
+        None => Ok(false),
+    }
+}
+
 #[test]
 fn a_copy_of_a_request_is_whole(rt: HostRuntime) -> Result<(), Fail> {
-    let Some(request) = copied_first(rt.alloc())? else {
-        assert!(rt; false, "there is no request");
-        return Ok(());
-    };
-    assert!(rt; is_to(&request, 0));
-    assert!(rt; is_first(&request, false));
-    assert!(rt; is_copied_whole(request.share())?);
+    let request = copied_first(rt.alloc())?;
+    assert!(rt; is_whole_first(&request)?);
     Ok(())
 }

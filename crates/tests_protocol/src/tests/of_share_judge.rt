@@ -77,10 +77,10 @@ const D: Ends<'static> = (b"d", b"d\0");
 const E: Ends<'static> = (b"e", b"e\0");
 
 /// One part that writes `[a, c)`.
-const FIRST: [PartLine<'static>; 1] = [(0, &[], &[(b"a", b"c")])];
+const FIRST: &[PartLine<'static>] = &[(0, &[], &[(b"a", b"c")])];
 
 /// Reads around a write of `[a, c)` at version 10, and writes that are refused and committed.
-const SECOND: [PartLine<'static>; 6] = [
+const SECOND: &[PartLine<'static>] = &[
     (10, &[B], &[]),
     (9, &[B], &[]),
     (9, &[C], &[]),
@@ -90,7 +90,7 @@ const SECOND: [PartLine<'static>; 6] = [
 ];
 
 /// The verdicts on `SECOND` at version 20, after `FIRST` at version 10.
-const SECOND_VERDICTS: [Verdict; 6] = [
+const SECOND_VERDICTS: &[Verdict] = &[
     Verdict::Committed,
     Verdict::Conflict,
     Verdict::Committed,
@@ -100,18 +100,18 @@ const SECOND_VERDICTS: [Verdict; 6] = [
 ];
 
 /// The last version before each judgement, its own version, the rows and their verdicts.
-const AROUND_THE_WRITE: [(u64, u64, &[PartLine<'static>], &[Verdict]); 2] = [
-    (0, 10, &FIRST, &[Verdict::Committed]),
-    (10, 20, &SECOND, &SECOND_VERDICTS),
+const AROUND_THE_WRITE: &[(u64, u64, &[PartLine<'static>], &[Verdict])] = &[
+    (0, 10, FIRST, &[Verdict::Committed]),
+    (10, 20, SECOND, SECOND_VERDICTS),
 ];
 
 #[test]
 fn a_read_conflicts_with_committed_writes_above_its_snapshot(rt: HostRuntime) -> Result<(), Fail> {
     let mut history = new_history(rt.alloc())?;
     for (last, version, rows, verdicts) in AROUND_THE_WRITE {
-        assert!(rt; history.last() == last, "before {version}");
+        assert!(rt; history.last() == *last, "before {version}");
         assert!(rt;
-            gives_on(rt.alloc(), &mut history, version, rows, verdicts)?,
+            gives_on(rt.alloc(), &mut history, *version, *rows, *verdicts)?,
             "at {version}"
         );
     }
@@ -129,21 +129,24 @@ fn judge_two_again(
 
 /// The verdicts on the second share where up to `oldest` is forgotten before it.
 fn verdicts_after_forgetting(alloc: Global, oldest: u64) -> Result<Items<Verdict>, Fail> {
-    let first = share(alloc, &FIRST)?;
-    let second = share(alloc, &SECOND)?;
+    let first = share(alloc, FIRST)?;
+    let second = share(alloc, SECOND)?;
     Ok(judge_two_again(alloc, &first, oldest, &second)?)
 }
 
 fn gives_after_forgetting(alloc: Global, oldest: u64) -> Result<bool, Fail> {
     let verdicts = verdicts_after_forgetting(alloc, oldest)?;
-    Ok(verdicts.as_slice() == SECOND_VERDICTS.as_slice())
+    Ok(verdicts.as_slice() == SECOND_VERDICTS)
 }
+
+/// Versions up to which the first share may be forgotten.
+const FORGOTTEN: &[u64] = &[0, 9, 10, 11, u64::MAX];
 
 #[test]
 fn what_is_forgotten_changes_no_verdict(rt: HostRuntime) -> Result<(), Fail> {
-    for oldest in [0u64, 9, 10, 11, u64::MAX] {
+    for oldest in FORGOTTEN {
         assert!(rt;
-            gives_after_forgetting(rt.alloc(), oldest)?,
+            gives_after_forgetting(rt.alloc(), *oldest)?,
             "with {oldest}"
         );
     }
@@ -163,26 +166,31 @@ fn only_reads_before_the_window_are_too_old(rt: HostRuntime) -> Result<(), Fail>
 }
 
 /// A write of `b`, and then a read of it.
-const WRITE_FIRST: [PartLine<'static>; 2] = [(0, &[], &[B]), (0, &[B], &[])];
+const WRITE_FIRST: &[PartLine<'static>] = &[(0, &[], &[B]), (0, &[B], &[])];
 
 /// A read of `b`, and then a write of it.
-const READ_FIRST: [PartLine<'static>; 2] = [(10, &[B], &[]), (10, &[], &[B])];
+const READ_FIRST: &[PartLine<'static>] = &[(10, &[B], &[]), (10, &[], &[B])];
 
 /// The same as `WRITE_FIRST`, with snapshots past the version 30.
-const PAST_THE_VERSION: [PartLine<'static>; 2] = [(35, &[], &[B]), (35, &[B], &[])];
+const PAST_THE_VERSION: &[PartLine<'static>] = &[(35, &[], &[B]), (35, &[B], &[])];
+
+/// The version of each judgement, the rows and their verdicts.
+const IN_A_SHARE: &[(u64, &[PartLine<'static>], &[Verdict])] = &[
+    (10, WRITE_FIRST, &[Verdict::Committed, Verdict::Conflict]),
+    (20, READ_FIRST, &[Verdict::Committed, Verdict::Committed]),
+    (
+        30,
+        PAST_THE_VERSION,
+        &[Verdict::Committed, Verdict::Conflict],
+    ),
+];
 
 #[test]
 fn in_a_share_only_earlier_writes_conflict(rt: HostRuntime) -> Result<(), Fail> {
     let mut history = new_history(rt.alloc())?;
-    let refused = [Verdict::Committed, Verdict::Conflict];
-    let committed = [Verdict::Committed, Verdict::Committed];
-    for (version, rows, verdicts) in [
-        (10, WRITE_FIRST, refused),
-        (20, READ_FIRST, committed),
-        (30, PAST_THE_VERSION, refused),
-    ] {
+    for (version, rows, verdicts) in IN_A_SHARE {
         assert!(rt;
-            gives_on(rt.alloc(), &mut history, version, &rows, &verdicts)?,
+            gives_on(rt.alloc(), &mut history, *version, *rows, *verdicts)?,
             "at {version}"
         );
     }
@@ -194,7 +202,7 @@ fn an_empty_share_counts_as_judged(rt: HostRuntime) -> Result<(), Fail> {
     let alloc = rt.alloc();
     let mut history = new_history(alloc)?;
     assert!(rt; gives_on(alloc, &mut history, 10, &[], &[])?);
-    assert_eq!(rt; history.last(), 10);
+    assert!(rt; history.last() == 10);
     Ok(())
 }
 
@@ -209,7 +217,7 @@ fn copy_of(history: &WriteHistory) -> Result<WriteHistory, OutOfMemory> {
 fn earlier_copy_commits(alloc: Global, history: &mut WriteHistory) -> Result<bool, Fail> {
     let mut copy = copy_of(history)?;
     Ok(
-        gives_on(alloc, history, 10, &FIRST, &[Verdict::Committed])?
+        gives_on(alloc, history, 10, FIRST, &[Verdict::Committed])?
             && gives_on(alloc, &mut copy, 20, &READ_AT_NINE, &[Verdict::Committed])?,
     )
 }
@@ -226,7 +234,7 @@ fn a_copy_goes_its_own_way(rt: HostRuntime) -> Result<(), Fail> {
     let mut history = new_history(alloc)?;
     assert!(rt; earlier_copy_commits(alloc, &mut history)?);
     assert!(rt; later_copy_refuses(alloc, &history)?);
-    assert_eq!(rt; history.last(), 10);
+    assert!(rt; history.last() == 10);
     Ok(())
 }
 

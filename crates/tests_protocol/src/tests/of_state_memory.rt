@@ -15,7 +15,7 @@ use std::alloc::{AllocError, Global};
 use std::process::Abort;
 use std::test::Fail;
 use system_keys::{Change, Items, OutOfMemory};
-use testing::{Content, Ends, Step, carried_if, none, one, part, twice};
+use testing::{Content, Ends, Step, carried_if, is_shown_as, none, one, part, twice};
 
 // ---- a caller, proved from the public contracts alone
 
@@ -298,14 +298,15 @@ fn tells_of_row_10(answer: &Option<Answer>) -> bool {
     }
 }
 
+/// The request of row 0, and that of row 1.
+const FIRST: Line = (0, 0, 0, 10, 0);
+
+const SECOND: Line = (0, 1, 10, 20, 0);
+
 #[test]
 fn a_request_is_judged_once(rt: HostRuntime) -> Result<(), Fail> {
-    let (first, second) = (
-        (0usize, 0usize, 0u64, 10u64, 0u64),
-        (0usize, 1usize, 10u64, 20u64, 0u64),
-    );
-    assert!(rt; is_second_judged(rt.alloc(), first, second)?);
-    assert!(rt; !is_second_judged(rt.alloc(), first, first)?);
+    assert!(rt; is_second_judged(rt.alloc(), FIRST, SECOND)?);
+    assert!(rt; !is_second_judged(rt.alloc(), FIRST, FIRST)?);
     Ok(())
 }
 
@@ -314,9 +315,8 @@ fn a_request_is_judged_once(rt: HostRuntime) -> Result<(), Fail> {
 /// Resolver 0 of two proxies, with a window of 100, that judged two empty requests of proxy 0.
 fn of_two_proxies(alloc: Global) -> Result<Resolver, Fail> {
     let mut resolver = new_resolver(alloc, 0, 2, 100)?;
-    for line in [(0usize, 0usize, 0u64, 10u64, 0u64), (0, 0, 10, 20, 10)] {
-        answers(&mut resolver, alloc, line)?;
-    }
+    answers(&mut resolver, alloc, (0, 0, 0, 10, 0))?;
+    answers(&mut resolver, alloc, (0, 0, 10, 20, 10))?;
     Ok(resolver)
 }
 
@@ -329,7 +329,7 @@ fn answers(resolver: &mut Resolver, alloc: Global, line: Line) -> Result<(), Fai
 }
 
 /// Requests that no proxy would send, and what they get.
-const STRANGERS: [(Line, Refusal); 9] = [
+const STRANGERS: &[(Line, Refusal)] = &[
     ((1, 2, 20, 30, 0), Refusal::WrongResolver),
     ((0, 2, 20, 30, 0), Refusal::NoSuchProxy),
     ((0, 0, 20, 20, 0), Refusal::OutsideChain { version: 20 }),
@@ -341,16 +341,24 @@ const STRANGERS: [(Line, Refusal); 9] = [
     ((0, 1, 15, 30, 0), Refusal::OutsideChain { version: 20 }),
 ];
 
-/// The version of the resolver, and how many rows it remembers.
-fn state_of(resolver: &Resolver) -> (u64, usize) {
-    (resolver.version(), resolver.remembered())
+/// Whether the resolver has come to version 20 and remembers two rows.
+fn is_at_20(resolver: &Resolver) -> bool {
+    resolver.version() == 20 && resolver.remembered() == 2
+}
+
+/// Whether the stranger is refused, and changes nothing.
+fn refuses_stranger(
+    resolver: &mut Resolver,
+    alloc: Global,
+    stranger: &(Line, Refusal),
+) -> Result<bool, Fail> {
+    Ok(is_refused(resolver, alloc, stranger.0, stranger.1)? && is_at_20(resolver))
 }
 
 /// Each stranger is refused, and changes nothing.
 fn refuses_strangers<R: Abort + AllocGlobal>(rt: &R, resolver: &mut Resolver) -> Result<(), Fail> {
-    for (line, refusal) in &STRANGERS {
-        assert!(rt; is_refused(resolver, rt.alloc(), *line, *refusal)?);
-        assert_eq!(rt; state_of(resolver), (20, 2));
+    for stranger in STRANGERS {
+        assert!(rt; refuses_stranger(resolver, rt.alloc(), stranger)?);
     }
     Ok(())
 }
@@ -369,18 +377,28 @@ fn strangers_are_refused(rt: HostRuntime) -> Result<(), Fail> {
 type Turn = (usize, u64, u64, u64, &'static [u64]);
 
 /// Proxy 0 begins rows 0 and 2 at once, and proxy 1 row 1.
-const AT_ONCE: [Turn; 3] = [
+const AT_ONCE: &[Turn] = &[
     (0, 0, 10, 0, &[]),
     (1, 10, 20, 0, &[10]),
     (0, 20, 30, 0, &[20]),
 ];
 
+/// Whether the resolver of this number judges the row of this turn.
+fn is_turn_judged(
+    resolver: &mut Resolver,
+    alloc: Global,
+    number: usize,
+    turn: &Turn,
+) -> Result<bool, Fail> {
+    let asked = ((number, turn.0, turn.1, turn.2, turn.3), Some(STATE));
+    let told = (turn.4, Some(Verdict::Committed));
+    is_judged(resolver, alloc, asked, told, 1)
+}
+
 /// Whether the resolver of this number judges the rows that begin at once.
 fn are_judged(resolver: &mut Resolver, alloc: Global, number: usize) -> Result<bool, Fail> {
-    for (proxy, previous, version, received, versions) in AT_ONCE {
-        let asked = ((number, proxy, previous, version, received), Some(STATE));
-        let told = (versions, Some(Verdict::Committed));
-        if !is_judged(resolver, alloc, asked, told, 1)? {
+    for turn in AT_ONCE {
+        if !is_turn_judged(resolver, alloc, number, turn)? {
             return Ok(false);
         }
     }
@@ -406,14 +424,24 @@ fn a_reply_leaves_out_the_own_rows(rt: HostRuntime) -> Result<(), Fail> {
 }
 
 /// Five requests of proxy 0, and how many rows are remembered after each.
-const OF_PROXY_0: [(u64, usize); 5] = [(10, 1), (20, 2), (30, 3), (40, 4), (50, 5)];
+const OF_PROXY_0: &[(u64, usize)] = &[(10, 1), (20, 2), (30, 3), (40, 4), (50, 5)];
+
+/// Whether the request of proxy 0 at the version is judged, and so many rows remembered then.
+fn judges_at(
+    resolver: &mut Resolver,
+    alloc: Global,
+    version: u64,
+    count: usize,
+) -> Result<bool, Fail> {
+    let before = version.saturating_sub(10);
+    let asked = ((0, 0, before, version, before), Some(STATE));
+    is_judged(resolver, alloc, asked, (&[], None), count)
+}
 
 /// The requests of proxy 0 are judged, and their rows remembered.
 fn judges_proxy_0<R: Abort + AllocGlobal>(rt: &R, resolver: &mut Resolver) -> Result<(), Fail> {
     for (version, count) in OF_PROXY_0 {
-        let before = version.saturating_sub(10);
-        let asked = ((0, 0, before, version, before), Some(STATE));
-        assert!(rt; is_judged(resolver, rt.alloc(), asked, (&[], None), count)?);
+        assert!(rt; judges_at(resolver, rt.alloc(), *version, *count)?);
     }
     Ok(())
 }
@@ -430,46 +458,58 @@ fn rows_are_remembered_for_a_proxy_that_is_late(rt: HostRuntime) -> Result<(), F
     let mut resolver = new_resolver(rt.alloc(), 0, 2, 100)?;
     judges_proxy_0(&rt, &mut resolver)?;
     assert!(rt; tells_late_proxy(&mut resolver, rt.alloc())?);
-    assert_eq!(rt; resolver.version(), 60);
+    assert!(rt; resolver.version() == 60);
     Ok(())
 }
 
 /// Empty requests after that of row 0.
-const AFTER_ROW_0: [Turn; 3] = [
+const AFTER_ROW_0: &[Turn] = &[
     (1, 10, 20, 0, &[10]),
     (1, 20, 30, 0, &[]),
     (0, 30, 40, 10, &[20, 30]),
 ];
 
-/// The request of row 0.
-const FIRST: Line = (0, 0, 0, 10, 0);
-
-/// Row 0 is judged, given again, and followed by a request that comes too early.
-fn repeats_first<R: Abort + AllocGlobal>(rt: &R, resolver: &mut Resolver) -> Result<(), Fail> {
-    assert!(rt; is_judged(resolver, rt.alloc(), (FIRST, None), (&[], None), 1)?);
-    assert!(rt; is_given_again(resolver, rt.alloc(), FIRST, 1)?);
+/// Whether row 0 is judged, given again, and followed by a request that comes too early.
+fn repeats_first(resolver: &mut Resolver, alloc: Global) -> Result<bool, Fail> {
     let early = Refusal::Early { version: 10 };
-    assert!(rt; is_refused(resolver, rt.alloc(), (0, 1, 20, 30, 0), early)?);
-    Ok(())
+    Ok(
+        is_judged(resolver, alloc, (FIRST, None), (&[], None), 1)?
+            && is_given_again(resolver, alloc, FIRST, 1)?
+            && is_refused(resolver, alloc, (0, 1, 20, 30, 0), early)?,
+    )
+}
+
+/// Whether the empty request of this turn is judged.
+fn judges_empty(resolver: &mut Resolver, alloc: Global, turn: &Turn) -> Result<bool, Fail> {
+    let asked = ((0, turn.0, turn.1, turn.2, turn.3), None);
+    let count = if turn.2 == 30 { 2 } else { 1 };
+    is_judged(resolver, alloc, asked, (turn.4, None), count)
 }
 
 /// The empty requests after that of row 0 are judged.
 fn judges_others<R: Abort + AllocGlobal>(rt: &R, resolver: &mut Resolver) -> Result<(), Fail> {
-    for (proxy, previous, version, received, versions) in AFTER_ROW_0 {
-        let asked = ((0, proxy, previous, version, received), None);
-        let count = if version == 30 { 2 } else { 1 };
-        assert!(rt; is_judged(resolver, rt.alloc(), asked, (versions, None), count)?);
+    for turn in AFTER_ROW_0 {
+        assert!(rt; judges_empty(resolver, rt.alloc(), turn)?);
     }
     Ok(())
+}
+
+/// Whether the request of row 0 is given up.
+fn gives_up_first(resolver: &mut Resolver, alloc: Global) -> Result<bool, Fail> {
+    is_refused(
+        resolver,
+        alloc,
+        FIRST,
+        Refusal::GivenUp { acknowledged: 10 },
+    )
 }
 
 #[test]
 fn repeats_are_given_up_once_acknowledged(rt: HostRuntime) -> Result<(), Fail> {
     let mut resolver = new_resolver(rt.alloc(), 0, 2, 100)?;
-    repeats_first(&rt, &mut resolver)?;
+    assert!(rt; repeats_first(&mut resolver, rt.alloc())?);
     judges_others(&rt, &mut resolver)?;
-    let given_up = Refusal::GivenUp { acknowledged: 10 };
-    assert!(rt; is_refused(&mut resolver, rt.alloc(), FIRST, given_up)?);
+    assert!(rt; gives_up_first(&mut resolver, rt.alloc())?);
     Ok(())
 }
 
@@ -517,55 +557,74 @@ fn goes_on(resolver: &mut Resolver, alloc: Global, version: u64) -> Result<bool,
     is_judged(resolver, alloc, asked, (&[10, 20], None), 1)
 }
 
-/// The resolver goes on to version 30, and its copy to version 40.
-fn part_ways<R: Abort + AllocGlobal>(
-    rt: &R,
-    resolver: &mut Resolver,
-    copy: &mut Resolver,
-) -> Result<(), Fail> {
-    assert!(rt; goes_on(resolver, rt.alloc(), 30)?);
-    assert_eq!(rt; resolver.version(), 30);
-    assert_eq!(rt; state_of(copy), (20, 2));
-    assert!(rt; goes_on(copy, rt.alloc(), 40)?);
-    Ok(())
+/// Whether the resolver goes on to version 30, and its copy to version 40.
+fn part_ways(resolver: &mut Resolver, copy: &mut Resolver, alloc: Global) -> Result<bool, Fail> {
+    Ok(
+        goes_on(resolver, alloc, 30)?
+            && resolver.version() == 30
+            && is_at_20(copy)
+            && goes_on(copy, alloc, 40)?,
+    )
 }
 
 #[test]
 fn a_copy_goes_its_own_way(rt: HostRuntime) -> Result<(), Fail> {
     let mut resolver = of_two_proxies(rt.alloc())?;
     let mut copy = copy_of(&resolver)?;
-    part_ways(&rt, &mut resolver, &mut copy)
+    assert!(rt; part_ways(&mut resolver, &mut copy, rt.alloc())?);
+    Ok(())
+}
+
+fn copy_of_answer(answer: &Answer) -> Result<Answer, OutOfMemory> {
+    twice!(answer.copy(), OutOfMemory)
+}
+
+/// Whether an empty request of proxy 1 is judged, and a copy of its answer tells of two rows.
+fn is_copied(resolver: &mut Resolver, alloc: Global) -> Result<bool, Fail> {
+    match offer(resolver, alloc, (0, 1, 20, 30, 0), None)? {
+        Ok(answer) => Ok(is_new_reply(&Ok(copy_of_answer(&answer)?), (&[10, 20], None))),
+        Err(_refusal) => Ok(false),
+    }
+}
+
+#[test]
+fn a_copied_answer_tells_the_same(rt: HostRuntime) -> Result<(), Fail> {
+    let mut resolver = of_two_proxies(rt.alloc())?;
+    assert!(rt; is_copied(&mut resolver, rt.alloc())?);
+    Ok(())
 }
 
 // ---- refusals
 
 /// Each refusal with the number and the name that are printed.
-const PRINTED: [(Refusal, u32, &str); 5] = [
-    (Refusal::WrongResolver, 33, "WrongResolver"),
-    (Refusal::NoSuchProxy, 32, "NoSuchProxy"),
-    (Refusal::OutsideChain { version: 7 }, 34, "OutsideChain"),
-    (Refusal::GivenUp { acknowledged: 7 }, 31, "GivenUp"),
-    (Refusal::Early { version: 7 }, 30, "Early"),
+const PRINTED: &[(Refusal, Option<u32>, &str)] = &[
+    (Refusal::WrongResolver, Some(33), "WrongResolver"),
+    (Refusal::NoSuchProxy, Some(32), "NoSuchProxy"),
+    (
+        Refusal::OutsideChain { version: 7 },
+        Some(34),
+        "OutsideChain",
+    ),
+    (Refusal::GivenUp { acknowledged: 7 }, Some(31), "GivenUp"),
+    (Refusal::Early { version: 7 }, Some(30), "Early"),
 ];
 
+fn is_printed(refusal: Refusal, number: Option<u32>, name: &str) -> bool {
+    refusal.number() == number && refusal.name() == name
+}
+
 #[test]
-fn refusals_have_numbers_and_names(rt: HostRuntime) -> Result<(), Fail> {
-    for (refusal, number, name) in &PRINTED {
-        assert_eq!(rt; refusal.number(), Some(*number));
-        assert_eq!(rt; refusal.name(), *name);
+fn refusals_have_numbers_and_names(rt: HostRuntime) {
+    for (refusal, number, name) in PRINTED {
+        assert!(rt; is_printed(*refusal, *number, *name), "{name}");
     }
-    assert_eq!(rt; Refusal::from(OutOfMemory).number(), None);
-    Ok(())
+    assert!(rt; Refusal::from(OutOfMemory).number().is_none());
 }
 
 #[test]
 fn refusals_are_printed_with_their_versions(rt: HostRuntime) -> Result<(), Fail> {
-    let alloc = rt.alloc();
     let early = Refusal::Early { version: 7 };
-    let shown = format!(in alloc; "{early}")?;
-    assert_eq!(rt;
-        shown.as_str(),
-        "the request is early, since the resolver has come to 7"
-    );
+    let text = "the request is early, since the resolver has come to 7";
+    assert!(rt; is_shown_as(rt.alloc(), early, text)?);
     Ok(())
 }

@@ -4,7 +4,7 @@ mod stretches;
 
 ghost use Rattle.std.specs.Prelude.{◌≡◌};
 
-use agreed_ledger::{BlankLedger, Ledger, Naming, Refusal, Sequencer, Ticket};
+use agreed_ledger::{BlankLedger, Ledger, Naming, RecordNote, Refusal, Sequencer, Ticket};
 use model::Config;
 use mutation::Batch;
 use std::alloc::Global;
@@ -154,6 +154,49 @@ fn is_as_told(seen: Option<Seen>, told: Seen) -> bool {
         }
     }
     true
+}
+
+/// A new note of the row, and the version of the record that it shows.
+fn noted<N: Naming>(ledger: &Ledger<N>, row: usize) -> Option<(RecordNote<N>, u64)> {
+    let mut note = ledger.record_note(row)?;
+    let version = ledger.record_at(row, &mut note)?.version();
+    Some((note, version))
+}
+
+/// The versions that the notes of two threads show of one row, once the notes agree with one
+/// another and with the ticket's records.
+fn noted_by_two<N: Naming + Send + Sync, R: Threads + Wait + Abort + Sync>(
+    rt: &R,
+    ledger: &Ledger<N>,
+    ticket: &Ticket<N>,
+) -> Option<(u64, u64)> {
+    let row = ticket.row();
+    let (one, other) = join(rt, || noted(ledger, row), || noted(ledger, row));
+    let (mut one, first) = one?;
+    let (mut other, second) = other?;
+    one.agree(&mut other);
+    other.agree_with(ticket.records());
+    Some((first, second))
+}
+
+fn note_in_threads<N: Naming + Send + Sync, R: Threads + Wait + Abort + Sync>(
+    rt: &R,
+    alloc: Global,
+    blank: BlankLedger,
+) -> Result<(), Fail>
+    requires { blank ≡ N.cells }
+{
+    let ledger = blank.named::<N>();
+    let sequencer = Sequencer::new(alloc, &ledger)?;
+    let ticket = next_ticket(rt, alloc, &sequencer, 0)?;
+    assert!(rt; noted_by_two(rt, &ledger, &ticket) == Some((10, 10)));
+    Ok(())
+}
+
+#[test]
+fn notes_of_two_threads_show_one_record(rt: HostRuntime) -> Result<(), Fail> {
+    let alloc = rt.alloc();
+    note_in_threads::<Brand, _>(&rt, alloc, blank(alloc, 2, 10)?)
 }
 
 /// What four threads see.

@@ -2,6 +2,7 @@
 
 ghost use Rattle.std.specs.Prelude.{◌≡◌, IfSome};
 ghost use Rattle.once_cell.specs.Once.{cell_name};
+ghost use Rattle.facts.specs.Unsets.{IfTaken};
 
 use facts::{Fact, Stretch, Unset};
 use once_cell::race::OnceBox;
@@ -11,15 +12,58 @@ use std::test::Fail;
 use std::thread::join;
 use testing::twice;
 
+/// Why a cell of numbers was not set, if an allocation failed `None`, and otherwise the value that
+/// it holds; and the value that came back.
+type Refused = (Option<u64>, u64);
+
+/// The value of the cell if it was taken.
+fn held(cell: &OnceBox<u64>, why: Unset<Fact<u64>>) -> Option<u64>
+    requires { IfTaken why (λ fact. fact.cell ≡ cell_name cell.now) }
+{
+    match why {
+        Unset::OutOfMemory => None,
+        Unset::Taken(fact) => Some(*fact.value(cell)),
+    }
+}
+
+/// Sets the cell of the stretch's next row. No test has 1,000 rows.
+fn set_once(rows: &mut Stretch<u64>, cell: &OnceBox<u64>, value: u64) -> Result<(), Refused> {
+    if rows.end() >= 1000 {
+        return Err((None, value));
+    }
+    match rows.set(cell, value) {
+        Ok(()) => Ok(()),
+        Err((why, back)) => Err((held(cell, why), back)),
+    }
+}
+
 /// Sets the cell of the stretch's next row, and again after a failed allocation.
-fn set(row: &mut Stretch<u64>, cell: &OnceBox<u64>, value: u64) -> Result<(), (Unset, u64)> {
-    if row.end() >= 1000 {
-        return Err((Unset::Taken, value));
+fn set(rows: &mut Stretch<u64>, cell: &OnceBox<u64>, value: u64) -> Result<(), Refused> {
+    twice!(set_once(rows, cell, value), (None, _))
+}
+
+/// Sets the cell of the stretch's next row with a copy, and returns where the copy begins and ends.
+fn copy_once(
+    rows: &mut Stretch<u64>,
+    cell: &OnceBox<u64>,
+    value: u64,
+) -> Result<(usize, usize), Refused> {
+    if rows.end() >= 1000 {
+        return Err((None, value));
     }
-    match row.set(cell, value) {
-        Err((Unset::OutOfMemory, back)) => row.set(cell, back),
-        answer => answer,
+    match rows.set_and_copy(cell, value) {
+        Ok(copy) => Ok(ends(&copy)),
+        Err((why, back)) => Err((held(cell, why), back)),
     }
+}
+
+/// Sets the cell of the stretch's next row with a copy, and again after a failed allocation.
+fn set_and_copy(
+    rows: &mut Stretch<u64>,
+    cell: &OnceBox<u64>,
+    value: u64,
+) -> Result<(usize, usize), Refused> {
+    twice!(copy_once(rows, cell, value), (None, _))
 }
 
 /// A fact about the cell, if it holds a value.
@@ -29,6 +73,17 @@ fn fact_about(cell: &OnceBox<u64>) -> Option<Fact<u64>>
     let mut note = cell.note();
     cell.get_as(&mut note)?;
     Some(Fact::of(&mut note))
+}
+
+/// What a note of the cell shows once it agrees with the fact, before and after it was told.
+fn told(fact: &Fact<u64>, cell: &OnceBox<u64>) -> Option<u64>
+    requires { fact.now.cell ≡ cell_name cell.now }
+{
+    let mut note = cell.note();
+    fact.agrees_with(&mut note);
+    fact.tell(&mut note);
+    fact.agrees_with(&mut note);
+    cell.get_as(&mut note).copied()
 }
 
 #[test]
@@ -43,6 +98,7 @@ fn a_fact_has_the_value_of_its_cell(rt: HostRuntime) -> Result<(), Fail> {
     fact.agrees(&copy);
     assert!(&rt; *fact.value(&cell) == 7);
     assert!(&rt; *copy.value(&cell) == 7);
+    assert!(&rt; told(&fact, &cell) == Some(7));
     Ok(())
 }
 
@@ -80,21 +136,11 @@ fn three_rows(alloc: Global) -> Result<Stretch<u64>, Fail> {
     let mut rows = Stretch::new(alloc);
     for value in 0..3u64 {
         let cell = OnceBox::new(alloc);
-        if let Err((why, _)) = set(&mut rows, &cell, value) {
-            return Err(Fail::from(why));
+        if set(&mut rows, &cell, value).is_err() {
+            return Err(Fail::from("a new cell was not set"));
         }
     }
     Ok(rows)
-}
-
-/// Whether a new cell is set and comes with a copy of its row, or is refused for want of memory.
-fn is_set_and_copied(alloc: Global) -> bool {
-    let mut rows = Stretch::new(alloc);
-    let cell = OnceBox::new(alloc);
-    match rows.set_and_copy(&cell, 9u64) {
-        Ok(copy) => ends(&copy) == (0, 1),
-        Err((why, back)) => why == Unset::OutOfMemory && back == 9,
-    }
 }
 
 #[test]
@@ -102,11 +148,20 @@ fn a_cell_is_set_once_and_a_refused_value_comes_back(rt: HostRuntime) -> Result<
     let cell = OnceBox::new(rt.alloc());
     let mut rows = Stretch::new(rt.alloc());
     assert!(&rt; set(&mut rows, &cell, 7) == Ok(()));
-    assert!(&rt; set(&mut rows, &cell, 8) == Err((Unset::Taken, 8)));
+    assert!(&rt; set(&mut rows, &cell, 8) == Err((Some(7), 8)));
     assert!(&rt; ends(&rows) == (0, 1));
     assert!(&rt; rows.get(0).is_some());
     assert!(&rt; rows.get(1).is_none());
-    assert!(&rt; is_set_and_copied(rt.alloc()));
+    Ok(())
+}
+
+#[test]
+fn a_copy_has_the_cell_that_was_just_set(rt: HostRuntime) -> Result<(), Fail> {
+    let cell = OnceBox::new(rt.alloc());
+    let mut rows = three_rows(rt.alloc())?;
+    assert!(&rt; set_and_copy(&mut rows, &cell, 7) == Ok((0, 4)));
+    assert!(&rt; set_and_copy(&mut rows, &cell, 8) == Err((Some(7), 8)));
+    assert!(&rt; ends(&rows) == (0, 4));
     Ok(())
 }
 

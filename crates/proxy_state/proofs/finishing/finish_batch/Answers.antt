@@ -1,33 +1,28 @@
--- What the rows put, put over the metadata, without what they remove, is the metadata after them.
+-- The rows are started, and finished once the answer is made: the metadata is then that after them.
 use Rattle.std.proofs.Common.{◌∙◌, ap, sym, Bool, List}
+use Rattle.model.specs.declared.journal.JournalRow.{JournalRow}
 use Rattle.model.specs.declared.verdict.Verdict.{Verdict}
-use Rattle.model.specs.Metadata.{Entries, is_locked}
-use Rattle.proxy_state.specs.Finishing.{finished_by, after_told, after_batch}
-use Rattle.proxy_state.proofs.EntriesLeft.{left_after}
-use Rattle.proxy_state.proofs.PutEntries.{batch_fine, told_staged, lock_staged}
+use Rattle.model.specs.Metadata.{Entries, is_locked, after_journal_row}
+use Rattle.metadata.specs.Started.{after_rows}
+use Rattle.proxy_state.specs.Finishing.{finished_by, after_told}
 use Rattle.proxy_state.proofs.finishing.finish_batch.Goals as goal
 
-pub take_back-requires : goal.take_back-requires
-take_back-requires c = record {
-  old = c.args.metadata.now;
-  takes = c.in_ok-undo.ensures.undo;
-  order = c.is_locked_after-locked.ensures.order;
-  kept = c.is_locked_after-locked.ensures.kept;
-}
+pub take_back_rows-requires : goal.take_back_rows-requires
+take_back_rows-requires c = record { before = c.args.metadata.now; after = _; is = c.in_ok-started.ensures.ok }
 
 pub returns-in-Ok-clause-ok : goal.returns-in-Ok-clause-ok
 returns-in-Ok-clause-ok c =
-    let told = told_staged c.args.metadata.now c.args.learned.now c.in_ok-staged.staged.cleared c.in_ok-staged.staged.puts c.deref.result.now c.deref.ensures.value c.in_ok-staged.ensures in
-    let fine = batch_fine c.args.metadata.now c.args.learned.now (c.is_locked_after-locked.ensures.order, c.is_locked_after-locked.ensures.kept) in
-    c.remove_all.ensures
-    ∙ left_after c.stage_row.new.staged.cleared c.in_ok-removed.removed c.stage_row.new.staged.puts c.args.metadata.now c.put_over.new.self (after_batch c.args.metadata.now c.args.learned.now) c.put_over.ensures.order fine.0 c.in_ok-undo.ensures.ok c.in_ok-removed.ensures
-    (c.in_ok-stage_row.ensures (after_told c.args.metadata.now c.args.learned.now) told)
+    c.finish_rows.ensures c.args.metadata.now _ c.in_ok-started.ensures.ok
+    ∙ ap (λ (rows : List JournalRow). after_journal_row (after_rows c.args.metadata.now rows) c.args.learned.now.own) c.deref.ensures.value
 
 pub returns-in-Ok-clause-finished : goal.returns-in-Ok-clause-finished
 returns-in-Ok-clause-finished c =
-    let told = told_staged c.args.metadata.now c.args.learned.now c.in_ok-staged.staged.cleared c.in_ok-staged.staged.puts c.deref.result.now c.deref.ensures.value c.in_ok-staged.ensures in
-    let lock = lock_staged c.in_ok-staged.staged.cleared c.in_ok-staged.staged.puts c.args.metadata.now (after_told c.args.metadata.now c.args.learned.now) c.is_locked_after-locked.result c.is_locked_after-locked.ensures.value told in
+    let lock = c.was_locked-locked.ensures ∙ c.in_ok-started.ensures.locked ∙ ap (λ (rows : List JournalRow). is_locked (after_rows c.args.metadata.now rows)) c.deref.ensures.value in
+    let entries = c.entries_after-entries.ensures c.args.metadata.now _ c.in_ok-started.ensures.ok ∙ sym (c.finish_rows.ensures c.args.metadata.now _ c.in_ok-started.ensures.ok) in
     c.in-Ok.ensures
-    ∙ ap (λ (columns : List (List Verdict)). finished_by c.args.config.now columns c.is_locked_after-locked.result c.without-entries.result c.args.begun.now.rec) c.deref-2.ensures.value
-    ∙ ap (λ (locked : Bool). finished_by c.args.config.now c.args.learned.now.columns.items locked c.without-entries.result c.args.begun.now.rec) lock
-    ∙ ap (λ (entries : Entries). finished_by c.args.config.now c.args.learned.now.columns.items (is_locked (after_told c.args.metadata.now c.args.learned.now)) entries c.args.begun.now.rec) (c.without-entries.ensures.left ∙ sym c.remove_all.ensures)
+    ∙ ap (λ (columns : List (List Verdict)). finished_by c.args.config.now columns c.was_locked-locked.result c.entries_after-entries.result c.args.begun.now.rec) c.deref-2.ensures.value
+    ∙ ap (λ (locked : Bool). finished_by c.args.config.now c.args.learned.now.columns.items locked c.entries_after-entries.result c.args.begun.now.rec) lock
+    ∙ ap (λ (after : Entries). finished_by c.args.config.now c.args.learned.now.columns.items (is_locked (after_told c.args.metadata.now c.args.learned.now)) after c.args.begun.now.rec) entries
+
+pub returns-in-Err-clause-err : goal.returns-in-Err-clause-err
+returns-in-Err-clause-err c = c.take_back_rows.ensures c.args.metadata.now _ c.in_ok-started.ensures.ok

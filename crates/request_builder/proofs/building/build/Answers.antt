@@ -2,21 +2,21 @@
 use Rattle.std.proofs.Common.{ℕ, ap₂, subst, ◌∙◌, List, map}
 use Rattle.model.specs.Transactions.{Transaction}
 use Rattle.model.specs.Shares.{each_below}
-use Rattle.request_builder.specs.declared.asking.Asking.{Asking}
-use Rattle.request_builder.specs.Asking.{AreAskings, request_by, asked_by}
+use Rattle.request_builder.specs.declared.asked_resolvers.AskedResolvers.{AskedResolvers}
+use Rattle.request_builder.specs.AskedResolvers.{AreAllAskedResolvers, request_by, asked_by}
 use Rattle.request_builder.proofs.Built.{requests_are, asked_lists_are}
 use Rattle.request_builder.proofs.building.build.Goals as goal
 
 pub returns-clause-requests : goal.returns-clause-requests
 returns-clause-requests c = λ stands.
-    let asked = subst (λ (batch : List Transaction). AreAskings c.args.owners.now batch c.in_ok-askings.askings.items) c.batch.ensures c.in_ok-askings.ensures.asked in
+    let asked = subst (λ (batch : List Transaction). AreAllAskedResolvers c.args.owners.now batch c.in_ok-askings.askings.items) c.batch.ensures c.in_ok-askings.ensures.asked in
     c.in_ok-requests.ensures
-    ∙ ap₂ (λ (askings : List Asking) (resolvers : ℕ). map (request_by c.args.rec.now c.args.last_received askings) (each_below resolvers)) c.deref-3.ensures.value c.resolvers.ensures
+    ∙ ap₂ (λ (askings : List AskedResolvers) (resolvers : ℕ). map (request_by c.args.rec.now c.args.last_received askings) (each_below resolvers)) c.deref-3.ensures.value c.resolvers.ensures
     ∙ requests_are c.args.owners.now c.args.rec.now c.args.last_received c.in_ok-askings.askings.items stands asked
 
 pub returns-clause-asked : goal.returns-clause-asked
 returns-clause-asked c = λ stands.
-    let asked = subst (λ (batch : List Transaction). AreAskings c.args.owners.now batch c.in_ok-askings.askings.items) c.batch.ensures c.in_ok-askings.ensures.asked in
+    let asked = subst (λ (batch : List Transaction). AreAllAskedResolvers c.args.owners.now batch c.in_ok-askings.askings.items) c.batch.ensures c.in_ok-askings.ensures.asked in
     c.in_ok-asked.ensures
-    ∙ ap₂ (λ (askings : List Asking) (resolvers : ℕ). map (asked_by resolvers) askings) c.deref-4.ensures.value c.resolvers-2.ensures
+    ∙ ap₂ (λ (askings : List AskedResolvers) (resolvers : ℕ). map (asked_by resolvers) askings) c.deref-4.ensures.value c.resolvers-2.ensures
     ∙ asked_lists_are c.args.owners.now c.args.rec.now c.in_ok-askings.askings.items stands asked

@@ -1,7 +1,7 @@
 -- The request keeps what every request keeps.
 use Rattle.std.proofs.Common.{List, ap, ◌∙◌}
 use Rattle.model.specs.Transactions.{Transaction}
-use Rattle.request_builder.specs.Asking.{parts_by, marks_by}
+use Rattle.request_builder.specs.AskedResolvers.{parts_by, marks_by}
 use Rattle.request_builder.proofs.KeptRule.{request_kept}
 use Rattle.request_builder.proofs.building.request_by.Goals as goal
 

@@ -1,6 +1,6 @@
 -- The marks so far, and those of the transactions that are left, are all marks.
 use Rattle.std.proofs.Common.{◌≡◌, ◌++◌, drop}
-use Rattle.request_builder.specs.Asking.{marks_by}
+use Rattle.request_builder.specs.AskedResolvers.{marks_by}
 use Rattle.request_builder.proofs.marks.marks_by.Given as goal
 
 abbrev pub invariant-loop-number : goal.invariant-loop-number

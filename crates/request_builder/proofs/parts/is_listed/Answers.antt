@@ -1,6 +1,6 @@
 -- The list of the number is looked up, or is empty.
 use Rattle.std.proofs.Common.{ap, sym, ◌∙◌}
-use Rattle.request_builder.specs.Asking.{is_in}
+use Rattle.request_builder.specs.AskedResolvers.{is_in}
 use Rattle.request_builder.proofs.Steps.{list_found, list_past}
 use Rattle.request_builder.proofs.parts.is_listed.Goals as goal
 

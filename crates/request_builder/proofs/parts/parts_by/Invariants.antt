@@ -1,6 +1,6 @@
 -- The parts so far, and those of the transactions that are left, are all parts.
 use Rattle.std.proofs.Common.{◌≡◌, ◌++◌, drop}
-use Rattle.request_builder.specs.Asking.{parts_by}
+use Rattle.request_builder.specs.AskedResolvers.{parts_by}
 use Rattle.request_builder.proofs.parts.parts_by.Given as goal
 
 abbrev pub invariant-loop-number : goal.invariant-loop-number

@@ -2,7 +2,7 @@
 use Rattle.std.proofs.Common.{◌≡◌, ℕ, suc, ◌+◌, ◌<◌, ap, ◌∙◌, Bool, cond, List, [], ◌∷◌, ◌++◌, length, drop, get_or, add-one, arith}
 use Rattle.system_keys.specs.Keys.{Range}
 use Rattle.model.specs.Journal.{list_at}
-use Rattle.request_builder.specs.Asking.{is_in, ranges_for}
+use Rattle.request_builder.specs.AskedResolvers.{is_in, ranges_for}
 use Rattle.request_builder.proofs.Steps.{ranges_at, grown}
 use Rattle.request_builder.proofs.parts.push_ranges.Goals as goal
 

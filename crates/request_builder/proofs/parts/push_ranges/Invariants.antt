@@ -1,6 +1,6 @@
 -- The ranges so far, and those that are left, are all ranges.
 use Rattle.std.proofs.Common.{◌≡◌, ◌++◌, drop}
-use Rattle.request_builder.specs.Asking.{ranges_for}
+use Rattle.request_builder.specs.AskedResolvers.{ranges_for}
 use Rattle.request_builder.proofs.parts.push_ranges.Given as goal
 
 abbrev pub invariant-loop-number : goal.invariant-loop-number

@@ -63,79 +63,107 @@ fn a_script_with_every_kind_of_event_is_streamed(rt: HostRuntime) {
     assert!(rt; is_streamed(&rt, MOVED));
 }
 
+/// Right scripts, with their fields in any order.
+const ANY_ORDER: &[&str] = &[
+    r#"{"proxies":1,"resolvers":2,"window":3,"step":4,"events":[],"ask":["a"]}"#,
+    r#"{"resolvers":2,"window":3,"step":4,"events":[],"ask":["a"],"proxies":1}"#,
+    r#"{"window":3,"step":4,"events":[],"ask":["a"],"proxies":1,"resolvers":2}"#,
+    r#"{"step":4,"events":[],"ask":["a"],"proxies":1,"resolvers":2,"window":3}"#,
+    r#"{"events":[],"ask":["a"],"proxies":1,"resolvers":2,"window":3,"step":4}"#,
+    r#"{"ask":["a"],"proxies":1,"resolvers":2,"window":3,"step":4,"events":[]}"#,
+    r#"{"ask":["a"],"events":[],"step":4,"window":3,"resolvers":2,"proxies":1}"#,
+];
+
 #[test]
 fn fields_of_a_script_are_streamed_in_any_order(rt: HostRuntime) {
-    for script in [
-        r#"{"proxies":1,"resolvers":2,"window":3,"step":4,"events":[],"ask":["a"]}"#,
-        r#"{"resolvers":2,"window":3,"step":4,"events":[],"ask":["a"],"proxies":1}"#,
-        r#"{"window":3,"step":4,"events":[],"ask":["a"],"proxies":1,"resolvers":2}"#,
-        r#"{"step":4,"events":[],"ask":["a"],"proxies":1,"resolvers":2,"window":3}"#,
-        r#"{"events":[],"ask":["a"],"proxies":1,"resolvers":2,"window":3,"step":4}"#,
-        r#"{"ask":["a"],"proxies":1,"resolvers":2,"window":3,"step":4,"events":[]}"#,
-        r#"{"ask":["a"],"events":[],"step":4,"window":3,"resolvers":2,"proxies":1}"#,
-    ] {
-        streams(&rt, script);
+    for script in ANY_ORDER {
+        streams(&rt, *script);
     }
 }
+
+/// Events in each form.
+const FORMS: &[&str] = &[
+    r#" { "sequence" : { "proxy" : 0 , "batch" : [ ] } } "#,
+    r#"{"sequence":{"batch":[{"snapshot":0,"reads":[["a","b"]],"writes":[],
+    "mutations":[{"clear":["a","b"]}],"lock_aware":true}],"proxy":9223372036854775807}}"#,
+    r#"{"move":{"range":["a","\\xff\\xff"],"resolver":1}},{"move":{"resolver":1,"range":["a","b"]}}"#,
+    r#"{"offer":{"row":0,"resolver":1}},{"offer":{"resolver":1,"row":0}}"#,
+    r#"{"finish":{"proxy":1}},{"\u0066inish":{"\u0070roxy":1}}"#,
+];
 
 #[test]
 fn each_form_of_an_event_is_streamed(rt: HostRuntime) -> Result<(), Fail> {
-    for events in [
-        r#" { "sequence" : { "proxy" : 0 , "batch" : [ ] } } "#,
-        r#"{"sequence":{"batch":[{"snapshot":0,"reads":[["a","b"]],"writes":[],
-        "mutations":[{"clear":["a","b"]}],"lock_aware":true}],"proxy":9223372036854775807}}"#,
-        r#"{"move":{"range":["a","\\xff\\xff"],"resolver":1}},{"move":{"resolver":1,"range":["a","b"]}}"#,
-        r#"{"offer":{"row":0,"resolver":1}},{"offer":{"resolver":1,"row":0}}"#,
-        r#"{"finish":{"proxy":1}},{"\u0066inish":{"\u0070roxy":1}}"#,
-    ] {
-        streams_events(&rt, events)?;
+    for events in FORMS {
+        streams_events(&rt, *events)?;
+    }
+    Ok(())
+}
+
+/// Numbers with a field twice.
+const REPEATED_NUMBERS: &[&str] = &[
+    r#""proxies":1,"resolvers":1,"window":1,"step":1,"proxies":1"#,
+    r#""proxies":1,"resolvers":1,"window":1,"step":0,"step":1"#,
+    r#""proxies":1,"resolvers":1,"window":1,"step":1,"ask":["a"]"#,
+];
+
+/// Events with a field twice.
+const REPEATED_EVENTS: &[&str] = &[
+    r#"{"finish":{"proxy":0},"finish":{"proxy":1}}"#,
+    r#"{"finish":{"proxy":0,"proxy":1}}"#,
+    r#"{"offer":{"row":0,"row":0,"resolver":1}}"#,
+    r#"{"move":{"range":["a","b"],"resolver":1,"range":["a","b"]}}"#,
+    r#"{"sequence":{"batch":[],"proxy":0,"batch":[]}}"#,
+];
+
+#[test]
+fn a_repeated_number_is_left_to_the_tree(rt: HostRuntime) -> Result<(), Fail> {
+    for numbers in REPEATED_NUMBERS {
+        assert!(rt; are_numbers_left(&rt, *numbers)?, "{numbers}");
     }
     Ok(())
 }
 
 #[test]
-fn a_repeated_field_is_left_to_the_tree(rt: HostRuntime) -> Result<(), Fail> {
-    for numbers in [
-        r#""proxies":1,"resolvers":1,"window":1,"step":1,"proxies":1"#,
-        r#""proxies":1,"resolvers":1,"window":1,"step":0,"step":1"#,
-        r#""proxies":1,"resolvers":1,"window":1,"step":1,"ask":["a"]"#,
-    ] {
-        assert!(rt; are_numbers_left(&rt, numbers)?, "{numbers}");
-    }
-    for events in [
-        r#"{"finish":{"proxy":0},"finish":{"proxy":1}}"#,
-        r#"{"finish":{"proxy":0,"proxy":1}}"#,
-        r#"{"offer":{"row":0,"row":0,"resolver":1}}"#,
-        r#"{"move":{"range":["a","b"],"resolver":1,"range":["a","b"]}}"#,
-        r#"{"sequence":{"batch":[],"proxy":0,"batch":[]}}"#,
-    ] {
-        assert!(rt; are_events_left(&rt, events)?, "{events}");
+fn a_repeated_field_of_an_event_is_left_to_the_tree(rt: HostRuntime) -> Result<(), Fail> {
+    for events in REPEATED_EVENTS {
+        assert!(rt; are_events_left(&rt, *events)?, "{events}");
     }
     Ok(())
 }
+
+/// Numbers that are refused.
+const REFUSED_NUMBERS: &[&str] = &[
+    r#""proxies":0,"resolvers":1,"window":1,"step":1"#,
+    r#""proxies":1,"resolvers":65,"window":1,"step":1"#,
+    r#""proxies":1,"resolvers":1,"window":1000000001,"step":1"#,
+    r#""proxies":1,"resolvers":1,"window":1,"step":0"#,
+    r#""proxies":1,"resolvers":1,"window":1"#,
+    r#""proxies":1,"resolvers":1,"window":1,"step":1,"more":0"#,
+];
+
+/// Events that are refused.
+const REFUSED_EVENTS: &[&str] = &[
+    "{}",
+    r#"{"begin":{"proxy":0}}"#,
+    r#"{"finish":{"proxy":0},"offer":{"row":0,"resolver":0}}"#,
+    r#"{"finish":{}}"#,
+    r#"{"offer":{"row":-1,"resolver":0}}"#,
+    r#"{"move":{"range":["b","a"],"resolver":0}}"#,
+    r#"{"sequence":{"proxy":0,"batch":[{}]}}"#,
+];
 
 #[test]
 fn no_refused_script_is_streamed(rt: HostRuntime) -> Result<(), Fail> {
-    for numbers in [
-        r#""proxies":0,"resolvers":1,"window":1,"step":1"#,
-        r#""proxies":1,"resolvers":65,"window":1,"step":1"#,
-        r#""proxies":1,"resolvers":1,"window":1000000001,"step":1"#,
-        r#""proxies":1,"resolvers":1,"window":1,"step":0"#,
-        r#""proxies":1,"resolvers":1,"window":1"#,
-        r#""proxies":1,"resolvers":1,"window":1,"step":1,"more":0"#,
-    ] {
-        assert!(rt; !are_numbers_left(&rt, numbers)?, "{numbers}");
+    for numbers in REFUSED_NUMBERS {
+        assert!(rt; !are_numbers_left(&rt, *numbers)?, "{numbers}");
     }
-    for events in [
-        "{}",
-        r#"{"begin":{"proxy":0}}"#,
-        r#"{"finish":{"proxy":0},"offer":{"row":0,"resolver":0}}"#,
-        r#"{"finish":{}}"#,
-        r#"{"offer":{"row":-1,"resolver":0}}"#,
-        r#"{"move":{"range":["b","a"],"resolver":0}}"#,
-        r#"{"sequence":{"proxy":0,"batch":[{}]}}"#,
-    ] {
-        assert!(rt; !are_events_left(&rt, events)?, "{events}");
+    Ok(())
+}
+
+#[test]
+fn no_refused_event_is_streamed(rt: HostRuntime) -> Result<(), Fail> {
+    for events in REFUSED_EVENTS {
+        assert!(rt; !are_events_left(&rt, *events)?, "{events}");
     }
     Ok(())
 }

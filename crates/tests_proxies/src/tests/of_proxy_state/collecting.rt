@@ -36,14 +36,13 @@ const PRINTED: &[(Refusal, Option<u32>, &str)] = &[
 #[test]
 fn refusals_have_their_numbers_and_names(rt: HostRuntime) {
     for (refusal, number, name) in PRINTED {
-        assert_eq!(rt; refusal.number(), *number);
-        assert_eq!(rt; refusal.name(), *name);
+        assert!(rt; refusal.number() == *number && refusal.name() == *name);
     }
 }
 
 #[test]
 fn out_of_memory_is_a_refusal(rt: HostRuntime) {
-    assert_eq!(rt; Refusal::from(OutOfMemory), Refusal::OutOfMemory);
+    assert!(rt; Refusal::from(OutOfMemory) == Refusal::OutOfMemory);
 }
 
 /// A reply to row 0 without verdicts. The proxy's number tells it from others.
@@ -105,5 +104,21 @@ fn are_filled_once(alloc: Global, replies: &mut Replies) -> bool {
 fn each_resolver_replies_once(rt: HostRuntime) -> Result<(), Fail> {
     let mut replies = two_places(rt.alloc())?;
     assert!(rt; are_filled_once(rt.alloc(), &mut replies));
+    Ok(())
+}
+
+fn copy_of(replies: &Replies) -> Result<Replies, OutOfMemory> {
+    twice!(replies.copy(), OutOfMemory)
+}
+
+#[test]
+fn a_copy_of_replies_fills_alone(rt: HostRuntime) -> Result<(), Fail> {
+    let mut replies = two_places(rt.alloc())?;
+    assert!(rt; is_put(&mut replies, reply_of(rt.alloc(), 1, 0)));
+    let mut copy = copy_of(&replies)?;
+    assert!(rt; is_put(&mut copy, reply_of(rt.alloc(), 0, 0)));
+    assert!(rt; is_put(&mut replies, reply_of(rt.alloc(), 0, 0)));
+    let double = Refusal::DoubleReply { resolver: 1 };
+    assert!(rt; is_refused(&mut copy, reply_of(rt.alloc(), 1, 4), double));
     Ok(())
 }

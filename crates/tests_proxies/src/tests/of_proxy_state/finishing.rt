@@ -15,7 +15,7 @@ use std::marker::Model;
 use std::process::Abort;
 use std::test::Fail;
 use system_keys::Tag;
-use testing::{Content, ReplyLine, Step, ToldRow, content_batch, none, reply, twice};
+use testing::{Content, ReplyLine, Step, ToldRow, content_batch, reply, twice};
 
 const TAG_1: Tag = Tag { locality: 0, id: 1 };
 
@@ -31,9 +31,9 @@ pub(crate) struct Tested {
 
 impl Model for Tested {
     ghost use Rattle.std.specs.Prelude.{◌≡◌, []};
-    ghost use Rattle.model.specs.Finishing.{Follower, HoldsMoves};
+    ghost use Rattle.model.specs.Finishing.{ProxyView, HoldsMoves};
 
-    ghost Value = { Follower };
+    ghost Value = { ProxyView };
 
     ghost view = { λ t. t.proxy };
 
@@ -61,7 +61,6 @@ impl Tested {
         requires small { previous < 1000 }
     {
         let version = previous + 10;
-        let moves = none(alloc);
         let rec = Record::new(
             alloc,
             row,
@@ -69,7 +68,7 @@ impl Tested {
             version,
             own_previous,
             number,
-            moves,
+            &[],
             batch,
         )?;
         self.proxy.begin(&rec)
@@ -174,13 +173,10 @@ fn versions(proxy: &Proxy) -> [u64; 3] {
 /// The batch is refused in a record of another proxy, and in one that comes too early.
 fn begins_no_other<R: Abort + AllocGlobal>(rt: &R, tested: &mut Tested, batch: &Batch) {
     let other = tested.refused(rt.alloc(), 1, 10, 0, 1, batch);
-    assert_eq!(rt; other, Some(Refusal::NotMine));
+    assert!(rt; other == Some(Refusal::NotMine));
     let early = tested.refused(rt.alloc(), 2, 20, 20, 0, batch);
-    assert_eq!(rt; early, Some(Refusal::OutOfOrder { expected: 10 }));
-    assert_eq!(rt;
-        (tested.proxy.last_begun(), tested.proxy.version()),
-        (10, 0)
-    );
+    assert!(rt; early == Some(Refusal::OutOfOrder { expected: 10 }));
+    assert!(rt; tested.proxy.last_begun() == 10 && tested.proxy.version() == 0);
 }
 
 #[test]
@@ -242,7 +238,7 @@ fn refused_without_replies(alloc: Global, tested: &mut Tested) -> Result<Option<
 fn a_proxy_that_has_begun_nothing_finishes_nothing(rt: HostRuntime) -> Result<(), Fail> {
     let mut tested = Tested::new(rt.alloc())?;
     let refusal = refused_without_replies(rt.alloc(), &mut tested)?;
-    assert_eq!(rt; refusal, Some(Refusal::OutOfTurn { expected: None }));
+    assert!(rt; refusal == Some(Refusal::OutOfTurn { expected: None }));
     Ok(())
 }
 
@@ -262,9 +258,9 @@ fn refused_with_one_reply(alloc: Global, tested: &mut Tested) -> Result<Option<R
 /// Without replies resolver 0 is named, and with its reply alone resolver 1.
 fn names_the_missing<R: Abort + AllocGlobal>(rt: &R, tested: &mut Tested) -> Result<(), Fail> {
     let none = refused_without_replies(rt.alloc(), tested)?;
-    assert_eq!(rt; none, Some(Refusal::MissingReply { resolver: 0 }));
+    assert!(rt; none == Some(Refusal::MissingReply { resolver: 0 }));
     let one = refused_with_one_reply(rt.alloc(), tested)?;
-    assert_eq!(rt; one, Some(Refusal::MissingReply { resolver: 1 }));
+    assert!(rt; one == Some(Refusal::MissingReply { resolver: 1 }));
     Ok(())
 }
 
@@ -291,9 +287,9 @@ fn put_reply_of_1(alloc: Global, replies: &mut Replies) -> Result<Option<(Refusa
 /// The replies disagree, and come back with that of resolver 1.
 fn replies_come_back<R: Abort + AllocGlobal>(rt: &R, tested: &mut Tested) -> Result<(), Fail> {
     let (refusal, mut replies) = refused_back(rt.alloc(), tested)?;
-    assert_eq!(rt; refusal, Refusal::RepliesDisagree { version: 10 });
+    assert!(rt; refusal == Refusal::RepliesDisagree { version: 10 });
     let again = put_reply_of_1(rt.alloc(), &mut replies)?;
-    assert_eq!(rt; again, Some((Refusal::DoubleReply { resolver: 1 }, 10)));
+    assert!(rt; again == Some((Refusal::DoubleReply { resolver: 1 }, 10)));
     Ok(())
 }
 
@@ -393,10 +389,10 @@ fn has_tag_1(finished: &Finished, count: usize) -> bool {
 
 /// The proxy, which finished row 0, learns row 1 as it finishes row 2.
 fn learns_row_1<R: Abort + AllocGlobal>(rt: &R, tested: &mut Tested) -> Result<(), Fail> {
-    assert_eq!(rt; versions(&tested.proxy), [10, 0, 0]);
+    assert!(rt; versions(&tested.proxy) == [10, 0, 0]);
     assert!(rt; finishes_row_2(rt.alloc(), tested)?);
-    assert_eq!(rt; versions(&tested.proxy), [10, 20, 30]);
-    assert_eq!(rt; tested.proxy.version(), 30);
+    assert!(rt; versions(&tested.proxy) == [10, 20, 30]);
+    assert!(rt; tested.proxy.version() == 30);
     Ok(())
 }
 

@@ -1,9 +1,15 @@
 //! Tests of what is kept of consecutive rows: verdicts of one resolver, and records.
 
-ghost use Rattle.std.specs.Prelude.{◌≡◌};
+ghost use Rattle.std.specs.Bool.{OnTrue};
+ghost use Rattle.std.specs.Prelude.{◌≡◌, ◌<◌, length};
+ghost use Rattle.facts.specs.Stretches.{end_of};
+ghost use Rattle.agreed_ledger.specs.Cells.{verdict_cells};
 
 use crate::tests::of_agreed_ledger::{blank, next_ticket};
-use agreed_ledger::{BlankLedger, Column, Ledger, Naming, Records, Refusal, Sequencer, Ticket};
+use agreed_ledger::{
+    BlankLedger, Column, Ledger, Naming, Records, Refusal, Sequencer, Ticket, VerdictNote,
+};
+use facts::Unset;
 use share_judge::Verdict::{Committed, Conflict, TooOld};
 use share_judge::{Verdict, Verdicts};
 use std::alloc::Global;
@@ -16,14 +22,25 @@ use testing::{list, twice};
 
 // ---- verdicts of one resolver
 
+/// Whether the ledger has a cell for the column's next row.
+fn has_next_cell<N: Naming>(ledger: &Ledger<N>, column: &Column<N>) -> bool
+    ensures { OnTrue result
+        (end_of column.now.rows < length (verdict_cells N.cells column.now.resolver)) }
+{
+    if ledger.rows() <= column.end() || ledger.config().resolvers() <= column.resolver() {
+        return false;
+    }
+    true
+}
+
 /// Sets the cell of the column's next row. If the ledger has no such cell, it refuses the row.
 fn set_once<N: Naming>(
     ledger: &Ledger<N>,
     column: &mut Column<N>,
     verdicts: Verdicts,
 ) -> Result<(), (Refusal, Verdicts)> {
-    let rows = ledger.rows();
-    if rows <= column.end() || ledger.config().resolvers() <= column.resolver() {
+    if !has_next_cell(ledger, column) {
+        let rows = ledger.rows();
         return Err((Refusal::LedgerFull { rows }, verdicts));
     }
     column.set(ledger, verdicts)
@@ -163,6 +180,122 @@ fn a_verdict_cell_is_set_once(rt: HostRuntime) -> Result<(), Fail> {
     set_twice::<Brand, _>(&rt, alloc, blank(alloc, 3, 10)?)
 }
 
+/// How many verdicts the note shows of its cell.
+fn shown<N: Naming>(
+    ledger: &Ledger<N>,
+    row: usize,
+    resolver: usize,
+    note: &mut VerdictNote<N>,
+) -> Option<usize> {
+    let verdicts = ledger.verdicts_at(row, resolver, note)?;
+    Some(verdicts.as_slice().len())
+}
+
+/// How many verdicts the cell of the column's next row holds, if it was taken.
+fn held<N: Naming>(
+    ledger: &Ledger<N>,
+    column: &Column<N>,
+    why: Unset<VerdictNote<N>>,
+) -> Option<usize> {
+    match why {
+        Unset::OutOfMemory => None,
+        Unset::Taken(note) => {
+            let mut note = note;
+            shown(ledger, column.end(), column.resolver(), &mut note)
+        }
+    }
+}
+
+/// Sets the cell of the column's next row with a copy. If the cell is taken, returns how many
+/// verdicts it holds, and if an allocation failed, none.
+fn copy_once<N: Naming>(
+    ledger: &Ledger<N>,
+    column: &mut Column<N>,
+    verdicts: Verdicts,
+) -> Result<Column<N>, (Option<usize>, Verdicts)> {
+    if !has_next_cell(ledger, column) {
+        return Err((None, verdicts));
+    }
+    match column.set_and_copy(ledger, verdicts) {
+        Ok(copy) => Ok(copy),
+        Err((why, back)) => Err((held(ledger, column, why), back)),
+    }
+}
+
+/// Sets the cell of the column's next row with a copy, once more after a failed allocation.
+fn set_and_copy<N: Naming>(
+    ledger: &Ledger<N>,
+    column: &mut Column<N>,
+    verdicts: Verdicts,
+) -> Result<Column<N>, (Option<usize>, Verdicts)> {
+    match copy_once(ledger, column, verdicts) {
+        Err((None, back)) => copy_once(ledger, column, back),
+        answer => answer,
+    }
+}
+
+/// Whether a column's first row is set, and a copy has it too.
+fn is_set_with_copy<N: Naming>(alloc: Global, ledger: &Ledger<N>) -> Result<bool, Fail> {
+    let mut column = Column::new(alloc, 1);
+    let verdicts = Items::from(list(alloc, &[Conflict, TooOld])?);
+    match set_and_copy(ledger, &mut column, verdicts) {
+        Ok(copy) => Ok(
+            ends(&column) == (1, 0, 1)
+                && ends(&copy) == (1, 0, 1)
+                && has(ledger, &copy, 0, &[Conflict, TooOld]),
+        ),
+        Err(_refused) => Ok(false),
+    }
+}
+
+/// Whether the refusal of a second column tells that the cell holds two verdicts, and its one
+/// verdict comes back.
+fn is_told_what_is_held<N: Naming>(alloc: Global, ledger: &Ledger<N>) -> Result<bool, Fail> {
+    let mut second = Column::new(alloc, 1);
+    let verdicts = Items::from(list(alloc, &[Committed])?);
+    match set_and_copy(ledger, &mut second, verdicts) {
+        Ok(_copy) => Ok(false),
+        Err((held, back)) => Ok(
+            held == Some(2) && is_same(back.as_slice(), &[Committed]) && ends(&second) == (1, 0, 0),
+        ),
+    }
+}
+
+fn set_with_copies<N: Naming + Send + Sync, R: Abort>(
+    rt: &R,
+    alloc: Global,
+    blank: BlankLedger,
+) -> Result<(), Fail>
+    requires { blank ≡ N.cells }
+{
+    let ledger = blank.named::<N>();
+    assert!(rt; is_set_with_copy(alloc, &ledger)?);
+    assert!(rt; is_told_what_is_held(alloc, &ledger)?);
+    Ok(())
+}
+
+#[test]
+fn a_refusal_of_a_taken_cell_tells_what_it_holds(rt: HostRuntime) -> Result<(), Fail> {
+    let alloc = rt.alloc();
+    set_with_copies::<Brand, _>(&rt, alloc, blank(alloc, 2, 10)?)
+}
+
+/// What two notes of the column's row show, once they agree with one another and with the column.
+fn shown_by_two<N: Naming>(
+    ledger: &Ledger<N>,
+    column: &Column<N>,
+    row: usize,
+) -> Option<(usize, usize)> {
+    let resolver = column.resolver();
+    let mut one = ledger.verdict_note(row, resolver)?;
+    let mut other = ledger.verdict_note(row, resolver)?;
+    let first = shown(ledger, row, resolver, &mut one)?;
+    let second = shown(ledger, row, resolver, &mut other)?;
+    one.agree(&mut other);
+    other.agree_with(column);
+    Some((first, second))
+}
+
 /// How many verdicts a new note of the one cell shows of the other one.
 fn seen<N: Naming>(ledger: &Ledger<N>, of: (usize, usize), at: (usize, usize)) -> Option<usize> {
     let mut note = ledger.verdict_note(of.0, of.1)?;
@@ -178,6 +311,7 @@ fn look_at_notes<N: Naming, R: Abort>(rt: &R, ledger: &Ledger<N>, column: &Colum
     assert!(rt; seen(ledger, (1, 1), (0, 1)).is_none());
     assert!(rt; seen(ledger, (2, 0), (2, 1)).is_none());
     assert!(rt; seen(ledger, (2, 0), (2, 0)).is_none());
+    assert!(rt; shown_by_two(ledger, column, 2) == Some((2, 2)));
 }
 
 fn note_verdicts<N: Naming + Send + Sync, R: Abort>(

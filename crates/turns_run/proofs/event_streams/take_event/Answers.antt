@@ -1,6 +1,6 @@
 use Rattle.std.proofs.Common.{codes, refl}
 use Rattle.scripts.proofs.StreamObjectLemmas.{if_some_weaker}
-use Rattle.turns_run.specs.TurnsShapes.{finish_shape, move_shape, offer_shape, sequence_shape}
+use Rattle.turns_run.specs.Shapes.{finish_shape, move_shape, offer_shape, sequence_shape}
 use Rattle.turns_run.proofs.EventLemmas.{named_field}
 use Rattle.turns_run.proofs.event_streams.take_event.Goals as goal
 

@@ -8,8 +8,8 @@ use Rattle.agreed_ledger.specs.Sequencing.{KeepsVersions, SequencedView}
 use Rattle.agreed_ledger.proofs.SequenceLaws.{record_given, versions_kept}
 use Rattle.agreed_ledger.proofs.sequenced.Sequenced.sequence.Goals as goal
 
-pub of-requires-clause-history : goal.of-requires-clause-history
-of-requires-clause-history g c =
+pub of-requires-2-clause-history : goal.of-requires-2-clause-history
+of-requires-2-clause-history g c =
     let config = g.N.Naming.cells.config in
     let h = c.self.inside.records.known in
     let moves = c.self.inside.moves.items in
@@ -18,7 +18,7 @@ of-requires-clause-history g c =
     let step : c.step-step.result ≡ config.step = c.step-step.ensures.value ∙ ap (λ (n : Config). n.step) c.config-2.ensures.value in
     let below : last_version h + config.step < version_limit = omega (arith, c.if-step-self.false, step, c.self.invariant.2.version_is) in
     (record_given config h moves c.args.proxy c.args.batch c.in-Ok.rec c.in-Ok-set.records.known is
-    (ap (λ (s : Stretch Record). s.known) (c.in-Ok-set.ensures.1 ∙ c.in-Ok-set.ensures.0)) c.self.invariant.1 there below).history
+    (ap (λ (s : Stretch Record). s.known) (c.in-Ok-set.ensures.copied ∙ c.in-Ok-set.ensures.gained)) c.self.invariant.1 there below).history
 
 pub invariant_of-self-2 : goal.invariant_of-self-2
 invariant_of-self-2 g c =
@@ -33,8 +33,8 @@ invariant_of-self-2 g c =
     let step : c.step-step.result ≡ config.step = c.step-step.ensures.value ∙ ap (λ (n : Config). n.step) c.config-2.ensures.value in
     let below : version + config.step < version_limit = omega (arith, c.if-step-self.false, step) in
     let below_last : last_version h + config.step < version_limit = omega (arith, below, c.self.invariant.2.version_is) in
-    let pushed = ap (λ (s : Stretch Record). s.known) c.in-Ok-set.ensures.0 in (
-      ap (λ (s : Stretch Record). s.first) c.in-Ok-set.ensures.0 ∙ c.self.invariant.0,
+    let pushed = ap (λ (s : Stretch Record). s.known) c.in-Ok-set.ensures.gained in (
+      ap (λ (s : Stretch Record). s.first) c.in-Ok-set.ensures.gained ∙ c.self.invariant.0,
       record_given config h moves p c.args.batch c.in-Ok.rec c.set.new.self.known is pushed c.self.invariant.1 there below_last,
       subst (λ (n : ℕ). KeepsVersions config c.set.new.self.known (version + n) (slice_set own p (version + n))) (sym step)
           (versions_kept config h moves p c.args.batch c.in-Ok.rec c.set.new.self.known version own is pushed c.self.invariant.2 below),

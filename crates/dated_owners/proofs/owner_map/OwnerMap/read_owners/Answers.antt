@@ -1,13 +1,13 @@
 -- Whom the map's own moves ask, each list of moves that it stands for asks.
 use Rattle.std.proofs.Common.{◌≡◌, ◌∙◌, ap, max}
 use Rattle.std.proofs.lemmas.Result.{IfOk-weaker}
-use Rattle.model.specs.OwnerMaps.{Owned, readers}
-use Rattle.model.proofs.OwnerMapLaws.{readers_are}
+use Rattle.model.specs.OwnerMaps.{OwnerMapView, readers}
+use Rattle.model.proofs.Owners.Maps.{readers_are}
 use Rattle.dated_owners.proofs.owner_map.OwnerMap.read_owners.Goals as goal
 
 pub returns : goal.returns
 returns c =
-    let bound : c.max.result ≡ max c.args.snapshot c.args.self.now.oldest = c.max.ensures ∙ ap (λ (map : Owned). max c.args.snapshot map.oldest) c.self.view_is in
+    let bound : c.max.result ≡ max c.args.snapshot c.args.self.now.oldest = c.max.ensures ∙ ap (λ (map : OwnerMapView). max c.args.snapshot map.oldest) c.self.view_is in
     IfOk-weaker c.askers.result _ _
     (λ list is. λ moves stands.
     is

@@ -1,12 +1,12 @@
 -- The proxy finished its earliest record, and keeps what every proxy keeps.
 use Rattle.std.proofs.Common.{◌≡◌, ◌++◌, refl, subst, map, rules}
-use Rattle.model.specs.Finishing.{Follower, HasFinished}
+use Rattle.model.specs.Finishing.{ProxyView, HasFinished}
 use Rattle.proxy_state.specs.Begun.{record_of}
 use Rattle.proxy_state.proofs.FinishedProxies.{AreFinishing, kept_finish, has_finished}
 use Rattle.proxy_state.proofs.proxy.Proxy.finish_by.Goals as goal
 
 -- the proxy as it was
-abbrev before : goal.After-drop-learned-3 → Follower
+abbrev before : goal.After-drop-learned-3 → ProxyView
 before c = record {
   number = c.self.inside.number;
   config = c.self.inside.config;
@@ -19,7 +19,7 @@ before c = record {
 }
 
 -- and as it is afterwards
-abbrev after : goal.After-drop-learned-3 → Follower
+abbrev after : goal.After-drop-learned-3 → ProxyView
 after c = record (before c) { begun = map record_of c.remove.new.self.items; version = c.version-version.result; journal = c.push_reserved.new.self.items }
 
 appended : (c : goal.After-drop-learned-3) → c.append.new.self.items ≡ c.self.inside.journal.items ++ c.in_ok-learned.learned.told.items
@@ -41,5 +41,5 @@ invariant_of-self-2 c =
 
 pub returns-clause-finished : goal.returns-clause-finished
 returns-clause-finished c =
-    subst (λ (v : Follower). HasFinished v (after c) c.args.replies.now c.in_ok-finished.finished) c.self.view_is
+    subst (λ (v : ProxyView). HasFinished v (after c) c.args.replies.now c.in_ok-finished.finished) c.self.view_is
     (has_finished (before c) c.version-version.result _ _ _ _ _ c.index-begun.result.now c.in_ok-learned.learned c.args.replies.now c.in_ok-finished.finished (finishing c) refl c.self.invariant.metadata_is c.version-version.ensures.value (rw c.self.view_is c.in_ok-learned.ensures.learned) (search rules))

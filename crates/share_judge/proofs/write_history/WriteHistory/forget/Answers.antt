@@ -1,6 +1,6 @@
 -- What lies above the bound stays, in its order.
 use Rattle.std.proofs.Common.{◌∙◌, ◌-◌, min, ap, arith}
-use Rattle.model.specs.WriteHistories.{Written}
+use Rattle.model.specs.WriteHistories.{WriteHistoryView}
 use Rattle.share_judge.specs.Kept.{writes_above}
 use Rattle.share_judge.proofs.KeptWrites.{order_kept}
 use Rattle.share_judge.proofs.StoodFor.{forgets}
@@ -14,8 +14,8 @@ invariant_of-self c =
 
 pub returns-clause-stands : goal.returns-clause-stands
 returns-clause-stands c =
-    let last = ap (λ (h : Written). h.last) c.self.view_is in
-    let window = ap (λ (h : Written). h.window) c.self.view_is in
-    let bound = c.min-bound.ensures ∙ ap (min c.args.oldest) (c.saturating_sub.ensures ∙ ap (λ (h : Written). h.last - h.window) c.self.view_is) in
+    let last = ap (λ (h : WriteHistoryView). h.last) c.self.view_is in
+    let window = ap (λ (h : WriteHistoryView). h.window) c.self.view_is in
+    let bound = c.min-bound.ensures ∙ ap (min c.args.oldest) (c.saturating_sub.ensures ∙ ap (λ (h : WriteHistoryView). h.last - h.window) c.self.view_is) in
     forgets c.args.self.now _ c.args.oldest c.min-bound.result bound window last
-    (c.forget_up_to.ensures ∙ ap (λ (h : Written). writes_above c.min-bound.result h.writes) c.self.view_is)
+    (c.forget_up_to.ensures ∙ ap (λ (h : WriteHistoryView). writes_above c.min-bound.result h.writes) c.self.view_is)

@@ -2,14 +2,14 @@
 use Rattle.std.proofs.Common.{◌∙◌, refl, ap, arith, List}
 use Rattle.model.specs.declared.part.Part.{Part}
 use Rattle.model.specs.Verdicts.{judged_at}
-use Rattle.model.specs.WriteHistories.{Written, verdicts_by_writes, writes_after}
+use Rattle.model.specs.WriteHistories.{WriteHistoryView, verdicts_by_writes, writes_after}
 use Rattle.share_judge.proofs.KeptWrites.{order_added}
 use Rattle.share_judge.proofs.StoodFor.{are_verdicts, gains_share}
 use Rattle.share_judge.proofs.write_history.WriteHistory.judge.Goals as goal
 
 pub invariant_of-self-2 : goal.invariant_of-self-2
 invariant_of-self-2 c =
-    let last = ap (λ (h : Written). h.last) c.self.view_is in
+    let last = ap (λ (h : WriteHistoryView). h.last) c.self.view_is in
     let up_to = c.self.invariant.up_to in
     let above = c.requires in
     let added = order_added 0 c.args.version c.self.inside.writes.items c.in_ok-verdicts.writes.items c.self.invariant.in_order (omega (arith, last, up_to, above)) c.in_ok-verdicts.ensures.own in
@@ -21,12 +21,12 @@ returns-clause-verdicts c =
     (c.from.ensures
     ∙ c.in_ok-verdicts.ensures.verdicts
     ∙ ap (λ (parts : List Part). verdicts_by_writes c.self.inside.window c.self.inside.writes.items (judged_at c.args.version parts)) c.parts-parts.ensures
-    ∙ ap (λ (h : Written). verdicts_by_writes h.window h.writes (judged_at c.args.version c.args.share.now)) c.self.view_is)
+    ∙ ap (λ (h : WriteHistoryView). verdicts_by_writes h.window h.writes (judged_at c.args.version c.args.share.now)) c.self.view_is)
 
 pub returns-clause-stands : goal.returns-clause-stands
 returns-clause-stands c =
-    gains_share c.args.self.now _ (record { version = c.args.version; parts = c.args.share.now }) c.requires (ap (λ (h : Written). h.window) c.self.view_is) refl
+    gains_share c.args.self.now _ (record { version = c.args.version; parts = c.args.share.now }) c.requires (ap (λ (h : WriteHistoryView). h.window) c.self.view_is) refl
     (c.in_ok-append.ensures.items
     ∙ c.in_ok-verdicts.ensures.writes
     ∙ ap (λ (parts : List Part). writes_after c.self.inside.window c.self.inside.writes.items (judged_at c.args.version parts)) c.parts-parts.ensures
-    ∙ ap (λ (h : Written). writes_after h.window h.writes (judged_at c.args.version c.args.share.now)) c.self.view_is)
+    ∙ ap (λ (h : WriteHistoryView). writes_after h.window h.writes (judged_at c.args.version c.args.share.now)) c.self.view_is)

@@ -2,10 +2,10 @@
 use Rattle.std.proofs.Common.{rules, ◌≡◌, ◌∙◌, refl, sym, ap, subst, [], ◌∷◌, ◌++◌, map, length, slice_get, slice_set, vec_len, arith}
 use Rattle.model.specs.declared.reply.Reply.{Reply}
 use Rattle.state_memory.specs.Order.{AreInOrder}
-use Rattle.model.specs.ResolverMemory.{Memory, proxy_after, reached_by_all}
+use Rattle.model.specs.ResolverMemory.{ResolverView, proxy_after, reached_by_all}
 use Rattle.model.specs.Requests.{reply_state_of_mark}
-use Rattle.model.specs.WriteHistories.{Written}
-use Rattle.model.specs.Laws.ResolverMemory.{share_of}
+use Rattle.model.specs.WriteHistories.{WriteHistoryView}
+use Rattle.model.specs.Laws.Resolvers.{share_of}
 use Rattle.share_judge.specs.Answers.{AreVerdicts, GainsShare}
 use Rattle.state_memory.proofs.KeptLaws.{kept_there}
 use Rattle.state_memory.specs.Kept.{kept_of, all_kept, rows_above, reply_of}
@@ -14,7 +14,7 @@ use Rattle.state_memory.proofs.resolver.Resolver.judge.Goals as goal
 
 pub index-requires : goal.index-requires
 index-requires c =
-    let within = place_within c.args.self.now c.args.request.now c.self.inside.proxies.items c.requires (ap (λ (v : Memory). v.proxies) c.self.view_is) in
+    let within = place_within c.args.self.now c.args.request.now c.self.inside.proxies.items c.requires (ap (λ (v : ResolverView). v.proxies) c.self.view_is) in
     let many : vec_len c.self.inside.proxies ≡ length c.self.inside.proxies.items = search rules in
     omega (arith, within, many, c.proxy-place.ensures)
 
@@ -23,16 +23,16 @@ copies_above-requires c = kept_rows_increase c.self.inside.version c.self.inside
 
 pub reserve_reply-requires : goal.reserve_reply-requires
 reserve_reply-requires c =
-    let within = place_within c.args.self.now c.args.request.now c.self.inside.proxies.items c.requires (ap (λ (v : Memory). v.proxies) c.self.view_is) in
+    let within = place_within c.args.self.now c.args.request.now c.self.inside.proxies.items c.requires (ap (λ (v : ResolverView). v.proxies) c.self.view_is) in
     omega (arith, within, c.proxy-place.ensures)
 
 pub judge-requires : goal.judge-requires
 judge-requires c =
-    let above = version_above c.args.self.now c.args.request.now c.self.inside.version c.self.inside.history.last c.requires (ap (λ (v : Memory). v.version) c.self.view_is) c.self.invariant.0 in
+    let above = version_above c.args.self.now c.args.request.now c.self.inside.version c.self.inside.history.last c.requires (ap (λ (v : ResolverView). v.version) c.self.view_is) c.self.invariant.0 in
     omega (arith, above, c.version.ensures)
 
 pub note_reply-requires-clause-there : goal.note_reply-requires-clause-there
-note_reply-requires-clause-there c = place_within c.args.self.now c.args.request.now c.reserve_reply.new.proxies.items c.requires (c.reserve_reply.ensures.same ∙ ap (λ (v : Memory). v.proxies) c.self.view_is)
+note_reply-requires-clause-there c = place_within c.args.self.now c.args.request.now c.reserve_reply.new.proxies.items c.requires (c.reserve_reply.ensures.same ∙ ap (λ (v : ResolverView). v.proxies) c.self.view_is)
 
 pub note_reply-requires-clause-room : goal.note_reply-requires-clause-room
 note_reply-requires-clause-room c = λ one at. c.in_ok-reserve_reply.ensures.room one (ap (slice_get c.reserve_reply.new.proxies.items) c.proxy-place.ensures ∙ at)
@@ -42,13 +42,13 @@ note_reply-requires-clause-order c = kept_replies_increase c.self.inside.version
 
 pub forget_rows-requires : goal.forget_rows-requires
 forget_rows-requires c =
-    let new = (version_above c.args.self.now c.args.request.now c.self.inside.version c.self.inside.version c.requires (ap (λ (v : Memory). v.version) c.self.view_is) refl) in
+    let new = (version_above c.args.self.now c.args.request.now c.self.inside.version c.self.inside.version c.requires (ap (λ (v : ResolverView). v.version) c.self.view_is) refl) in
     rows_increase_more c.self.inside.version c.self.inside.rows.items c.push_back_reserved.new.self.items (all_kept c.self.inside.proxies.items) (record { version = c.version-2.result; states = c.from.result }) c.self.invariant.1 (omega (arith, new, c.version-2.ensures)) (c.push_back_reserved.ensures.items ∙ ap (λ rows. rows ++ (record { version = c.version-2.result; states = c.from.result }) ∷ []) c.reserve.ensures.items)
 
 pub invariant_of-self-2 : goal.invariant_of-self-2
 invariant_of-self-2 c =
-    let new = (version_above c.args.self.now c.args.request.now c.self.inside.version c.self.inside.version c.requires (ap (λ (v : Memory). v.version) c.self.view_is) refl) in
-    let found = next_there c.args.self.now c.args.request.now c.reserve_reply.new.proxies.items c.requires (c.reserve_reply.ensures.same ∙ ap (λ (v : Memory). v.proxies) c.self.view_is) in
+    let new = (version_above c.args.self.now c.args.request.now c.self.inside.version c.self.inside.version c.requires (ap (λ (v : ResolverView). v.version) c.self.view_is) refl) in
+    let found = next_there c.args.self.now c.args.request.now c.reserve_reply.new.proxies.items c.requires (c.reserve_reply.ensures.same ∙ ap (λ (v : ResolverView). v.proxies) c.self.view_is) in
     let order = subst (λ kept. AreInOrder c.self.inside.version c.self.inside.rows.items kept) (sym c.reserve_reply.ensures.same) c.self.invariant.1 in (
       c.forget.ensures.last ∙ c.in_ok-verdicts.ensures.last ∙ c.version.ensures ∙ sym c.version-self-inside.ensures,
       subst (λ n. AreInOrder n c.forget_rows.new.rows.items (all_kept c.note_reply.new.proxies.items)) (sym c.version-self-inside.ensures)
@@ -57,25 +57,25 @@ invariant_of-self-2 c =
 
 pub returns-clause-proxies : goal.returns-clause-proxies
 returns-clause-proxies c =
-    let found = next_there c.args.self.now c.args.request.now c.reserve_reply.new.proxies.items c.requires (c.reserve_reply.ensures.same ∙ ap (λ (v : Memory). v.proxies) c.self.view_is) in
-    noted_count (all_kept c.reserve_reply.new.proxies.items) (all_kept c.note_reply.new.proxies.items) found.0 c.args.request.now c.reply-kept.result (c.note_reply.ensures found.0 found.1) ∙ ap length (c.reserve_reply.ensures.same ∙ ap (λ (v : Memory). v.proxies) c.self.view_is)
+    let found = next_there c.args.self.now c.args.request.now c.reserve_reply.new.proxies.items c.requires (c.reserve_reply.ensures.same ∙ ap (λ (v : ResolverView). v.proxies) c.self.view_is) in
+    noted_count (all_kept c.reserve_reply.new.proxies.items) (all_kept c.note_reply.new.proxies.items) found.0 c.args.request.now c.reply-kept.result (c.note_reply.ensures found.0 found.1) ∙ ap length (c.reserve_reply.ensures.same ∙ ap (λ (v : ResolverView). v.proxies) c.self.view_is)
 
 pub returns-clause-reply : goal.returns-clause-reply
 returns-clause-reply c = λ judged stands.
-    let kept = ap (λ (v : Memory). v.proxies) c.self.view_is in
-    let history = ap (λ (v : Memory). v.written) c.self.view_is in
+    let kept = ap (λ (v : ResolverView). v.proxies) c.self.view_is in
+    let history = ap (λ (v : ResolverView). v.written) c.self.view_is in
     let within = place_within c.args.self.now c.args.request.now c.self.inside.proxies.items c.requires kept in
     let one = kept_of c.index.result.now in
     let at = ap (λ xs. slice_get xs c.args.request.now.proxy) (sym kept) ∙ ap (slice_get (all_kept c.self.inside.proxies.items)) (sym c.proxy-place.ensures) ∙ kept_there c.self.inside.proxies.items c.proxy-place.result c.index.result.now (omega (arith, within, c.proxy-place.ensures)) c.index.ensures in
     let s_is : (record { version = c.version.result; parts = c.share-2.result.now }) ≡ share_of c.args.request.now = λ k. record { version = c.version.ensures k; parts = c.share-2.ensures.value k } in
     let are = subst (λ s. AreVerdicts c.args.self.now.written s c.in_ok-verdicts.verdicts) s_is (subst (λ w. AreVerdicts w (record { version = c.version.result; parts = c.share-2.result.now }) c.in_ok-verdicts.verdicts) history c.in_ok-verdicts.ensures.verdicts) in
-    let told = c.in_ok-unseen.ensures ∙ ap (rows_above one.last) (ap (λ (v : Memory). v.rows) c.self.view_is) in
+    let told = c.in_ok-unseen.ensures ∙ ap (rows_above one.last) (ap (λ (v : ResolverView). v.rows) c.self.view_is) in
     c.reply.ensures ∙ judged_reply c.args.self.now one judged c.args.request.now c.in_ok-verdicts.verdicts c.in_ok-unseen.unseen stands at are told
 
 pub returns-clause-gains : goal.returns-clause-gains
 returns-clause-gains c = λ judged stands.
-    let kept = ap (λ (v : Memory). v.proxies) c.self.view_is in
-    let history = ap (λ (v : Memory). v.written) c.self.view_is in
+    let kept = ap (λ (v : ResolverView). v.proxies) c.self.view_is in
+    let history = ap (λ (v : ResolverView). v.written) c.self.view_is in
     let within = place_within c.args.self.now c.args.request.now c.self.inside.proxies.items c.requires kept in
     let one = kept_of c.index.result.now in
     let here = ap (slice_get (all_kept c.self.inside.proxies.items)) (sym c.proxy-place.ensures) ∙ kept_there c.self.inside.proxies.items c.proxy-place.result c.index.result.now (omega (arith, within, c.proxy-place.ensures)) c.index.ensures in
@@ -83,25 +83,25 @@ returns-clause-gains c = λ judged stands.
     let s_is : (record { version = c.version.result; parts = c.share-2.result.now }) ≡ share_of c.args.request.now = λ k. record { version = c.version.ensures k; parts = c.share-2.ensures.value k } in
     let are = subst (λ s. AreVerdicts c.args.self.now.written s c.in_ok-verdicts.verdicts) s_is (subst (λ w. AreVerdicts w (record { version = c.version.result; parts = c.share-2.result.now }) c.in_ok-verdicts.verdicts) history c.in_ok-verdicts.ensures.verdicts) in
     let gains = subst (λ s. GainsShare c.args.self.now.written s c.judge.new.self) s_is (subst (λ w. GainsShare w (record { version = c.version.result; parts = c.share-2.result.now }) c.judge.new.self) history c.in_ok-verdicts.ensures.stands) in
-    let rows = ap (λ (v : Memory). v.rows) c.self.view_is in
+    let rows = ap (λ (v : ResolverView). v.rows) c.self.view_is in
     let told = c.in_ok-unseen.ensures ∙ ap (rows_above one.last) rows in
     let row_is = row_made c.args.request.now c.in_ok-verdicts.verdicts c.version-2.result c.from.result c.version-2.ensures (c.from.ensures ∙ c.judge_states.ensures ∙ ap (λ vs. map (reply_state_of_mark c.args.request.now.share vs) c.args.request.now.states) c.as_slice-2.ensures) in
     let many = as_many_verdicts c.args.self.now judged c.args.request.now c.in_ok-verdicts.verdicts stands are in
     let reply_is = c.reply-kept.ensures ∙ (λ k. reply_of c.args.request.now ((c.from-2.ensures ∙ c.copy_verdicts.ensures ((let full : length c.in_ok-kept_verdicts.kept_verdicts.items ≡ vec_len c.in_ok-kept_verdicts.kept_verdicts = search rules in full) ∙ c.in_ok-kept_verdicts.ensures.len ∙ ap length (c.parts-parts.ensures ∙ c.share.ensures.value) ∙ sym many ∙ ap length (sym c.as_slice.ensures)) ∙ c.as_slice.ensures) k) ((c.in_ok-kept_unseen.ensures ∙ told) k)) in
     judged_memory c.args.self.now _ one judged c.args.request.now c.in_ok-verdicts.verdicts c.reply-kept.result (record { version = c.version-2.result; states = c.from.result }) c.judge.new.self _ stands c.requires at are gains c.forget.ensures.stands
-    (c.forget.ensures.window ∙ c.in_ok-verdicts.ensures.window ∙ ap (λ (w : Written). w.window) history)
-    (ap (λ (v : Memory). v.number) c.self.view_is) c.version-self-inside.ensures row_is reply_is
+    (c.forget.ensures.window ∙ c.in_ok-verdicts.ensures.window ∙ ap (λ (w : WriteHistoryView). w.window) history)
+    (ap (λ (v : ResolverView). v.number) c.self.view_is) c.version-self-inside.ensures row_is reply_is
     (c.note_reply.ensures one (ap (λ xs. slice_get xs c.args.request.now.proxy) c.reserve_reply.ensures.same ∙ here) ∙ ap (λ xs. slice_set xs c.args.request.now.proxy (proxy_after one c.args.request.now c.reply-kept.result)) (c.reserve_reply.ensures.same ∙ kept))
     (c.forget_rows.ensures ∙ (λ k. rows_above ((c.reached_by_all.ensures ∙ ap (λ raw. reached_by_all (all_kept raw)) c.deref.ensures.value) k) ((c.push_back_reserved.ensures.items ∙ ap (λ xs. xs ++ (record { version = c.version-2.result; states = c.from.result }) ∷ []) (c.reserve.ensures.items ∙ rows)) k)))
 
 pub returns-clause-forgets : goal.returns-clause-forgets
 returns-clause-forgets c = λ judged stands.
-    let history = ap (λ (v : Memory). v.written) c.self.view_is in
+    let history = ap (λ (v : ResolverView). v.written) c.self.view_is in
     let s_is : (record { version = c.version.result; parts = c.share-2.result.now }) ≡ share_of c.args.request.now = λ k. record { version = c.version.ensures k; parts = c.share-2.ensures.value k } in
     let gains = subst (λ s. GainsShare c.args.self.now.written s c.judge.new.self) s_is (subst (λ w. GainsShare w (record { version = c.version.result; parts = c.share-2.result.now }) c.judge.new.self) history c.in_ok-verdicts.ensures.stands) in
-    let above = version_above c.args.self.now c.args.request.now c.self.inside.version c.self.inside.history.last c.requires (ap (λ (v : Memory). v.version) c.self.view_is) c.self.invariant.0 in
-    let last = ap (λ (w : Written). w.last) history in
+    let above = version_above c.args.self.now c.args.request.now c.self.inside.version c.self.inside.history.last c.requires (ap (λ (v : ResolverView). v.version) c.self.view_is) c.self.invariant.0 in
+    let last = ap (λ (w : WriteHistoryView). w.last) history in
     judged_forgets c.args.self.now judged c.args.request.now c.judge.new.self _ _ stands gains c.forget.ensures.stands (omega (arith, above, last)) c.version-3.ensures
     (c.in_ok-verdicts.ensures.last ∙ c.version.ensures)
-    (c.in_ok-verdicts.ensures.window ∙ ap (λ (w : Written). w.window) history)
+    (c.in_ok-verdicts.ensures.window ∙ ap (λ (w : WriteHistoryView). w.window) history)
     c.forget.ensures.window

@@ -1,6 +1,6 @@
 -- Nothing is kept at first.
 use Rattle.std.proofs.Common.{refl}
-use Rattle.model.proofs.MemoryGrows.{new_stands}
+use Rattle.model.proofs.Resolvers.Growth.{new_stands}
 use Rattle.state_memory.proofs.resolver.Resolver.new.Goals as goal
 
 pub returns-clause-stands : goal.returns-clause-stands

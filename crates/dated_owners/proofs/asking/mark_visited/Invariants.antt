@@ -1,6 +1,0 @@
--- The owners that the moves from i on added are visited.
-use Rattle.dated_owners.proofs.WalkedMoves.{IsWalked}
-use Rattle.dated_owners.proofs.asking.mark_visited.Given as goal
-
-abbrev pub invariant-loop-i : goal.invariant-loop-i
-invariant-loop-i l = IsWalked l.moves l.bound l.key l.fn.marks l.i l.marks

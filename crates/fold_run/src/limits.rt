@@ -1,0 +1,53 @@
+//! The limits of a fold script.
+
+ghost use Rattle.std.specs.Prelude.{◌≡◌};
+ghost use Rattle.std.specs.List.{list_all};
+ghost use Rattle.fold_run.specs.Limits.{are_rising, has_verdicts, row_has_verdicts};
+ghost use Rattle.fold_run.specs.Limits.{is_within_limits};
+
+use crate::script::{RawRow, RawScript, RawState};
+use model::{RESOLVERS_LIMIT, is_from_one};
+
+/// Whether there are from 1 to 64 resolvers, the versions are at least 1 and rise, and each
+/// transaction has one verdict for each resolver (this project's profile).
+pub(crate) fn is_within_limits(script: &RawScript) -> bool
+    ensures { result ≡ is_within_limits script.now }
+{
+    is_from_one(RESOLVERS_LIMIT, script.resolvers)
+        && are_rising(script.rows.as_slice())
+        && have_verdicts(script.resolvers, script.rows.as_slice())
+}
+
+fn are_rising(rows: &[RawRow]) -> bool
+    ensures { result ≡ are_rising 0 rows.now }
+{
+    let mut before = 0;
+    for row in rows {
+        if row.version <= before {
+            return false;
+        }
+        before = row.version;
+    }
+    true
+}
+
+fn have_verdicts(resolvers: u64, rows: &[RawRow]) -> bool
+    ensures { result ≡ list_all (row_has_verdicts resolvers) rows.now }
+{
+    rows.iter().all(|row| row_has_verdicts(resolvers, row))
+}
+
+fn row_has_verdicts(resolvers: u64, row: &RawRow) -> bool
+    ensures { result ≡ row_has_verdicts resolvers row.now }
+{
+    row.states
+        .as_slice()
+        .iter()
+        .all(|state| has_verdicts(resolvers, state))
+}
+
+fn has_verdicts(resolvers: u64, state: &RawState) -> bool
+    ensures { result ≡ has_verdicts resolvers state.now }
+{
+    state.verdicts.as_slice().len() as u64 == resolvers
+}

@@ -1,0 +1,38 @@
+//! What is printed of a fold script.
+
+ghost use Rattle.std.specs.Prelude.{◌≡◌, ◌++◌, OnOk, string_bytes};
+ghost use Rattle.model.specs.Metadata.{metadata};
+ghost use Rattle.fold_run.specs.Text.{folded_text, last_version};
+
+use crate::script::FoldScript;
+use cluster_lines::print_metadata;
+use metadata::Metadata;
+use model::JournalRow;
+use std::alloc::Global;
+use system_keys::OutOfMemory;
+
+/// Prints what a fold script comes to (this project's profile): the routing of its folded rows and
+/// the tags of its asked keys. Fails only with `OutOfMemory`.
+#[tactic(auto, unfolding(model::specs::Metadata::metadata))]
+pub(crate) fn print_folded(
+    alloc: Global,
+    text: &mut String,
+    script: &FoldScript,
+) -> Result<(), OutOfMemory>
+    ensures { OnOk result (string_bytes text.new
+        ≡ string_bytes text.old ++ folded_text script.now) }
+{
+    let rows = script.rows.as_slice();
+    let metadata = Metadata::new(alloc).fold_rows(rows)?;
+    let keys = script.ask.as_slice();
+    print_metadata(alloc, text, last_version(rows), &metadata, keys)
+}
+
+fn last_version(rows: &[JournalRow]) -> u64
+    ensures { result ≡ last_version rows.now }
+{
+    match rows.last() {
+        Some(row) => row.version,
+        None => 0,
+    }
+}

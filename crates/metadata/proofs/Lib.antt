@@ -1,0 +1,14 @@
+pub mod AppliedLaws
+pub mod EntriesLeft
+pub mod KeptInOrder
+pub mod KeySets
+pub mod KeyValues
+pub mod ListedKeys
+pub mod MapEntries
+pub mod OverwrittenEntries
+pub mod PutEntries
+pub mod RangeEntries
+pub mod RouteEntries
+pub mod ServingEntries
+pub mod Tags
+pub mod WrittenEntries

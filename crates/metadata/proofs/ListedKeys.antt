@@ -1,0 +1,149 @@
+-- A loop over keys that gives each of them the same value, and which keys are listed.
+use Rattle.std.proofs.Common.{◌≡◌, refl, sym, ap, ◌∙◌, ℕ, zero, suc, ◌+◌, ◌<◌, ◌≤◌, length, drop, get_or, add-one, List, [], ◌∷◌, Bool, true, false, cond, if◌then◌else◌, not, ◌&&◌, ◌||◌, filter, Option, Some, None, option_map}
+use Rattle.std.specs.Global.{Vec}
+use Rattle.std.specs.Option.{is_some}
+use Rattle.std.specs.Map.{keys_of}
+use Rattle.std.proofs.Math.Seq.{drop-cons}
+use Rattle.std.proofs.lemmas.List.{drop_all}
+use Rattle.system_keys.specs.Keys.{Key}
+use Rattle.model.specs.Metadata.{Entry, Entries, entry_value}
+use Rattle.metadata.specs.MapEntries.{bytes_of_keys}
+use Rattle.metadata.specs.Overwrites.{is_same_key, is_listed, has_entry, missing_keys}
+use Rattle.std.specs.BTreeMap.{insert_entry}
+use Rattle.metadata.proofs.KeyValues.{key_cmp, same_key, value_put}
+
+-- the keys that are left, of those that count, are still to get the value
+abbrev pub GetValue : (value : Option (List ℕ)) (counts : Key → Bool) (keys left : List (Vec ℕ)) (old now : Entries) → Type 0
+GetValue value counts keys left old now =
+    (key : Key) → (if counts key && is_listed (bytes_of_keys left) key then value else entry_value now key) ≡ (if counts key && is_listed (bytes_of_keys keys) key then value else entry_value old key)
+
+one_more : (c s l : Bool) (value found : Option (List ℕ)) → (if c && l then value else (if c && s then value else found)) ≡ (if c && (s || l) then value else found)
+one_more true true true value found = refl
+one_more true true false value found = refl
+one_more true false l value found = refl
+one_more false s l value found = refl
+
+pub next_listed : (value : Option (List ℕ)) (counts : Key → Bool) (keys : List (Vec ℕ)) (d : Vec ℕ) (i : ℕ) (old before after : Entries) → i < length keys
+    → ((key : Key) → entry_value after key ≡ (if counts key && is_same_key key (get_or keys i d).items then value else entry_value before key))
+    → GetValue value counts keys (drop i keys) old before → GetValue value counts keys (drop (i + 1) keys) old after
+next_listed value counts keys d i old before after within one so_far = λ key.
+    let split : drop i keys ≡ get_or keys i d ∷ drop (i + 1) keys = rw (add-one, drop-cons keys i d) in
+    ap (λ (found : Option (List ℕ)). if counts key && is_listed (bytes_of_keys (drop (i + 1) keys)) key then value else found) (one key)
+    ∙ one_more (counts key) (is_same_key key (get_or keys i d).items) (is_listed (bytes_of_keys (drop (i + 1) keys)) key) value (entry_value before key)
+    ∙ ap (λ (left : List (Vec ℕ)). if counts key && is_listed (bytes_of_keys left) key then value else entry_value before key) (sym split)
+    ∙ so_far key
+
+none_left : (c : Bool) (value found : Option (List ℕ)) → found ≡ (if c && false then value else found)
+none_left true value found = refl
+none_left false value found = refl
+
+pub all_listed : (value : Option (List ℕ)) (counts : Key → Bool) (keys : List (Vec ℕ)) (i : ℕ) (old now : Entries) → length keys ≤ i → GetValue value counts keys (drop i keys) old now
+    → (key : Key) → entry_value now key ≡ (if counts key && is_listed (bytes_of_keys keys) key then value else entry_value old key)
+all_listed value counts keys i old now past so_far key =
+    none_left (counts key) value (entry_value now key)
+    ∙ ap (λ (left : List (Vec ℕ)). if counts key && is_listed (bytes_of_keys left) key then value else entry_value now key) (sym (drop_all i keys past))
+    ∙ so_far key
+
+-- ---- a key that is not listed
+
+either : (s l : Bool) → (s || l) ≡ false → l ≡ false
+either true l h = absurd (cc)
+either false l h = h
+
+pub left_unlisted : (keys : List (Vec ℕ)) (i : ℕ) (key : Key) → is_listed (bytes_of_keys keys) key ≡ false → is_listed (bytes_of_keys (drop i keys)) key ≡ false
+left_unlisted [] zero key h = h
+left_unlisted [] (suc i) key h = h
+left_unlisted (k ∷ keys) zero key h = h
+left_unlisted (k ∷ keys) (suc i) key h = left_unlisted keys i key (either (is_same_key key k.items) (is_listed (bytes_of_keys keys) key) h)
+
+-- ---- the keys of entries that pass a test
+
+pub filtered_keys : (p : Key → Bool) (rows : Entries) (key : Key) → is_listed (keys_of (filter (λ (row : Entry). p row.0) rows)) key ≡ (p key && has_entry rows key)
+filtered_keys p [] key = none (p key)
+  where
+    none : (t : Bool) → false ≡ (t && false)
+    none true = refl
+    none false = refl
+filtered_keys p (row ∷ rows) key = by (is_same_key key row.0) refl (p row.0) refl (p key) refl (filtered_keys p rows key)
+  where
+    rest : List Key
+    rest = keys_of (filter (λ (r : Entry). p r.0) rows)
+
+    two : (t u : Bool) → p row.0 ≡ t → p key ≡ u → is_same_key key row.0 ≡ true → t ≡ u
+    two t u h k same = sym h ∙ ap p (sym (same_key key row.0 same)) ∙ k
+
+    by : (s : Bool) → is_same_key key row.0 ≡ s → (t : Bool) → p row.0 ≡ t → (u : Bool) → p key ≡ u → is_listed rest key ≡ (u && has_entry rows key)
+        → is_listed (keys_of (cond t (row ∷ filter (λ (r : Entry). p r.0) rows) (filter (λ (r : Entry). p r.0) rows))) key ≡ (u && is_some (cond s (Some row.1) (entry_value rows key)))
+    by true same true h true k later = rw same refl
+    by true same true h false k later = let two_ways : true ≡ false = two true false h k same in absurd (cc)
+    by true same false h true k later = let two_ways : false ≡ true = two false true h k same in absurd (cc)
+    by true same false h false k later = later
+    by false same true h u k later = rw same later
+    by false same false h u k later = later
+
+-- the keys of entries
+pub listed_keys : (rows : Entries) (key : Key) → is_listed (keys_of rows) key ≡ has_entry rows key
+listed_keys [] key = refl
+listed_keys (row ∷ rows) key = by (is_same_key key row.0) (listed_keys rows key)
+  where
+    by : (s : Bool) → is_listed (keys_of rows) key ≡ has_entry rows key → (s || is_listed (keys_of rows) key) ≡ is_some (cond s (Some row.1) (entry_value rows key))
+    by true later = refl
+    by false later = later
+
+pub listed_missing : (rows puts : Entries) (key : Key) → is_listed (missing_keys rows puts) key ≡ (not (has_entry rows key) && has_entry puts key)
+listed_missing rows puts key = keys_that (λ (k : Key). not (has_entry rows k)) (keys_of puts) ∙ ap (λ (t : Bool). not (has_entry rows key) && t) (listed_keys puts key)
+  where
+    keys_that : (p : Key → Bool) (keys : List Key) → is_listed (filter p keys) key ≡ (p key && is_listed keys key)
+    keys_that p [] = none (p key)
+      where
+        none : (t : Bool) → false ≡ (t && false)
+        none true = refl
+        none false = refl
+    keys_that p (k ∷ keys) = by (is_same_key key k) refl (p k) refl (p key) refl (keys_that p keys)
+      where
+        two : (t u : Bool) → p k ≡ t → p key ≡ u → is_same_key key k ≡ true → t ≡ u
+        two t u h e same = sym h ∙ ap p (sym (same_key key k same)) ∙ e
+
+        by : (s : Bool) → is_same_key key k ≡ s → (t : Bool) → p k ≡ t → (u : Bool) → p key ≡ u → is_listed (filter p keys) key ≡ (u && is_listed keys key)
+            → is_listed (cond t (k ∷ filter p keys) (filter p keys)) key ≡ (u && (s || is_listed keys key))
+        by true same true h true e later = rw same refl
+        by true same true h false e later = let two_ways : true ≡ false = two true false h e same in absurd (cc)
+        by true same false h true e later = let two_ways : false ≡ true = two false true h e same in absurd (cc)
+        by true same false h false e later = later
+        by false same true h u e later = rw same later
+        by false same false h u e later = later
+
+-- ---- a removal that some keys are kept from
+
+pub removed_unless : (kept old new : Entries) (key : Key) → has_entry kept key ≡ false → ((other : Key) → entry_value new other ≡ (if is_same_key other key then None else entry_value old other))
+    → (other : Key) → entry_value new other ≡ (if not (has_entry kept other) && is_same_key other key then None else entry_value old other)
+removed_unless kept old new key out removed other = removed other ∙ by (is_same_key other key) refl (has_entry kept other) refl
+  where
+    by : (s : Bool) → is_same_key other key ≡ s → (h : Bool) → has_entry kept other ≡ h → (if s then None else entry_value old other) ≡ (if not h && s then None else entry_value old other)
+    by true same true e = let two : true ≡ false = sym e ∙ ap (has_entry kept) (same_key other key same) ∙ out in absurd (cc)
+    by true same false e = refl
+    by false same true e = refl
+    by false same false e = refl
+
+pub kept_there : (kept old : Entries) (key : Key) → has_entry kept key ≡ true → (other : Key) → entry_value old other ≡ (if not (has_entry kept other) && is_same_key other key then None else entry_value old other)
+kept_there kept old key there other = by (is_same_key other key) refl (has_entry kept other) refl
+  where
+    by : (s : Bool) → is_same_key other key ≡ s → (h : Bool) → has_entry kept other ≡ h → entry_value old other ≡ (if not h && s then None else entry_value old other)
+    by true same true e = refl
+    by true same false e = let two : false ≡ true = sym e ∙ ap (has_entry kept) (same_key other key same) ∙ there in absurd (cc)
+    by false same true e = refl
+    by false same false e = refl
+
+-- whether a value is there does not depend on how it is seen
+pub seen_there : {X : Type 0} (f : X → List ℕ) (found : Option X) (value : Option (List ℕ)) (t : Bool) → option_map f found ≡ value → is_some found ≡ t → is_some value ≡ t
+seen_there f None value t is e = ap is_some (sym is) ∙ e
+seen_there f (Some x) value t is e = ap is_some (sym is) ∙ e
+
+-- a put at a key
+pub put_at : (old new : Entries) (key seen : Key) (value : List ℕ) → new ≡ insert_entry key_cmp old key value → key ≡ seen → value ≡ [] → (other : Key) → entry_value new other ≡ (if is_same_key other seen then Some [] else entry_value old other)
+put_at old new key seen value is same none other = ap (λ (rows : Entries). entry_value rows other) is ∙ value_put old key other value ∙ rw (same, none) refl
+
+-- a key that is not listed keeps its value through the loop
+pub others_keep : (value : Option (List ℕ)) (keys : List (Vec ℕ)) (i : ℕ) (old now : Entries) (key : Key) → is_listed (bytes_of_keys keys) key ≡ false → GetValue value (λ (k : Key). true) keys (drop i keys) old now → entry_value now key ≡ entry_value old key
+others_keep value keys i old now key out so_far =
+    ap (λ (t : Bool). if t then value else entry_value now key) (sym (left_unlisted keys i key out)) ∙ so_far key ∙ ap (λ (t : Bool). if t then value else entry_value old key) out

@@ -1,0 +1,217 @@
+-- What each key has after entries are added, removed and put; and that a row of a journal does the same.
+use Rattle.std.proofs.Common.{◌≡◌, refl, sym, ap, ◌∙◌, subst, ℕ, List, [], ◌∷◌, ◌++◌, Bool, true, false, if◌then◌else◌, not, ◌&&◌, ◌||◌, filter, fold, Option, Some, None}
+use Rattle.std.specs.Option.{is_some, option_or}
+use Rattle.std.specs.List.{list_any}
+use Rattle.std.specs.Map.{keys_of}
+use Rattle.std.specs.BTreeMap.{insert_entry}
+use Rattle.system_keys.specs.declared.change.Change.{Change}
+use Rattle.system_keys.specs.declared.change.Change.TheVariants.{Set, Clear}
+use Rattle.system_keys.specs.Keys.{Key, Range, holds}
+use Rattle.system_keys.specs.Families.{is_kept}
+use Rattle.model.specs.declared.journal.StateTxn.{StateTxn}
+use Rattle.model.specs.declared.journal.JournalRow.{JournalRow}
+use Rattle.model.specs.Metadata.{Entry, Entries, IsInOrder, entry_value, AreKept, after_change, after_changes, is_locked, after_state, after_journal_row}
+use Rattle.model.proofs.Metadata.Entries.{states_let_pass, after_row_in_order, filter_in_order}
+use Rattle.model.proofs.Metadata.Changes.{changed_cleared, changed_left, kept_after_row}
+use Rattle.metadata.specs.Overwrites.{is_same_key, is_listed, has_entry, missing_keys, IsOverwritten, changes_of, keys_cleared, cleared_keys}
+use Rattle.metadata.proofs.KeyValues.{key_cmp, same_entries, value_put}
+use Rattle.metadata.proofs.ListedKeys.{filtered_keys, listed_missing}
+
+-- ---- added, removed and put
+
+-- the value of a key: among the entries that are put, before, after the missing keys were added, and after others were removed
+record AreSteps (put old added left : Option (List ℕ)) (removed : Bool) : Type 0 where
+  pub added_is : added ≡ (if not (is_some old) && is_some put then Some [] else old)
+  pub left_is : left ≡ (if not (is_some put) && removed then None else added)
+
+there_to_put : (put old added left : Option (List ℕ)) (removed : Bool) → AreSteps put old added left removed → is_some put ≡ true → is_some left ≡ true
+there_to_put None old added left removed steps h = absurd (cc)
+there_to_put (Some value) None added left removed steps h = ap is_some (steps.left_is ∙ steps.added_is)
+there_to_put (Some value) (Some was) added left removed steps h = ap is_some (steps.left_is ∙ steps.added_is)
+
+put_over_left : (put old added left : Option (List ℕ)) (removed : Bool) → AreSteps put old added left removed → option_or put left ≡ option_or put (if removed then None else old)
+put_over_left (Some value) old added left removed steps = refl
+put_over_left None None added left true steps = steps.left_is
+put_over_left None None added left false steps = steps.left_is ∙ steps.added_is
+put_over_left None (Some was) added left true steps = steps.left_is
+put_over_left None (Some was) added left false steps = steps.left_is ∙ steps.added_is
+
+-- the calls of an overwriting, one after another
+pub record AreOverwriting (missing removed : List Key) (puts old added left new : Entries) : Type 0 where
+  pub missing_is : missing ≡ missing_keys old puts
+  pub added_is : (key : Key) → entry_value added key ≡ (if is_listed missing key then Some [] else entry_value old key)
+  pub left_is : (key : Key) → entry_value left key ≡ (if not (has_entry puts key) && is_listed removed key then None else entry_value added key)
+  pub new_is : ((key : Key) → has_entry puts key ≡ true → has_entry left key ≡ true) → (key : Key) → entry_value new key ≡ option_or (entry_value puts key) (entry_value left key)
+
+is_missing : (missing : List Key) (old puts : Entries) (key : Key) → missing ≡ missing_keys old puts → is_listed missing key ≡ (not (has_entry old key) && has_entry puts key)
+is_missing missing old puts key is = ap (λ (keys : List Key). is_listed keys key) is ∙ listed_missing old puts key
+
+pub overwritten : (missing removed : List Key) (puts old added left new : Entries) → AreOverwriting missing removed puts old added left new → IsOverwritten removed puts old new
+overwritten missing removed puts old added left new calls = λ key.
+    calls.new_is (λ k has. there_to_put (entry_value puts k) (entry_value old k) (entry_value added k) (entry_value left k) (is_listed removed k) (steps k) has) key
+    ∙ put_over_left (entry_value puts key) (entry_value old key) (entry_value added key) (entry_value left key) (is_listed removed key) (steps key)
+  where
+    steps : (key : Key) → AreSteps (entry_value puts key) (entry_value old key) (entry_value added key) (entry_value left key) (is_listed removed key)
+    steps key = record { added_is = calls.added_is key ∙ ap (λ (t : Bool). if t then Some [] else entry_value old key) (is_missing missing old puts key calls.missing_is); left_is = calls.left_is key }
+
+-- ---- the keys that were added are removed again
+
+pub rolled_back : (missing : List Key) (puts kept old added new : Entries) → IsInOrder old → IsInOrder new → missing ≡ missing_keys old puts → kept ≡ []
+    → ((key : Key) → is_listed missing key ≡ false → entry_value added key ≡ entry_value old key)
+    → ((key : Key) → entry_value new key ≡ (if not (has_entry kept key) && is_listed missing key then None else entry_value added key)) → new ≡ old
+rolled_back missing puts kept old added new s t is none others removed = same_entries new old t s (λ key. removed key ∙ rw none (by key (is_listed missing key) refl (entry_value old key) refl))
+  where
+    by : (key : Key) (m : Bool) → is_listed missing key ≡ m → (was : Option (List ℕ)) → entry_value old key ≡ was → (if m then None else entry_value added key) ≡ was
+    by key false e was h = others key e ∙ h
+    by key true e None h = refl
+    by key true e (Some value) h =
+        let listed : true ≡ false = sym e ∙ is_missing missing old puts key is ∙ ap (λ (found : Option (List ℕ)). not (is_some found) && has_entry puts key) h in absurd (cc)
+
+-- ---- a range is cleared
+
+pub range_removed : (range : Range) (keys : List Key) (kept old new : Entries) → IsInOrder old → IsInOrder new → keys ≡ keys_of (filter (λ (row : Entry). holds range row.0) old) → kept ≡ []
+    → ((key : Key) → entry_value new key ≡ (if not (has_entry kept key) && is_listed keys key then None else entry_value old key))
+    → new ≡ filter (λ (row : Entry). not (holds range row.0)) old
+range_removed range keys kept old new s t is none removed =
+    same_entries new (after_change old (Clear range)) t (filter_in_order (λ (row : Entry). not (holds range row.0)) old s) (λ key. removed key ∙ rw none (by key (is_listed keys key) refl (holds range key) refl (entry_value old key) refl))
+  where
+    by : (key : Key) (l : Bool) → is_listed keys key ≡ l → (h : Bool) → holds range key ≡ h → (was : Option (List ℕ)) → entry_value old key ≡ was → (if l then None else entry_value old key) ≡ entry_value (after_change old (Clear range)) key
+    by key true e true inside was h = sym (changed_cleared old range key inside)
+    by key false e true inside None h = h ∙ sym (changed_cleared old range key inside)
+    by key false e true inside (Some value) h =
+        let two : false ≡ true = sym e ∙ ap (λ (ks : List Key). is_listed ks key) is ∙ filtered_keys (holds range) old key ∙ rw (inside, h) refl in absurd (cc)
+    by key false e false outside was h = sym (changed_left old range key outside)
+    by key true e false outside was h =
+        let two : true ≡ false = sym e ∙ ap (λ (ks : List Key). is_listed ks key) is ∙ filtered_keys (holds range) old key ∙ rw outside refl in absurd (cc)
+
+-- ---- a row of a journal
+
+-- the change clears the key
+abbrev pub clears : Change → Key → Bool
+clears (Set k value) key = false
+clears (Clear range) key = holds range key
+
+abbrev pub are_clearing : List Change → Key → Bool
+are_clearing changes key = list_any (λ (change : Change). clears change key) changes
+
+-- the value of the key is that among those put, or else what it was if nothing cleared it
+abbrev pub IsOver : (key : Key) (cleared : Bool) (puts old now : Entries) → Type 0
+IsOver key cleared puts old now = entry_value now key ≡ option_or (entry_value puts key) (if cleared then None else entry_value old key)
+
+over_change : (change : Change) (key : Key) (cleared : Bool) (puts old now : Entries) → IsOver key cleared puts old now → IsOver key (cleared || clears change key) (after_change puts change) old (after_change now change)
+over_change (Set k value) key cleared puts old now is = by (is_kept k) cleared is
+  where
+    set : (s : Bool) (put was before : Option (List ℕ)) → was ≡ option_or put before → (if s then Some value else was) ≡ option_or (if s then Some value else put) before
+    set true put was before h = refl
+    set false put was before h = h
+
+    by : (t c : Bool) → IsOver key c puts old now → IsOver key (c || false) (if t then insert_entry key_cmp puts k value else puts) old (if t then insert_entry key_cmp now k value else now)
+    by false true h = h
+    by false false h = h
+    by true true h = value_put now k key value ∙ set (is_same_key key k) (entry_value puts key) (entry_value now key) None h ∙ ap (λ (put : Option (List ℕ)). option_or put None) (sym (value_put puts k key value))
+    by true false h = value_put now k key value ∙ set (is_same_key key k) (entry_value puts key) (entry_value now key) (entry_value old key) h ∙ ap (λ (put : Option (List ℕ)). option_or put (entry_value old key)) (sym (value_put puts k key value))
+over_change (Clear range) key cleared puts old now is = by (holds range key) refl cleared is
+  where
+    by : (t : Bool) → holds range key ≡ t → (c : Bool) → IsOver key c puts old now → IsOver key (c || holds range key) (after_change puts (Clear range)) old (after_change now (Clear range))
+    by true inside true h = rw (changed_cleared now range key inside, changed_cleared puts range key inside) refl
+    by true inside false h = rw (changed_cleared now range key inside, changed_cleared puts range key inside, inside) refl
+    by false outside true h = rw (changed_left now range key outside, changed_left puts range key outside) h
+    by false outside false h = rw (changed_left now range key outside, changed_left puts range key outside, outside) h
+
+either_group : (a b c : Bool) → ((a || b) || c) ≡ (a || (b || c))
+either_group true b c = refl
+either_group false b c = refl
+
+pub over_changes : (changes : List Change) (key : Key) (cleared : Bool) (puts old now : Entries) → IsOver key cleared puts old now → IsOver key (cleared || are_clearing changes key) (after_changes puts changes) old (after_changes now changes)
+over_changes [] key true puts old now is = is
+over_changes [] key false puts old now is = is
+over_changes (change ∷ changes) key cleared puts old now is =
+    subst (λ (t : Bool). IsOver key t (after_changes puts (change ∷ changes)) old (after_changes now (change ∷ changes))) (either_group cleared (clears change key) (are_clearing changes key))
+    (over_changes changes key (cleared || clears change key) (after_change puts change) old (after_change now change) (over_change change key cleared puts old now is))
+
+listed_both : (xs ys : List Key) (key : Key) → is_listed (xs ++ ys) key ≡ (is_listed xs key || is_listed ys key)
+listed_both [] ys key = refl
+listed_both (x ∷ xs) ys key = ap (λ (t : Bool). is_same_key key x || t) (listed_both xs ys key) ∙ sym (either_group (is_same_key key x) (is_listed xs key) (is_listed ys key))
+
+pub listed_cleared : (old : Entries) (changes : List Change) (key : Key) → is_listed (cleared_keys old changes) key ≡ (are_clearing changes key && has_entry old key)
+listed_cleared old [] key = refl
+listed_cleared old (change ∷ changes) key =
+    listed_both (keys_cleared old change) (cleared_keys old changes) key
+    ∙ ap (λ (t : Bool). t || is_listed (cleared_keys old changes) key) (first change)
+    ∙ ap (λ (t : Bool). (clears change key && has_entry old key) || t) (listed_cleared old changes key)
+    ∙ join (clears change key) (are_clearing changes key) (has_entry old key)
+  where
+    first : (change : Change) → is_listed (keys_cleared old change) key ≡ (clears change key && has_entry old key)
+    first (Set k value) = refl
+    first (Clear range) = filtered_keys (holds range) old key
+
+    join : (a b h : Bool) → ((a && h) || (b && h)) ≡ ((a || b) && h)
+    join true true true = refl
+    join true true false = refl
+    join true false true = refl
+    join true false false = refl
+    join false b h = refl
+
+cleared_or_none : (t : Bool) (was : Option (List ℕ)) → (if t && is_some was then None else was) ≡ (if t then None else was)
+cleared_or_none true None = refl
+cleared_or_none true (Some value) = refl
+cleared_or_none false was = refl
+
+-- what a row of a journal leaves is what its own changes put, over what they do not clear
+pub row_overwrites : (row : JournalRow) (removed : List Key) (puts old new : Entries) → IsInOrder old → IsInOrder new
+    → puts ≡ fold (after_state (is_locked old)) [] row.states → removed ≡ cleared_keys old (changes_of (is_locked old) row.states)
+    → IsOverwritten removed puts old new → new ≡ after_journal_row old row
+row_overwrites row removed puts old new s t puts_is removed_is over =
+    same_entries new (after_journal_row old row) t (after_row_in_order old row s) (λ key.
+    over key
+    ∙ ap (λ (rows : Entries). option_or (entry_value rows key) (if is_listed removed key then None else entry_value old key)) (puts_is ∙ states_let_pass row.states (is_locked old) [])
+    ∙ ap (λ (keys : List Key). option_or (entry_value (after_changes [] changes) key) (if is_listed keys key then None else entry_value old key)) removed_is
+    ∙ ap (λ (u : Bool). option_or (entry_value (after_changes [] changes) key) (if u then None else entry_value old key)) (listed_cleared old changes key)
+    ∙ ap (option_or (entry_value (after_changes [] changes) key)) (cleared_or_none (are_clearing changes key) (entry_value old key))
+    ∙ sym (over_changes changes key false [] old old refl)
+    ∙ ap (λ (rows : Entries). entry_value rows key) (sym (states_let_pass row.states (is_locked old) old)))
+  where
+    changes : List Change
+    changes = changes_of (is_locked old) row.states
+
+-- the same of what the calls for a row were given and returned
+pub record AreApplying (row : JournalRow) (old held puts new : Entries) (removed : List Key) : Type 0 where
+  pub locked : Bool
+  pub states : List StateTxn
+  pub made : Entries
+  pub folded : Entries
+  pub held_is : held ≡ old
+  pub locked_is : locked ≡ is_locked old
+  pub states_is : states ≡ row.states
+  pub made_is : made ≡ []
+  pub folded_is : folded ≡ fold (after_state locked) made states
+  pub puts_is : puts ≡ folded
+  pub removed_is : removed ≡ cleared_keys held (changes_of locked states)
+
+pub row_applied : (row : JournalRow) (old held puts new : Entries) (removed : List Key) → AreApplying row old held puts new removed → IsInOrder held → IsInOrder new → IsOverwritten removed puts held new → new ≡ after_journal_row old row
+row_applied row old held puts new removed calls s t over =
+    row_overwrites row removed puts held new s t
+    (calls.puts_is
+    ∙ calls.folded_is
+    ∙ ap (λ (l : Bool). fold (after_state l) calls.made calls.states) lock
+    ∙ ap (λ (rows : Entries). fold (after_state (is_locked held)) rows calls.states) calls.made_is
+    ∙ ap (fold (after_state (is_locked held)) []) calls.states_is)
+    (calls.removed_is ∙ ap (λ (l : Bool). cleared_keys held (changes_of l calls.states)) lock ∙ ap (λ (states : List StateTxn). cleared_keys held (changes_of (is_locked held) states)) calls.states_is)
+    over
+    ∙ ap (λ (rows : Entries). after_journal_row rows row) calls.held_is
+  where
+    lock : calls.locked ≡ is_locked held
+    lock = calls.locked_is ∙ ap is_locked (sym calls.held_is)
+
+pub row_kept_in_order : (row : JournalRow) (old new : Entries) → IsInOrder old × AreKept old → new ≡ after_journal_row old row → IsInOrder new × AreKept new
+row_kept_in_order row old new fine is = subst (λ (rows : Entries). IsInOrder rows × AreKept rows) (sym is) (after_row_in_order old row fine.0, kept_after_row old row fine.1)
+
+-- a row that makes a single change
+pub one_applied : (row : JournalRow) (old new : Entries) (locked : Bool) (states : List StateTxn) (change : Change) → locked ≡ is_locked old → states ≡ row.states
+    → changes_of locked states ≡ change ∷ [] → new ≡ after_change old change → new ≡ after_journal_row old row
+one_applied row old new locked states change locked_is states_is one is =
+    is
+    ∙ ap (after_changes old) (sym one)
+    ∙ sym (states_let_pass states locked old)
+    ∙ ap (λ (l : Bool). fold (after_state l) old states) locked_is
+    ∙ ap (fold (after_state (is_locked old)) old) states_is

@@ -1,0 +1,15 @@
+-- A look-up in the map is a look-up in its entries.
+use Rattle.std.proofs.Common.{◌∙◌, ap, Some}
+use Rattle.model.specs.Metadata.{Entries, entry_value}
+use Rattle.metadata.proofs.MapEntries.{looked_up}
+use Rattle.metadata.proofs.entry_map.EntryMap.get.Goals as goal
+
+pub returns : goal.returns
+returns c =
+    ap Some c.as_slice.ensures ∙ c.in_ok-value.ensures.value ∙ looked_up c.args.key.now c.self.inside.values.entries
+    ∙ ap (λ (entries : Entries). entry_value entries c.args.key.now) c.self.view_is
+
+pub returns-in_err-value : goal.returns-in_err-value
+returns-in_err-value c =
+    rw c.from_residual.ensures (c.in_err-value.ensures.value ∙ looked_up c.args.key.now c.self.inside.values.entries
+    ∙ ap (λ (entries : Entries). entry_value entries c.args.key.now) c.self.view_is)

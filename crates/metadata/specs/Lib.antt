@@ -1,0 +1,10 @@
+-- The definitions, in reading order.
+
+-- the entries of the map, as the model's
+pub mod MapEntries
+-- which keys a row clears, and what each key has afterwards
+pub mod Overwrites
+-- the routes of entries, by the servers that they name themselves
+pub mod OwnRoutes
+-- rows that are being applied, and can be taken back
+pub mod Started

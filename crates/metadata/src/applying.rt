@@ -1,0 +1,100 @@
+//! Which state transactions are applied to the metadata, and which entries they clear.
+
+ghost use Rattle.std.specs.Prelude.{◌≡◌, ◌++◌, ◌∷◌, [], IfOk, IfSome, OnOk};
+ghost use Rattle.std.specs.List.{list_all, list_any};
+ghost use Rattle.model.specs.Verdicts.{is_committed};
+ghost use Rattle.model.specs.Metadata.{is_applied};
+ghost use Rattle.metadata.specs.MapEntries.{bytes_of_keys};
+ghost use Rattle.metadata.specs.Overwrites.{changes_of, cleared_keys};
+
+use crate::entry_map::EntryMap;
+use model::{StateTxn, Verdict};
+use system_keys::{Change, OutOfMemory};
+
+/// Whether the transaction is applied: every resolver committed it, and it is lock aware or the
+/// database is not locked (release 7.1).
+pub(crate) fn is_applied(locked: bool, transaction: &StateTxn) -> bool
+    ensures { result ≡ is_applied locked transaction.now }
+{
+    are_committed(transaction.verdicts.as_slice()) && (transaction.lock_aware || !locked)
+}
+
+/// Whether any of the transactions is applied.
+pub(crate) fn any_applied(locked: bool, transactions: &[StateTxn]) -> bool
+    ensures { result ≡ list_any (is_applied locked) transactions.now }
+{
+    transactions
+        .iter()
+        .any(|transaction| is_applied(locked, transaction))
+}
+
+/// The change that the transactions make, if they are one that is applied and has a single change.
+pub(crate) fn only_change<'a>(locked: bool, transactions: &'a [StateTxn]) -> Option<&'a Change>
+    ensures { IfSome result (λ change. changes_of locked transactions.now ≡ change.now ∷ []) }
+{
+    match transactions {
+        [transaction] if is_applied(locked, transaction) => one_change(transaction),
+        _ => None,
+    }
+}
+
+fn one_change(transaction: &StateTxn) -> Option<&Change>
+    ensures { IfSome result (λ change. transaction.now.mutations ≡ change.now ∷ []) }
+{
+    match transaction.mutations.as_slice() {
+        [change] => Some(change),
+        _ => None,
+    }
+}
+
+/// The keys of the entries in the ranges that the applied transactions clear. Fails only with
+/// `OutOfMemory`.
+pub(crate) fn cleared_keys(
+    entries: &EntryMap,
+    locked: bool,
+    transactions: &[StateTxn],
+) -> Result<Vec<Vec<u8>>, OutOfMemory>
+    ensures { IfOk result (λ keys. bytes_of_keys keys.items
+        ≡ cleared_keys entries.now (changes_of locked transactions.now)) }
+{
+    let mut keys = Vec::new(entries.alloc());
+    for transaction in transactions {
+        if is_applied(locked, transaction) {
+            list_cleared_keys(entries, transaction.mutations.as_slice(), &mut keys)?;
+        }
+    }
+    Ok(keys)
+}
+
+/// Lists the keys of the entries in the ranges that the changes clear. Fails only with
+/// `OutOfMemory`.
+fn list_cleared_keys(
+    entries: &EntryMap,
+    changes: &[Change],
+    keys: &mut Vec<Vec<u8>>,
+) -> Result<(), OutOfMemory>
+    ensures { OnOk result (bytes_of_keys keys.new.items
+        ≡ bytes_of_keys keys.old.items ++ cleared_keys entries.now changes.now) }
+{
+    for change in changes {
+        if let Change::Clear { range } = change {
+            entries.list_keys_inside(range, keys)?;
+        }
+    }
+    Ok(())
+}
+
+fn are_committed(verdicts: &[Verdict]) -> bool
+    ensures { result ≡ list_all is_committed verdicts.now }
+{
+    verdicts.iter().all(|verdict| is_committed(*verdict))
+}
+
+fn is_committed(verdict: Verdict) -> bool
+    ensures { result ≡ is_committed verdict }
+{
+    match verdict {
+        Verdict::Conflict | Verdict::TooOld => false,
+        Verdict::Committed => true,
+    }
+}

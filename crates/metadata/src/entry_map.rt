@@ -1,0 +1,377 @@
+//! The entries that the metadata keeps, in the order of their keys.
+
+ghost use Rattle.std.specs.Prelude.{◌≡◌, ◌++◌, ◌&&◌, [], true, false, None, Some, IfOk, OnOk, OnErr};
+ghost use Rattle.std.specs.Prelude.{option_map, filter, not, if◌then◌else◌};
+ghost use Rattle.std.specs.Option.{option_or};
+ghost use Rattle.std.specs.Ordering.{nat_cmp};
+ghost use Rattle.std.specs.BTreeMap.{insert_entry};
+ghost use Rattle.std.specs.Cmp.Lexicographic.{slice_cmp};
+ghost use Rattle.std.specs.Map.{keys_of};
+ghost use Rattle.system_keys.specs.Keys.{Key, holds};
+ghost use Rattle.system_keys.specs.Families.{key_servers_family};
+ghost use Rattle.model.specs.Metadata.{Entries, IsInOrder, entry_value};
+ghost use Rattle.metadata.specs.MapEntries.{entries_of, bytes_of_keys};
+ghost use Rattle.metadata.specs.MapEntries.{is_serving_up_to, is_serving_inside};
+ghost use Rattle.metadata.specs.Overwrites.{is_same_key, is_listed, has_entry, missing_keys};
+ghost use Rattle.metadata.specs.Overwrites.{IsOverwritten, IsPutOver, TakesBack, AreDisplaced};
+ghost use Rattle.metadata.specs.Overwrites.{entries_without};
+
+use crate::key_set::KeySet;
+use std::alloc::Global;
+use std::collections::BTreeMap;
+use std::collections::btree_map::{Iter, Range};
+use std::marker::Model;
+use std::ops::Bound;
+use system_keys::{Bytes, KEY_SERVERS_PREFIX, KeyRange, OutOfMemory};
+
+/// An ordered map from keys to values. Contracts see the list of its entries, in the order of
+/// their keys.
+#[derive(Drop)]
+pub(crate) struct EntryMap {
+    alloc: Global,
+    values: BTreeMap<Vec<u8>, Bytes>,
+}
+
+impl Model for EntryMap {
+    ghost use Rattle.model.specs.Metadata.{Entries, IsInOrder};
+    ghost use Rattle.metadata.specs.MapEntries.{entries_of};
+
+    ghost Value = { Entries };
+
+    ghost view = { λ m. entries_of m.values.entries };
+
+    ghost invariant = { λ m. IsInOrder (entries_of m.values.entries) };
+}
+
+impl EntryMap {
+    /// A map without entries. Does not allocate.
+    pub(crate) fn new(alloc: Global) -> EntryMap
+        ensures { result ≡ [] }
+    {
+        EntryMap {
+            alloc,
+            values: BTreeMap::new(alloc),
+        }
+    }
+
+    /// The allocator of the map.
+    pub(crate) fn alloc(&self) -> Global {
+        self.alloc
+    }
+
+    /// The value at a key. Does not allocate.
+    pub(crate) fn get<'a>(&'a self, key: &[u8]) -> Option<&'a [u8]>
+        ensures { option_map (λ value. value.now) result ≡ entry_value self.now key.now }
+    {
+        let value = self.values.get(key)?;
+        Some(value.as_slice())
+    }
+
+    /// The entries in the order of their keys. Does not allocate.
+    pub(crate) fn iter(&self) -> Iter<'_, Vec<u8>, Bytes>
+        ensures entries { entries_of result ≡ self.now }
+        ensures order { IsInOrder self.now }
+    {
+        self.values.iter()
+    }
+
+    /// Sets the value at the key. Fails only with `OutOfMemory`; the map is then unchanged.
+    pub(crate) fn put(&mut self, key: &[u8], value: &Bytes) -> Result<(), OutOfMemory>
+        ensures ok { OnOk result
+            (self.new ≡ insert_entry (slice_cmp nat_cmp) self.old key.now value.now) }
+        ensures order { IsInOrder self.new }
+        ensures err { OnErr result (self.new ≡ self.old) }
+    {
+        let key = Vec::from_slice(self.alloc, key)?;
+        let value = value.copy()?;
+        self.values.insert(key, value)?;
+        Ok(())
+    }
+
+    /// Removes the entries of the range. Fails only with `OutOfMemory`, where their keys cannot be
+    /// listed; the map is then unchanged.
+    pub(crate) fn remove(&mut self, range: &KeyRange) -> Result<(), OutOfMemory>
+        ensures ok { OnOk result
+            (self.new ≡ filter (λ entry. not (holds range.now entry.0)) self.old) }
+        ensures err { OnErr result (self.new ≡ self.old) }
+    {
+        let mut keys = Vec::new(self.alloc);
+        self.list_keys_inside(range, &mut keys)?;
+        self.remove_listed(&keys, &EntryMap::new(self.alloc));
+        Ok(())
+    }
+
+    /// Lists the keys of the entries of the range, in order. Fails only with `OutOfMemory`.
+    pub(crate) fn list_keys_inside(
+        &self,
+        range: &KeyRange,
+        keys: &mut Vec<Vec<u8>>,
+    ) -> Result<(), OutOfMemory>
+        ensures { OnOk result (bytes_of_keys keys.new.items ≡ bytes_of_keys keys.old.items
+            ++ keys_of (filter (λ entry. holds range.now entry.0) self.now)) }
+    {
+        let begin = Vec::from_slice(self.alloc, range.begin())?;
+        let end = Vec::from_slice(self.alloc, range.end())?;
+        let bounds = (Bound::Included(&begin), Bound::Excluded(&end));
+        for (key, _) in self.values.range(bounds) {
+            keys.push(Vec::from_slice(self.alloc, key.as_slice())?)?;
+        }
+        Ok(())
+    }
+
+    /// Removes the entries at the keys, except for the keys of the other map. Does not allocate.
+    fn remove_listed(&mut self, keys: &[Vec<u8>], kept: &EntryMap)
+        ensures values { (key : Key) → entry_value self.new key
+            ≡ (if not (has_entry kept.now key) && is_listed (bytes_of_keys keys.now) key
+            then None else entry_value self.old key) }
+        ensures order { IsInOrder self.old → IsInOrder self.new }
+    {
+        for key in keys {
+            self.remove_unless_kept(key.as_slice(), kept);
+        }
+    }
+
+    fn remove_unless_kept(&mut self, key: &[u8], kept: &EntryMap)
+        ensures values { (other : Key) → entry_value self.new other
+            ≡ (if not (has_entry kept.now other) && is_same_key other key.now
+            then None else entry_value self.old other) }
+        ensures order { IsInOrder self.old → IsInOrder self.new }
+    {
+        if kept.get(key).is_none() {
+            self.remove_key(key);
+        }
+    }
+
+    /// Removes the entries at the keys of the set. Does not allocate.
+    pub(crate) fn remove_all(&mut self, keys: &KeySet)
+        ensures { IsInOrder self.old → self.new ≡ entries_without keys.now self.old }
+    {
+        for key in keys.iter() {
+            self.remove_key(key.as_slice());
+        }
+    }
+
+    /// Removes the entry at the key, if there is one. Does not allocate.
+    fn remove_key(&mut self, key: &[u8])
+        ensures values { (other : Key) → entry_value self.new other
+            ≡ (if is_same_key other key.now then None else entry_value self.old other) }
+        ensures order { IsInOrder self.new }
+    {
+        self.values.remove(key);
+    }
+
+    /// Removes the entries at the keys, and then puts all entries of the other map.
+    ///
+    /// What can fail comes first: an entry is added at each key of the other map that this one
+    /// lacks. Fails only with `OutOfMemory`; the map is then unchanged.
+    pub(crate) fn overwrite(
+        &mut self,
+        removed: &[Vec<u8>],
+        puts: EntryMap,
+    ) -> Result<(), OutOfMemory>
+        ensures ok { OnOk result
+            (IsOverwritten (bytes_of_keys removed.now) puts self.old self.new) }
+        ensures order { IsInOrder self.new }
+        ensures err { OnErr result (self.new ≡ self.old) }
+    {
+        let missing = self.missing_keys(&puts)?;
+        match self.add_keys(&missing) {
+            Ok(()) => {
+                self.remove_listed(removed, &puts);
+                self.write(puts);
+                Ok(())
+            }
+            Err(OutOfMemory) => {
+                self.remove_listed(&missing, &EntryMap::new(self.alloc));
+                Err(OutOfMemory)
+            }
+        }
+    }
+
+    /// Puts all entries of the other map, and returns what takes them back. Fails only with
+    /// `OutOfMemory`; the map is then unchanged.
+    pub(crate) fn put_all(&mut self, puts: EntryMap) -> Result<Undo, OutOfMemory>
+        ensures ok { OnOk result (IsPutOver puts self.old self.new) }
+        ensures undo { IfOk result (λ undo. TakesBack undo.0 undo.1 self.old self.new) }
+        ensures order { IsInOrder self.new }
+        ensures err { OnErr result (self.new ≡ self.old) }
+    {
+        let missing = self.missing_keys(&puts)?;
+        let displaced = self.displaced_by(&puts)?;
+        self.overwrite(&[], puts)?;
+        Ok(Undo { missing, displaced })
+    }
+
+    /// The entries at the keys of the other map. Fails only with `OutOfMemory`.
+    fn displaced_by(&self, puts: &EntryMap) -> Result<EntryMap, OutOfMemory>
+        ensures { IfOk result (λ displaced. AreDisplaced self.now puts.now displaced) }
+    {
+        let mut displaced = EntryMap::new(self.alloc);
+        for (key, _) in puts.iter() {
+            self.copy_entry(key.as_slice(), &mut displaced)?;
+        }
+        Ok(displaced)
+    }
+
+    /// Puts a copy of the entry at the key in the other map, if there is one.
+    fn copy_entry(&self, key: &[u8], other: &mut EntryMap) -> Result<(), OutOfMemory>
+        ensures { OnOk result ((at : Key) → entry_value other.new at
+            ≡ (if is_same_key at key.now
+            then option_or (entry_value self.now key.now) (entry_value other.old at)
+            else entry_value other.old at)) }
+    {
+        let Some(value) = self.get(key) else {
+            return Ok(());
+        };
+        let value = Bytes::from(Vec::from_slice(self.alloc, value)?);
+        other.put(key, &value)?;
+        Ok(())
+    }
+
+    /// Takes back entries that were put. Does not allocate.
+    pub(crate) fn take_back(&mut self, undo: Undo)
+        ensures old { (old : Entries) → IsInOrder old → TakesBack undo.0 undo.1 old self.old
+            → self.new ≡ old }
+    {
+        self.remove_listed(&undo.missing, &EntryMap::new(self.alloc));
+        self.write(undo.displaced);
+    }
+
+    /// The keys of the set at which the map has no entry. Fails only with `OutOfMemory`.
+    pub(crate) fn keys_lacked(&self, keys: &KeySet) -> Result<KeySet, OutOfMemory>
+        ensures { IfOk result (λ lacked. (key : Key) → is_listed lacked key
+            ≡ (not (has_entry self.now key) && is_listed keys.now key)) }
+    {
+        let mut lacked = KeySet::new(self.alloc);
+        for key in keys.iter() {
+            if self.get(key.as_slice()).is_none() {
+                lacked.insert(key.as_slice())?;
+            }
+        }
+        Ok(lacked)
+    }
+
+    /// The keys of the other map that this one lacks, in order. Fails only with `OutOfMemory`.
+    fn missing_keys(&self, puts: &EntryMap) -> Result<Vec<Vec<u8>>, OutOfMemory>
+        ensures keys { IfOk result (λ keys. bytes_of_keys keys.items
+            ≡ missing_keys self.now puts.now) }
+        ensures order { IsInOrder self.now }
+    {
+        let mut keys = Vec::new(self.alloc);
+        for (key, _) in puts.iter() {
+            if self.get(key.as_slice()).is_none() {
+                keys.push(Vec::from_slice(self.alloc, key.as_slice())?)?;
+            }
+        }
+        Ok(keys)
+    }
+
+    /// Puts an empty value at each of the keys. Fails only with `OutOfMemory`; only entries at these
+    /// keys may then have changed.
+    fn add_keys(&mut self, keys: &[Vec<u8>]) -> Result<(), OutOfMemory>
+        ensures ok { OnOk result ((key : Key) → entry_value self.new key
+            ≡ (if is_listed (bytes_of_keys keys.now) key then Some [] else entry_value self.old key)) }
+        ensures others { (key : Key) → is_listed (bytes_of_keys keys.now) key ≡ false
+            → entry_value self.new key ≡ entry_value self.old key }
+        ensures order { IsInOrder self.new }
+    {
+        let empty = Bytes::from(Vec::new(self.alloc));
+        for key in keys {
+            self.put(key.as_slice(), &empty)?;
+        }
+        Ok(())
+    }
+
+    /// Puts all entries of the other map, if this one has an entry at each of their keys. Does not
+    /// allocate.
+    fn write(&mut self, puts: EntryMap)
+        ensures values { ((key : Key) → has_entry puts key ≡ true → has_entry self.old key ≡ true)
+            → (key : Key) → entry_value self.new key
+            ≡ option_or (entry_value puts key) (entry_value self.old key) }
+        ensures order { IsInOrder self.old → IsInOrder self.new }
+    {
+        for (key, value) in puts.values {
+            self.fill(key, value);
+        }
+    }
+
+    /// Puts the value at the key, if the map has an entry there. Does not allocate.
+    fn fill(&mut self, key: Vec<u8>, value: Bytes)
+        ensures value { has_entry self.old key.items ≡ true
+            → self.new ≡ insert_entry (slice_cmp nat_cmp) self.old key.items value }
+        ensures order { IsInOrder self.new }
+    {
+        let _ = self.values.insert(key, value);
+    }
+
+    /// The keyServers entries at or before the key, in the order of their keys. Fails only with
+    /// `OutOfMemory`.
+    pub(crate) fn serving_up_to<'a>(
+        &'a self,
+        key: &[u8],
+    ) -> Result<Range<'a, Vec<u8>, Bytes>, OutOfMemory>
+        ensures { IfOk result (λ found. entries_of found
+            ≡ filter (is_serving_up_to key.now) self.now) }
+    {
+        let least = key_servers_key(self.alloc, b"")?;
+        let greatest = key_servers_key(self.alloc, key)?;
+        let bounds = (Bound::Included(&least), Bound::Included(&greatest));
+        Ok(self.values.range(bounds))
+    }
+
+    /// The keyServers entries after the begin of the range and before its end, in the order of
+    /// their keys. Fails only with `OutOfMemory`.
+    pub(crate) fn serving_inside<'a>(
+        &'a self,
+        range: &KeyRange,
+    ) -> Result<Range<'a, Vec<u8>, Bytes>, OutOfMemory>
+        ensures { IfOk result (λ found. entries_of found
+            ≡ filter (is_serving_inside range.now) self.now) }
+    {
+        let begin = key_servers_key(self.alloc, range.begin())?;
+        let end = key_servers_key(self.alloc, range.end())?;
+        let bounds = (Bound::Excluded(&begin), Bound::Excluded(&end));
+        Ok(self.values.range(bounds))
+    }
+
+    /// Returns a deep copy. Fails only with `OutOfMemory`.
+    pub(crate) fn copy(&self) -> Result<EntryMap, OutOfMemory>
+        ensures { IfOk result (λ copy. copy ≡ self.now) }
+    {
+        let values = self.values.clone()?;
+        Ok(EntryMap {
+            alloc: self.alloc,
+            values,
+        })
+    }
+}
+
+/// What takes back entries that were put in a map.
+#[derive(Drop)]
+pub(crate) struct Undo {
+    /// The keys at which there was no entry.
+    missing: Vec<Vec<u8>>,
+    /// The entries at the other keys, as they were.
+    displaced: EntryMap,
+}
+
+impl Model for Undo {
+    ghost use Rattle.std.specs.Prelude.{List};
+    ghost use Rattle.system_keys.specs.Keys.{Key};
+    ghost use Rattle.model.specs.Metadata.{Entries};
+    ghost use Rattle.metadata.specs.MapEntries.{bytes_of_keys};
+
+    ghost Value = { List Key × Entries };
+
+    ghost view = { λ u. (bytes_of_keys u.missing.items, u.displaced) };
+}
+
+/// The key of the keyServers entry at a key. Fails only with `OutOfMemory`.
+fn key_servers_key(alloc: Global, key: &[u8]) -> Result<Vec<u8>, OutOfMemory>
+    ensures { IfOk result (λ whole. whole.items ≡ key_servers_family.prefix ++ key.now) }
+{
+    let mut whole = Vec::with_capacity(alloc, KEY_SERVERS_PREFIX.len() + key.len())?;
+    whole.extend_from_slice(KEY_SERVERS_PREFIX)?;
+    whole.extend_from_slice(key)?;
+    Ok(whole)
+}

@@ -1,0 +1,76 @@
+//! Sets of keys.
+
+ghost use Rattle.std.specs.Prelude.{◌≡◌, ◌||◌, [], OnOk};
+ghost use Rattle.system_keys.specs.Keys.{Key};
+ghost use Rattle.metadata.specs.MapEntries.{bytes_of_keys};
+ghost use Rattle.metadata.specs.Overwrites.{is_same_key, is_listed};
+
+use std::alloc::Global;
+use std::collections::BTreeSet;
+use std::collections::btree_set::Iter;
+use std::marker::Model;
+use system_keys::OutOfMemory;
+
+/// A set of keys. Contracts see the list of them.
+#[derive(Drop)]
+pub(crate) struct KeySet {
+    alloc: Global,
+    keys: BTreeSet<Vec<u8>>,
+}
+
+impl Model for KeySet {
+    ghost use Rattle.std.specs.Prelude.{List};
+    ghost use Rattle.system_keys.specs.Keys.{Key};
+    ghost use Rattle.metadata.specs.MapEntries.{bytes_of_keys};
+
+    ghost Value = { List Key };
+
+    ghost view = { λ s. bytes_of_keys s.keys.keys };
+}
+
+impl KeySet {
+    /// A set without keys. Does not allocate.
+    pub(crate) fn new(alloc: Global) -> KeySet
+        ensures { result ≡ [] }
+    {
+        KeySet {
+            alloc,
+            keys: BTreeSet::new(alloc),
+        }
+    }
+
+    /// Whether the set has the key. Does not allocate.
+    pub(crate) fn contains(&self, key: &[u8]) -> bool
+        ensures { result ≡ is_listed self.now key.now }
+    {
+        self.keys.contains(key)
+    }
+
+    /// The keys. Does not allocate.
+    pub(crate) fn iter(&self) -> Iter<'_, Vec<u8>>
+        ensures { bytes_of_keys result ≡ self.now }
+    {
+        self.keys.iter()
+    }
+
+    /// Adds a copy of the key. Fails only with `OutOfMemory`.
+    pub(crate) fn insert(&mut self, key: &[u8]) -> Result<(), OutOfMemory>
+        ensures { OnOk result ((other : Key)
+            → is_listed self.new other ≡ (is_same_key other key.now || is_listed self.old other)) }
+    {
+        let key = Vec::from_slice(self.alloc, key)?;
+        self.keys.insert(key)?;
+        Ok(())
+    }
+
+    /// Adds copies of the keys. Fails only with `OutOfMemory`; some of them are then added.
+    pub(crate) fn insert_all(&mut self, keys: &[Vec<u8>]) -> Result<(), OutOfMemory>
+        ensures { OnOk result ((other : Key) → is_listed self.new other
+            ≡ (is_listed (bytes_of_keys keys.now) other || is_listed self.old other)) }
+    {
+        for key in keys {
+            self.insert(key.as_slice())?;
+        }
+        Ok(())
+    }
+}

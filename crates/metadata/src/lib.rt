@@ -1,0 +1,22 @@
+//! The metadata that every commit proxy keeps the same: the entries that it keeps, how a row of the
+//! journal changes them, the lock, and the tags of the keys.
+//!
+//! Sources: FoundationDB release 7.1 (how commit proxies apply the state transactions, and which
+//! tags a mutation gets) and this project's profile (the values of entries, a server without a
+//! serverTag entry).
+#![tactic(auto)]
+
+mod applying;
+mod entry_map;
+mod entry_view;
+mod key_set;
+mod metadata;
+mod routes;
+mod staged;
+mod started;
+mod tagging;
+
+pub use entry_view::EntryView;
+pub use metadata::Metadata;
+pub use started::StartedRows;
+pub use tagging::tags_of;

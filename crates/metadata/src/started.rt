@@ -1,0 +1,39 @@
+//! Rows of a journal that are being applied to a metadata.
+
+ghost use Rattle.std.specs.Prelude.{◌≡◌};
+
+use crate::entry_map::Undo;
+use crate::key_set::KeySet;
+use std::marker::Model;
+
+/// Rows of a journal that were started: the metadata has what they put, and still what they remove.
+/// Contracts see what is still to be removed, what takes back what was put, and the lock before the
+/// last row.
+#[derive(Drop)]
+pub struct StartedRows {
+    pub(crate) removed: KeySet,
+    pub(crate) undo: Undo,
+    pub(crate) locked: bool,
+}
+
+impl Model for StartedRows {
+    ghost use Rattle.metadata.specs.Started.{Started};
+
+    ghost Value = { Started };
+
+    ghost view = { λ s. record {
+      removed = s.removed;
+      missing = s.undo.0;
+      displaced = s.undo.1;
+      locked = s.locked;
+    } };
+}
+
+impl StartedRows {
+    /// Whether the database was locked before the last of the rows. Does not allocate.
+    pub fn was_locked(&self) -> bool
+        ensures { result ≡ self.now.locked }
+    {
+        self.locked
+    }
+}

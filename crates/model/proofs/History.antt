@@ -1,0 +1,3 @@
+pub mod Chain
+pub mod Growth
+pub mod Rows

@@ -1,0 +1,6 @@
+pub mod Asked
+pub mod FiniteTests
+pub mod MadeMoves
+pub mod Maps
+pub mod Moves
+pub mod Walks

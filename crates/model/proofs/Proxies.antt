@@ -1,0 +1,3 @@
+pub mod AgreeingReplies
+pub mod Finishing
+pub mod Routings

@@ -1,0 +1,2 @@
+pub mod ByKeys
+pub mod Histories

@@ -1,0 +1,4 @@
+pub mod Askers
+pub mod ByWrites
+pub mod Forgetting
+pub mod LastVersions

@@ -1,5 +1,0 @@
-use Rattle.model.proofs.ColumnLaws.{cells_by_column, column_says}
-use Rattle.model.proofs.column_laws.column_verdicts_law.Goals as goal
-
-pub returns : goal.returns
-returns c = record { cells = cells_by_column; known = column_says }

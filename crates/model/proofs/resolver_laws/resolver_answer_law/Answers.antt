@@ -1,5 +1,0 @@
-use Rattle.model.proofs.MemoryAnswers.{memory_answers, verdicts_of_shares, memory_replies}
-use Rattle.model.proofs.resolver_laws.resolver_answer_law.Goals as goal
-
-pub returns : goal.returns
-returns c = record { answer = memory_answers; verdicts = verdicts_of_shares; reply = memory_replies }

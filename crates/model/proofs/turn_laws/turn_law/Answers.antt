@@ -1,6 +1,0 @@
-use Rattle.model.proofs.InStep.{new_in_step, moved_in_step}
-use Rattle.model.proofs.OfferInStep.{refused_unchanged}
-use Rattle.model.proofs.turn_laws.turn_law.Goals as goal
-
-pub returns : goal.returns
-returns c = record { refused = refused_unchanged; made = new_in_step; moved = moved_in_step }

@@ -1,5 +1,0 @@
-use Rattle.model.proofs.JudgedByWrites.{new_stands, verdicts_of_share, shares_add, forgetting_keeps, forgotten_unchanged}
-use Rattle.model.proofs.write_laws.shares_by_writes_law.Goals as goal
-
-pub returns : goal.returns
-returns c = record { made = new_stands; verdicts = verdicts_of_share; judged = shares_add; forgotten = forgetting_keeps; unchanged = forgotten_unchanged }

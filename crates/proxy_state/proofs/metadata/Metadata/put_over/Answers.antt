@@ -1,6 +1,0 @@
--- The entries with others put over them are in order, and all of their keys kept.
-use Rattle.proxy_state.proofs.EntriesLeft.{over_kept}
-use Rattle.proxy_state.proofs.metadata.Metadata.put_over.Goals as goal
-
-pub invariant_of-self-2 : goal.invariant_of-self-2
-invariant_of-self-2 c = (c.in_ok-undo.ensures.order, over_kept c.puts.inside.entries c.self.inside.entries c.put_all.new.self c.puts.invariant.1 c.self.invariant.1 c.in_ok-undo.ensures.ok)

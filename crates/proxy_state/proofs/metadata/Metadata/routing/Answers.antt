@@ -1,8 +1,0 @@
--- Each part of the routing is read from the rows.
-use Rattle.std.proofs.Common.{refl}
-use Rattle.model.specs.Metadata.{routing}
-use Rattle.proxy_state.proofs.metadata.Metadata.routing.Goals as goal
-
-pub returns : goal.returns
-unfolding routing
-returns c = rw (c.is_locked.ensures, c.in_ok-metadata_version.ensures, c.in_ok-routes.ensures, c.self.view_is) refl

@@ -1,8 +1,0 @@
--- The routes so far, and those of the entries that are left, are the own routes of all entries.
-use Rattle.std.proofs.Common.{◌≡◌, ◌++◌}
-use Rattle.proxy_state.specs.MapEntries.{entries_of}
-use Rattle.proxy_state.specs.OwnRoutes.{own_routes}
-use Rattle.proxy_state.proofs.routes.routes.Given as goal
-
-abbrev pub invariant-loop-key : goal.invariant-loop-key
-invariant-loop-key l = l.routes.items ++ own_routes l.view (entries_of l.key-iterator) ≡ own_routes l.view l.entries

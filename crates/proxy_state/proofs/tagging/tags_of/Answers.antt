@@ -1,7 +1,0 @@
-use Rattle.std.proofs.Common.{rules}
-use Rattle.model.specs.Metadata.{tags}
-use Rattle.proxy_state.proofs.tagging.tags_of.Goals as goal
-
-pub returns-in-Set : goal.returns-in-Set
-unfolding tags
-returns-in-Set c = search rules

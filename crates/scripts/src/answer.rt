@@ -1,0 +1,59 @@
+//! The output of a script of any kind.
+
+ghost use Rattle.std.specs.Prelude.{◌≡◌, ◌++◌, ℕ, List, IfOk, OnOk, Ok, string_bytes};
+ghost use Rattle.scripts.specs.Answers.{Answer, IsOutput, answer_of};
+ghost use Rattle.scripts.specs.Scripts.{read_as};
+ghost use Rattle.scripts.specs.Statuses.{IsAnswered};
+
+use crate::checks::Checked;
+use crate::output::{Output, refused};
+use crate::reading::read_checked;
+use crate::status::RunStatus;
+use crate::streams::Streamed;
+use std::alloc::Global;
+use system_keys::OutOfMemory;
+
+/// A kind of script: how one is read, and what is printed of it.
+pub trait ScriptKind {
+    /// A script as it is written.
+    type Raw: Streamed;
+
+    /// A script whose keys, values and ranges are checked.
+    type Script: Checked<Self::Raw>;
+
+    ghost printed: { Self.Script → List ℕ };
+
+    ghost answer_to: { List ℕ → Answer };
+
+    /// Prints what a script comes to. Fails only with `OutOfMemory`.
+    fn print(alloc: Global, text: &mut String, script: &Self::Script) -> Result<(), OutOfMemory>
+        ensures { OnOk result (string_bytes text.new
+            ≡ string_bytes text.old ++ printed script.now) };
+
+    ghost answers: { (bytes : List ℕ) → answer_to bytes
+        ≡ answer_of printed (read_as Self.Raw.shape Self.Script.checked bytes) };
+}
+
+/// The output for a script of this kind: what is printed of it, or its first fault (this project's
+/// profile). Fails only with `OutOfMemory`.
+pub fn answer<K: ScriptKind>(alloc: Global, bytes: &[u8]) -> Result<Output, OutOfMemory>
+    ensures output { IfOk result (IsOutput (K.answer_to bytes.now)) }
+    ensures answered { IfOk result (λ output. IsAnswered output.status) }
+{
+    match read_checked::<K::Raw, K::Script>(alloc, bytes) {
+        Ok(script) => output_of::<K>(alloc, &script),
+        Err(fault) => refused(alloc, fault),
+    }
+}
+
+fn output_of<K: ScriptKind>(alloc: Global, script: &K::Script) -> Result<Output, OutOfMemory>
+    ensures output { IfOk result (IsOutput (answer_of K.printed (Ok script.now))) }
+    ensures answered { IfOk result (λ output. IsAnswered output.status) }
+{
+    let mut text = String::new(alloc);
+    K::print(alloc, &mut text, script)?;
+    Ok(Output {
+        text,
+        status: RunStatus::Done,
+    })
+}

@@ -1,6 +1,0 @@
--- So many so far.
-use Rattle.shared_cluster.specs.Parts.{AreNewProxies}
-use Rattle.shared_cluster.proofs.starting.new_proxies.Given as goal
-
-abbrev pub invariant-loop-number : goal.invariant-loop-number
-invariant-loop-number l = AreNewProxies l.config l.number l.made.items

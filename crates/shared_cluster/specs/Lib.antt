@@ -1,4 +1,0 @@
-pub mod Events
-pub mod Kept
-pub mod Parts
-pub mod Steps

@@ -1,0 +1,150 @@
+-- A resolver gets the request for a row.
+use Rattle.std.proofs.Common.{◌≡◌, refl, sym, ap, ◌∙◌, subst, ℕ, zero, suc, ◌+◌, ◌<◌, ◌≤◌, List, [], ◌∷◌, ◌++◌, map, length, slice_get, slice_set, true, nat_le, Option, Some, None, option_map, arith}
+use Rattle.std.specs.Prelude.{Ok, Err, IsOk}
+use Rattle.std.proofs.lemmas.Bool.{le-leb}
+use Rattle.std.proofs.lemmas.List.{length-map}
+use Rattle.std.proofs.lemmas.Option.{slice_get-map}
+use Rattle.system_keys.specs.AsSpecified.{IsFaultOf}
+use Rattle.model.specs.Configs.{Config}
+use Rattle.model.specs.declared.reply.Reply.{Reply}
+use Rattle.model.specs.Records.{Record}
+use Rattle.model.specs.Shares.{each_below}
+use Rattle.model.specs.Requests.{Request}
+use Rattle.model.specs.Offers.{OfferResult, sent_request, judged_requests, answer_to, world_answer}
+use Rattle.model.specs.Offers as offers
+use Rattle.model.specs.ResolverMemory.{ResolverView, StandsForRequests}
+use Rattle.model.specs.Finishing.{ProxyView}
+use Rattle.model.specs.World.{World, Answer, Offer, Handled, NoSuchRow, WrongResolver, handle_event}
+use Rattle.model.specs.World as world
+use Rattle.model.specs.Turns.{TurnCluster, success_or_refusal, answer_to_event, after_event, AreInStep, sent_requests}
+use Rattle.model.specs.Laws.Worlds.{IsOffered}
+use Rattle.model.proofs.Worlds.Offers.{answers_as_world, judged_row_next, judged_in_step}
+use Rattle.model.proofs.Resolvers.Judged.{others_change_nothing}
+use Rattle.model.proofs.Journals.ReplyRows.{slice_get-each_below, length-each_below}
+use Rattle.state_memory.specs.Answers.{fault_of as offer_fault}
+use Rattle.state_memory.specs.declared.refusal.Refusal.{Refusal as Offered}
+use Rattle.state_memory.specs.declared.refusal.Refusal.TheVariants as offer_refusals
+use Rattle.turn_world.specs.Events.{fault_of}
+use Rattle.turn_world.specs.Kept.{IsKept, records_of, requests_of}
+use Rattle.turn_world.specs.Parts.{HasJudgedAt}
+use Rattle.turn_world.specs.Steps.{passed_on, IsOfTheWorld}
+use Rattle.turn_world.specs.declared.refusal.Refusal.{Refusal}
+use Rattle.turn_world.specs.declared.refusal.Refusal.TheVariants as refusals
+use Rattle.turn_world.specs.declared.kept_record.KeptRecord.{KeptRecord}
+
+no_element : {X : Type 0} (xs : List X) (i : ℕ) → length xs ≤ i → slice_get xs i ≡ None
+no_element [] i past = refl
+no_element (x ∷ xs) zero past = absurd (omega (arith, past))
+no_element (x ∷ xs) (suc i) past = no_element xs i (omega (arith, past))
+
+pub no_row : (config : Config) (rows : List KeptRecord) (w : World) (now : TurnCluster) (row r : ℕ) → w.history ≡ records_of rows → (record { config = config; world = w }) ≡ now → length rows ≤ row → answer_to_event now (Offer row r) ≡ Err NoSuchRow
+unfolding handle_event
+no_row config rows w now row r is view past =
+    let none : slice_get w.history row ≡ None = ap (λ (h : List Record). slice_get h row) is ∙ slice_get-map (λ (x : KeptRecord). x.rec) rows row ∙ ap (option_map (λ (x : KeptRecord). x.rec)) (no_element rows row past) in
+    ap (λ (t : TurnCluster). answer_to_event t (Offer row r)) (sym view) ∙ rw none refl
+
+pub record_at : (rows : List KeptRecord) (row : ℕ) (one : KeptRecord) → slice_get rows row ≡ Some one → slice_get (records_of rows) row ≡ Some one.rec
+record_at rows row one at = slice_get-map (λ (x : KeptRecord). x.rec) rows row ∙ ap (option_map (λ (x : KeptRecord). x.rec)) at
+
+pub no_resolver : (config : Config) (w : World) (now : TurnCluster) (row r : ℕ) (rec : Record) → (record { config = config; world = w }) ≡ now → slice_get w.history row ≡ Some rec → config.resolvers ≤ r → answer_to_event now (Offer row r) ≡ Err WrongResolver
+unfolding handle_event
+no_resolver config w now row r rec view at past =
+    let unknown : nat_le config.resolvers r ≡ true = le-leb config.resolvers r past in
+    ap (λ (t : TurnCluster). answer_to_event t (Offer row r)) (sym view) ∙ rw (at, unknown) refl
+
+-- the requests for a row are those that were sent for its record
+pub requests_at : (config : Config) (w : World) (rows : List KeptRecord) (row : ℕ) (one : KeptRecord) → w.history ≡ records_of rows → requests_of rows ≡ map (sent_requests config w) w.history → slice_get rows row ≡ Some one → one.requests ≡ sent_requests config w one.rec
+requests_at config w rows row one is sent at =
+    let left : slice_get (requests_of rows) row ≡ Some one.requests = slice_get-map (λ (x : KeptRecord). x.requests) rows row ∙ ap (option_map (λ (x : KeptRecord). x.requests)) at in
+    let right : slice_get (requests_of rows) row ≡ Some (sent_requests config w one.rec) = ap (λ (qs : List (List Request)). slice_get qs row) sent ∙ slice_get-map (sent_requests config w) w.history row ∙ ap (option_map (sent_requests config w)) (ap (λ (h : List Record). slice_get h row) is ∙ record_at rows row one at) in
+    let both : Some one.requests ≡ Some (sent_requests config w one.rec) = sym left ∙ right in
+    cc
+
+pub request_at : (config : Config) (w : World) (rec : Record) (r : ℕ) (q : Request) → r < config.resolvers → slice_get (sent_requests config w rec) r ≡ Some q → q ≡ sent_request config w r rec
+request_at config w rec r q there at =
+    let own : slice_get (sent_requests config w rec) r ≡ Some (sent_request config w r rec) = slice_get-map (λ (s : ℕ). sent_request config w s rec) (each_below config.resolvers) r ∙ ap (option_map (λ (s : ℕ). sent_request config w s rec)) (slice_get-each_below config.resolvers r there) in
+    let both : Some q ≡ Some (sent_request config w r rec) = sym at ∙ own in
+    cc
+
+-- what the world answers, by what the resolver answers
+pub judged_told : (specified : OfferResult) (answer : Answer) (reply : Reply) → world_answer specified ≡ Some answer → specified ≡ Ok (offers.Judged reply) → answer ≡ world.Judged reply
+judged_told specified answer reply told is = let both : Some (world.Judged reply) ≡ Some answer = ap world_answer (sym is) ∙ told in cc
+
+pub again_told : (specified : OfferResult) (answer : Answer) (reply : Reply) → world_answer specified ≡ Some answer → specified ≡ Ok (offers.Again reply) → answer ≡ world.Again reply
+again_told specified answer reply told is = let both : Some (world.Again reply) ≡ Some answer = ap world_answer (sym is) ∙ told in cc
+
+pub in_chain : (specified : OfferResult) (answer : Answer) (refusal : Offered) → world_answer specified ≡ Some answer → IsFaultOf (offer_fault refusal) specified → IsOfTheWorld refusal
+in_chain specified answer (offer_refusals.OutsideChain version) told is = let both : None ≡ Some answer = ap world_answer (sym is) ∙ told in absurd (cc)
+in_chain specified answer offer_refusals.WrongResolver told is = tt
+in_chain specified answer offer_refusals.NoSuchProxy told is = tt
+in_chain specified answer (offer_refusals.GivenUp acknowledged) told is = tt
+in_chain specified answer (offer_refusals.Early version) told is = tt
+in_chain specified answer offer_refusals.OutOfMemory told is = tt
+
+told_fault : (specified : OfferResult) (answer : Answer) (fault : offers.OfferFault) (why : world.Refusal) (result known : Refusal) → fault_of known ≡ Some why → world_answer (Err fault) ≡ Some (world.Refused why) → world_answer specified ≡ Some answer → specified ≡ Err fault → Some known ≡ Some result → IsFaultOf (fault_of result) (success_or_refusal answer)
+told_fault specified answer fault why result known known_is passed told is same =
+    let both : Some (world.Refused why) ≡ Some answer = sym passed ∙ ap world_answer (sym is) ∙ told in
+    let answer_is : world.Refused why ≡ answer = cc in
+    let result_is : known ≡ result = cc in
+    subst (λ (f : Option world.Refusal). IsFaultOf f (success_or_refusal answer)) (sym known_is ∙ ap fault_of result_is) (ap success_or_refusal (sym answer_is))
+
+served : (specified : OfferResult) (answer : Answer) → world_answer specified ≡ Some answer → IsOk specified → IsOk (success_or_refusal answer)
+served (Ok (offers.Judged reply)) answer told ok = let is : world.Judged reply ≡ answer = cc in subst (λ (a : Answer). IsOk (success_or_refusal a)) is refl
+served (Ok (offers.Again reply)) answer told ok = let is : world.Again reply ≡ answer = cc in subst (λ (a : Answer). IsOk (success_or_refusal a)) is refl
+served (Err fault) answer told ok = absurd (cc)
+
+pub refused_told : (specified : OfferResult) (answer : Answer) (refusal : Offered) (result : Refusal) → world_answer specified ≡ Some answer → IsFaultOf (offer_fault refusal) specified → passed_on refusal ≡ Some result → IsFaultOf (fault_of result) (success_or_refusal answer)
+refused_told specified answer offer_refusals.WrongResolver result told is same = told_fault specified answer _ _ result _ refl refl told is same
+refused_told specified answer offer_refusals.NoSuchProxy result told is same = told_fault specified answer _ _ result _ refl refl told is same
+refused_told specified answer (offer_refusals.OutsideChain version) result told is same = absurd (cc)
+refused_told specified answer (offer_refusals.GivenUp acknowledged) result told is same = told_fault specified answer _ _ result _ refl refl told is same
+refused_told specified answer (offer_refusals.Early version) result told is same = told_fault specified answer _ _ result _ refl refl told is same
+refused_told specified answer offer_refusals.OutOfMemory result told is same = let known : refusals.OutOfMemory ≡ result = cc in subst (λ (x : Refusal). IsFaultOf (fault_of x) (success_or_refusal answer)) known (served specified answer told is)
+
+-- the answer to the event, from the answer of the world
+pub event_answer : (config : Config) (w : World) (now : TurnCluster) (row r : ℕ) (answer : Answer) → (record { config = config; world = w }) ≡ now → (handle_event config w (Offer row r)).answer ≡ answer → answer_to_event now (Offer row r) ≡ success_or_refusal answer
+event_answer config w now row r answer view is = ap (λ (t : TurnCluster). answer_to_event t (Offer row r)) (sym view) ∙ ap success_or_refusal is
+
+pub judged_kept : (config : Config) (w : World) (row r : ℕ) (rec : Record) (v : ResolverView) (q : Request) (resolvers after : List ResolverView) (proxies : List ProxyView) (requests : List (List Request)) (last : ℕ) (reply : Reply) → IsKept config w resolvers proxies requests last → IsOffered config w row r rec v resolvers proxies requests → q ≡ sent_request config w r rec → (handle_event config w (Offer row r)).answer ≡ world.Judged reply → HasJudgedAt resolvers r v q after
+    → IsKept config (record w { judged_counts = slice_set w.judged_counts r (row + 1) }) after proxies requests last
+judged_kept config w row r rec v q resolvers after proxies requests last reply keeps is_offered q_is answered judged =
+    record {
+      parts = subst (λ (x : World). AreInStep config x after proxies requests) (judged_row_next config w row r rec v resolvers proxies requests reply is_offered answered)
+          (subst (λ (rs : List ResolverView). AreInStep config (handle_event config w (Offer row r)).world rs proxies requests) (sym judged.after_is)
+          (judged_in_step config w row r rec v judged.new resolvers proxies requests reply is_offered answered judged.number judged.proxies judged.window
+          (subst (λ (s : Request). StandsForRequests judged.new (judged_requests config w r ++ s ∷ [])) q_is (judged.gains (judged_requests config w r) (answers_as_world config w row r rec v resolvers proxies requests is_offered).0))));
+      last_is = keeps.last_is;
+      below = keeps.below;
+    }
+
+pub judged_after : (config : Config) (w : World) (now : TurnCluster) (row r : ℕ) (rec : Record) (v : ResolverView) (resolvers : List ResolverView) (proxies : List ProxyView) (requests : List (List Request)) (reply : Reply) → (record { config = config; world = w }) ≡ now → IsOffered config w row r rec v resolvers proxies requests → (handle_event config w (Offer row r)).answer ≡ world.Judged reply
+    → (record { config = config; world = record w { judged_counts = slice_set w.judged_counts r (row + 1) } }) ≡ after_event now (Offer row r)
+judged_after config w now row r rec v resolvers proxies requests reply view is_offered answered =
+    ap (λ (x : World). record { config = config; world = x }) (sym (judged_row_next config w row r rec v resolvers proxies requests reply is_offered answered)) ∙ ap (λ (t : TurnCluster). after_event t (Offer row r)) view
+
+pub again_after : (config : Config) (w : World) (now : TurnCluster) (row r : ℕ) (reply : Reply) → (record { config = config; world = w }) ≡ now → (handle_event config w (Offer row r)).answer ≡ world.Again reply → (record { config = config; world = w }) ≡ after_event now (Offer row r)
+again_after config w now row r reply view answered =
+    ap (λ (x : World). record { config = config; world = x }) (sym (others_change_nothing config w row r (λ other same. let both : world.Again reply ≡ world.Judged other = sym answered ∙ same in absurd (cc)))) ∙ ap (λ (t : TurnCluster). after_event t (Offer row r)) view
+
+-- what is known where a resolver has answered the request for a row
+pub record Known (config : Config) (w : World) (row r : ℕ) (one : KeptRecord) (v : ResolverView) (q : Request) (resolvers : List ResolverView) (proxies : List ProxyView) (requests : List (List Request)) : Type 0 where
+  pub is_offered : IsOffered config w row r one.rec v resolvers proxies requests
+  pub q_is : q ≡ sent_request config w r one.rec
+  pub stands : StandsForRequests v (judged_requests config w r)
+  pub told : world_answer (answer_to v.number (length v.proxies) v.written.window (judged_requests config w r) q) ≡ Some (handle_event config w (Offer row r)).answer
+
+pub known : (config : Config) (w : World) (rows : List KeptRecord) (row r : ℕ) (one : KeptRecord) (v : ResolverView) (q : Request) (resolvers : List ResolverView) (proxies : List ProxyView) (last : ℕ) → w.history ≡ records_of rows → IsKept config w resolvers proxies (requests_of rows) last → r < config.resolvers → slice_get rows row ≡ Some one → slice_get one.requests r ≡ Some q → slice_get resolvers r ≡ Some v → Known config w row r one v q resolvers proxies (requests_of rows)
+known config w rows row r one v q resolvers proxies last is keeps there at at_q at_v =
+    record { is_offered = is_offered; q_is = q_is; stands = answers.0; told = ap (λ (s : Request). world_answer (answer_to v.number (length v.proxies) v.written.window (judged_requests config w r) s)) q_is ∙ answers.1 }
+  where
+    is_offered : IsOffered config w row r one.rec v resolvers proxies (requests_of rows)
+    is_offered = record { parts = keeps.parts; there = there; resolver_is = at_v; record_is = ap (λ (h : List Record). slice_get h row) is ∙ record_at rows row one at }
+
+    q_is : q ≡ sent_request config w r one.rec
+    q_is = request_at config w one.rec r q there (ap (λ (qs : List Request). slice_get qs r) (sym (requests_at config w rows row one is keeps.parts.requests_are at)) ∙ at_q)
+
+    answers : StandsForRequests v (judged_requests config w r) × (world_answer (answer_to v.number (length v.proxies) v.written.window (judged_requests config w r) (sent_request config w r one.rec)) ≡ Some (handle_event config w (Offer row r)).answer)
+    answers = answers_as_world config w row r one.rec v resolvers proxies (requests_of rows) is_offered
+
+pub request_count : (config : Config) (w : World) (rows : List KeptRecord) (row : ℕ) (one : KeptRecord) (resolvers : List ResolverView) (proxies : List ProxyView) (last : ℕ) → w.history ≡ records_of rows → IsKept config w resolvers proxies (requests_of rows) last → slice_get rows row ≡ Some one → length one.requests ≡ config.resolvers
+request_count config w rows row one resolvers proxies last is keeps at = ap length (requests_at config w rows row one is keeps.parts.requests_are at) ∙ length-map (each_below config.resolvers) (λ (r : ℕ). sent_request config w r one.rec) ∙ length-each_below config.resolvers

@@ -1,0 +1,324 @@
+//! A cluster without threads.
+
+ghost use Rattle.std.specs.Prelude.{◌≡◌, [], ◌∷◌, ◌++◌, ◌+◌, ◌<◌, ◌≤◌, map, vec_len};
+ghost use Rattle.std.specs.Vec.{vec_capacity};
+ghost use Rattle.std.specs.Prelude.{Result, IsOk, IfOk, OnOk, OnErr, MatchOption, MatchResult};
+ghost use Rattle.model.specs.Configs.{version_limit};
+ghost use Rattle.model.specs.Records.{last_version};
+ghost use Rattle.model.specs.World.{Sequence, MoveRange, Offer as OfferOf, Finish};
+ghost use Rattle.model.specs.World.{initial_world};
+ghost use Rattle.model.specs.World.{next_record};
+ghost use Rattle.model.specs.Serial.{IsSerial};
+ghost use Rattle.model.specs.Turns.{after_event, answer_to_event, IsResolverOf, IsProxyOf};
+ghost use Rattle.turn_world.specs.Events.{event_of};
+ghost use Rattle.turn_world.specs.Steps.{AnswersEvent, HasCarriedOut, HasStopped};
+ghost use Rattle.turn_world.specs.declared.answer.Answer.{Answer as TheAnswer};
+ghost use Rattle.turn_world.specs.declared.refusal.Refusal.{Refusal as TheRefusal};
+
+use crate::answer::Answer;
+use crate::event::Event;
+use crate::finishing::{finish_at, first_missing, kept_replies};
+use crate::kept_record::KeptRecord;
+use crate::offering::{offer_at, passed_on};
+use crate::refusal::Refusal;
+use crate::sequencing::begin_at;
+use crate::starting::{new_proxies, new_resolvers, zeros};
+use crate::stopped::Stopped;
+use model::{Config, Move, ProxyNumber, ResolverNumber, RowNumber, VERSION_LIMIT, Version};
+use mutation::Batch;
+use proxy_state::Proxy;
+use request_builder::Record;
+use state_memory::{Answer as OfferAnswer, Resolver};
+use std::alloc::Global;
+use std::marker::Model;
+use system_keys::{KeyRange, OutOfMemory};
+
+/// A cluster without threads, which carries out one event after another. It sequences by itself.
+#[derive(Drop)]
+pub struct TurnWorld {
+    config: Config,
+    rows: Vec<KeptRecord>,
+    moves: Vec<Move>,
+    judged_counts: Vec<usize>,
+    finished: Vec<usize>,
+    resolvers: Vec<Resolver>,
+    proxies: Vec<Proxy>,
+    last: Version,
+}
+
+impl Model for TurnWorld {
+    ghost use Rattle.model.specs.Turns.{TurnCluster};
+    ghost use Rattle.turn_world.specs.Kept.{world_of, requests_of, IsKept};
+
+    ghost Value = { TurnCluster };
+
+    ghost view = { λ t. record {
+      config = t.config;
+      world = world_of t.rows.items t.moves.items t.judged_counts.items t.finished.items;
+    } };
+
+    ghost invariant = { λ t. IsKept t.config
+        (world_of t.rows.items t.moves.items t.judged_counts.items t.finished.items)
+        t.resolvers.items t.proxies.items (requests_of t.rows.items) t.last };
+}
+
+impl TurnWorld {
+    /// Returns the cluster before its first event. Fails only with `OutOfMemory`.
+    pub fn new(alloc: Global, config: &Config) -> Result<TurnWorld, OutOfMemory>
+        ensures { IfOk result (λ made.
+            made ≡ record { config = config.now; world = initial_world config.now }) }
+    {
+        Ok(TurnWorld {
+            config: *config,
+            rows: Vec::new(alloc),
+            moves: Vec::new(alloc),
+            judged_counts: zeros(alloc, config.resolvers())?,
+            finished: zeros(alloc, config.proxies())?,
+            resolvers: new_resolvers(alloc, config)?,
+            proxies: new_proxies(alloc, config)?,
+            last: 0,
+        })
+    }
+
+    /// The proxy of this number, or None if the cluster has none.
+    pub fn proxy(&self, proxy: ProxyNumber) -> Option<&Proxy>
+        ensures { MatchOption result (self.now.config.proxies ≤ proxy)
+            (λ found. (proxy < self.now.config.proxies)
+            × IsProxyOf self.now.config self.now.world proxy found.now) }
+    {
+        self.proxies.get(proxy)
+    }
+
+    /// The resolver of this number, or None if the cluster has none.
+    pub fn resolver(&self, resolver: ResolverNumber) -> Option<&Resolver>
+        ensures { MatchOption result (self.now.config.resolvers ≤ resolver)
+            (λ found. (resolver < self.now.config.resolvers)
+            × IsResolverOf self.now.config self.now.world resolver found.now) }
+    {
+        self.resolvers.get(resolver)
+    }
+
+    /// Carries out one event, and returns its answer. A refused event changes nothing, and the event
+    /// fails with `OutOfMemory` only if it is not refused otherwise.
+    ///
+    /// The records of the cluster obey the rule of commit after each event.
+    pub fn step(&mut self, event: &Event) -> Result<Answer, Refusal>
+        ensures answer { AnswersEvent self.old (event_of event.now) result }
+        ensures ok { OnOk result (self.new ≡ after_event self.old (event_of event.now)) }
+        ensures err { OnErr result (self.new ≡ self.old) }
+        ensures serial { IsSerial self.new.config self.new.world.history }
+    {
+        let result = self.carry_out(event);
+        let _ = &self.config;
+        result
+    }
+
+    /// Carries out the events in order, and returns their results. A refused event changes nothing,
+    /// and the run goes on with the next one. It stops early only if an allocation fails: before the
+    /// first event, or before one that is not refused. Then the cluster is as the events before left
+    /// it.
+    ///
+    /// Read a proxy by [`TurnWorld::proxy`]: its journal is that of the history up to its version,
+    /// and its metadata is the fold of this journal. The records of the cluster obey the rule of
+    /// commit, also after a run that stopped.
+    pub fn run(
+        &mut self,
+        alloc: Global,
+        events: &[Event],
+    ) -> Result<Vec<Result<Answer, Refusal>>, Stopped>
+        ensures results { MatchResult result
+            (λ answers. HasCarriedOut self.old self.new (map event_of events.now) answers.items)
+            (λ stopped. HasStopped self.old self.new (map event_of events.now) stopped) }
+        ensures serial { IsSerial self.new.config self.new.world.history }
+    {
+        let result = self.carry_out_all(alloc, events);
+        let _ = &self.config;
+        result
+    }
+
+    /// Carries out the events in order, until an allocation fails.
+    fn carry_out_all(
+        &mut self,
+        alloc: Global,
+        events: &[Event],
+    ) -> Result<Vec<Result<Answer, Refusal>>, Stopped>
+        ensures { MatchResult result
+            (λ answers. HasCarriedOut self.old self.new (map event_of events.now) answers.items)
+            (λ stopped. HasStopped self.old self.new (map event_of events.now) stopped) }
+    {
+        let Ok(mut answers) = Vec::with_capacity(alloc, events.len()) else {
+            return Err(Stopped {
+                carried_out: 0,
+                answers: Vec::new(alloc),
+            });
+        };
+        for (carried_out, event) in events.iter().enumerate() {
+            let Ok(()) = self.append_answer(event, &mut answers) else {
+                return Err(Stopped {
+                    carried_out,
+                    answers,
+                });
+            };
+        }
+        Ok(answers)
+    }
+
+    /// Carries out one event, and appends its result to the answers, which must have room for it.
+    /// If an allocation fails, the cluster and the answers are unchanged, and the event is not one
+    /// that is refused.
+    fn append_answer(
+        &mut self,
+        event: &Event,
+        answers: &mut Vec<Result<Answer, Refusal>>,
+    ) -> Result<(), OutOfMemory>
+        requires { vec_len answers.old < vec_capacity answers.old }
+        ensures ok { OnOk result ((told : Result TheAnswer TheRefusal)
+            × (answers.new.items ≡ answers.old.items ++ told ∷ [])
+            × HasCarriedOut self.old self.new (event_of event.now ∷ []) (told ∷ [])) }
+        ensures err { OnErr result ((self.new ≡ self.old)
+            × (answers.new.items ≡ answers.old.items)
+            × IsOk (answer_to_event self.old (event_of event.now))) }
+        ensures room { vec_capacity answers.new ≡ vec_capacity answers.old }
+    {
+        match self.step(event) {
+            Ok(answer) => answers.push_reserved(Ok(answer)),
+            Err(refusal) => {
+                if refusal.is_out_of_memory() {
+                    return Err(OutOfMemory);
+                }
+                answers.push_reserved(Err(refusal));
+            }
+        }
+        Ok(())
+    }
+
+    /// Carries out one event by its own call.
+    fn carry_out(&mut self, event: &Event) -> Result<Answer, Refusal>
+        ensures answer { AnswersEvent self.old (event_of event.now) result }
+        ensures ok { OnOk result (self.new ≡ after_event self.old (event_of event.now)) }
+        ensures err { OnErr result (self.new ≡ self.old) }
+    {
+        match event {
+            Event::Sequence { proxy, batch } => self.sequence(*proxy, batch),
+            Event::Move { range, dest } => self.move_range(range, *dest),
+            Event::Offer { row, resolver } => self.offer(*row, *resolver),
+            Event::Finish { proxy } => self.finish(*proxy),
+        }
+    }
+
+    /// A batch of the proxy gets the next record, and the proxy begins it.
+    fn sequence(&mut self, proxy: ProxyNumber, batch: &Batch) -> Result<Answer, Refusal>
+        ensures answer { AnswersEvent self.old (Sequence proxy batch.now) result }
+        ensures ok { OnOk result (self.new ≡ after_event self.old (Sequence proxy batch.now)) }
+        ensures err { OnErr result (self.new ≡ self.old) }
+    {
+        if self.config.proxies() <= proxy {
+            return Err(Refusal::NoSuchProxy);
+        }
+        if VERSION_LIMIT - self.last <= self.config.step() {
+            return Err(Refusal::VersionsEnd);
+        }
+        let rec = self.next_record(proxy, batch)?;
+        let Ok(()) = self.rows.reserve(1) else {
+            return Err(Refusal::OutOfMemory);
+        };
+        let row = self.rows.len();
+        let version = rec.version();
+        let received = self.proxies[proxy].version();
+        let requests = begin_at(&mut self.proxies, proxy, &rec)?;
+        self.rows.push_reserved(KeptRecord {
+            rec,
+            received,
+            requests,
+        });
+        self.last = version;
+        Ok(Answer::Sequenced { row, version })
+    }
+
+    /// The record that the next batch gets.
+    fn next_record(&self, proxy: ProxyNumber, batch: &Batch) -> Result<Record, OutOfMemory>
+        requires there { proxy < self.now.config.proxies }
+        requires limit { last_version self.now.world.history + self.now.config.step < version_limit }
+        ensures { IfOk result (λ rec.
+            rec ≡ next_record self.now.config self.now.world proxy batch.now) }
+    {
+        let alloc: Global = *self.rows.allocator();
+        Record::new(
+            alloc,
+            self.rows.len(),
+            self.last,
+            self.last + self.config.step(),
+            self.proxies[proxy].last_begun(),
+            proxy,
+            &self.moves,
+            batch,
+        )
+    }
+
+    /// The range moves to the resolver.
+    fn move_range(&mut self, range: &KeyRange, dest: ResolverNumber) -> Result<Answer, Refusal>
+        ensures answer { AnswersEvent self.old (MoveRange range.now dest) result }
+        ensures ok { OnOk result (self.new ≡ after_event self.old (MoveRange range.now dest)) }
+        ensures err { OnErr result (self.new ≡ self.old) }
+    {
+        if self.config.resolvers() <= dest {
+            return Err(Refusal::NoSuchResolver);
+        }
+        let date = self.last + 1;
+        let range = range.copy()?;
+        let Ok(()) = self.moves.reserve(1) else {
+            return Err(Refusal::OutOfMemory);
+        };
+        self.moves.push_reserved(Move { range, date, dest });
+        Ok(Answer::Moved { date })
+    }
+
+    /// The resolver gets the request for the record at this row.
+    fn offer(&mut self, row: RowNumber, resolver: ResolverNumber) -> Result<Answer, Refusal>
+        ensures answer { AnswersEvent self.old (OfferOf row resolver) result }
+        ensures ok { OnOk result (self.new ≡ after_event self.old (OfferOf row resolver)) }
+        ensures err { OnErr result (self.new ≡ self.old) }
+    {
+        if self.rows.len() <= row {
+            return Err(Refusal::NoSuchRow);
+        }
+        if self.config.resolvers() <= resolver {
+            return Err(Refusal::WrongResolver);
+        }
+        let requests = self.rows[row].requests.as_slice();
+        match offer_at(&mut self.resolvers, resolver, &requests[resolver]) {
+            Ok(OfferAnswer::Judged(reply)) => {
+                self.judged_counts[resolver] = row + 1;
+                Ok(Answer::Offered(OfferAnswer::Judged(reply)))
+            }
+            Ok(OfferAnswer::Again(reply)) => Ok(Answer::Offered(OfferAnswer::Again(reply))),
+            Err(refusal) => Err(passed_on(refusal)),
+        }
+    }
+
+    /// The proxy finishes the earliest of its records that are begun and not finished.
+    fn finish(&mut self, proxy: ProxyNumber) -> Result<Answer, Refusal>
+        ensures answer { AnswersEvent self.old (Finish proxy) result }
+        ensures ok { OnOk result (self.new ≡ after_event self.old (Finish proxy)) }
+        ensures err { OnErr result (self.new ≡ self.old) }
+    {
+        if self.config.proxies() <= proxy {
+            return Err(Refusal::NoSuchProxy);
+        }
+        let Some(rec) = self.proxies[proxy].awaited() else {
+            return Err(Refusal::OutOfTurn { expected: None });
+        };
+        let row = rec.row();
+        let version = rec.version();
+        if let Some(resolver) = first_missing(self.judged_counts.as_slice(), row) {
+            return Err(Refusal::MissingReply { resolver });
+        }
+        let alloc: Global = *self.rows.allocator();
+        let resolvers = self.resolvers.as_slice();
+        let replies = kept_replies(alloc, &self.config, resolvers, proxy, version)?;
+        let count = self.finished[proxy] + 1;
+        let finished = finish_at(&mut self.proxies, proxy, replies)?;
+        self.finished[proxy] = count;
+        Ok(Answer::Finished(finished))
+    }
+}

@@ -1,0 +1,172 @@
+-- The lines that are printed for the events of a turns script, by the answers to them (this
+-- project's profile).
+use Rattle.std.specs.Prelude.{ℕ, suc, List, [], ◌∷◌, ◌++◌, map, flat_map, filter, nat_eq, codes}
+use Rattle.std.specs.Prelude.{Option, Some, None, Result}
+use Rattle.std.specs.Fmt.{decimal}
+use Rattle.model.specs.Numbers.{Version, ProxyNumber, ResolverNumber, RowNumber}
+use Rattle.model.specs.Numbers.{TransactionNumber}
+use Rattle.model.specs.declared.outcome.Finished.{Finished}
+use Rattle.model.specs.declared.outcome.Outcome.{Outcome}
+use Rattle.model.specs.declared.outcome.Outcome.TheVariants as outcomes
+use Rattle.model.specs.declared.outcome.Tagged.{Tagged}
+use Rattle.model.specs.declared.reply.Reply.{Reply}
+use Rattle.model.specs.declared.unseen.UnseenRow.{UnseenRow}
+use Rattle.model.specs.World.{Event, Sequence, MoveRange, Offer, Finish, Answer}
+use Rattle.model.specs.World.{Sequenced, Moved, Judged, Again, Completed, Refused}
+use Rattle.model.specs.World as world
+use Rattle.scripts.specs.Lines.{line, spaced, list_text, tags_text}
+use Rattle.cluster_lines.specs.Names.{outcome_name, verdict_name}
+use Rattle.cluster_lines.specs.Refusals.{number_or_none, refused_text}
+use Rattle.turn_world.specs.Events.{refusal_number, refusal_name}
+use Rattle.turn_world.specs.Steps.{told_by}
+use Rattle.turn_world.specs.declared.answer.Answer.{Answer as TurnAnswer}
+use Rattle.turn_world.specs.declared.refusal.Refusal.{Refusal}
+use Rattle.turn_world.specs.declared.refusal.Refusal.TheVariants as refusals
+
+-- ---- a batch gets its record, a range moves
+
+abbrev pub sequence_text : RowNumber → Version → List ℕ
+sequence_text row version =
+    codes "sequence row " ++ decimal row ++ spaced (codes "version " ++ decimal version)
+
+abbrev pub sequence_line : RowNumber → Version → List ℕ
+sequence_line row version = line (sequence_text row version)
+
+abbrev pub move_line : Version → List ℕ
+move_line date = line (codes "move date " ++ decimal date)
+
+-- ---- a resolver gets a request
+
+abbrev pub unseen_version : UnseenRow → List ℕ
+unseen_version row = decimal row.version
+
+-- the row of the record, and the resolver that gets the request for it
+abbrev pub offered_text : RowNumber → ResolverNumber → List ℕ
+offered_text row resolver =
+    codes "offer row " ++ decimal row ++ spaced (codes "resolver " ++ decimal resolver)
+
+-- a reply: `judged` or `again`, the verdicts on the share, and the versions of the unseen rows
+abbrev pub offer_line : List ℕ → Reply → List ℕ
+offer_line word reply =
+    line (offered_text reply.row reply.resolver ++ spaced word
+    ++ spaced (list_text (map verdict_name reply.verdicts))
+    ++ spaced (codes "unseen " ++ list_text (map unseen_version reply.unseen)))
+
+-- ---- a proxy finishes a record
+
+abbrev pub finish_text : ProxyNumber → Version → List ℕ
+finish_text p version =
+    codes "finish proxy " ++ decimal p ++ spaced (codes "version " ++ decimal version)
+
+abbrev pub finish_line : ProxyNumber → Version → List ℕ
+finish_line p version = line (finish_text p version)
+
+-- the numbers of an outcome: of a commit its version and its place, and otherwise that of the error
+-- in release 7.1 (`error_definitions.h`)
+abbrev pub outcome_numbers : Outcome → List ℕ
+outcome_numbers (outcomes.Committed version number) =
+    spaced (decimal version) ++ spaced (decimal number)
+outcome_numbers outcomes.Conflict = spaced (codes "1020")
+outcome_numbers outcomes.TooOld = spaced (codes "1007")
+outcome_numbers outcomes.Locked = spaced (codes "1038")
+
+-- the outcome that the client learns
+abbrev pub outcome_text : Outcome → List ℕ
+outcome_text outcome = outcome_name outcome ++ outcome_numbers outcome
+
+abbrev pub transaction_line : TransactionNumber → Outcome → List ℕ
+transaction_line n outcome = line (codes "txn " ++ decimal n ++ spaced (outcome_text outcome))
+
+abbrev pub mutation_line : Tagged → List ℕ
+mutation_line tagged =
+    line (codes "mutation " ++ decimal tagged.number ++ spaced (decimal tagged.place)
+    ++ codes " tags " ++ tags_text tagged.tags)
+
+-- the mutations of transaction n
+abbrev pub mutations_of : TransactionNumber → List Tagged → List Tagged
+mutations_of n tagged = filter (λ (mutation : Tagged). nat_eq mutation.number n) tagged
+
+-- a transaction, and after it its mutations
+abbrev pub transaction_text : List Tagged → TransactionNumber → Outcome → List ℕ
+transaction_text tagged n outcome =
+    transaction_line n outcome ++ flat_map mutation_line (mutations_of n tagged)
+
+-- the transactions from number n on
+abbrev pub transactions_text : List Tagged → TransactionNumber → List Outcome → List ℕ
+transactions_text tagged n [] = []
+transactions_text tagged n (outcome ∷ outcomes) =
+    transaction_text tagged n outcome ++ transactions_text tagged (suc n) outcomes
+
+-- the record that proxy p finished, and its transactions
+abbrev pub finished_text : ProxyNumber → Finished → List ℕ
+finished_text p finished =
+    finish_line p finished.version ++ transactions_text finished.tagged 0 finished.outcomes
+
+-- ---- a refused event
+
+-- the value of the refusal, where it has one, after a space
+abbrev pub refusal_value : Refusal → List ℕ
+refusal_value refusals.NoSuchResolver = []
+refusal_value (refusals.Early version) = spaced (decimal version)
+refusal_value (refusals.GivenUp acknowledged) = spaced (decimal acknowledged)
+refusal_value refusals.NoSuchProxy = []
+refusal_value refusals.WrongResolver = []
+refusal_value refusals.NoSuchRow = []
+refusal_value (refusals.OutOfTurn expected) = spaced (number_or_none expected)
+refusal_value (refusals.MissingReply resolver) = spaced (decimal resolver)
+refusal_value refusals.VersionsEnd = []
+refusal_value refusals.OutOfMemory = []
+
+-- a refusal: its number, its name, and its value
+abbrev pub refusal_line : Refusal → List ℕ
+refusal_line refusal =
+    line (refused_text (refusal_number refusal) (refusal_name refusal) ++ refusal_value refusal)
+
+-- the refusal of the model as the one that has its number and its name
+abbrev pub refusal_of : world.Refusal → Refusal
+refusal_of world.NoSuchResolver = refusals.NoSuchResolver
+refusal_of (world.Early version) = refusals.Early version
+refusal_of (world.GivenUp acknowledged) = refusals.GivenUp acknowledged
+refusal_of world.NoSuchProxy = refusals.NoSuchProxy
+refusal_of world.WrongResolver = refusals.WrongResolver
+refusal_of world.NoSuchRow = refusals.NoSuchRow
+refusal_of (world.OutOfTurn expected) = refusals.OutOfTurn expected
+refusal_of (world.MissingReply resolver) = refusals.MissingReply resolver
+refusal_of world.VersionsEnd = refusals.VersionsEnd
+
+-- ---- all events
+
+-- the lines of a finished record; a record is finished by a finish alone
+abbrev pub completed_text : Event → Finished → List ℕ
+completed_text (Finish p) finished = finished_text p finished
+completed_text (Sequence p batch) finished = []
+completed_text (MoveRange range destination) finished = []
+completed_text (Offer row r) finished = []
+
+-- the lines of an event with this answer
+abbrev pub event_text : Event → Answer → List ℕ
+event_text event (Sequenced row version) = sequence_line row version
+event_text event (Moved date) = move_line date
+event_text event (Judged reply) = offer_line (codes "judged") reply
+event_text event (Again reply) = offer_line (codes "again") reply
+event_text event (Completed finished) = completed_text event finished
+event_text event (Refused refusal) = refusal_line (refusal_of refusal)
+
+-- the lines of all events, each with its answer
+abbrev pub events_text : List Event → List Answer → List ℕ
+events_text [] answers = []
+events_text (event ∷ events) [] = []
+events_text (event ∷ events) (answer ∷ answers) =
+    event_text event answer ++ events_text events answers
+
+-- the lines of an event that returned this; nothing if an allocation failed
+abbrev pub told_text : Event → Option Answer → List ℕ
+told_text event None = []
+told_text event (Some answer) = event_text event answer
+
+-- the lines of all events, each with what it returned
+abbrev pub results_text : List Event → List (Result TurnAnswer Refusal) → List ℕ
+results_text events [] = []
+results_text [] (result ∷ results) = []
+results_text (event ∷ events) (result ∷ results) =
+    told_text event (told_by result) ++ results_text events results

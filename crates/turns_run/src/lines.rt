@@ -1,0 +1,114 @@
+//! The lines that are printed of the answers to events.
+
+ghost use Rattle.std.specs.Prelude.{◌≡◌, ◌++◌, OnOk, string_bytes, map, flat_map};
+ghost use Rattle.scripts.specs.Lines.{list_text, spaced};
+ghost use Rattle.cluster_lines.specs.Names.{verdict_name};
+ghost use Rattle.turns_run.specs.Lines.{move_line, offer_line, offered_text, sequence_line};
+ghost use Rattle.turns_run.specs.Lines.{sequence_text, unseen_version};
+
+use cluster_lines::verdict_name;
+use model::{Reply, UnseenRow, Verdict};
+use std::fmt::Write;
+use system_keys::OutOfMemory;
+
+/// Prints that a batch has the record at a row, and its version. Fails only with `OutOfMemory`.
+pub fn print_sequence(text: &mut String, row: usize, version: u64) -> Result<(), OutOfMemory>
+    ensures { OnOk result (string_bytes text.new
+        ≡ string_bytes text.old ++ sequence_line row version) }
+{
+    push_sequence(text, row, version)?;
+    text.push_str("\n")?;
+    Ok(())
+}
+
+fn push_sequence(text: &mut String, row: usize, version: u64) -> Result<(), OutOfMemory>
+    ensures { OnOk result (string_bytes text.new
+        ≡ string_bytes text.old ++ sequence_text row version) }
+{
+    write!(text, "sequence row {row} version {version}")?;
+    Ok(())
+}
+
+/// Prints that a range moved. Fails only with `OutOfMemory`.
+pub fn print_move(text: &mut String, date: u64) -> Result<(), OutOfMemory>
+    ensures { OnOk result (string_bytes text.new ≡ string_bytes text.old ++ move_line date) }
+{
+    writeln!(text, "move date {date}")?;
+    Ok(())
+}
+
+/// Prints a reply after this word, which says whether it was given before. Fails only with
+/// `OutOfMemory`.
+pub fn print_offer(text: &mut String, word: &str, reply: &Reply) -> Result<(), OutOfMemory>
+    ensures { OnOk result (string_bytes text.new
+        ≡ string_bytes text.old ++ offer_line word.now reply.now) }
+{
+    push_offered(text, reply.row, reply.resolver)?;
+    write!(text, " {word} ")?;
+    push_verdicts(text, reply.verdicts.as_slice())?;
+    text.push_str(" unseen ")?;
+    push_unseen(text, reply.unseen.as_slice())?;
+    text.push_str("\n")?;
+    Ok(())
+}
+
+fn push_offered(text: &mut String, row: usize, resolver: usize) -> Result<(), OutOfMemory>
+    ensures { OnOk result (string_bytes text.new
+        ≡ string_bytes text.old ++ offered_text row resolver) }
+{
+    write!(text, "offer row {row} resolver {resolver}")?;
+    Ok(())
+}
+
+fn push_verdicts(text: &mut String, verdicts: &[Verdict]) -> Result<(), OutOfMemory>
+    ensures { OnOk result (string_bytes text.new
+        ≡ string_bytes text.old ++ list_text (map verdict_name verdicts.now)) }
+{
+    match verdicts.split_first() {
+        Some((first, rest)) => {
+            text.push_str(verdict_name(*first))?;
+            push_spaced_verdicts(text, rest)
+        }
+        None => {
+            text.push_str("none")?;
+            Ok(())
+        }
+    }
+}
+
+fn push_spaced_verdicts(text: &mut String, verdicts: &[Verdict]) -> Result<(), OutOfMemory>
+    ensures { OnOk result (string_bytes text.new
+        ≡ string_bytes text.old ++ flat_map spaced (map verdict_name verdicts.now)) }
+{
+    for verdict in verdicts {
+        text.push_str(" ")?;
+        text.push_str(verdict_name(*verdict))?;
+    }
+    Ok(())
+}
+
+fn push_unseen(text: &mut String, rows: &[UnseenRow]) -> Result<(), OutOfMemory>
+    ensures { OnOk result (string_bytes text.new
+        ≡ string_bytes text.old ++ list_text (map unseen_version rows.now)) }
+{
+    match rows.split_first() {
+        Some((first, rest)) => {
+            write!(text, "{}", first.version)?;
+            push_spaced_unseen(text, rest)
+        }
+        None => {
+            text.push_str("none")?;
+            Ok(())
+        }
+    }
+}
+
+fn push_spaced_unseen(text: &mut String, rows: &[UnseenRow]) -> Result<(), OutOfMemory>
+    ensures { OnOk result (string_bytes text.new
+        ≡ string_bytes text.old ++ flat_map spaced (map unseen_version rows.now)) }
+{
+    for row in rows {
+        write!(text, " {}", row.version)?;
+    }
+    Ok(())
+}

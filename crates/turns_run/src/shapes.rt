@@ -1,0 +1,120 @@
+//! What is read of the values of a turns script.
+
+ghost use Rattle.serde_json.specs.View.{view};
+ghost use Rattle.scripts.specs.ScriptFaults.{IsReadAs};
+ghost use Rattle.scripts.specs.Shapes.{or_bad_shape};
+ghost use Rattle.turns_run.specs.Shapes.{config_shape, event_shape, finish_shape, move_shape};
+ghost use Rattle.turns_run.specs.Shapes.{named_event, offer_shape, script_shape};
+ghost use Rattle.turns_run.specs.Shapes.{sequence_shape};
+
+use crate::script::{RawEvent, RawTurns};
+use model::Config;
+use scripts::{ScriptFault, Shaped, field, has_fields};
+use serde_json::Value;
+use std::alloc::Global;
+
+impl Shaped for RawTurns {
+    ghost shape = { script_shape };
+
+    fn shaped(alloc: Global, value: &Value) -> Result<RawTurns, ScriptFault> {
+        if !has_fields(value, 6) {
+            return Err(ScriptFault::BadShape);
+        }
+        Ok(RawTurns {
+            config: config(alloc, value)?,
+            events: field(alloc, value, "events")?,
+            ask: field(alloc, value, "ask")?,
+        })
+    }
+}
+
+// The numbers of the cluster, if they are within their limits.
+#[tactic(auto, using(crate::proofs::ConfigLemmas::within_limits, crate::proofs::ConfigLemmas::outside_limits))]
+fn config(alloc: Global, value: &Value) -> Result<Config, ScriptFault>
+    ensures { IsReadAs (λ found. found) result (or_bad_shape (config_shape (view value.now))) }
+{
+    let proxies = field(alloc, value, "proxies")?;
+    let resolvers = field(alloc, value, "resolvers")?;
+    let window = field(alloc, value, "window")?;
+    let step = field(alloc, value, "step")?;
+    match Config::new(proxies, resolvers, window, step) {
+        Ok(config) => Ok(config),
+        Err(_) => Err(ScriptFault::BadShape),
+    }
+}
+
+impl Shaped for RawEvent {
+    ghost shape = { event_shape };
+
+    fn shaped(alloc: Global, value: &Value) -> Result<RawEvent, ScriptFault> {
+        if has_fields(value, 1) {
+            named_event(alloc, value)
+        } else {
+            Err(ScriptFault::BadShape)
+        }
+    }
+}
+
+// The event that the name of the field says.
+fn named_event(alloc: Global, value: &Value) -> Result<RawEvent, ScriptFault>
+    ensures { IsReadAs (λ found. found) result (or_bad_shape (named_event (view value.now))) }
+{
+    if let Some(event) = value.get("sequence") {
+        sequence(alloc, event)
+    } else if let Some(event) = value.get("move") {
+        move_range(alloc, event)
+    } else if let Some(event) = value.get("offer") {
+        offer(alloc, event)
+    } else if let Some(event) = value.get("finish") {
+        finish(alloc, event)
+    } else {
+        Err(ScriptFault::BadShape)
+    }
+}
+
+fn sequence(alloc: Global, value: &Value) -> Result<RawEvent, ScriptFault>
+    ensures { IsReadAs (λ found. found) result (or_bad_shape (sequence_shape (view value.now))) }
+{
+    if !has_fields(value, 2) {
+        return Err(ScriptFault::BadShape);
+    }
+    Ok(RawEvent::Sequence {
+        proxy: field(alloc, value, "proxy")?,
+        batch: field(alloc, value, "batch")?,
+    })
+}
+
+fn move_range(alloc: Global, value: &Value) -> Result<RawEvent, ScriptFault>
+    ensures { IsReadAs (λ found. found) result (or_bad_shape (move_shape (view value.now))) }
+{
+    if !has_fields(value, 2) {
+        return Err(ScriptFault::BadShape);
+    }
+    Ok(RawEvent::Move {
+        range: field(alloc, value, "range")?,
+        dest: field(alloc, value, "resolver")?,
+    })
+}
+
+fn offer(alloc: Global, value: &Value) -> Result<RawEvent, ScriptFault>
+    ensures { IsReadAs (λ found. found) result (or_bad_shape (offer_shape (view value.now))) }
+{
+    if !has_fields(value, 2) {
+        return Err(ScriptFault::BadShape);
+    }
+    Ok(RawEvent::Offer {
+        row: field(alloc, value, "row")?,
+        resolver: field(alloc, value, "resolver")?,
+    })
+}
+
+fn finish(alloc: Global, value: &Value) -> Result<RawEvent, ScriptFault>
+    ensures { IsReadAs (λ found. found) result (or_bad_shape (finish_shape (view value.now))) }
+{
+    if !has_fields(value, 1) {
+        return Err(ScriptFault::BadShape);
+    }
+    Ok(RawEvent::Finish {
+        proxy: field(alloc, value, "proxy")?,
+    })
+}

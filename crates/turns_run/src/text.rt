@@ -1,0 +1,30 @@
+//! What is printed of a turns script.
+
+ghost use Rattle.std.specs.Prelude.{◌≡◌, ◌++◌, OnOk, string_bytes};
+ghost use Rattle.turns_run.specs.Text.{played_text};
+
+use crate::events::print_events;
+use crate::proxies::print_proxies;
+use crate::script::TurnsScript;
+use std::alloc::Global;
+use system_keys::OutOfMemory;
+use turn_world::TurnWorld;
+
+/// Prints what a turns script comes to (this project's profile): the lines of its events, carried
+/// out one after another, and then those of each proxy. Fails only with `OutOfMemory`.
+pub(crate) fn print_played(
+    alloc: Global,
+    text: &mut String,
+    script: &TurnsScript,
+) -> Result<(), OutOfMemory>
+    ensures { OnOk result (string_bytes text.new
+        ≡ string_bytes text.old ++ played_text script.now) }
+{
+    let events = script.events.as_slice();
+    let mut world = TurnWorld::new(alloc, &script.config)?;
+    let Ok(results) = world.run(alloc, events) else {
+        return Err(OutOfMemory);
+    };
+    print_events(text, events, &results)?;
+    print_proxies(alloc, text, &script.config, &world, script.ask.as_slice())
+}

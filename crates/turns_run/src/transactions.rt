@@ -1,0 +1,161 @@
+//! The lines that are printed of the transactions of a finished batch.
+
+ghost use Rattle.std.specs.Prelude.{◌≡◌, ◌++◌, IfOk, OnOk, string_bytes, flat_map, true};
+ghost use Rattle.turns_run.specs.Lines.{mutation_line, mutations_of, outcome_numbers};
+ghost use Rattle.turns_run.specs.Lines.{outcome_text, transaction_line, transactions_text};
+ghost use Rattle.turns_run.specs.OrderOfMutations.{IsAfter, are_in_order};
+
+use cluster_lines::outcome_name;
+use model::{Outcome, Tagged};
+use scripts::push_tags;
+use std::fmt::Write;
+use system_keys::OutOfMemory;
+
+/// Prints the outcome of each transaction of a batch, and after it the tags of each of its
+/// mutations. Fails only with `OutOfMemory`.
+pub fn print_transactions(
+    text: &mut String,
+    tagged: &[Tagged],
+    outcomes: &[Outcome],
+) -> Result<(), OutOfMemory>
+    ensures { OnOk result (string_bytes text.new
+        ≡ string_bytes text.old ++ transactions_text tagged.now 0 outcomes.now) }
+{
+    // A finished batch has its mutations in the order of their transactions, but its type does not
+    // say so.
+    if are_in_order(tagged) {
+        print_in_order(text, tagged, outcomes)
+    } else {
+        print_in_any_order(text, tagged, outcomes)
+    }
+}
+
+fn are_in_order(tagged: &[Tagged]) -> bool
+    ensures { result ≡ are_in_order 0 tagged.now }
+{
+    let mut least = 0;
+    for mutation in tagged {
+        if mutation.number < least {
+            return false;
+        }
+        least = mutation.number;
+    }
+    true
+}
+
+// Prints the transactions of a batch, whose mutations come in their order: each is looked at once.
+fn print_in_order(
+    text: &mut String,
+    tagged: &[Tagged],
+    outcomes: &[Outcome],
+) -> Result<(), OutOfMemory>
+    requires { are_in_order 0 tagged.now ≡ true }
+    ensures { OnOk result (string_bytes text.new
+        ≡ string_bytes text.old ++ transactions_text tagged.now 0 outcomes.now) }
+{
+    let mut rest = tagged;
+    let mut number = 0;
+    for outcome in outcomes {
+        print_transaction(text, number, *outcome)?;
+        rest = print_first_mutations(text, number, rest)?;
+        number += 1;
+    }
+    Ok(())
+}
+
+// Prints the mutations of this transaction, which come first, and returns those after them.
+fn print_first_mutations<'a>(
+    text: &mut String,
+    number: usize,
+    tagged: &'a [Tagged],
+) -> Result<&'a [Tagged], OutOfMemory>
+    requires { are_in_order number tagged.now ≡ true }
+    ensures printed { OnOk result (string_bytes text.new
+        ≡ string_bytes text.old ++ flat_map mutation_line (mutations_of number tagged.now)) }
+    ensures later { IfOk result (λ later. IsAfter number tagged.now later.now) }
+{
+    let mut later = tagged;
+    'mutations: while let Some((first, rest)) = later.split_first() {
+        if first.number != number {
+            return Ok(later);
+        }
+        print_mutation(text, first)?;
+        later = rest;
+    }
+    Ok(later)
+}
+
+// Prints the transactions of a batch: all mutations are looked at for each of them.
+fn print_in_any_order(
+    text: &mut String,
+    tagged: &[Tagged],
+    outcomes: &[Outcome],
+) -> Result<(), OutOfMemory>
+    ensures { OnOk result (string_bytes text.new
+        ≡ string_bytes text.old ++ transactions_text tagged.now 0 outcomes.now) }
+{
+    let mut number = 0;
+    for outcome in outcomes {
+        print_transaction(text, number, *outcome)?;
+        print_mutations(text, number, tagged)?;
+        number += 1;
+    }
+    Ok(())
+}
+
+// Prints the mutations of this transaction.
+fn print_mutations(text: &mut String, number: usize, tagged: &[Tagged]) -> Result<(), OutOfMemory>
+    ensures { OnOk result (string_bytes text.new
+        ≡ string_bytes text.old ++ flat_map mutation_line (mutations_of number tagged.now)) }
+{
+    for mutation in tagged {
+        if mutation.number == number {
+            print_mutation(text, mutation)?;
+        }
+    }
+    Ok(())
+}
+
+fn print_transaction(text: &mut String, number: usize, outcome: Outcome) -> Result<(), OutOfMemory>
+    ensures { OnOk result (string_bytes text.new
+        ≡ string_bytes text.old ++ transaction_line number outcome) }
+{
+    write!(text, "txn {number} ")?;
+    push_outcome(text, outcome)?;
+    text.push_str("\n")?;
+    Ok(())
+}
+
+fn push_outcome(text: &mut String, outcome: Outcome) -> Result<(), OutOfMemory>
+    ensures { OnOk result (string_bytes text.new ≡ string_bytes text.old ++ outcome_text outcome) }
+{
+    text.push_str(outcome_name(outcome))?;
+    push_outcome_numbers(text, outcome)
+}
+
+fn push_outcome_numbers(text: &mut String, outcome: Outcome) -> Result<(), OutOfMemory>
+    ensures { OnOk result (string_bytes text.new
+        ≡ string_bytes text.old ++ outcome_numbers outcome) }
+{
+    match outcome {
+        Outcome::Committed { version, number } => write!(text, " {version} {number}")?,
+        Outcome::Conflict => text.push_str(" 1020")?,
+        Outcome::TooOld => text.push_str(" 1007")?,
+        Outcome::Locked => text.push_str(" 1038")?,
+    }
+    Ok(())
+}
+
+fn print_mutation(text: &mut String, mutation: &Tagged) -> Result<(), OutOfMemory>
+    ensures { OnOk result (string_bytes text.new
+        ≡ string_bytes text.old ++ mutation_line mutation.now) }
+{
+    write!(
+        text,
+        "mutation {} {} tags ",
+        mutation.number, mutation.place
+    )?;
+    push_tags(text, mutation.tags.as_slice())?;
+    text.push_str("\n")?;
+    Ok(())
+}
