@@ -4,7 +4,6 @@ mod clearing;
 mod collecting;
 mod disagreeing;
 mod finishing;
-mod metadata;
 mod new_proxies;
 
 ghost use Rattle.std.specs.Prelude.{◌≡◌, IfOk};
@@ -15,17 +14,17 @@ use std::alloc::Global;
 use std::test::Fail;
 use testing::{ReplyLine, Step, reply};
 
-const LOCK: &[u8] = b"\xff/dbLocked";
+pub(crate) const LOCK: &[u8] = b"\xff/dbLocked";
 
-const TAG_ROW_1: &[u8] = b"\xff/serverTag/server0000000001";
+pub(crate) const TAG_ROW_1: &[u8] = b"\xff/serverTag/server0000000001";
 
-const TAG_ROW_2: &[u8] = b"\xff/serverTag/server0000000002";
+pub(crate) const TAG_ROW_2: &[u8] = b"\xff/serverTag/server0000000002";
 
-const ROW_OF_ALL: &[u8] = b"\xff/keyServers/";
+pub(crate) const ROW_OF_ALL: &[u8] = b"\xff/keyServers/";
 
-const SERVER_1: &[u8] = b"\x01server0000000001\x00";
+pub(crate) const SERVER_1: &[u8] = b"\x01server0000000001\x00";
 
-const SERVER_2: &[u8] = b"\x01server0000000002\x00";
+pub(crate) const SERVER_2: &[u8] = b"\x01server0000000002\x00";
 
 const COMMITTED: Verdict = Verdict::Committed;
 

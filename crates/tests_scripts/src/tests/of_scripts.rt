@@ -120,7 +120,11 @@ fn faults_have_their_numbers_and_names(rt: HostRuntime) {
     for (fault, number, name) in [
         (ScriptFault::NotJson, Some(70), "NotJson"),
         (ScriptFault::BadShape, Some(71), "BadShape"),
-        (ScriptFault::from(Refusal::KeyTooLong), Some(10), "KeyTooLong"),
+        (
+            ScriptFault::from(Refusal::KeyTooLong),
+            Some(10),
+            "KeyTooLong",
+        ),
         (ScriptFault::from(Refusal::BadRow), Some(14), "BadRow"),
         (ScriptFault::OutOfMemory, None, "OutOfMemory"),
     ] {
