@@ -22,7 +22,7 @@ pub enum Refusal {
     OutOfOrder { expected: Version },
     /// No record is begun, or another one is expected.
     #[error("no record is begun, or another one is expected")]
-    OutOfTurn { expected: Option<Version> },
+    OutOfTurn { expected: Option<u64> },
     /// A resolver has not replied: the least such one.
     #[error("resolver {resolver} has not replied")]
     MissingReply { resolver: ResolverNumber },

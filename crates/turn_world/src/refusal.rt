@@ -31,7 +31,7 @@ pub enum Refusal {
     NoSuchRow,
     /// The proxy has no record that is begun and not finished.
     #[error("the record is not the one that is next")]
-    OutOfTurn { expected: Option<Version> },
+    OutOfTurn { expected: Option<u64> },
     /// A resolver has not replied: the least such one.
     #[error("resolver {resolver} has not replied")]
     MissingReply { resolver: ResolverNumber },

@@ -17,8 +17,8 @@ pub fn serial_law()
 /// between the snapshot of another committed one and that one itself, the second is no state
 /// transaction or is lock aware. This holds for all records that obey the rule, and so for every
 /// history. A transaction, lock aware or not, writes over the lock row exactly if a write of it
-/// overlaps the range of the lock row alone. So a state transaction that is not lock aware and
-/// meets a lock is not committed.
+/// overlaps the range of the lock row alone. So a state transaction that is not lock aware is not
+/// committed if such a write lies between its snapshot and itself.
 pub fn lock_row_law()
     ensures writes { WritingTheLockRowIsOverlap }
     ensures serial { SerialKeepsTheLockRow }
