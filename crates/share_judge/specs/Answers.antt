@@ -1,9 +1,12 @@
--- What a history of writes answers, over every list of shares that it stands for.
+-- What a history of writes answers, over every list of shares that it stands for, and why nothing
+-- was judged.
 use Rattle.std.specs.Prelude.{◌≡◌, ◌-◌, max, min, List, [], ◌∷◌, ◌++◌}
 use Rattle.model.specs.Numbers.{Version}
 use Rattle.model.specs.declared.verdict.Verdict.{Verdict}
 use Rattle.model.specs.Verdicts.{judged_at, verdicts_after}
 use Rattle.model.specs.WriteHistories.{WriteHistoryView, ShareAt, all_judged, StandsForShares}
+use Rattle.share_judge.specs.declared.not_judged.NotJudged.{NotJudged}
+use Rattle.share_judge.specs.declared.not_judged.NotJudged.TheVariants.{OutOfMemory, NotKept}
 
 -- the verdicts are those on the share after every list of shares that the history stands for
 abbrev pub AreVerdicts : (history : WriteHistoryView) (s : ShareAt) (verdicts : List Verdict) → Type 0
@@ -28,3 +31,8 @@ Forgets history oldest next =
     → StandsForShares history shares forgotten
     → let bound = min oldest (history.last - history.window) in
     StandsForShares next shares (max forgotten bound)
+
+-- if the verdicts were not kept, this holds of the reason
+abbrev pub IfNotKept : {E : Type 0} → NotJudged E → (E → Type 0) → Type 0
+IfNotKept OutOfMemory property = Unit {0}
+IfNotKept (NotKept reason) property = property reason

@@ -1,7 +1,8 @@
 //! Verdicts on parts, by the writes of what was committed before them.
 
-ghost use Rattle.std.specs.Prelude.{◌≡◌, ◌<◌, ◌++◌, IfOk, OnOk, if◌then◌else◌};
+ghost use Rattle.std.specs.Prelude.{◌≡◌, ◌<◌, ◌≤◌, ◌+◌, ◌++◌, IfOk, OnOk, if◌then◌else◌};
 ghost use Rattle.std.specs.List.{list_any};
+ghost use Rattle.std.specs.VecDeque.{deque_len, deque_capacity};
 ghost use Rattle.system_keys.specs.Keys.{overlaps};
 ghost use Rattle.model.specs.Verdicts.{JudgedPart, is_committed, is_too_old, judged_at};
 ghost use Rattle.model.specs.WriteHistories.{Write, writes_at, is_overwritten};
@@ -16,9 +17,42 @@ use std::alloc::Global;
 use std::collections::VecDeque;
 use system_keys::{KeyRange, OutOfMemory};
 
+/// Judges the parts of a share as `judge_parts` does, and makes room for their writes beside the
+/// `kept` ones, which stay as they are.
+pub(crate) fn judge_with_room(
+    window: u64,
+    kept: &mut VecDeque<Write>,
+    version: Version,
+    parts: &[Part],
+) -> Result<(Vec<Verdict>, VecDeque<Write>), OutOfMemory>
+    requires order { NeverDecrease 0 kept.old.items }
+    requires below { last_written 0 kept.old.items < version }
+    ensures same { kept.new.items ≡ kept.old.items }
+    ensures verdicts { let judged = judged_at version parts.now in IfOk result
+        (λ made. made.0.items ≡ verdicts_by_writes window kept.old.items judged) }
+    ensures writes { let judged = judged_at version parts.now in IfOk result
+        (λ made. kept.old.items ++ made.1.items ≡ writes_after window kept.old.items judged) }
+    ensures own { IfOk result (λ made. AreAt version made.1.items) }
+    ensures room { IfOk result
+        (λ made. deque_len kept.new + deque_len made.1 ≤ deque_capacity kept.new) }
+{
+    let alloc: Global = *kept.allocator();
+    let (verdicts, writes) = judge_parts(alloc, window, kept, version, parts)?;
+    kept.reserve(writes.len())?;
+    Ok((verdicts, writes))
+}
+
+/// Puts the writes after the `kept` ones, beside which there must be room. Allocates nothing.
+pub(crate) fn put_in_place(kept: &mut VecDeque<Write>, mut writes: VecDeque<Write>)
+    requires { deque_len kept.old + deque_len writes ≤ deque_capacity kept.old }
+    ensures { kept.new.items ≡ kept.old.items ++ writes.items }
+{
+    kept.append(&mut writes).unwrap();
+}
+
 /// Judges the parts of a share, one after another, and returns their verdicts and the writes of
 /// those that are committed. `kept` are the writes of the shares before.
-pub(crate) fn judge_parts(
+fn judge_parts(
     alloc: Global,
     window: u64,
     kept: &VecDeque<Write>,

@@ -9,10 +9,12 @@
 #![tactic(auto)]
 
 mod judging;
+mod not_judged;
 mod verdicts;
 mod write;
 mod write_history;
 
 pub use model::Verdict;
+pub use not_judged::NotJudged;
 pub use verdicts::Verdicts;
 pub use write_history::WriteHistory;

@@ -1,11 +1,12 @@
 //! The history of writes.
 
-ghost use Rattle.std.specs.Prelude.{◌≡◌, ◌<◌, [], IfOk, OnOk, OnErr};
+ghost use Rattle.std.specs.Prelude.{◌≡◌, ◌<◌, [], Ok, Err, IfOk, IfErr, OnOk, OnErr};
 ghost use Rattle.model.specs.WriteHistories.{ShareAt, StandsForShares};
-ghost use Rattle.share_judge.specs.Answers.{AreVerdicts, GainsShare, Forgets};
+ghost use Rattle.share_judge.specs.Answers.{AreVerdicts, GainsShare, Forgets, IfNotKept};
 
-use crate::judging::{forget_up_to, judge_parts};
-use crate::verdicts::Verdicts;
+use crate::judging::{forget_up_to, judge_with_room, put_in_place};
+use crate::not_judged::NotJudged;
+use crate::verdicts::{Verdicts, copy_verdicts};
 use crate::write::Write;
 use model::Version;
 use request_builder::Share;
@@ -68,7 +69,7 @@ impl WriteHistory {
     /// Otherwise it conflicts if one of its reads overlaps a write of a committed part, at a version
     /// above its snapshot or earlier in the same share. Fails only with `OutOfMemory`, and then
     /// leaves the history unchanged. What is judged cannot be undone: a caller that needs further
-    /// memory allocates it first.
+    /// memory allocates it first, or calls [`WriteHistory::judge_with`].
     pub fn judge(&mut self, version: Version, share: &Share) -> Result<Verdicts, OutOfMemory>
         requires { self.old.last < version }
         ensures verdicts { let s : ShareAt = record { version = version; parts = share.now } in
@@ -79,12 +80,52 @@ impl WriteHistory {
         ensures last { OnOk result (self.new.last ≡ version) }
         ensures err { OnErr result (self.new ≡ self.old) }
     {
-        let alloc: Global = *self.writes.allocator();
         let parts = share.parts();
-        let (verdicts, mut writes) = judge_parts(alloc, self.window, &self.writes, version, parts)?;
-        self.writes.append(&mut writes)?;
+        let (verdicts, writes) = judge_with_room(self.window, &mut self.writes, version, parts)?;
+        put_in_place(&mut self.writes, writes);
         self.last = version;
         Ok(Items::from(verdicts))
+    }
+
+    /// Judges the share as [`WriteHistory::judge`] does, and calls `keep` with a copy of the
+    /// verdicts. If `keep` returns a value, remembers the writes of the committed parts, and
+    /// returns the verdicts and that value.
+    ///
+    /// Everything is allocated before `keep` is called, and nothing fails after it, so `keep` may
+    /// do what cannot be undone. Fails with `NotKept` if `keep` returns an error, and otherwise
+    /// only with `OutOfMemory`. Each failure leaves the history unchanged.
+    pub fn judge_with<K, E, F: FnOnce(Verdicts) -> Result<K, E>>(
+        &mut self,
+        version: Version,
+        share: &Share,
+        keep: F,
+    ) -> Result<(Verdicts, K), NotJudged<E>>
+        requires above { self.old.last < version }
+        requires callable { F.IsAlwaysCallable keep }
+        ensures verdicts { let s : ShareAt = record { version = version; parts = share.now } in
+            IfOk result (λ made. AreVerdicts self.old s made.0) }
+        ensures kept { IfOk result (λ made. F.post keep made.0 (Ok made.1)) }
+        ensures stands { let s : ShareAt = record { version = version; parts = share.now } in
+            OnOk result (GainsShare self.old s self.new) }
+        ensures window { self.new.window ≡ self.old.window }
+        ensures last { OnOk result (self.new.last ≡ version) }
+        ensures err { OnErr result (self.new ≡ self.old) }
+        ensures why { let s : ShareAt = record { version = version; parts = share.now } in
+            IfErr result (λ error. IfNotKept error (λ reason.
+            (verdicts : _) × AreVerdicts self.old s verdicts × F.post keep verdicts (Err reason))) }
+    {
+        let parts = share.parts();
+        let (verdicts, writes) = judge_with_room(self.window, &mut self.writes, version, parts)?;
+        let verdicts = Items::from(verdicts);
+        let copy = copy_verdicts(&verdicts)?;
+        match keep(copy) {
+            Ok(kept) => {
+                put_in_place(&mut self.writes, writes);
+                self.last = version;
+                Ok((verdicts, kept))
+            }
+            Err(reason) => Err(NotJudged::NotKept(reason)),
+        }
     }
 
     /// Forgets the writes at or below `oldest` that no later verdict needs: those at least the
