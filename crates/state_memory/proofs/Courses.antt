@@ -1,5 +1,5 @@
 -- What a resolver does with a request, test by test.
-use Rattle.std.proofs.Common.{◌≡◌, refl, ap, ◌∙◌, ℕ, ◌<◌, ◌≤◌, true, false, nat_eq, nat_lt, nat_le, slice_get, List, length, get_or, sym, Option, Some, None, option_map, arith}
+use Rattle.std.proofs.Common.{◌≡◌, refl, ap, ◌∙◌, ℕ, zero, suc, ◌<◌, ◌≤◌, true, false, nat_eq, nat_lt, nat_le, slice_get, List, [], ◌∷◌, length, get_or, sym, Option, Some, None, option_map, arith}
 use Rattle.std.proofs.lemmas.List.{length-map}
 use Rattle.std.proofs.lemmas.Option.{slice_get_past, slice_get-map, slice_get_read}
 use Rattle.std.specs.Prelude.{Ok, Err}
@@ -92,3 +92,16 @@ known_late v q one last k last_is right new late = known_course v q one k ∙ pa
 
 pub known_next : (v : ResolverView) (q : Request) (one : Raw) (last : ℕ) → Known v q one → last ≡ v.version → is_in_order q ≡ true → last < q.version → q.previous ≡ last → course v q ≡ Ok Judge
 known_next v q one last k last_is right new chained = known_course v q one k ∙ comes_next v.version q (kept_of one) right (omega (arith, last_is, new)) (omega (arith, last_is, chained))
+
+-- ---- whether the request comes next
+
+kept_within : (raw : List Raw) (p : ℕ) → p < length raw → (one : Raw) × (slice_get (all_kept raw) p ≡ Some (kept_of one))
+kept_within [] p within = absurd (omega arith)
+kept_within (one ∷ raw) zero within = (one, refl)
+kept_within (one ∷ raw) (suc p) within = kept_within raw p (omega arith)
+
+pub passes_tests : (v : ResolverView) (q : Request) (raw : List Raw) → all_kept raw ≡ v.proxies → q.resolver ≡ v.number → q.proxy < length raw → q.last_received ≤ q.previous → q.previous < q.version → q.previous ≡ v.version → course v q ≡ Ok Judge
+passes_tests v q raw kept own within received above chained =
+    let there = kept_within raw q.proxy within in
+    own_course v q (Some (kept_of there.0)) own (ap (λ xs. slice_get xs q.proxy) (sym kept) ∙ there.1)
+    ∙ comes_next v.version q (kept_of there.0) (in_order q above received) (omega (arith, above, chained)) chained

@@ -1,6 +1,6 @@
 -- A request that was judged, and what is kept of it.
 use Rattle.std.proofs.Common.{◌≡◌, sym, ap, ◌∙◌, subst, ℕ, ◌<◌, ◌-◌, max, min, ◌⊎◌, inl, inr, List, [], ◌∷◌, ◌++◌, map, filter, length, slice_get, slice_set, Some, nat_lt, arith}
-use Rattle.std.specs.Prelude.{Ok}
+use Rattle.std.specs.Prelude.{Result, Ok, Err, IfErr}
 use Rattle.std.proofs.lemmas.List.{length-map, length-set, map-append}
 use Rattle.std.proofs.lemmas.Option.{slice_get_within}
 use Rattle.model.specs.declared.reply.Reply.{Reply}
@@ -13,12 +13,15 @@ use Rattle.model.specs.declared.unseen.UnseenState.{UnseenState}
 use Rattle.model.specs.Laws.Resolvers.{share_of}
 use Rattle.model.specs.Verdicts.{judged_at}
 use Rattle.model.specs.WriteHistories.{WriteHistoryView, ShareAt, StandsForShares, shares_of, all_judged}
-use Rattle.share_judge.specs.Answers.{AreVerdicts, GainsShare, Forgets}
+use Rattle.share_judge.specs.Answers.{AreVerdicts, GainsShare, Forgets, IfNotKept}
+use Rattle.share_judge.specs.declared.not_judged.NotJudged.{NotJudged}
+use Rattle.share_judge.specs.declared.not_judged.NotJudged.TheVariants.{OutOfMemory, NotKept}
 use Rattle.model.proofs.Resolvers.Answers.{is_next}
 use Rattle.model.proofs.Resolvers.Answers.{memory_replies, verdicts_of_shares}
 use Rattle.model.proofs.Shares.Forgetting.{length-verdicts_after}
 use Rattle.model.proofs.Resolvers.Growth.{judging_adds, set_found}
 use Rattle.state_memory.specs.declared.proxy_memory.ProxyMemory.{ProxyMemory}
+use Rattle.state_memory.specs.Answers.{AreVerdictsAfterJudged}
 use Rattle.state_memory.specs.Kept.{kept_of, all_kept, AllIncrease, rows_above, reply_of}
 use Rattle.state_memory.specs.Order.{RowsRise, RepliesRise, RowsIncrease, AreInOrder}
 use Rattle.state_memory.proofs.RowLaws.{rise_increases, rise_push, rise_filter, rise_higher}
@@ -77,7 +80,7 @@ noted_count before after one q reply is = ap length is ∙ length-set before q.p
 
 -- ---- the reply, and what the resolver then stands for
 
-verdicts_are : (v : ResolverView) (judged : List Request) (q : Request) (verdicts : List Verdict) → StandsForRequests v judged → AreVerdicts v.written (share_of q) verdicts → verdicts ≡ request_verdicts v.written.window judged q
+pub verdicts_are : (v : ResolverView) (judged : List Request) (q : Request) (verdicts : List Verdict) → StandsForRequests v judged → AreVerdicts v.written (share_of q) verdicts → verdicts ≡ request_verdicts v.written.window judged q
 verdicts_are v judged q verdicts stands are = are (shares_of judged) stands.forgotten stands.written ∙ verdicts_of_shares v.written.window judged q
 
 pub judged_reply : (v : ResolverView) (one : Kept) (judged : List Request) (q : Request) (verdicts : List Verdict) (unseen : List UnseenRow) → StandsForRequests v judged → slice_get v.proxies q.proxy ≡ Some one → AreVerdicts v.written (share_of q) verdicts → unseen ≡ rows_above one.last v.rows → reply_of q verdicts unseen ≡ request_reply v.written.window judged q
@@ -124,3 +127,17 @@ as_many_verdicts v judged q verdicts stands are =
 pub row_made : (q : Request) (verdicts : List Verdict) (version : ℕ) (states : List UnseenState) → version ≡ q.version → states ≡ map (reply_state_of_mark q.share verdicts) q.states → (record { version = version; states = states }) ≡ request_reply_row q verdicts
 unfolding request_reply_row
 row_made q verdicts version states at are = λ k. record { version = at k; states = are k }
+
+-- ---- verdicts that were not kept
+
+pub are_after_judged : (v : ResolverView) (q : Request) (verdicts : List Verdict) → AreVerdicts v.written (share_of q) verdicts → AreVerdictsAfterJudged v q verdicts
+are_after_judged v q verdicts are judged stands = verdicts_are v judged q verdicts stands are
+
+-- what follows from one property of the reason
+pub not_kept_so : {E : Type 0} (error : NotJudged E) (P Q : E → Type 0) → ((reason : E) → P reason → Q reason) → IfNotKept error P → IfNotKept error Q
+not_kept_so OutOfMemory P Q so holds = tt
+not_kept_so (NotKept reason) P Q so holds = so reason holds
+
+-- out of memory gives no reason
+pub no_reason : {T E : Type 0} (result : Result T (NotJudged E)) (P : E → Type 0) → result ≡ Err OutOfMemory → IfErr result (λ error. IfNotKept error P)
+no_reason result P is = subst (λ r. IfErr r (λ error. IfNotKept error P)) (sym is) tt

@@ -4,7 +4,8 @@ use Rattle.std.specs.Prelude.{◌≡◌, ℕ, ◌-◌, List, [], ◌∷◌, ◌+
 use Rattle.std.specs.Prelude.{Result}
 use Rattle.system_keys.specs.AsSpecified.{IsAsSpecified}
 use Rattle.model.specs.declared.reply.Reply.{Reply}
-use Rattle.model.specs.Requests.{Request, request_reply, remembered_requests}
+use Rattle.model.specs.declared.verdict.Verdict.{Verdict}
+use Rattle.model.specs.Requests.{Request, request_reply, request_verdicts, remembered_requests}
 use Rattle.model.specs.Offers.{OfferAnswer, OfferFault, answer_to}
 use Rattle.model.specs.Offers as offers
 use Rattle.model.specs.ResolverMemory.{ResolverView, StandsForRequests, Course as Way}
@@ -90,6 +91,13 @@ abbrev pub RepliesAfterJudged : (before : ResolverView) (q : Request) (reply : R
 RepliesAfterJudged before q reply =
     (judged : List Request) → StandsForRequests before judged
     → reply ≡ request_reply before.written.window judged q
+
+-- whatever requests the resolver stands for, these are the verdicts on the next one
+abbrev pub AreVerdictsAfterJudged :
+    (before : ResolverView) (q : Request) (verdicts : List Verdict) → Type 0
+AreVerdictsAfterJudged before q verdicts =
+    (judged : List Request) → StandsForRequests before judged
+    → verdicts ≡ request_verdicts before.written.window judged q
 
 -- whatever requests the resolver stands for, so many of them are remembered
 abbrev pub IsRememberedCount : (memory : ResolverView) (count : ℕ) → Type 0

@@ -16,3 +16,4 @@ pub use model::{Carried, Reply, StateMark, UnseenRow, UnseenState, Verdict};
 pub use refusal::Refusal;
 pub use request_builder::Request;
 pub use resolver::Resolver;
+pub use share_judge::{NotJudged, Verdicts};

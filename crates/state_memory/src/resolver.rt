@@ -1,13 +1,15 @@
 //! The resolver.
 
-ghost use Rattle.std.specs.Prelude.{◌≡◌, ◌<◌, [], ◌∷◌, Ok, length, map, IfOk, OnOk, OnErr};
-ghost use Rattle.std.specs.Prelude.{None, Some, MatchOption};
+ghost use Rattle.std.specs.Prelude.{◌≡◌, ◌<◌, ◌↔◌, [], ◌∷◌, Ok, Err, length, map, IfOk, IfErr};
+ghost use Rattle.std.specs.Prelude.{OnOk, OnErr, None, Some, MatchOption, IsTrue};
 ghost use Rattle.system_keys.specs.AsSpecified.{IsAsSpecified};
 ghost use Rattle.model.specs.ResolverMemory.{StandsForRequests, course};
 ghost use Rattle.model.specs.ResolverMemory as way;
 ghost use Rattle.state_memory.specs.Answers.{AnswersAfterJudged, IsAfterAnswer, GainsRequest};
 ghost use Rattle.state_memory.specs.Answers.{RepliesAfterJudged, IsRememberedCount, course_of};
 ghost use Rattle.state_memory.specs.Answers.{fault_of, ForgetsOldWrites, ForgetsIfJudged};
+ghost use Rattle.state_memory.specs.Answers.{AreVerdictsAfterJudged};
+ghost use Rattle.share_judge.specs.Answers.{IfNotKept};
 ghost use Rattle.state_memory.specs.Kept.{AreNew, HasRoom, AllIncrease, HasNoted, all_kept, reply_of};
 ghost use Rattle.state_memory.specs.Kept.{kept_reply};
 
@@ -17,9 +19,10 @@ use crate::refusal::Refusal;
 use crate::rows::{copies_above, forget_rows, judge_states, unjudged_states};
 use model::{ProxyNumber, Reply, ResolverNumber, UnseenRow, Verdict, Version};
 use request_builder::Request;
-use share_judge::WriteHistory;
+use share_judge::{NotJudged, Verdicts, WriteHistory};
 use std::alloc::Global;
 use std::collections::VecDeque;
+use std::convert::Infallible;
 use std::marker::Model;
 use system_keys::{Items, OutOfMemory};
 
@@ -105,6 +108,17 @@ impl Resolver {
         }
     }
 
+    /// Returns whether the request comes next, so that it is judged if it is offered now.
+    pub fn comes_next(&self, request: &Request) -> bool
+        ensures { IsTrue result ↔ (course self.now request.now ≡ Ok way.Judge) }
+    {
+        request.resolver() == self.number
+            && request.proxy() < self.proxies.len()
+            && request.last_received() <= request.previous()
+            && request.previous() < request.version()
+            && request.previous() == self.version
+    }
+
     /// Answers a request: judges it if it comes next, or gives the reply again that it got.
     ///
     /// Fails with `WrongResolver` if the request is to another resolver, otherwise with
@@ -131,6 +145,59 @@ impl Resolver {
             Course::GiveAgain(reply) => Ok(Answer::Again(reply)),
             Course::Judge => Ok(Answer::Judged(self.judge(request)?)),
         }
+    }
+
+    /// Judges the request, and calls `keep` with a copy of its verdicts. If `keep` returns a value,
+    /// the request is judged, and this returns the reply and that value.
+    ///
+    /// The request must come next, as [`Resolver::comes_next`] tells. The reply and what the
+    /// resolver then stands for are those of [`Resolver::offer`]. Everything is allocated before
+    /// `keep` is called, and nothing fails after it, so `keep` may do what cannot be undone. Fails
+    /// with `NotKept` if `keep` returns an error, and otherwise only with `OutOfMemory`. Each
+    /// failure leaves the resolver unchanged.
+    pub fn judge_with<K, E, F: FnOnce(Verdicts) -> Result<K, E>>(
+        &mut self,
+        request: &Request,
+        keep: F,
+    ) -> Result<(Reply, K), NotJudged<E>>
+        requires next { course self.old request.now ≡ Ok way.Judge }
+        requires callable { F.IsAlwaysCallable keep }
+        ensures reply { IfOk result (λ made. RepliesAfterJudged self.old request.now made.0) }
+        ensures kept { IfOk result (λ made. F.post keep made.0.verdicts (Ok made.1)) }
+        ensures gains { IfOk result (λ made. GainsRequest self.old request.now self.new) }
+        ensures forgets { IfOk result (λ made. ForgetsOldWrites self.old request.now self.new) }
+        ensures number { self.new.number ≡ self.old.number }
+        ensures proxies { length self.new.proxies ≡ length self.old.proxies }
+        ensures window { self.new.written.window ≡ self.old.written.window }
+        ensures err { OnErr result (self.new ≡ self.old) }
+        ensures why { IfErr result (λ error. IfNotKept error (λ reason. (verdicts : _)
+            × AreVerdictsAfterJudged self.old request.now verdicts
+            × F.post keep verdicts (Err reason))) }
+    {
+        let alloc: Global = *self.rows.allocator();
+        let place = request.proxy();
+        let unseen = copies_above(alloc, &self.rows, self.proxies[place].last)?;
+        let kept_unseen = copy_rows(&unseen)?;
+        let mut states = unjudged_states(alloc, request)?;
+        let parts = request.share().parts();
+        let mut kept_verdicts = vec![in alloc; Verdict::Conflict; parts.len()]?;
+        self.rows.reserve(1)?;
+        reserve_reply(&mut self.proxies, place)?;
+        let (verdicts, kept) = self
+            .history
+            .judge_with(request.version(), request.share(), keep)?;
+        copy_verdicts(&mut kept_verdicts, verdicts.as_slice());
+        judge_states(&mut states, request, verdicts.as_slice());
+        self.rows.push_back_reserved(UnseenRow {
+            version: request.version(),
+            states: Items::from(states),
+        });
+        let noted = reply(request, Items::from(kept_verdicts), kept_unseen);
+        note_reply(&mut self.proxies, request, noted);
+        self.version = request.version();
+        forget_rows(&mut self.rows, reached_by_all(&self.proxies));
+        self.history.forget(request.version());
+        Ok((reply(request, verdicts, unseen), kept))
     }
 
     /// Returns a deep copy. Fails only with `OutOfMemory`.
@@ -172,8 +239,7 @@ impl Resolver {
         Ok(Course::Judge)
     }
 
-    /// Judges the request, which comes next, and returns the reply. Everything is allocated before
-    /// anything is changed.
+    /// Judges the request, which comes next, and returns the reply.
     fn judge(&mut self, request: &Request) -> Result<Reply, OutOfMemory>
         requires { course self.old request.now ≡ Ok way.Judge }
         ensures reply { IfOk result (λ reply. RepliesAfterJudged self.old request.now reply) }
@@ -184,28 +250,11 @@ impl Resolver {
         ensures window { self.new.written.window ≡ self.old.written.window }
         ensures err { OnErr result (self.new ≡ self.old) }
     {
-        let alloc: Global = *self.rows.allocator();
-        let place = request.proxy();
-        let unseen = copies_above(alloc, &self.rows, self.proxies[place].last)?;
-        let kept_unseen = copy_rows(&unseen)?;
-        let mut states = unjudged_states(alloc, request)?;
-        let parts = request.share().parts();
-        let mut kept_verdicts = vec![in alloc; Verdict::Conflict; parts.len()]?;
-        self.rows.reserve(1)?;
-        reserve_reply(&mut self.proxies, place)?;
-        let verdicts = self.history.judge(request.version(), request.share())?;
-        copy_verdicts(&mut kept_verdicts, verdicts.as_slice());
-        judge_states(&mut states, request, verdicts.as_slice());
-        self.rows.push_back_reserved(UnseenRow {
-            version: request.version(),
-            states: Items::from(states),
-        });
-        let kept = reply(request, Items::from(kept_verdicts), kept_unseen);
-        note_reply(&mut self.proxies, request, kept);
-        self.version = request.version();
-        forget_rows(&mut self.rows, reached_by_all(&self.proxies));
-        self.history.forget(request.version());
-        Ok(reply(request, verdicts, unseen))
+        match self.judge_with(request, |_verdicts| Ok::<(), Infallible>(())) {
+            Ok((reply, ())) => Ok(reply),
+            Err(NotJudged::OutOfMemory) => Err(OutOfMemory),
+            Err(NotJudged::NotKept(never)) => match never {},
+        }
     }
 }
 
