@@ -1,5 +1,6 @@
 //! Tests of state_memory, by hand and against the list of all requests that were judged.
 
+mod kept_verdicts;
 mod random_requests;
 
 ghost use Rattle.std.specs.Prelude.{◌≡◌, [], ◌∷◌, Ok, IfOk, IfSome};
@@ -313,7 +314,7 @@ fn a_request_is_judged_once(rt: HostRuntime) -> Result<(), Fail> {
 // ---- strangers
 
 /// Resolver 0 of two proxies, with a window of 100, that judged two empty requests of proxy 0.
-fn of_two_proxies(alloc: Global) -> Result<Resolver, Fail> {
+pub(crate) fn of_two_proxies(alloc: Global) -> Result<Resolver, Fail> {
     let mut resolver = new_resolver(alloc, 0, 2, 100)?;
     answers(&mut resolver, alloc, (0, 0, 0, 10, 0))?;
     answers(&mut resolver, alloc, (0, 0, 10, 20, 10))?;
@@ -329,7 +330,7 @@ fn answers(resolver: &mut Resolver, alloc: Global, line: Line) -> Result<(), Fai
 }
 
 /// Requests that no proxy would send, and what they get.
-const STRANGERS: &[(Line, Refusal)] = &[
+pub(crate) const STRANGERS: &[(Line, Refusal)] = &[
     ((1, 2, 20, 30, 0), Refusal::WrongResolver),
     ((0, 2, 20, 30, 0), Refusal::NoSuchProxy),
     ((0, 0, 20, 20, 0), Refusal::OutsideChain { version: 20 }),
@@ -342,7 +343,7 @@ const STRANGERS: &[(Line, Refusal)] = &[
 ];
 
 /// Whether the resolver has come to version 20 and remembers two rows.
-fn is_at_20(resolver: &Resolver) -> bool {
+pub(crate) fn is_at_20(resolver: &Resolver) -> bool {
     resolver.version() == 20 && resolver.remembered() == 2
 }
 
@@ -547,7 +548,7 @@ fn states_are_told_with_the_own_verdict(rt: HostRuntime) -> Result<(), Fail> {
     Ok(())
 }
 
-fn copy_of(resolver: &Resolver) -> Result<Resolver, OutOfMemory> {
+pub(crate) fn copy_of(resolver: &Resolver) -> Result<Resolver, OutOfMemory> {
     twice!(resolver.copy(), OutOfMemory)
 }
 
