@@ -25,7 +25,9 @@ pub use owners::{
     asked_law, moves_law, overlap_law, owner_law, stand_answers_law, stand_law, trimmed_law,
     visited_law, walk_law,
 };
-pub use proxies::{finish_law, proxy_law, replies_agree_law, routing_law, world_finish_law};
+pub use proxies::{
+    begin_law, finish_law, proxy_law, replies_agree_law, routing_law, world_finish_law,
+};
 pub use resolvers::{
     acknowledged_law, greatest_law, judged_law, memory_law, offer_law, request_law,
     request_rule_law, requests_memory_law, resolver_answer_law, resolver_memory_law,
