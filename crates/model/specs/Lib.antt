@@ -40,6 +40,8 @@ pub mod Agreed
 pub mod Growing
 -- what the rule of commit says of the lock row, and the outcome of what is committed
 pub mod Committed
+-- which lock is held before a record, and whom it refuses
+pub mod Locks
 -- a verdict that a history, a cell or a list does not have counts as Conflict
 pub mod Missing
 -- a proxy routes by its own journal, at its own version
