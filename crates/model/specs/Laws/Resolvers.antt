@@ -10,7 +10,7 @@ use Rattle.model.specs.Requests.{Request, request, request_back_to, request_verd
 use Rattle.model.specs.Requests.{request_reply_row, request_reply, remembered_requests}
 use Rattle.model.specs.Requests.{request_reply_rows, requests_of_proxy, last_request_version}
 use Rattle.model.specs.Requests.{request_unseen, request_oldest_proxy_version}
-use Rattle.model.specs.RequestRules.{IsRequest, part_numbers}
+use Rattle.model.specs.RequestRules.{KeepsRequestRule, part_numbers}
 use Rattle.model.specs.World.{reply_of, World, Event, Offer, Judged, IsSound, handle_event}
 use Rattle.model.specs.World.{greatest, acknowledged}
 use Rattle.model.specs.declared.reply.Reply.{Reply}
@@ -66,13 +66,13 @@ RememberedRequestsAreOfTheRecords =
 abbrev pub RequestsKeepTheRule : Type 0
 RequestsKeepTheRule =
     (oldest : ℕ) (rec : Record) (received resolver : ℕ)
-    → IsRequest (request_back_to oldest rec received resolver)
+    → KeepsRequestRule (request_back_to oldest rec received resolver)
 
 -- of two parts of a request that keeps the rule, the later one has the greater number
 abbrev pub LaterPartsHaveGreaterNumbers : Type 0
 LaterPartsHaveGreaterNumbers =
     (q : Request) (place later_place number later_number : ℕ)
-    → IsRequest q → place < later_place
+    → KeepsRequestRule q → place < later_place
     → slice_get (part_numbers q.share) place ≡ Some number
     → slice_get (part_numbers q.share) later_place ≡ Some later_number
     → number < later_number
