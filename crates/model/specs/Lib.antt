@@ -2,6 +2,8 @@
 
 -- the words for a version, and for the number of a resolver, a proxy, a row, a transaction
 pub mod Numbers
+-- lists in the order of versions
+pub mod VersionOrder
 -- how many proxies and resolvers a cluster has, its window, its step, and their limits
 pub mod Configs
 -- a transaction as a client gives it, and the version and number stamped into it

@@ -20,6 +20,7 @@ use Rattle.model.specs.declared.unseen.UnseenRow.{UnseenRow}
 use Rattle.model.specs.Acknowledged.{acknowledged_requests}
 use Rattle.model.specs.WriteHistories.{WriteHistoryView, ShareAt, StandsForShares, all_judged}
 use Rattle.model.specs.WriteHistories.{shares_of}
+use Rattle.model.specs.VersionOrder.{Increase}
 use Rattle.model.specs.ResolverMemory.{ResolverView, ProxyMemory, StandsForRequests, Course}
 use Rattle.model.specs.ResolverMemory.{GiveAgain, Judge, course, reply_by_memory, memory_after}
 
@@ -303,8 +304,7 @@ RowsAreOfTheRemembered =
 
 -- the versions of some rows are strictly increasing, and all above `version`
 abbrev pub RowsRise : (version : ℕ) → List UnseenRow → Type 0
-RowsRise version [] = Unit {0}
-RowsRise version (row ∷ rows) = (version < row.version) × RowsRise row.version rows
+RowsRise version rows = Increase (λ (row : UnseenRow). row.version) version rows
 
 -- the rows are kept in the order of their versions
 abbrev pub KeptRowsRise : Type 0
@@ -313,9 +313,7 @@ KeptRowsRise =
 
 -- the versions of some replies are strictly increasing, and all above `version`
 abbrev pub RepliesRise : (version : ℕ) → List Reply → Type 0
-RepliesRise version [] = Unit {0}
-RepliesRise version (reply ∷ replies) =
-    (version < reply.version) × RepliesRise reply.version replies
+RepliesRise version replies = Increase (λ (reply : Reply). reply.version) version replies
 
 -- and so are the replies to a proxy
 abbrev pub KeptRepliesRise : Type 0
