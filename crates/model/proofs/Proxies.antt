@@ -1,3 +1,4 @@
 pub mod AgreeingReplies
+pub mod Beginning
 pub mod Finishing
 pub mod Routings

@@ -7,7 +7,7 @@ use Rattle.model.specs.Records.{Record, IsHistory, Follows}
 use Rattle.model.specs.Shares.{each_below}
 use Rattle.model.specs.Verdicts.{share_verdicts}
 use Rattle.model.specs.Journal.{list_at}
-use Rattle.model.specs.Agreed.{Column, Columns, IsAgreed, AreVerdicts}
+use Rattle.model.specs.Agreed.{Column, Columns, KnowsRows, IsAgreed, AreVerdicts}
 
 -- the column of each resolver has n cells
 abbrev pub HaveCells : Config → Columns → (n : ℕ) → Type 0
@@ -42,8 +42,17 @@ AgreedWithARecord =
     → IsAgreed config records columns n → Follows config records rec
     → IsAgreed config (records ++ rec ∷ []) columns n
 
--- a view that has a record of the next row, and whose columns gain the verdicts on it, is agreed up
--- to one more row
+-- a view that has a record of the next row, and whose columns have a cell of that row, is agreed up
+-- to one more row, whatever the cells hold
+abbrev pub AgreedWithAnyCells : Type 0
+AgreedWithAnyCells =
+    (config : Config) (records : List Record) (columns more : Columns) (n : ℕ) (rec : Record)
+    → IsAgreed config records columns n → slice_get records n ≡ Some rec
+    → ((r : ResolverNumber) → r < config.resolvers → KnowsRows (list_at more r) (suc n))
+    → IsAgreed config records more (suc n)
+
+-- so a view that has a record of the next row, and whose columns gain the verdicts on it, is agreed
+-- up to one more row
 abbrev pub AgreedWithCells : Type 0
 AgreedWithCells =
     (config : Config) (records : List Record) (columns more : Columns) (n : ℕ) (rec : Record)

@@ -2,6 +2,8 @@
 
 -- the words for a version, and for the number of a resolver, a proxy, a row, a transaction
 pub mod Numbers
+-- lists in the order of versions
+pub mod VersionOrder
 -- how many proxies and resolvers a cluster has, its window, its step, and their limits
 pub mod Configs
 -- a transaction as a client gives it, and the version and number stamped into it
@@ -40,6 +42,8 @@ pub mod Agreed
 pub mod Growing
 -- what the rule of commit says of the lock row, and the outcome of what is committed
 pub mod Committed
+-- which lock is held before a record, and whom it refuses
+pub mod Locks
 -- a verdict that a history, a cell or a list does not have counts as Conflict
 pub mod Missing
 -- a proxy routes by its own journal, at its own version

@@ -4,6 +4,7 @@ use Rattle.system_keys.specs.Keys.{Key, Range, holds}
 use Rattle.model.specs.declared.moves.Move.{Move}
 use Rattle.model.specs.Owners.{Owner, owners, trimmed, walk_visits, asks_read, asks_write}
 use Rattle.model.specs.Shares.{each_below}
+use Rattle.model.specs.VersionOrder.{NeverDecrease, last_version_or}
 
 -- a map of owners: some moves that give each key its owners, the date of the last move that was
 -- made, and the version below which the fronts of the lists of owners are forgotten
@@ -19,13 +20,11 @@ owners_left map key = trimmed map.oldest (owners map.moves key)
 
 -- the dates of the moves never decrease, from `date` on
 abbrev pub DatesInOrder : (date : ℕ) (moves : List Move) → Type 0
-DatesInOrder date [] = Unit {0}
-DatesInOrder date (m ∷ moves) = (date ≤ m.date) × DatesInOrder m.date moves
+DatesInOrder date moves = NeverDecrease (λ (m : Move). m.date) date moves
 
 -- the date of the last move, or `date` if there is no move
 abbrev pub last_date : (date : ℕ) (moves : List Move) → ℕ
-last_date date [] = date
-last_date date (m ∷ moves) = last_date m.date moves
+last_date date moves = last_version_or (λ (m : Move). m.date) date moves
 
 -- the map stands for these moves: each key has the owners that the moves give it, without the
 -- oldest ones as far as the map drops them

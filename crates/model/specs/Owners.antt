@@ -1,11 +1,12 @@
 -- Which resolver owned a key from which version on, and which resolvers a range is sent to.
 -- Release 7.1, `CommitProxyServer.actor.cpp`, ResolutionRequestBuilder, and the proxy's map of keys
 -- to resolvers; what differs is marked *profile*.
-use Rattle.std.specs.Prelude.{◌≤◌, List, [], ◌∷◌, Bool, false, if◌then◌else◌, ◌&&◌, ◌||◌, not}
+use Rattle.std.specs.Prelude.{List, [], ◌∷◌, Bool, false, if◌then◌else◌, ◌&&◌, ◌||◌, not}
 use Rattle.std.specs.Prelude.{nat_eq, nat_lt, IsTrue}
 use Rattle.std.specs.List.{list_any, list_all}
 use Rattle.system_keys.specs.Keys.{Key, Range, holds}
 use Rattle.model.specs.Numbers.{Version, ResolverNumber}
+use Rattle.model.specs.VersionOrder.{NeverDecrease}
 use Rattle.model.specs.declared.moves.Move.{Move}
 
 -- a resolver, and the version from which on it owned a key
@@ -95,5 +96,4 @@ trimmed oldest (o ∷ p ∷ later) =
 
 -- the dates of the list never decrease, and the first is at least `date`
 abbrev pub DatesNeverDecrease : (date : Version) → List Owner → Type 0
-DatesNeverDecrease date [] = Unit {0}
-DatesNeverDecrease date (o ∷ later) = (date ≤ o.date) × DatesNeverDecrease o.date later
+DatesNeverDecrease date owners = NeverDecrease (λ (o : Owner). o.date) date owners

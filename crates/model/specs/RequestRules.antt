@@ -17,7 +17,7 @@ part_numbers parts = map (λ (part : Part). part.number) parts
 
 -- The numbers of its parts rise, each of its marks names a part, and its marks have the content of
 -- their transactions exactly if it is to resolver 0.
-pub record IsRequest (q : Request) : Type 0 where
+pub record KeepsRequestRule (q : Request) : Type 0 where
   pub rising : NumbersRise 0 q.share
   pub named : All (λ (mark : StateMark). Contains (part_numbers q.share) mark.number) q.states
   pub carried : All (λ (mark : StateMark). is_some mark.carried ≡ nat_eq q.resolver 0) q.states

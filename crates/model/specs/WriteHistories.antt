@@ -13,6 +13,7 @@ use Rattle.model.specs.Records.{Record}
 use Rattle.model.specs.Shares.{share}
 use Rattle.model.specs.Verdicts.{JudgedPart, is_committed, is_too_old, committed_after, judged_at}
 use Rattle.model.specs.Requests.{Request}
+use Rattle.model.specs.VersionOrder.{Increase, last_version_or}
 
 -- ---- writes
 
@@ -71,13 +72,11 @@ shares_of_records config r records =
 
 -- the versions of the shares are strictly increasing, and all above `version`
 abbrev pub IsRisingFrom : (version : Version) (shares : List ShareAt) → Type 0
-IsRisingFrom version [] = Unit {0}
-IsRisingFrom version (s ∷ shares) = (version < s.version) × IsRisingFrom s.version shares
+IsRisingFrom version shares = Increase (λ (s : ShareAt). s.version) version shares
 
 -- the version of the last share, or `version` if there is no share
 abbrev pub last_judged : (version : Version) (shares : List ShareAt) → Version
-last_judged version [] = version
-last_judged version (s ∷ shares) = last_judged s.version shares
+last_judged version shares = last_version_or (λ (s : ShareAt). s.version) version shares
 
 -- the greatest version of a part that its resolver committed and that writes the key, or 0 if there
 -- is none

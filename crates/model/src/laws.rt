@@ -20,15 +20,17 @@ pub use agreement::{
 pub use history::{chain_law, history_law, next_law, rows_law, split_law, unseen_law};
 pub use journal::{journal_law, journal_rows_law, reply_rows_law, version_law};
 pub use metadata::{change_law, fold_law, lock_law, route_law, tags_law};
-pub use outcomes::{committed_law, finished_law, finished_numbers_law, outcome_law};
+pub use outcomes::{committed_law, finished_law, finished_numbers_law, held_lock_law, outcome_law};
 pub use owners::{
     asked_law, moves_law, overlap_law, owner_law, stand_answers_law, stand_law, trimmed_law,
     visited_law, walk_law,
 };
-pub use proxies::{finish_law, proxy_law, replies_agree_law, routing_law, world_finish_law};
+pub use proxies::{
+    begin_law, finish_law, proxy_law, replies_agree_law, routing_law, world_finish_law,
+};
 pub use resolvers::{
-    acknowledged_law, greatest_law, judged_law, memory_law, offer_law, request_law,
-    request_rule_law, requests_memory_law, resolver_answer_law, resolver_memory_law,
+    acknowledged_law, judged_law, memory_law, offer_law, request_law, request_rule_law,
+    requests_memory_law, resolver_answer_law, resolver_memory_law,
 };
 pub use serializability::{lock_row_law, serial_law};
 pub use shares::{

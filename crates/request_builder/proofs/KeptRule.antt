@@ -9,7 +9,7 @@ use Rattle.model.specs.declared.unseen.StateMark.{StateMark}
 use Rattle.model.specs.Transactions.{Transaction}
 use Rattle.model.specs.Journal.{carried_by}
 use Rattle.model.specs.Requests.{Request}
-use Rattle.model.specs.RequestRules.{NumbersRise, part_numbers, IsRequest}
+use Rattle.model.specs.RequestRules.{NumbersRise, part_numbers, KeepsRequestRule}
 use Rattle.request_builder.specs.declared.asked_resolvers.AskedResolvers.{AskedResolvers}
 use Rattle.request_builder.specs.AskedResolvers.{part_by, is_sent, sent_part, parts_by, mark_by, marks_by}
 
@@ -83,7 +83,7 @@ marks_have_content r n (t ∷ ts) (asking ∷ askings) =
 
 -- ---- all three
 
-pub request_kept : (q : Request) (batch : List Transaction) (askings : List AskedResolvers) → q.share ≡ parts_by q.resolver 0 batch askings → q.states ≡ marks_by q.resolver 0 batch askings → IsRequest q
+pub request_kept : (q : Request) (batch : List Transaction) (askings : List AskedResolvers) → q.share ≡ parts_by q.resolver 0 batch askings → q.states ≡ marks_by q.resolver 0 batch askings → KeepsRequestRule q
 request_kept q batch askings share_is states_is =
     record {
       rising = subst (NumbersRise 0) (sym share_is) (parts_rise q.resolver 0 batch askings);

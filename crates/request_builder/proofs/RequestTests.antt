@@ -8,7 +8,7 @@ use Rattle.std.proofs.lemmas.Map.Made.{Contains-tail}
 use Rattle.model.specs.declared.part.Part.{Part}
 use Rattle.model.specs.declared.unseen.StateMark.{StateMark}
 use Rattle.model.specs.Requests.{Request}
-use Rattle.model.specs.RequestRules.{NumbersRise, part_numbers, IsRequest}
+use Rattle.model.specs.RequestRules.{NumbersRise, part_numbers, KeepsRequestRule}
 use Rattle.request_builder.specs.Requests.{numbers_rise, names_part, is_carried_to}
 
 -- ---- the numbers rise
@@ -71,7 +71,7 @@ carried_test resolver mark h = by (nat_eq resolver 0) (is_some mark.carried) h
 
 -- ---- all three
 
-pub is_request_from : (q : Request) → numbers_rise 0 q.share ≡ true → list_all (names_part q.share) q.states ≡ true → list_all (is_carried_to q.resolver) q.states ≡ true → IsRequest q
+pub is_request_from : (q : Request) → numbers_rise 0 q.share ≡ true → list_all (names_part q.share) q.states ≡ true → list_all (is_carried_to q.resolver) q.states ≡ true → KeepsRequestRule q
 is_request_from q rise named carried =
     record {
       rising = rise_from 0 q.share rise;
@@ -79,11 +79,11 @@ is_request_from q rise named carried =
       carried = All-weaker (λ (mark : StateMark). is_carried_to q.resolver mark ≡ true) (λ (mark : StateMark). is_some mark.carried ≡ nat_eq q.resolver 0) (carried_from q.resolver) q.states (AllPass-from_list_all (is_carried_to q.resolver) q.states carried);
     }
 
-pub rise_of : (q : Request) → IsRequest q → numbers_rise 0 q.share ≡ true
+pub rise_of : (q : Request) → KeepsRequestRule q → numbers_rise 0 q.share ≡ true
 rise_of q is = rise_test 0 q.share is.rising
 
-pub named_of : (q : Request) → IsRequest q → list_all (names_part q.share) q.states ≡ true
+pub named_of : (q : Request) → KeepsRequestRule q → list_all (names_part q.share) q.states ≡ true
 named_of q is = list_all-from_AllPass (names_part q.share) q.states (All-weaker (λ (mark : StateMark). Contains (part_numbers q.share) mark.number) (λ (mark : StateMark). names_part q.share mark ≡ true) (λ (mark : StateMark) h. named_test q.share mark.number h) q.states is.named)
 
-pub carried_of : (q : Request) → IsRequest q → list_all (is_carried_to q.resolver) q.states ≡ true
+pub carried_of : (q : Request) → KeepsRequestRule q → list_all (is_carried_to q.resolver) q.states ≡ true
 carried_of q is = list_all-from_AllPass (is_carried_to q.resolver) q.states (All-weaker (λ (mark : StateMark). is_some mark.carried ≡ nat_eq q.resolver 0) (λ (mark : StateMark). is_carried_to q.resolver mark ≡ true) (carried_test q.resolver) q.states is.carried)

@@ -21,7 +21,7 @@ request_of header share states =
       states = states;
     }
 
--- ---- the tests of `IsRequest`
+-- ---- the tests of `KeepsRequestRule`
 
 -- the numbers of the parts rise, and the first is at least `least`
 abbrev pub numbers_rise : (least : ℕ) → List Part → Bool

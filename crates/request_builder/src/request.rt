@@ -4,7 +4,7 @@
 
 ghost use Rattle.std.specs.Prelude.{◌≡◌, Some, IfOk, MatchOption, Contains, nat_lt, slice_get};
 ghost use Rattle.std.specs.List.{list_all, list_any};
-ghost use Rattle.model.specs.RequestRules.{IsRequest, NumbersRise, part_numbers};
+ghost use Rattle.model.specs.RequestRules.{KeepsRequestRule, NumbersRise, part_numbers};
 ghost use Rattle.request_builder.specs.Requests.{request_of, least_after, numbers_rise};
 ghost use Rattle.request_builder.specs.Requests.{names_part, is_carried_to};
 
@@ -30,14 +30,14 @@ pub struct Request {
 
 impl Model for Request {
     ghost use Rattle.model.specs.Requests.{Request as Sent};
-    ghost use Rattle.model.specs.RequestRules.{IsRequest};
+    ghost use Rattle.model.specs.RequestRules.{KeepsRequestRule};
     ghost use Rattle.request_builder.specs.Requests.{request_of};
 
     ghost Value = { Sent };
 
     ghost view = { λ q. request_of q.header q.share q.states };
 
-    ghost invariant = { λ q. IsRequest (request_of q.header q.share q.states) };
+    ghost invariant = { λ q. KeepsRequestRule (request_of q.header q.share q.states) };
 }
 
 impl Request {
@@ -46,7 +46,8 @@ impl Request {
     /// 0. Does not allocate.
     pub fn new(header: RequestHeader, share: Share, states: Items<StateMark>) -> Option<Request>
         ensures { let q = request_of header share states in
-            MatchOption result (IsRequest q → ⊥) (λ request. IsRequest q × (request ≡ q)) }
+            MatchOption result
+            (KeepsRequestRule q → ⊥) (λ request. KeepsRequestRule q × (request ≡ q)) }
     {
         let parts = share.parts();
         let marks = states.as_slice();
@@ -66,7 +67,7 @@ impl Request {
 
     /// Returns the request of these parts. Does not allocate.
     pub(crate) fn of_parts(header: RequestHeader, share: Share, states: Items<StateMark>) -> Request
-        requires { IsRequest (request_of header share states) }
+        requires { KeepsRequestRule (request_of header share states) }
         ensures { result ≡ request_of header share states }
     {
         Request {
@@ -121,7 +122,7 @@ impl Request {
     /// The parts of transactions that the resolver gets, in the order of the batch.
     pub fn share(&self) -> &Share
         ensures value { result.now ≡ self.now.share }
-        ensures kept { IsRequest self.now }
+        ensures kept { KeepsRequestRule self.now }
     {
         &self.share
     }
@@ -129,7 +130,7 @@ impl Request {
     /// The marks of the state transactions, in the order of the batch.
     pub fn states(&self) -> &[StateMark]
         ensures value { result.now ≡ self.now.states }
-        ensures kept { IsRequest self.now }
+        ensures kept { KeepsRequestRule self.now }
     {
         self.states.as_slice()
     }
@@ -140,7 +141,7 @@ impl Request {
         ensures place { let numbers = part_numbers self.now.share in
             MatchOption result (Contains numbers number → ⊥)
             (λ place. slice_get numbers place ≡ Some number) }
-        ensures kept { IsRequest self.now }
+        ensures kept { KeepsRequestRule self.now }
     {
         place_of(self.share.parts(), number)
     }

@@ -8,7 +8,7 @@ use Rattle.model.specs.Shares.{each_below}
 use Rattle.model.specs.Verdicts.{share_verdicts}
 use Rattle.model.specs.Journal.{list_at}
 use Rattle.model.specs.Agreed.{Column, Columns, AreVerdicts}
-use Rattle.model.specs.Growing.{column_from, all_columns, AgreedWithARecord, AgreedWithCells, VerdictsWithCells, HistoriesAreAgreed, AllColumnsHaveCells, AllColumnsGainVerdicts, AllColumnsAreVerdicts}
+use Rattle.model.specs.Growing.{column_from, all_columns, AgreedWithARecord, AgreedWithAnyCells, AgreedWithCells, VerdictsWithCells, HistoriesAreAgreed, AllColumnsHaveCells, AllColumnsGainVerdicts, AllColumnsAreVerdicts}
 use Rattle.model.proofs.History.Growth.{history_push}
 use Rattle.model.proofs.Agreement.Holders.{column_more}
 use Rattle.model.proofs.Journals.ReplyRows.{slice_get-each_below}
@@ -26,16 +26,21 @@ agreed_with_a_record config records columns n rec agreed follows =
       cells = agreed.cells;
     }
 
-pub agreed_with_cells : AgreedWithCells
-agreed_with_cells config records columns more n rec agreed at gained =
+pub agreed_with_any_cells : AgreedWithAnyCells
+agreed_with_any_cells config records columns more n rec agreed at known =
     record {
       history = agreed.history;
       rows = let within = slice_get_within records n rec at in omega (arith, within);
-      cells = λ r there.
-          let known = agreed.cells r there in
-          let longer : length (list_at more r) ≡ length (list_at columns r ++ share_verdicts config r (take n records) rec ∷ []) = ap length (gained r there) in
-          omega (arith, known, longer, length-append (list_at columns r) (share_verdicts config r (take n records) rec ∷ []));
+      cells = known;
     }
+
+pub agreed_with_cells : AgreedWithCells
+agreed_with_cells config records columns more n rec agreed at gained =
+    agreed_with_any_cells config records columns more n rec agreed at
+    (λ r there.
+    let known = agreed.cells r there in
+    let longer : length (list_at more r) ≡ length (list_at columns r ++ share_verdicts config r (take n records) rec ∷ []) = ap length (gained r there) in
+    omega (arith, known, longer, length-append (list_at columns r) (share_verdicts config r (take n records) rec ∷ [])))
 
 pub verdicts_with_cells : VerdictsWithCells
 verdicts_with_cells config h columns more rec cells whole gained r there i s at =

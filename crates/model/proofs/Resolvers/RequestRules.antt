@@ -63,7 +63,8 @@ IsNamed parts mark = Contains (part_numbers parts) mark.number
 named_behind : (part : Part) (parts : List Part) (mark : StateMark) → IsNamed parts mark → IsNamed (part ∷ parts) mark
 named_behind part parts mark (k, within, at) = (suc k, omega arith, at)
 
-state_asks : (oldest : ℕ) (rec : Record) (r : ℕ) (t : Transaction) → is_state_transaction t ≡ true → asks_back_to oldest rec r t ≡ true
+-- a state transaction asks every resolver
+pub state_asks : (oldest : ℕ) (rec : Record) (r : ℕ) (t : Transaction) → is_state_transaction t ≡ true → asks_back_to oldest rec r t ≡ true
 state_asks oldest rec r t is = ap (λ (b : Bool). b || list_any (asks_read rec.moves (read_bound oldest t) r) (all_reads t) || list_any (asks_write rec.moves r) t.writes) is
 
 marks_named : (oldest : ℕ) (rec : Record) (r n : ℕ) (ts : List Transaction) → All (IsNamed (parts_back_to oldest rec r n ts)) (marks_from r n ts)

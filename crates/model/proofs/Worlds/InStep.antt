@@ -1,8 +1,7 @@
 -- The parts of a cluster stay in step with its world when a batch gets its record, when a range moves, and when a resolver judges a request.
-use Rattle.std.proofs.Common.{◌≡◌, refl, sym, ap, ◌∙◌, subst, ℕ, zero, suc, ◌+◌, ◌<◌, ◌≤◌, ◌⊎◌, inl, inr, List, [], ◌∷◌, ◌++◌, map, length, take, drop, replicate, Bool, true, false, nat_eq, nat_le, if◌then◌else◌, slice_get, slice_index, slice_set, Some, All, append-nil, take-append-drop, arith}
+use Rattle.std.proofs.Common.{◌≡◌, refl, sym, ap, ◌∙◌, subst, ℕ, zero, suc, ◌+◌, ◌<◌, ◌≤◌, ◌⊎◌, inl, inr, List, [], ◌∷◌, ◌++◌, map, length, take, drop, replicate, Bool, true, false, nat_eq, nat_le, if◌then◌else◌, slice_get, slice_index, slice_set, Some, append-nil, arith}
 use Rattle.std.proofs.lemmas.Bool.{lt-leb, eq-eqb, ne_eqb}
 use Rattle.std.proofs.lemmas.List.{map-append, length-set, take-append-le, drop-append-le, take_all}
-use Rattle.std.proofs.lemmas.List.Elements.{All-head, All-tail}
 use Rattle.std.proofs.lemmas.Option.{slice_get_within}
 use Rattle.system_keys.specs.Keys.{Range}
 use Rattle.model.specs.Configs.{Config, IsConfig, version_limit}
@@ -13,19 +12,19 @@ use Rattle.model.specs.Shares.{each_below}
 use Rattle.model.specs.Journal.{journal}
 use Rattle.model.specs.Requests.{Request, request}
 use Rattle.model.specs.Offers.{sent_request, judged_requests}
-use Rattle.model.specs.OwnerMaps.{last_date}
 use Rattle.model.specs.ResolverMemory.{ResolverView, StandsForRequests}
-use Rattle.model.specs.Finishing.{ProxyView, HoldsMoves, MayBeMade, MayBegin, HasBegun}
+use Rattle.model.specs.Finishing.{ProxyView, HoldsMoves, MayBegin, HasBegun}
 use Rattle.model.specs.World.{World, Sequence, MoveRange, Handled, Sequenced, Moved, NoSuchResolver, refuse, IsSound, initial_world, next_record, handle_event, finished_version, proxy_journal}
 use Rattle.model.specs.Turns.{IsResolverOf, IsProxyOf, sent_requests, AreInStep, IsNewResolver, IsNewProxy}
 use Rattle.model.specs.Laws.Worlds.{MaySequence}
-use Rattle.model.proofs.History.Chain.{element_at, own_up_to_previous, next_follows_moves}
+use Rattle.model.proofs.History.Chain.{element_at, next_follows_moves}
 use Rattle.model.proofs.History.Growth.{slice_get-push, push_cases, history_push, records_of_proxy-append, last_version-push, last_moves-push}
 use Rattle.model.proofs.Resolvers.Judged.{slice_index-append, map_each, others_leave}
-use Rattle.model.proofs.Owners.Moves.{Grows, grows, grown_moves, last_moves_at, DatesRise, dates_rise, destinations_within}
+use Rattle.model.proofs.Owners.Moves.{last_moves_at}
 use Rattle.model.proofs.Verdicts.Places.{row_at}
 use Rattle.model.proofs.Worlds.Runs.{own_place, finished_within, journal_kept}
 use Rattle.model.proofs.Shares.Askers.{slice_get-append_left}
+use Rattle.model.proofs.Proxies.Beginning.{a_later_record_may_begin}
 use Rattle.model.proofs.Worlds.Histories.{happens_sound, start_sound}
 
 -- ---- lists
@@ -175,49 +174,28 @@ next_is config w p batch sound there below =
     let follows = next_follows_moves config w.history w.moves p (stamped_from (last_version w.history + config.step) 0 batch) sound.sequencer there below in
     record { follows = follows; longer = history_push config w.history (next_record config w p batch) sound.sequencer.history follows; at = slice_get-push w.history (next_record config w p batch) }
 
--- the moves of a proxy's last record are the first ones of a later record
-kept_moves : (config : Config) (w : World) (p : ℕ) (rec : Record) → IsSound config w → IsNext config w rec → take (length (last_moves (records_of_proxy p w.history))) rec.moves ≡ last_moves (records_of_proxy p w.history)
-kept_moves config w p rec sound next = by (records_of_proxy p w.history) refl
+-- the moves of a proxy's last record are those of the last of some first records
+record HasMovesOf (h : List Record) (limit : ℕ) (moves : List Move) : Type 0 where
+  begun : ℕ
+  within : begun ≤ limit
+  moves_are : last_moves (take begun h) ≡ moves
+
+moves_of_own : (w : World) (p : ℕ) (rec : Record) → HasMovesOf (w.history ++ rec ∷ []) (length w.history) (last_moves (records_of_proxy p w.history))
+moves_of_own w p rec = by (records_of_proxy p w.history) refl
   where
-    by : (rs : List Record) → rs ≡ records_of_proxy p w.history → take (length (last_moves rs)) rec.moves ≡ last_moves rs
-    by [] is = refl
+    by : (rs : List Record) → rs ≡ records_of_proxy p w.history → HasMovesOf (w.history ++ rec ∷ []) (length w.history) (last_moves rs)
+    by [] is = record { begun = 0; within = omega arith; moves_are = refl }
     by (x ∷ rs) is =
         let last = element_at (x ∷ rs) (length rs) (omega arith) in
         let place = own_place p w.history (length rs) last.0 (ap (λ (ss : List Record). slice_get ss (length rs)) (sym is) ∙ last.1) in
         let within : place.i < length w.history = slice_get_within w.history place.i last.0 place.at in
         let here : slice_get (w.history ++ rec ∷ []) place.i ≡ Some last.0 = slice_get-append_left w.history (rec ∷ []) place.i within ∙ place.at in
-        let grown : Grows last.0 rec = grows config (w.history ++ rec ∷ []) place.i (length w.history) last.0 rec next.longer within here next.at in
         let moves : last_moves (x ∷ rs) ≡ last.0.moves = ap last_moves (sym (take_all (suc (length rs)) (x ∷ rs) (omega arith))) ∙ last_moves_at (x ∷ rs) (length rs) last.0 last.1 in
-        rw moves (grown_moves last.0 rec grown).0
-
-rise_behind : (first last : ℕ) (xs ys : List Move) → DatesRise first (xs ++ ys) last → DatesRise (last_date first xs) ys last
-rise_behind first last [] ys rise = rise
-rise_behind first last (m ∷ xs) ys rise = rise_behind m.date last xs ys rise.1
-
-all_behind : (P : Move → Type 0) (xs ys : List Move) → All P (xs ++ ys) → All P ys
-all_behind P [] ys all = all
-all_behind P (m ∷ xs) ys all = all_behind P xs ys (All-tail P m (xs ++ ys) all)
-
-made_in_turn : (resolvers first last : ℕ) (moves : List Move) → DatesRise first moves last → All (λ (m : Move). m.dest < resolvers) moves → MayBeMade resolvers first moves
-made_in_turn resolvers first last [] rise all = tt
-made_in_turn resolvers first last (m ∷ moves) rise all =
-    (rise.0, All-head (λ (n : Move). n.dest < resolvers) m moves all, made_in_turn resolvers m.date last moves rise.1 (All-tail (λ (n : Move). n.dest < resolvers) m moves all))
+        record { begun = suc place.i; within = omega (arith, within); moves_are = last_moves_at (w.history ++ rec ∷ []) place.i last.0 here ∙ sym moves }
 
 pub may_begin : (config : Config) (w : World) (p : ℕ) (v : ProxyView) (resolvers : List ResolverView) (proxies : List ProxyView) (requests : List (List Request)) (batch : List Given) → MaySequence config w p v resolvers proxies requests → MayBegin v (next_record config w p batch)
 may_begin config w p v resolvers proxies requests batch may =
-    record {
-      moves = moves;
-      holds = is.holds;
-      version = ap (λ (c : Config). last_version w.history + c.step) (sym is.config_is);
-      own = own_up_to_previous config (w.history ++ rec ∷ []) (length w.history) rec next.longer next.at;
-      kept_moves = kept;
-      further_moves =
-          subst (λ (c : Config). MayBeMade c.resolvers v.owned.last_date (drop (length moves) w.moves)) (sym is.config_is)
-          (subst (λ (date : ℕ). MayBeMade config.resolvers date (drop (length moves) w.moves)) (sym is.holds.stands.last)
-          (made_in_turn config.resolvers (last_date 0 moves) (last_version w.history + 1) (drop (length moves) w.moves)
-          (rise_behind 0 (last_version w.history + 1) moves (drop (length moves) w.moves) (subst (λ (ms : List Move). DatesRise 0 ms (last_version w.history + 1)) whole (dates_rise config (w.history ++ rec ∷ []) (length w.history) rec next.longer next.at)))
-          (all_behind (λ (m : Move). m.dest < config.resolvers) moves (drop (length moves) w.moves) (subst (λ (ms : List Move). All (λ (m : Move). m.dest < config.resolvers) ms) whole (destinations_within config (w.history ++ rec ∷ []) (length w.history) rec next.longer next.at)))));
-    }
+    a_later_record_may_begin config (w.history ++ rec ∷ []) (length w.history) own.begun rec v next.longer next.at own.within is.config_is (subst (HoldsMoves v) (sym own.moves_are) is.holds)
   where
     is : IsProxyOf config w p v
     is = may.parts.each_proxy p v may.proxy_is
@@ -225,17 +203,11 @@ may_begin config w p v resolvers proxies requests batch may =
     rec : Record
     rec = next_record config w p batch
 
-    moves : List Move
-    moves = last_moves (records_of_proxy p w.history)
-
     next : IsNext config w rec
     next = next_is config w p batch may.parts.sound may.there may.limit
 
-    kept : take (length moves) w.moves ≡ moves
-    kept = kept_moves config w p rec may.parts.sound next
-
-    whole : w.moves ≡ moves ++ drop (length moves) w.moves
-    whole = sym (take-append-drop (length moves) w.moves) ∙ ap (λ (front : List Move). front ++ drop (length moves) w.moves) kept
+    own : HasMovesOf (w.history ++ rec ∷ []) (length w.history) (last_moves (records_of_proxy p w.history))
+    own = moves_of_own w p rec
 
 pub begun_in_step : (config : Config) (w : World) (p : ℕ) (v new : ProxyView) (resolvers : List ResolverView) (proxies : List ProxyView) (requests : List (List Request)) (batch : List Given) → MaySequence config w p v resolvers proxies requests → HasBegun v new (next_record config w p batch)
     → AreInStep config (handle_event config w (Sequence p batch)).world resolvers (slice_set proxies p new) (requests ++ map (request config (next_record config w p batch) v.version) (each_below config.resolvers) ∷ [])

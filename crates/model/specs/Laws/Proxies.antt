@@ -4,14 +4,15 @@ use Rattle.std.specs.Prelude.{slice_index, slice_set, Some}
 use Rattle.model.specs.Configs.{Config, IsConfig}
 use Rattle.model.specs.declared.journal.JournalRow.{JournalRow}
 use Rattle.model.specs.declared.outcome.Finished.{Finished}
-use Rattle.model.specs.Records.{Record, IsHistory, records_of_proxy}
+use Rattle.model.specs.Records.{Record, IsHistory, records_of_proxy, last_moves}
 use Rattle.model.specs.Shares.{each_below}
 use Rattle.model.specs.Journal.{VerdictSource, history_verdicts, journal_row, journal, is_after}
 use Rattle.model.specs.World.{World, Finish, Completed, IsSound, reply_of, finished_after}
 use Rattle.model.specs.World.{finished_batch, missing_replies, handle_event, up_to_version}
 use Rattle.model.specs.World.{finished_version, proxy_journal, Event}
 use Rattle.model.specs.Finishing.{Replies, reply_from, replied_verdicts, AgreeOnRows, AreRepliesBy}
-use Rattle.model.specs.Finishing.{told_rows, disagreements, ProxyView, HasFinished}
+use Rattle.model.specs.Finishing.{told_rows, disagreements, ProxyView, HasFinished, HoldsMoves}
+use Rattle.model.specs.Finishing.{MayBegin}
 
 -- the replies of at least one resolver agree on at most one list of rows
 abbrev pub RepliesAgreeOnOneListOfRows : Type 0
@@ -199,3 +200,13 @@ AFinishAppendsTheUnseenRows =
     ++ journal config (history_verdicts config world.history)
     (filter (is_after rec.own_previous) (take rec.row world.history))
     ++ journal_row config (history_verdicts config world.history) rec ∷ []
+
+-- A proxy whose map of owners holds the moves of the first `begun` records of a history may begin
+-- each record after these, whatever the other proxies did. So it may begin its own records one
+-- after another, if it knows the records up to each of them.
+abbrev pub ALaterRecordMayBegin : Type 0
+ALaterRecordMayBegin =
+    (config : Config) (history : List Record) (row begun : ℕ) (rec : Record) (v : ProxyView)
+    → IsHistory config history → slice_get history row ≡ Some rec → begun ≤ row
+    → v.config ≡ config → HoldsMoves v (last_moves (take begun history))
+    → MayBegin v rec

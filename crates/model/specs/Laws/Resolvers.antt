@@ -10,7 +10,7 @@ use Rattle.model.specs.Requests.{Request, request, request_back_to, request_verd
 use Rattle.model.specs.Requests.{request_reply_row, request_reply, remembered_requests}
 use Rattle.model.specs.Requests.{request_reply_rows, requests_of_proxy, last_request_version}
 use Rattle.model.specs.Requests.{request_unseen, request_oldest_proxy_version}
-use Rattle.model.specs.RequestRules.{IsRequest, part_numbers}
+use Rattle.model.specs.RequestRules.{KeepsRequestRule, part_numbers}
 use Rattle.model.specs.World.{reply_of, World, Event, Offer, Judged, IsSound, handle_event}
 use Rattle.model.specs.World.{greatest, acknowledged}
 use Rattle.model.specs.declared.reply.Reply.{Reply}
@@ -20,6 +20,7 @@ use Rattle.model.specs.declared.unseen.UnseenRow.{UnseenRow}
 use Rattle.model.specs.Acknowledged.{acknowledged_requests}
 use Rattle.model.specs.WriteHistories.{WriteHistoryView, ShareAt, StandsForShares, all_judged}
 use Rattle.model.specs.WriteHistories.{shares_of}
+use Rattle.model.specs.VersionOrder.{Increase}
 use Rattle.model.specs.ResolverMemory.{ResolverView, ProxyMemory, StandsForRequests, Course}
 use Rattle.model.specs.ResolverMemory.{GiveAgain, Judge, course, reply_by_memory, memory_after}
 
@@ -66,13 +67,13 @@ RememberedRequestsAreOfTheRecords =
 abbrev pub RequestsKeepTheRule : Type 0
 RequestsKeepTheRule =
     (oldest : ℕ) (rec : Record) (received resolver : ℕ)
-    → IsRequest (request_back_to oldest rec received resolver)
+    → KeepsRequestRule (request_back_to oldest rec received resolver)
 
 -- of two parts of a request that keeps the rule, the later one has the greater number
 abbrev pub LaterPartsHaveGreaterNumbers : Type 0
 LaterPartsHaveGreaterNumbers =
     (q : Request) (place later_place number later_number : ℕ)
-    → IsRequest q → place < later_place
+    → KeepsRequestRule q → place < later_place
     → slice_get (part_numbers q.share) place ≡ Some number
     → slice_get (part_numbers q.share) later_place ≡ Some later_number
     → number < later_number
@@ -303,8 +304,7 @@ RowsAreOfTheRemembered =
 
 -- the versions of some rows are strictly increasing, and all above `version`
 abbrev pub RowsRise : (version : ℕ) → List UnseenRow → Type 0
-RowsRise version [] = Unit {0}
-RowsRise version (row ∷ rows) = (version < row.version) × RowsRise row.version rows
+RowsRise version rows = Increase (λ (row : UnseenRow). row.version) version rows
 
 -- the rows are kept in the order of their versions
 abbrev pub KeptRowsRise : Type 0
@@ -313,9 +313,7 @@ KeptRowsRise =
 
 -- the versions of some replies are strictly increasing, and all above `version`
 abbrev pub RepliesRise : (version : ℕ) → List Reply → Type 0
-RepliesRise version [] = Unit {0}
-RepliesRise version (reply ∷ replies) =
-    (version < reply.version) × RepliesRise reply.version replies
+RepliesRise version replies = Increase (λ (reply : Reply). reply.version) version replies
 
 -- and so are the replies to a proxy
 abbrev pub KeptRepliesRise : Type 0

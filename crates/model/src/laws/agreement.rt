@@ -23,8 +23,8 @@ ghost use Rattle.model.specs.Laws.Agreement.{ColumnsSayTheHistorysVerdicts};
 ghost use Rattle.model.specs.Laws.Agreement.{RepliesSayWhatTheirSourceSays, ColumnsGiveReplies};
 ghost use Rattle.model.specs.Laws.Agreement.{RepliesByColumnsAreByTheCells};
 ghost use Rattle.model.specs.Laws.Agreement.{RepliesByVerdictColumnsAreToTheRecord};
-ghost use Rattle.model.specs.Growing.{AgreedWithARecord, AgreedWithCells, VerdictsWithCells};
-ghost use Rattle.model.specs.Growing.{HistoriesAreAgreed, AllColumnsHaveCells};
+ghost use Rattle.model.specs.Growing.{AgreedWithARecord, AgreedWithAnyCells, AgreedWithCells};
+ghost use Rattle.model.specs.Growing.{VerdictsWithCells, HistoriesAreAgreed, AllColumnsHaveCells};
 ghost use Rattle.model.specs.Growing.{AllColumnsGainVerdicts, AllColumnsAreVerdicts};
 
 /// An empty view is agreed up to row 0, and a view that is agreed up to a row is agreed up to each
@@ -41,12 +41,14 @@ pub fn agreed_law()
 {}
 
 /// A view grows, from nothing, by the next record and by a cell of each resolver: it is then agreed
-/// up to one row more, and its cells have the verdicts if they had them before. So for each history
-/// there are columns, one for each resolver, with which a view is agreed up to the end of the
-/// history and has the verdicts. They have a cell for each record, and gain those of the next one.
+/// up to one row more, whatever the cells hold. If each holds its resolver's verdicts on that
+/// record, the cells have the verdicts if they had them before. So for each history there are
+/// columns, one for each resolver, with which a view is agreed up to the end of the history and has
+/// the verdicts. They have a cell for each record, and gain those of the next one.
 pub fn growing_law()
     ensures nothing { NoRecordsNeedNoVerdicts }
     ensures next_record { AgreedWithARecord }
+    ensures any_cells { AgreedWithAnyCells }
     ensures next_cells { AgreedWithCells }
     ensures verdicts { VerdictsWithCells }
     ensures whole { HistoriesAreAgreed }

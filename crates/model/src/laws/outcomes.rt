@@ -6,6 +6,7 @@ ghost use Rattle.model.specs.Laws.Outcomes.{TheLockRefusesThePlain, FinishedOutc
 ghost use Rattle.model.specs.Laws.Outcomes.{FinishedTagsAreAfterTheRow, FinishedBatchesHaveTheRow};
 ghost use Rattle.model.specs.Laws.Outcomes.{FinishedBatchesHaveTheVersion};
 ghost use Rattle.model.specs.Committed.{CommittedIsTold, ToldNumbersAreItsOwn};
+ghost use Rattle.model.specs.Locks.{AHeldLockIsInTheMetadata, AHeldLockRefusesThePlain};
 
 /// The outcomes of a batch are those of its transactions, each at its number, after the records
 /// before it and after any journal. The lock refuses exactly the transactions that are not lock
@@ -22,6 +23,14 @@ pub fn outcome_law()
 pub fn committed_law()
     ensures told { CommittedIsTold }
     ensures numbers { ToldNumbersAreItsOwn }
+{}
+
+/// If a committed transaction locked the database, and no committed one after it changed the lock
+/// row, the metadata before a later record is locked. A transaction of that record that is not lock
+/// aware is then Locked, if its resolvers commit it.
+pub fn held_lock_law()
+    ensures locked { AHeldLockIsInTheMetadata }
+    ensures refused { AHeldLockRefusesThePlain }
 {}
 
 /// The outcomes in a finished batch are those of its record, and each mutation in it has the tags

@@ -10,9 +10,15 @@ ghost use Rattle.model.specs.Laws.Proxies.{WorldRepliesAreByTheHistory, WorldsFi
 ghost use Rattle.model.specs.Laws.Proxies.{WorldJournalsGrowByReplies};
 ghost use Rattle.model.specs.Laws.Proxies.{FinishedVersionIsTheOneBefore};
 ghost use Rattle.model.specs.Laws.Proxies.{OnlyItsFinishChangesTheJournal};
-ghost use Rattle.model.specs.Laws.Proxies.{AFinishAppendsTheUnseenRows};
+ghost use Rattle.model.specs.Laws.Proxies.{AFinishAppendsTheUnseenRows, ALaterRecordMayBegin};
 ghost use Rattle.model.specs.OwnRouting.{RoutingIsOfItsJournal, OnlyItsFinishChangesTheRouting};
 ghost use Rattle.model.specs.OwnRouting.{AFinishBringsItsVersion};
+
+/// A proxy may begin a record of a history if its map of owners holds the moves of the first
+/// records, of any number up to the row of that one. It needs no world and no other proxy.
+pub fn begin_law()
+    ensures { ALaterRecordMayBegin }
+{}
 
 /// With at least one resolver, replies agree on at most one list of rows. They agree on some rows
 /// exactly if they disagree at no version, and then on the rows that they tell.

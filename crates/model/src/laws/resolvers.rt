@@ -81,14 +81,11 @@ pub fn requests_memory_law()
 {}
 
 /// The version that a proxy has acknowledged to a resolver is the greatest that the requests of
-/// that proxy, among those that the resolver has judged, say that the proxy had received.
+/// that proxy, among those that the resolver has judged, say that the proxy had received. The
+/// greatest number of a list that is not empty is in the list, and no number of the list is above
+/// it. The greatest of no numbers is 0.
 pub fn acknowledged_law()
-    ensures { AcknowledgedIsByRequests }
-{}
-
-/// The greatest number of a list that is not empty is in the list, and no number of the list is
-/// above it. The greatest of no numbers is 0.
-pub fn greatest_law()
+    ensures requests { AcknowledgedIsByRequests }
     ensures bound { GreatestIsABound }
     ensures there { GreatestIsInTheList }
     ensures none { GreatestOfNoneIsZero }

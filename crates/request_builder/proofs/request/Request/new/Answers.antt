@@ -4,14 +4,14 @@ use Rattle.std.proofs.lemmas.Bool.{false≢true}
 use Rattle.model.specs.declared.part.Part.{Part}
 use Rattle.model.specs.declared.unseen.StateMark.{StateMark}
 use Rattle.model.specs.Requests.{Request}
-use Rattle.model.specs.RequestRules.{IsRequest}
+use Rattle.model.specs.RequestRules.{KeepsRequestRule}
 use Rattle.std.specs.List.{list_all}
 use Rattle.request_builder.specs.Requests.{request_of, numbers_rise, names_part, is_carried_to}
 use Rattle.request_builder.proofs.RequestTests.{is_request_from, rise_from, rise_of, named_of, carried_of}
 use Rattle.request_builder.proofs.request.Request.new.Goals as goal
 use Rattle.request_builder.proofs.request.Request.new.Goals.{else-numbers_rise-via-then-numbers_rise+then-name_parts+else-are_carried_to, else-numbers_rise-via-then-numbers_rise+else-name_parts, else-numbers_rise-via-else-numbers_rise}
 
-kept : (q : Request) (parts : List Part) (marks : List StateMark) (rise named carried : Bool) → parts ≡ q.share → marks ≡ q.states → rise ≡ numbers_rise 0 parts → named ≡ list_all (names_part parts) marks → carried ≡ list_all (is_carried_to q.resolver) marks → rise ≡ true → named ≡ true → carried ≡ true → IsRequest q
+kept : (q : Request) (parts : List Part) (marks : List StateMark) (rise named carried : Bool) → parts ≡ q.share → marks ≡ q.states → rise ≡ numbers_rise 0 parts → named ≡ list_all (names_part parts) marks → carried ≡ list_all (is_carried_to q.resolver) marks → rise ≡ true → named ≡ true → carried ≡ true → KeepsRequestRule q
 kept q parts marks rise named carried parts_are marks_are is_rise is_named is_carried risen all_named all_carried =
     is_request_from q
     (ap (numbers_rise 0) (sym parts_are) ∙ sym is_rise ∙ risen)

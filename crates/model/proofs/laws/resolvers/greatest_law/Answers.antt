@@ -1,6 +1,0 @@
-use Rattle.std.proofs.Common.{refl}
-use Rattle.model.proofs.Resolvers.Acknowledged.{greatest_is_bound, greatest_is_there}
-use Rattle.model.proofs.laws.resolvers.greatest_law.Goals as goal
-
-pub returns : goal.returns
-returns c = record { bound = greatest_is_bound; there = greatest_is_there; none = refl }
