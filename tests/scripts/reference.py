@@ -256,10 +256,9 @@ def listed(tags):
     return " ".join("%d:%d" % tag for tag in tags) or "none"
 
 
-def print_folded(rows, ask):
-    """The lines of a script that is not refused."""
-    kept = fold(rows)
-    yield "version %d" % (rows[-1][0] if rows else 0)
+def metadata_lines(version, kept, ask):
+    """The lines of the kept rows at a version, and of the asked keys."""
+    yield "version %d" % version
     yield "locked %s" % ("yes" if is_locked(kept) else "no")
     yield "metadata_version %s" % (quoted(kept[METADATA_VERSION]) if METADATA_VERSION in kept else "none")
     for row in sorted(kept):
@@ -268,6 +267,11 @@ def print_folded(rows, ask):
             yield "route %s %s" % (quoted(key), listed(tags_of(kept, key)))
     for key in ask:
         yield "tags %s %s" % (quoted(key), listed(tags_of(kept, key)))
+
+
+def print_folded(rows, ask):
+    """The lines of a script that is not refused."""
+    return metadata_lines(rows[-1][0] if rows else 0, fold(rows), ask)
 
 
 def answer(script):

@@ -7,14 +7,14 @@ import sys
 from typing import NamedTuple
 
 from reference import (
-    KEY_SERVERS, LOCKED, METADATA_VERSION, NAMES, Refused, check_change, fields, fold, is_locked, is_server_tag, items, listed, quoted,
-    read_bool, read_bytes, read_json, read_number, read_pair, tags_of, want,
+    KEY_SERVERS, LOCKED, NAMES, Refused, check_change, fields, fold, is_locked, is_server_tag, items, listed, metadata_lines, read_bool,
+    read_bytes, read_json, read_number, read_pair, tags_of, want,
 )
 
 REFUSALS = {
     **NAMES, 15: "BadStamp", 16: "BatchTooLarge",
     20: "NoSuchResolver", 30: "Early", 31: "GivenUp", 32: "NoSuchProxy", 33: "WrongResolver", 35: "NoSuchRow",
-    42: "OutOfTurn", 43: "MissingReply", 51: "VersionsEnd",
+    42: "OutOfTurn", 43: "MissingReply", 50: "LedgerFull", 51: "VersionsEnd",
 }
 VERSION_LIMIT = 2**63
 WORST_FIRST = ("conflict", "too_old", "committed")
@@ -76,28 +76,41 @@ def read_transaction(value):
     )
 
 
+def read_batch(value):
+    return [read_transaction(one) for one in items(value)]
+
+
+def read_move(value):
+    span, resolver = fields(value, "range", "resolver")
+    return read_pair(span), read_number(resolver)
+
+
 def read_event(value):
     want(isinstance(value, dict) and len(value) == 1)
     kind = next(iter(value))
     if kind == "sequence":
         proxy, batch = fields(value[kind], "proxy", "batch")
-        return kind, read_number(proxy), [read_transaction(one) for one in items(batch)]
+        return kind, read_number(proxy), read_batch(batch)
     if kind == "move":
-        span, resolver = fields(value[kind], "range", "resolver")
-        return kind, read_pair(span), read_number(resolver)
+        return kind, *read_move(value[kind])
     if kind == "offer":
         return kind, *(read_number(one) for one in fields(value[kind], "row", "resolver"))
     want(kind == "finish")
     return kind, *(read_number(one) for one in fields(value[kind], "proxy"))
 
 
+def read_numbers(*values):
+    """The numbers of the cluster, in the order of their limits."""
+    numbers = [read_number(one) for one in values]
+    for number, most in zip(numbers, (64, 64, 10**9, VERSION_LIMIT - 1, 4096)):
+        want(1 <= number <= most)
+    return numbers
+
+
 def read_turns(value):
     """The numbers of the cluster, the events and the asked keys of a value that has the form."""
     *numbers, events, ask = fields(value, "proxies", "resolvers", "window", "step", "events", "ask")
-    numbers = [read_number(one) for one in numbers]
-    for number, most in zip(numbers, (64, 64, 10**9, VERSION_LIMIT - 1)):
-        want(1 <= number <= most)
-    return numbers, [read_event(one) for one in items(events)], [read_bytes(key) for key in items(ask)]
+    return read_numbers(*numbers), [read_event(one) for one in items(events)], [read_bytes(key) for key in items(ask)]
 
 
 # ---- the limits
@@ -118,16 +131,20 @@ def check_mutation(mutation):
     return want(place_of_stamp(value), 15)
 
 
+def check_batch(batch):
+    for transaction in batch:
+        for span in transaction.reads + transaction.writes:
+            check_change(("clear", *span))
+        for mutation in transaction.changes:
+            check_mutation(mutation)
+    want(len(batch) <= 1024, 16)
+
+
 def check_event(event):
     if event[0] == "move":
         check_change(("clear", *event[1]))
     if event[0] == "sequence":
-        for transaction in event[2]:
-            for span in transaction.reads + transaction.writes:
-                check_change(("clear", *span))
-            for mutation in transaction.changes:
-                check_mutation(mutation)
-        want(len(event[2]) <= 1024, 16)
+        check_batch(event[2])
 
 
 # ---- transactions
@@ -343,17 +360,8 @@ class Cluster:
 
     def routing_lines(self, proxy, ask):
         version = self.finished_version(proxy)
-        kept = fold(self.journal(version))
         yield "proxy %d" % proxy
-        yield "version %d" % version
-        yield "locked %s" % ("yes" if is_locked(kept) else "no")
-        yield "metadata_version %s" % (quoted(kept[METADATA_VERSION]) if METADATA_VERSION in kept else "none")
-        for row in sorted(kept):
-            if row.startswith(KEY_SERVERS):
-                key = row[len(KEY_SERVERS) :]
-                yield "route %s %s" % (quoted(key), listed(tags_of(kept, key)))
-        for key in ask:
-            yield "tags %s %s" % (quoted(key), listed(tags_of(kept, key)))
+        yield from metadata_lines(version, fold(self.journal(version)), ask)
 
 
 def refusal(number, *field):
