@@ -28,7 +28,8 @@ from threads_reference import REFUSED, Work, committed_rows, meeting_lines, over
 from turns_reference import all_reads, stamped
 
 # how many states a search looks at before it says that it does not know
-STATES = 300_000
+STATES = 50_000
+UNKNOWN = "it is not known"
 OUTCOMES = {"committed", "conflict", "too_old", "locked"}
 # a version that is old to each batch, and one that none reaches
 OLD, NEVER = 2**64, 2**64
@@ -204,52 +205,71 @@ class Later:
     """What the batches of a script that got a row touch and read, by how many of them each proxy has had."""
 
     def __init__(self, script, said):
+        self.final = said.final
         self.shown = [LOCKED, METADATA_VERSION, *(KEY_SERVERS + key for key in said.final.routes)]
-        # for each proxy and batch the rows that it sets, and the ranges that it clears
-        self.sets = [[set() for _ in batches] for batches in said.outcomes]
-        self.clears = [[[] for _ in batches] for batches in said.outcomes]
-        # for each proxy the ranges that it reads, each with the number of the batch and the snapshot
-        self.reads = [[] for _ in said.outcomes]
+        # for each proxy and batch its changes of kept rows, and for each proxy the ranges that it reads, each with its batch
+        self.changes, self.reads = [[[] for _ in batches] for batches in said.outcomes], [[] for _ in said.outcomes]
         # for each proxy the last batch with a transaction that commits if there is no lock, and with one that the lock refuses
         self.last_unlocked, self.last_locked = [-1] * script.proxies, [-1] * script.proxies
         for proxy, batches in enumerate(said.outcomes):
             for number, words in enumerate(batches):
                 for transaction, outcome in zip(script.work[proxy][number], words.split(" ")):
-                    self.add(proxy, number, stamped(transaction, 0, 0), outcome)
-        # for each proxy the last batch that sets each row, and all that clear ranges
-        self.last_sets = [{row: number for number, rows in enumerate(batches) for row in rows} for batches in self.sets]
-        self.all_clears = [[(number, *span) for number, spans in enumerate(batches) for span in spans] for batches in self.clears]
-        self.known_snapshots = {}
+                    self.add(proxy, number, transaction, outcome)
+        # for each server the tags that it ever gets
+        self.tags = {}
+        for change in self.all_changes():
+            if change[0] != "clear" and change[1].startswith(SERVER_TAG):
+                self.tags.setdefault(change[1], set()).add(change[2])
+        self.known_touches, self.known_snapshots = {}, {}
 
     def add(self, proxy, number, transaction, outcome):
-        self.reads[proxy] += [(number, span, transaction.snapshot) for span in all_reads(transaction)]
+        self.reads[proxy] += [(number, span, transaction.snapshot) for span in all_reads(stamped(transaction, 0, 0))]
         if outcome == "locked":
             self.last_locked[proxy] = number
-        if outcome == "committed" and not transaction.lock_aware:
-            self.last_unlocked[proxy] = number
-        for kind, first, second in transaction.changes if outcome == "committed" else ():
-            if kind == "clear":
-                self.clears[proxy][number].append((first, second))
-            elif is_kept(first):
-                self.sets[proxy][number].add(first)
+        if outcome == "committed":
+            self.changes[proxy][number] += [it for it in transaction.changes if it[0] == "clear" or is_kept(it[1])]
+            if not transaction.lock_aware:
+                self.last_unlocked[proxy] = number
+
+    def all_changes(self):
+        return (change for batches in self.changes for changes in batches for change in changes)
 
     def touched(self, proxy, number, before, after):
         """The rows that a batch touches, of those that are kept before it or after it, or are shown in the end."""
-        clears = self.clears[proxy][number]
+        changes = self.changes[proxy][number]
+        clears = [(begin, end) for kind, begin, end in changes if kind == "clear"]
         cleared = {row for row in [*before, *after, *self.shown] if is_in_one(row, clears)} if clears else set()
-        return self.sets[proxy][number] | cleared
+        return cleared.union(row for kind, row, _ in changes if kind != "clear")
 
     def meets_lock(self, locked, had):
         """Whether a batch still to come needs the lock to be otherwise."""
         return any(last >= past for last, past in zip(self.last_unlocked if locked else self.last_locked, had))
 
-    def touches(self, row, had):
-        """Whether a batch still to come touches a row."""
-        return any(
-            self.last_sets[proxy].get(row, -1) >= past
-            or any(number >= past and begin <= row < end for number, begin, end in self.all_clears[proxy])
-            for proxy, past in enumerate(had)
-        )
+    def touches(self, row):
+        """The batches that touch a row: of each its proxy, its number, and whether the row can be left so in the end."""
+        if row not in self.known_touches:
+            self.known_touches[row] = [
+                (proxy, number, self.may_stay(row, last_change(row, changes)))
+                for proxy, batches in enumerate(self.changes) for number, changes in enumerate(batches) if last_change(row, changes)
+            ]
+        return self.known_touches[row]
+
+    def may_stay(self, row, change):
+        """Whether a row that was last changed so can be as the text shows it in the end, whatever the other rows are."""
+        kind, _, value = change
+        if row == LOCKED:
+            return (kind != "clear" and value != b"") == self.final.locked
+        if row == METADATA_VERSION and kind != "set_stamped":
+            return (quoted(value) if kind == "set" else "none") == self.final.metadata_version
+        if row.startswith(KEY_SERVERS):
+            tags = self.final.routes.get(row[len(KEY_SERVERS) :])
+            return tags is None if kind == "clear" else tags is not None and self.may_have(servers_of(value), tags)
+        return True
+
+    def may_have(self, servers, tags):
+        """Whether these servers may have these tags, by all that they ever get."""
+        given = {value for server in servers for value in self.tags.get(SERVER_TAG + server, ())}
+        return tags == "none" or set(tags.split(" ")) <= {tag_text(value) for value in given}
 
     def snapshots(self, span, had):
         """The snapshots at which batches still to come read in a range, in order."""
@@ -269,6 +289,16 @@ class Later:
 
 def is_in_one(row, spans):
     return any(begin <= row < end for begin, end in spans)
+
+
+def last_change(row, changes):
+    """The last of these changes that touches a row, or nothing."""
+    touching = [it for it in changes if (it[1] <= row < it[2] if it[0] == "clear" else it[1] == row)]
+    return touching[-1] if touching else None
+
+
+def tag_text(value):
+    return listed([(value[0], value[1] * 256 + value[2])])
 
 
 class Spared:
@@ -366,7 +396,7 @@ class Search:
                 continue
             met.add(state)
             if len(met) > STATES:
-                raise Wrong("it is not known: the search looked at %d states" % STATES)
+                raise Wrong("%s: the search looked at %d states" % (UNKNOWN, STATES))
             order[max(known.rows - 1, 0) :] = [proxy] * (known.rows > 0)
             if known.rows == sum(self.counts):
                 yield list(order)
@@ -396,8 +426,14 @@ class Search:
         return (then, had) if self.agrees(then.kept, had, touched) else None
 
     def agrees(self, kept, had, rows):
-        """Whether those of these rows that no batch still to come touches are as the text shows the metadata in the end."""
-        return all(self.row_agrees(kept, had, row) for row in rows if not self.later.touches(row, had))
+        """Whether each of these rows can be as the text shows it in the end: as it is, or as a batch still to come leaves it."""
+        return all(self.left_fits(had, row) if self.is_touched_later(had, row) else self.row_agrees(kept, had, row) for row in rows)
+
+    def is_touched_later(self, had, row):
+        return any(number >= had[proxy] for proxy, number, _ in self.later.touches(row))
+
+    def left_fits(self, had, row):
+        return any(may_stay and number >= had[proxy] for proxy, number, may_stay in self.later.touches(row))
 
     def row_agrees(self, kept, had, row):
         final = self.said.final
@@ -410,7 +446,7 @@ class Search:
         server = row[len(SERVER_TAG) :]
         return all(
             self.route_agrees(kept, had, other) for other, value in kept.items()
-            if other.startswith(KEY_SERVERS) and server in servers_of(value) and not self.later.touches(other, had)
+            if other.startswith(KEY_SERVERS) and server in servers_of(value) and not self.is_touched_later(had, other)
         )
 
     def route_agrees(self, kept, had, row):
@@ -418,7 +454,7 @@ class Search:
         if row not in kept:
             return True
         tags = [SERVER_TAG + server for server in servers_of(kept[row])]
-        if any(self.later.touches(tag, had) for tag in tags):
+        if any(self.is_touched_later(had, tag) for tag in tags):
             return True
         key, alone = row[len(KEY_SERVERS) :], {it: kept[it] for it in [row, *tags] if it in kept}
         return listed(tags_of(alone, key)) == self.said.final.routes.get(key)
