@@ -1,3 +1,5 @@
+mod CommitReplies
+mod CommitRequests
 mod Lists
 mod ProxyBegins
 mod ProxyColumns
@@ -6,3 +8,4 @@ mod ProxyLater
 mod ProxyRequests
 mod ProxyRoutings
 mod ProxyRows
+mod ServedRequests

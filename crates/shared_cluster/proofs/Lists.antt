@@ -1,7 +1,7 @@
 -- Lists of which one begins the other.
 use Rattle.std.proofs.Common.{◌≡◌, refl, sym, ap, ◌∙◌, ℕ, zero, suc, ◌+◌, ◌*◌, ◌<◌, ◌≤◌, List, [], ◌∷◌, ◌++◌, length, take, slice_get, Some, arith}
 use Rattle.std.proofs.Math.Nat.{mul-lt-mul_of_pos_right}
-use Rattle.facts.specs.Stretches.{Agree}
+use Rattle.facts.specs.Stretches.{Agree, Stretch, StretchesAgree}
 use Rattle.model.specs.Journal.{list_at}
 
 -- the elements after the first ones agree too
@@ -53,3 +53,10 @@ same_rows a b step stepping same = by (grind (arith, mul-lt-mul_of_pos_right {m 
   where
     by : (a < b → ⊥) → (b < a → ⊥) → a ≡ b
     by below above = omega (arith, below, above)
+
+-- two stretches that agree, both from row 0
+pub agree_from_zero : {X : Type 0} (s o : Stretch X) (xs : List X) → StretchesAgree s o → s.first ≡ 0 → o ≡ record { first = 0; known = xs } → Agree 0 s.known 0 xs
+agree_from_zero s o xs agree first is i j x y same at_x at_y =
+    let from : o.first ≡ 0 = ap (λ (t : Stretch _). t.first) is in
+    let at : slice_get o.known j ≡ Some y = ap (λ (t : Stretch _). slice_get t.known j) is ∙ at_y in
+    agree i j x y (omega (arith, first, from, same)) at_x at

@@ -53,7 +53,7 @@ got [] i x within is = absurd (omega (arith, within))
 got (y ∷ ys) zero x within is = ap Some (sym is)
 got (y ∷ ys) (suc i) x within is = got ys i x (omega (arith, within)) is
 
-take_next : {X : Type 0} (xs : List X) (k : ℕ) (x : X) → slice_get xs k ≡ Some x → take (k + 1) xs ≡ take k xs ++ x ∷ []
+pub take_next : {X : Type 0} (xs : List X) (k : ℕ) (x : X) → slice_get xs k ≡ Some x → take (k + 1) xs ≡ take k xs ++ x ∷ []
 take_next [] k x at = absurd (cc)
 take_next (y ∷ ys) zero x at = let same : y ≡ x = cc in ap (λ z. z ∷ []) same
 take_next (y ∷ ys) (suc k) x at =

@@ -4,6 +4,8 @@
 pub mod Requests
 -- a reply with what its resolver knew
 pub mod NotedReplies
+-- what a resolver's lock keeps, and what an offer does to it
+pub mod Resolvers
 -- columns of verdict cells that are kept together
 pub mod Columns
 -- the requests for a record that a proxy began, with the records up to it
@@ -14,5 +16,7 @@ pub mod Ready
 pub mod Answers
 -- what a proxy's lock keeps, and what beginning and finishing do to it
 pub mod Proxies
+-- what is asked of all resolvers, and what a commit does
+pub mod Commits
 -- refusals in the model's words, their numbers and names
 pub mod Refusals

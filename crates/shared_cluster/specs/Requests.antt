@@ -22,4 +22,4 @@ pub record IsRequestFor (config : Config) (v : RequestView) : Type 0 where
 -- the previous version of the request is its row times the step, and its version is one step more
 pub record HasRowVersions (config : Config) (q : Request) : Type 0 where
   pub previous : q.previous ≡ q.row * config.step
-  pub version : q.version ≡ (q.row + 1) * config.step
+  pub version : q.version ≡ q.previous + config.step

@@ -6,17 +6,21 @@
 //! free. Facts cross threads in the types of what is passed: a [`Request`] keeps the records up to
 //! its row, and a [`NotedReply`] the records and verdict cells that it was made by.
 //!
-//! No call holds one lock while it waits for another.
+//! A call that waits for a resolver's lock holds no other lock. A commit that waits for the
+//! sequencer's lock holds the proxy's; no call takes these two the other way round.
 //!
 //! Source: FoundationDB release 7.1, `Resolver.actor.cpp` (resolveBatch) and
 //! `CommitProxyServer.actor.cpp` (commitBatch), for what happens under the locks; the locks are *this
 //! project's profile*.
 #![tactic(auto)]
 
+mod commits;
 mod proxies;
 mod refusal;
 mod resolvers;
 
+pub use commits::{AllResolvers, Asking, CommitFault, ProxyGuard, SharedProxy};
 pub use proxies::{Begun, Columns, LockedProxy, NotedFinished, NotedRouting, Ready};
 pub use refusal::Refusal;
-pub use resolvers::{NotedReply, Request};
+pub use resolvers::{LockedResolver, NotedReply, Request, ResolverGuard, SharedResolver};
+pub use turn_world::{Event, Stopped, TurnWorld};

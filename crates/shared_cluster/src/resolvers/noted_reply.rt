@@ -86,4 +86,22 @@ impl<N: Naming> NotedReply<N> {
     {
         &self.column
     }
+
+    /// The reply, the records and the verdict cells.
+    pub(crate) fn into_parts(self) -> (Reply, Records<N>, Column<N>)
+        ensures reply { result.0 ≡ self.reply }
+        ensures records { result.1 ≡ record { first = 0; known = self.records } }
+        ensures column { result.2 ≡ record {
+          resolver = self.reply.resolver;
+          rows = record { first = 0; known = self.column };
+        } }
+        ensures kept { IsNotedReply N.cells.config self }
+    {
+        let NotedReply {
+            reply,
+            records,
+            column,
+        } = self;
+        (reply, records, column)
+    }
 }
