@@ -1,0 +1,11 @@
+mod CommitReplies
+mod CommitRequests
+mod Lists
+mod ProxyBegins
+mod ProxyColumns
+mod ProxyFinishes
+mod ProxyLater
+mod ProxyRequests
+mod ProxyRoutings
+mod ProxyRows
+mod ServedRequests

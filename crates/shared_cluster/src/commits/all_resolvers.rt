@@ -1,0 +1,70 @@
+//! Asking resolvers one after another, by entering each.
+
+ghost use Rattle.std.specs.Prelude.{◌≡◌, IfOk, IfErr};
+ghost use Rattle.shared_cluster.specs.NotedReplies.{IsReplyToRequest};
+ghost use Rattle.shared_cluster.specs.declared.refusal.Refusal.TheVariants as refusals;
+
+use crate::commits::asking::Asking;
+use crate::refusal::Refusal;
+use crate::resolvers::{NotedReply, Request, SharedResolver};
+use agreed_ledger::Naming;
+use std::alloc::Global;
+use std::sync::Wait;
+
+/// All resolvers of a cluster, in order. They are asked one after another: each call enters the
+/// resolver, waits its turn, and lets it go again.
+pub struct AllResolvers<'a, 'l, N: Naming> {
+    resolvers: &'a [SharedResolver<'l, N>],
+}
+
+impl<'a, 'l, N: Naming> AllResolvers<'a, 'l, N> {
+    /// Takes all resolvers of the cluster in the order of their numbers; otherwise fails with
+    /// `WrongResolver`. Does not allocate.
+    pub fn new(
+        resolvers: &'a [SharedResolver<'l, N>],
+    ) -> Result<AllResolvers<'a, 'l, N>, Refusal>
+        ensures { IfErr result (λ refusal. refusal ≡ refusals.WrongResolver) }
+    {
+        if resolvers.is_empty() || resolvers.len() != resolvers[0].ledger().config().resolvers() {
+            return Err(Refusal::WrongResolver);
+        }
+        for (number, resolver) in resolvers.iter().enumerate() {
+            if resolver.number() != number {
+                return Err(Refusal::WrongResolver);
+            }
+        }
+        Ok(AllResolvers { resolvers })
+    }
+
+    /// Asks one resolver, and lets it go again.
+    fn ask<R: Wait>(&self, rt: &R, request: &Request<N>) -> Result<NotedReply<N>, Refusal>
+        ensures { IfOk result (λ noted. IsReplyToRequest request.now.plain noted.reply) }
+    {
+        let resolver = request.resolver();
+        if self.resolvers.len() <= resolver {
+            return Err(Refusal::WrongResolver);
+        }
+        let copy = request.copy()?;
+        match self.resolvers[resolver].resolve(rt, copy) {
+            Ok((noted, _guard)) => Ok(noted),
+            Err((refusal, _request)) => Err(refusal),
+        }
+    }
+}
+
+impl<N: Naming> Asking<N> for AllResolvers<'_, '_, N> {
+    fn ask_all<R: Wait>(
+        &self,
+        rt: &R,
+        alloc: Global,
+        requests: &[Request<N>],
+    ) -> Result<Vec<NotedReply<N>>, Refusal> {
+        let Ok(mut replies) = Vec::with_capacity(alloc, requests.len()) else {
+            return Err(Refusal::OutOfMemory);
+        };
+        for request in requests {
+            replies.push_reserved(self.ask(rt, request)?);
+        }
+        Ok(replies)
+    }
+}

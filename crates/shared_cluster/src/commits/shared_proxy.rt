@@ -1,0 +1,289 @@
+//! The proxy that threads share.
+
+ghost use Rattle.std.specs.Prelude.{◌≡◌, ◌<◌, ◌≤◌, IfOk, IfErr, MatchResult, OnErr};
+ghost use Rattle.model.specs.Metadata.{metadata as metadata_of};
+ghost use Rattle.proxy_state.specs.Beginning.{rows_up_to};
+ghost use Rattle.shared_cluster.specs.Commits.{HandsBack, HoldsBatch, IsCommitted};
+ghost use Rattle.shared_cluster.specs.Proxies.{BeginsTicket, FinishesReady, ShowsRouting};
+ghost use Rattle.shared_cluster.specs.Proxies.{IsBeginRefusal, IsFinishRefusal};
+ghost use Rattle.shared_cluster.specs.Proxies.{IsLockedProxy, IsRoutingRefusal};
+ghost use Rattle.shared_cluster.specs.declared.refusal.Refusal.TheVariants as refusals;
+
+use crate::commits::asking::Asking;
+use crate::commits::commit_fault::CommitFault;
+use crate::commits::replies_to::{Collected, collect_replies};
+use crate::proxies::{Begun, Columns, LockedProxy, NotedFinished, NotedRouting, Ready};
+use crate::refusal::Refusal;
+use agreed_ledger::{Ledger, Naming, Records, Sequencer, Ticket};
+use model::{JournalRow, ProxyNumber, Version};
+use mutation::Batch;
+use proxy_state::Metadata;
+use std::alloc::Global;
+use std::marker::Model;
+use std::sync::{Condvar, Mutex, MutexGuard, Wait};
+use system_keys::OutOfMemory;
+
+/// A commit proxy that threads share. It finishes its batches in the order of their versions: a
+/// commit of a later one waits its turn.
+#[derive(Drop)]
+pub struct SharedProxy<'l, N: Naming> {
+    ledger: &'l Ledger<N>,
+    lock: Mutex<LockedProxy<N>>,
+    finished: Condvar,
+}
+
+impl<'l, N: Naming> SharedProxy<'l, N> {
+    /// The proxy of this number before its first record. Fails with `NoSuchProxy` if the cluster has
+    /// no such proxy, and otherwise only with `OutOfMemory`.
+    pub fn new(
+        alloc: Global,
+        ledger: &'l Ledger<N>,
+        number: ProxyNumber,
+    ) -> Result<SharedProxy<'l, N>, Refusal>
+        ensures { IfErr result (λ refusal.
+            (N.cells.config.proxies ≤ number → refusal ≡ refusals.NoSuchProxy)
+            × (number < N.cells.config.proxies → refusal ≡ refusals.OutOfMemory)) }
+    {
+        Ok(SharedProxy {
+            ledger,
+            lock: Mutex::new(LockedProxy::new(alloc, ledger, number)?),
+            finished: Condvar::new(),
+        })
+    }
+
+    /// Waits for the lock. What is under it is known by its type alone: the proxy is agreed with the
+    /// ledger up to the row of its version, and its metadata is the fold of the journal so known.
+    pub fn lock<R: Wait>(&self, rt: &R) -> ProxyGuard<'_, N>
+        ensures { IsLockedProxy N.cells.config result }
+    {
+        let guard = self.lock.lock(rt);
+        // (its contract says what the type keeps)
+        let _number = guard.number();
+        ProxyGuard {
+            ledger: self.ledger,
+            guard,
+            finished: &self.finished,
+        }
+    }
+
+    /// Asks all resolvers for the record that was begun, and collects their replies. Does not take
+    /// the lock of the proxy.
+    ///
+    /// Each failure returns the requests. A resolver that has replied then replies the same again.
+    pub fn resolve_all<R: Wait, A: Asking<N>>(
+        &self,
+        rt: &R,
+        asking: &A,
+        begun: Begun<N>,
+    ) -> Result<Ready<N>, (Refusal, Begun<N>)>
+        ensures row { IfOk result (λ ready. ready.row ≡ begun.row) }
+        ensures records { IfOk result (λ ready. ready.records ≡ begun.records) }
+        ensures back { IfErr result (λ refused. refused.1 ≡ begun) }
+    {
+        let replies = match asking.ask_all(rt, begun.alloc(), begun.requests()) {
+            Ok(replies) => replies,
+            Err(refusal) => return Err((refusal, begun)),
+        };
+        let alloc = begun.alloc();
+        let config = self.ledger.config();
+        let row = begun.row();
+        let made = collect_replies(alloc, config, row, begun.records(), replies.as_slice());
+        let Ok(Collected { replies, columns }) = made else {
+            return Err((Refusal::OutOfMemory, begun));
+        };
+        Ok(Ready::of(row, replies, begun.into_records(), columns))
+    }
+
+    /// Commits a batch: gives it its record and begins it under the proxy's lock, asks all resolvers
+    /// without the lock, waits until no earlier record of the proxy is still to be finished, and
+    /// finishes the record. Returns the finished batch, and the proxy, still locked.
+    ///
+    /// Each failure returns what its phase was given, from which the commit can go on. No call is
+    /// promised to stop waiting.
+    pub fn commit<R: Wait, A: Asking<N>>(
+        &self,
+        rt: &R,
+        sequencer: &Sequencer<'_, N>,
+        asking: &A,
+        batch: Batch,
+    ) -> Result<(NotedFinished<N>, ProxyGuard<'_, N>), CommitFault<N>>
+        ensures { MatchResult result
+            (λ made. IsCommitted batch made.0 made.1)
+            (HandsBack batch) }
+    {
+        let begun = self.begin_batch(rt, sequencer, batch)?;
+        let ready = match self.resolve_all(rt, asking, begun) {
+            Ok(ready) => ready,
+            Err((refusal, begun)) => return Err(CommitFault::Resolving { refusal, begun }),
+        };
+        match self.finish_in_turn(rt, ready) {
+            Ok(made) => Ok(made),
+            Err((refusal, ready)) => Err(CommitFault::Finishing { refusal, ready }),
+        }
+    }
+
+    /// Gives the batch its record, and begins it, under the lock.
+    fn begin_batch<R: Wait>(
+        &self,
+        rt: &R,
+        sequencer: &Sequencer<'_, N>,
+        batch: Batch,
+    ) -> Result<Begun<N>, CommitFault<N>>
+        ensures { MatchResult result
+            (λ begun. HoldsBatch begun.row begun.records batch)
+            (HandsBack batch) }
+    {
+        let mut guard = self.lock(rt);
+        let ticket = match sequenced(rt, sequencer, guard.number(), batch) {
+            Ok(ticket) => ticket,
+            Err((refusal, batch)) => return Err(CommitFault::Sequencing { refusal, batch }),
+        };
+        match guard.begin(ticket) {
+            Ok(begun) => Ok(begun),
+            Err((refusal, ticket)) => Err(CommitFault::Beginning { refusal, ticket }),
+        }
+    }
+
+    /// Waits until no earlier record of the proxy is still to be finished, and finishes this one.
+    fn finish_in_turn<R: Wait>(
+        &self,
+        rt: &R,
+        ready: Ready<N>,
+    ) -> Result<(NotedFinished<N>, ProxyGuard<'_, N>), (Refusal, Ready<N>)>
+        ensures row { IfOk result (λ made. made.0.finished.row ≡ ready.row) }
+        ensures records { IfOk result (λ made. made.0.records ≡ ready.records) }
+        ensures version { IfOk result (λ made.
+            made.1.proxy.version ≡ made.0.finished.version) }
+        ensures back { IfErr result (λ refused. refused.1 ≡ ready) }
+    {
+        let row = ready.row();
+        let guard = self.lock.lock(rt);
+        let guard = self.finished.wait_while(rt, guard, |locked| locked.awaits_before(row));
+        let mut shown = ProxyGuard {
+            ledger: self.ledger,
+            guard,
+            finished: &self.finished,
+        };
+        let noted = shown.finish(ready)?;
+        Ok((noted, shown))
+    }
+}
+
+/// Gives the batch of the proxy its record, under the sequencer's lock.
+fn sequenced<R: Wait, N: Naming>(
+    rt: &R,
+    sequencer: &Sequencer<'_, N>,
+    proxy: ProxyNumber,
+    batch: Batch,
+) -> Result<Ticket<N>, (agreed_ledger::Refusal, Batch)>
+    ensures ticket { IfOk result (λ ticket. HoldsBatch ticket.row ticket.records batch) }
+    ensures back { IfErr result (λ refused. refused.1 ≡ batch) }
+{
+    let mut guard = sequencer.lock(rt);
+    guard.sequence(proxy, batch)
+}
+
+/// A proxy, locked.
+#[derive(Drop)]
+pub struct ProxyGuard<'a, N: Naming> {
+    ledger: &'a Ledger<N>,
+    guard: MutexGuard<'a, LockedProxy<N>>,
+    finished: &'a Condvar,
+}
+
+impl<'a, N: Naming> Model for ProxyGuard<'a, N> {
+    ghost use Rattle.shared_cluster.specs.Proxies.{LockedProxyView};
+
+    ghost Value = { LockedProxyView };
+
+    ghost view = { λ g. g.guard.value };
+}
+
+impl<'a, N: Naming> ProxyGuard<'a, N> {
+    /// Begins the record of the ticket, as [`LockedProxy::begin`] says.
+    pub fn begin(&mut self, ticket: Ticket<N>) -> Result<Begun<N>, (Refusal, Ticket<N>)>
+        ensures begun { IfOk result (BeginsTicket N.cells.config self.old ticket self.new) }
+        ensures refused { IfErr result (λ refused. IsBeginRefusal self.old ticket refused.0) }
+        ensures back { IfErr result (λ refused. refused.1 ≡ ticket) }
+        ensures err { OnErr result (self.new ≡ self.old) }
+    {
+        self.guard.begin(self.ledger, ticket)
+    }
+
+    /// Finishes the record that was begun first, as [`LockedProxy::finish`] says. Does not wait.
+    pub fn finish(&mut self, ready: Ready<N>) -> Result<NotedFinished<N>, (Refusal, Ready<N>)>
+        ensures finished { IfOk result (FinishesReady self.old ready self.new) }
+        ensures refused { IfErr result (λ refused. IsFinishRefusal self.old ready refused.0) }
+        ensures back { IfErr result (λ refused. refused.1 ≡ ready) }
+        ensures err { OnErr result (self.new ≡ self.old) }
+    {
+        let answer = self.guard.finish(ready);
+        self.finished.notify_all();
+        answer
+    }
+
+    /// Returns the routing at the version of the proxy. Fails only with `OutOfMemory`.
+    pub fn routing(&self) -> Result<NotedRouting<N>, OutOfMemory>
+        ensures { let v = self.now.proxy in
+            IfOk result (ShowsRouting self.now v.version v.journal) }
+    {
+        self.guard.routing()
+    }
+
+    /// Returns the routing at a version, as [`LockedProxy::routing_at`] says.
+    pub fn routing_at(&self, version: Version) -> Result<NotedRouting<N>, Refusal>
+        ensures shown { IfOk result (ShowsRouting self.now version
+            (rows_up_to version self.now.proxy.journal)) }
+        ensures refused { IfErr result (IsRoutingRefusal self.now version) }
+    {
+        self.guard.routing_at(version)
+    }
+
+    /// The number of the proxy.
+    pub fn number(&self) -> ProxyNumber
+        ensures value { result ≡ self.now.proxy.number }
+        ensures kept { IsLockedProxy N.cells.config self.now }
+    {
+        self.guard.number()
+    }
+
+    /// The version of the record last finished, or 0.
+    pub fn version(&self) -> Version
+        ensures value { result ≡ self.now.proxy.version }
+        ensures kept { IsLockedProxy N.cells.config self.now }
+    {
+        self.guard.version()
+    }
+
+    /// The journal: the rows that the proxy has learned, and those of its own finished records.
+    pub fn journal(&self) -> &[JournalRow]
+        ensures value { result.now ≡ self.now.proxy.journal }
+        ensures kept { IsLockedProxy N.cells.config self.now }
+    {
+        self.guard.journal()
+    }
+
+    /// The metadata at the version of the proxy: the fold of its journal.
+    pub fn metadata(&self) -> &Metadata
+        ensures value { result.now ≡ metadata_of self.now.proxy.journal }
+        ensures kept { IsLockedProxy N.cells.config self.now }
+    {
+        self.guard.metadata()
+    }
+
+    /// The records up to the one begun last.
+    pub fn records(&self) -> &Records<N>
+        ensures value { result.now ≡ record { first = 0; known = self.now.records } }
+        ensures kept { IsLockedProxy N.cells.config self.now }
+    {
+        self.guard.records()
+    }
+
+    /// The verdict cells of each resolver that it has learned of.
+    pub fn columns(&self) -> &Columns<N>
+        ensures value { result.now ≡ self.now.columns }
+        ensures kept { IsLockedProxy N.cells.config self.now }
+    {
+        self.guard.columns()
+    }
+}
