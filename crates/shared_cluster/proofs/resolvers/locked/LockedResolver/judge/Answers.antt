@@ -1,0 +1,101 @@
+-- A request that comes next is judged.
+use Rattle.std.proofs.Common.{◌≡◌, ◌∙◌, ap, sym, subst, refl}
+use Rattle.std.specs.Prelude.{Ok, ◌⊎◌}
+use mathlib.Core.Logic.{inl, inr}
+use Rattle.facts.specs.Stretches.{Stretch}
+use Rattle.model.specs.Records.{Record}
+use Rattle.model.specs.ResolverMemory.{Judge, course}
+use Rattle.shared_cluster.specs.NotedReplies.{IsNotedReply, NotedReplyView}
+use Rattle.shared_cluster.specs.Resolvers.{IsLockedResolver, IsOfferRefusal, LockedResolverView}
+use Rattle.shared_cluster.specs.declared.refusal.Refusal.{Refusal}
+use Rattle.shared_cluster.specs.declared.refusal.Refusal.TheVariants as refusals
+use Rattle.shared_cluster.proofs.Lists.{agree_from_zero}
+use Rattle.shared_cluster.proofs.ServedRequests.{comes_next, has_room, is_judging, late_refusal, offered_next, served_next}
+use Rattle.shared_cluster.proofs.resolvers.locked.LockedResolver.judge.Goals as goal
+
+pub returns-in_default-clause-refused : goal.returns-in_default-clause-refused
+returns-in_default-clause-refused g c = served_next c.args.self.now c.args.request.plain c.requires.open c.requires.next
+
+pub judged-requires-clause-room : goal.judged-requires-clause-room
+judged-requires-clause-room g c =
+    let config = g.N.Naming.cells.config in
+    let s = c.self.inside in
+    let v : LockedResolverView = record { memory = s.memory; records = s.records.known; column = s.column.rows.known; closed = s.closed } in
+    let (from_zero, column_from_zero, own, keeps) = c.self.invariant in
+    let p = c.records.ensures.kept in
+    let records = c.in-Ok.ensures ∙ c.records.ensures.value in
+    let agree = agree_from_zero s.records c.in-Ok.records c.args.request.records c.agree.ensures from_zero records in
+    let judge : course v.memory c.args.request.plain ≡ Ok Judge = ap (λ (r : LockedResolverView). course r.memory c.args.request.plain) c.self.view_is ∙ c.requires.next in
+    has_room g.N.Naming.cells v c.args.request p.rec s.column c.in-Ok.records (comes_next config v c.args.request p keeps agree judge) keeps c.rows-rows.ensures.columns records c.end-end.ensures.within column_from_zero refl own
+
+pub of-requires-clause-resolver : goal.of-requires-clause-resolver
+of-requires-clause-resolver g c =
+    let config = g.N.Naming.cells.config in
+    let s = c.self.inside in
+    let v : LockedResolverView = record { memory = s.memory; records = s.records.known; column = s.column.rows.known; closed = s.closed } in
+    let (from_zero, column_from_zero, own, keeps) = c.self.invariant in
+    let p = c.records.ensures.kept in
+    let records = c.in-Ok.ensures ∙ c.records.ensures.value in
+    let agree = agree_from_zero s.records c.in-Ok.records c.args.request.records c.agree.ensures from_zero records in
+    let judge : course v.memory c.args.request.plain ≡ Ok Judge = ap (λ (r : LockedResolverView). course r.memory c.args.request.plain) c.self.view_is ∙ c.requires.next in
+    let done = c.in-Ok-judged.ensures in
+    let one = c.in-Ok-judged.field-0 in
+    let judging = is_judging config v c.args.request p c.judged.new.memory one.reply s.column one.column one.noted c.plain.result.now keeps agree judge c.plain.ensures.value column_from_zero refl own done.reply done.gains done.column done.noted done.number done.proxies done.window in
+    judging.noted_own
+
+pub of-requires-clause-is : goal.of-requires-clause-is
+of-requires-clause-is g c =
+    let config = g.N.Naming.cells.config in
+    let s = c.self.inside in
+    let v : LockedResolverView = record { memory = s.memory; records = s.records.known; column = s.column.rows.known; closed = s.closed } in
+    let (from_zero, column_from_zero, own, keeps) = c.self.invariant in
+    let p = c.records.ensures.kept in
+    let records = c.in-Ok.ensures ∙ c.records.ensures.value in
+    let agree = agree_from_zero s.records c.in-Ok.records c.args.request.records c.agree.ensures from_zero records in
+    let judge : course v.memory c.args.request.plain ≡ Ok Judge = ap (λ (r : LockedResolverView). course r.memory c.args.request.plain) c.self.view_is ∙ c.requires.next in
+    let done = c.in-Ok-judged.ensures in
+    let one = c.in-Ok-judged.field-0 in
+    let judging = is_judging config v c.args.request p c.judged.new.memory one.reply s.column one.column one.noted c.plain.result.now keeps agree judge c.plain.ensures.value column_from_zero refl own done.reply done.gains done.column done.noted done.number done.proxies done.window in
+    subst (λ (t : Stretch Record). IsNotedReply config (record { reply = one.reply; records = t.known; column = one.noted.rows.known })) (sym records) judging.noted
+
+pub invariant_of-self : goal.invariant_of-self
+invariant_of-self g c =
+    let config = g.N.Naming.cells.config in
+    let s = c.self.inside in
+    let v : LockedResolverView = record { memory = s.memory; records = s.records.known; column = s.column.rows.known; closed = s.closed } in
+    let (from_zero, column_from_zero, own, keeps) = c.self.invariant in
+    let p = c.records.ensures.kept in
+    let records = c.in-Ok.ensures ∙ c.records.ensures.value in
+    let agree = agree_from_zero s.records c.in-Ok.records c.args.request.records c.agree.ensures from_zero records in
+    let judge : course v.memory c.args.request.plain ≡ Ok Judge = ap (λ (r : LockedResolverView). course r.memory c.args.request.plain) c.self.view_is ∙ c.requires.next in
+    let done = c.in-Ok-judged.ensures in
+    let one = c.in-Ok-judged.field-0 in
+    let judging = is_judging config v c.args.request p c.judged.new.memory one.reply s.column one.column one.noted c.plain.result.now keeps agree judge c.plain.ensures.value column_from_zero refl own done.reply done.gains done.column done.noted done.number done.proxies done.window in
+    let taken = c.into_records.ensures.value in
+    (
+      ap (λ (t : Stretch Record). t.first) taken,
+      judging.first,
+      judging.own,
+      subst (λ (t : Stretch Record). IsLockedResolver config (record { memory = c.judged.new.memory; records = t.known; column = one.column.rows.known; closed = s.closed })) (sym taken) judging.kept,
+    )
+
+pub returns-in-Ok-judged-clause-offered : goal.returns-in-Ok-judged-clause-offered
+returns-in-Ok-judged-clause-offered g c =
+    let config = g.N.Naming.cells.config in
+    let s = c.self.inside in
+    let v : LockedResolverView = record { memory = s.memory; records = s.records.known; column = s.column.rows.known; closed = s.closed } in
+    let (from_zero, column_from_zero, own, keeps) = c.self.invariant in
+    let p = c.records.ensures.kept in
+    let records = c.in-Ok.ensures ∙ c.records.ensures.value in
+    let agree = agree_from_zero s.records c.in-Ok.records c.args.request.records c.agree.ensures from_zero records in
+    let judge : course v.memory c.args.request.plain ≡ Ok Judge = ap (λ (r : LockedResolverView). course r.memory c.args.request.plain) c.self.view_is ∙ c.requires.next in
+    let done = c.in-Ok-judged.ensures in
+    let one = c.in-Ok-judged.field-0 in
+    let judging = is_judging config v c.args.request p c.judged.new.memory one.reply s.column one.column one.noted c.plain.result.now keeps agree judge c.plain.ensures.value column_from_zero refl own done.reply done.gains done.column done.noted done.number done.proxies done.window in
+    let open_now = ap (λ (r : LockedResolverView). r.closed) c.self.view_is ∙ c.requires.open in
+    offered_next config v c.args.self.now c.args.request p c.judged.new.memory one.reply one.column one.noted _ c.of.result c.self.view_is open_now keeps judge judging
+    (ap (λ (t : Stretch Record). (record { memory = c.judged.new.memory; records = t.known; column = one.column.rows.known; closed = s.closed })) c.into_records.ensures.value)
+    (c.of.ensures ∙ ap (λ (t : Stretch Record). (record { reply = one.reply; records = t.known; column = one.noted.rows.known })) records)
+
+pub returns-after-matches-clause-refused : goal.returns-after-matches-clause-refused
+returns-after-matches-clause-refused g c = late_refusal c.args.self.now c.args.request.plain c.in-Err.refusal c.requires.open c.requires.next c.in-Err.ensures.refused
