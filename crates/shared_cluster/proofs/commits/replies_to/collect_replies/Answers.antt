@@ -1,9 +1,8 @@
 -- One reply more is in its place.
-use Rattle.std.proofs.Common.{◌≡◌, ◌∙◌, ◌<◌, ◌+◌, sym, ap, subst, ℕ, List, [], ◌∷◌, ◌++◌, length, slice_get, slice_set, Some, take, arith}
+use Rattle.std.proofs.Common.{◌≡◌, ◌∙◌, sym, ap, List, [], ◌∷◌, ◌++◌, length, slice_set, Some, arith}
 use Rattle.agreed_ledger.specs.Cells.{ColumnView}
 use Rattle.model.specs.Agreed.{Column}
 use Rattle.model.specs.declared.reply.Reply.{Reply}
-use Rattle.shared_cluster.specs.NotedReplies.{NotedReplyView}
 use Rattle.shared_cluster.proofs.Lists.{take_all}
 use Rattle.shared_cluster.proofs.ProxyColumns.{got}
 use Rattle.shared_cluster.proofs.ProxyRows.{agree_from_zero}

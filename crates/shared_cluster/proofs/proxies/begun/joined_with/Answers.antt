@@ -1,7 +1,6 @@
 -- One request more has its records.
-use Rattle.std.proofs.Common.{◌≡◌, ◌∙◌, sym, ap, subst, ◌∷◌, ◌++◌, [], List, length, arith}
-use Rattle.std.specs.Vec.{vec_len, vec_capacity}
-use Rattle.std.specs.Vec.Iter.{into_iter_items, into_iter_len}
+use Rattle.std.proofs.Common.{◌≡◌, ◌∙◌, sym, ap, subst, ◌++◌, List, length, arith}
+use Rattle.std.specs.Vec.Iter.{into_iter_items}
 use Rattle.facts.specs.Stretches.{Stretch}
 use Rattle.model.specs.Records.{Record}
 use Rattle.model.specs.Requests.{Request}

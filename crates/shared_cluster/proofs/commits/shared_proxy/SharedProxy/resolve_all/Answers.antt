@@ -1,5 +1,5 @@
 -- The requests are of one record, and the replies are those of all resolvers.
-use Rattle.std.proofs.Common.{◌≡◌, ◌∙◌, sym, ap, subst, ℕ, List}
+use Rattle.std.proofs.Common.{sym, ap, subst, ℕ, List}
 use Rattle.facts.specs.Stretches.{Stretch}
 use Rattle.model.specs.Records.{Record, IsHistory}
 use Rattle.shared_cluster.specs.Requests.{RequestView}

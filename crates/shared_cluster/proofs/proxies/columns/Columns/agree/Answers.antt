@@ -1,5 +1,5 @@
 -- The columns of one resolver more agree, and at the end all do.
-use Rattle.std.proofs.Common.{◌≡◌, ◌∙◌, ◌<◌, ◌≤◌, sym, ap, subst, min, length, arith}
+use Rattle.std.proofs.Common.{◌≤◌, subst, min, length, arith}
 use Rattle.model.specs.Agreed.{Columns}
 use Rattle.shared_cluster.specs.Columns.{ColumnsAgree, known_columns}
 use Rattle.shared_cluster.proofs.ProxyColumns.{agree_more, all_agree, got, known_count, one_resolver}

@@ -1,5 +1,5 @@
 -- One column more is copied.
-use Rattle.std.proofs.Common.{◌≡◌, ◌∙◌, ◌<◌, sym, ap, List, length, take, arith}
+use Rattle.std.proofs.Common.{◌∙◌, sym, ap, List, length, arith}
 use Rattle.agreed_ledger.specs.Cells.{ColumnView}
 use Rattle.model.specs.Agreed.{Column}
 use Rattle.shared_cluster.specs.Columns.{known_columns}

@@ -1,5 +1,5 @@
 -- The record of the ticket is among its records.
-use Rattle.shared_cluster.proofs.ProxyBegins.{record_there, row_is_there}
+use Rattle.shared_cluster.proofs.ProxyBegins.{row_is_there}
 use Rattle.shared_cluster.proofs.proxies.locked_proxy.LockedProxy.begin.Goals as goal
 
 pub unreachable-requires : goal.unreachable-requires

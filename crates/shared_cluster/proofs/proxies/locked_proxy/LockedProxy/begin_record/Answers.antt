@@ -1,5 +1,5 @@
 -- The record is refused, or begun.
-use Rattle.std.proofs.Common.{◌≡◌, ◌∙◌, ◌≤◌, sym, ap, subst, ℕ, List, length, replicate, arith, rules}
+use Rattle.std.proofs.Common.{◌≡◌, ◌∙◌, sym, ap, subst, ℕ, List, length, replicate, arith, rules}
 use Rattle.std.specs.Prelude.{Result, Err, IfErr}
 use Rattle.facts.specs.Stretches.{Agree, Stretch}
 use Rattle.model.specs.Configs.{Config}
@@ -7,7 +7,6 @@ use Rattle.model.specs.Records.{Record}
 use Rattle.model.specs.Requests.{Request}
 use Rattle.model.specs.Finishing.{ProxyView, HasBegun}
 use Rattle.agreed_ledger.specs.Sequencing.{TicketView}
-use Rattle.shared_cluster.specs.Requests.{RequestView}
 use Rattle.shared_cluster.specs.Begun.{AreRequestsFor, BegunView, IsBegun, requests_to_all, with_records}
 use Rattle.shared_cluster.specs.Proxies.{LockedProxyView, IsLockedProxy, IsBeginRefusalOf, BeginsTicket, MayFollow}
 use Rattle.shared_cluster.specs.declared.refusal.Refusal.{Refusal}

@@ -1,5 +1,5 @@
 -- The finish is refused, or done.
-use Rattle.std.proofs.Common.{◌≡◌, ◌∙◌, sym, ap, subst, ℕ, List, Some, None}
+use Rattle.std.proofs.Common.{◌≡◌, ◌∙◌, sym, ap, subst, Some, None}
 use Rattle.facts.specs.Stretches.{Agree, Stretch}
 use Rattle.model.specs.Records.{Record}
 use Rattle.model.specs.Agreed.{Columns}

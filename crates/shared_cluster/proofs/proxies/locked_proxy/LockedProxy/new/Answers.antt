@@ -1,5 +1,5 @@
 -- The proxy before its first record is agreed up to row 0.
-use Rattle.std.proofs.Common.{◌≡◌, ◌∙◌, ◌<◌, sym, ap, subst, List, arith}
+use Rattle.std.proofs.Common.{◌∙◌, ◌<◌, sym, ap, subst, List, arith}
 use Rattle.facts.specs.Stretches.{Stretch}
 use Rattle.model.specs.Configs.{Config}
 use Rattle.model.specs.Records.{Record}

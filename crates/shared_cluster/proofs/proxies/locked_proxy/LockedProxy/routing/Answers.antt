@@ -1,5 +1,5 @@
 -- The routing is that of the records and cells of the lock.
-use Rattle.std.proofs.Common.{◌≡◌, ◌∙◌, sym, ap, ◌≤◌, arith}
+use Rattle.std.proofs.Common.{◌≡◌, ◌∙◌, arith}
 use Rattle.model.specs.Metadata.{metadata as metadata_of, routing}
 use Rattle.shared_cluster.proofs.ProxyRoutings.{is_own_routing, shows_routing}
 use Rattle.shared_cluster.proofs.proxies.locked_proxy.LockedProxy.routing.Goals as goal

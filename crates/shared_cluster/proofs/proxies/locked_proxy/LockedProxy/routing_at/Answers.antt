@@ -1,12 +1,9 @@
 -- The routing is that of the records and cells of the lock.
-use Rattle.std.proofs.Common.{◌≡◌, ◌∙◌, sym, ap, subst, ◌≤◌, arith, rules}
-use Rattle.std.specs.Prelude.{Result, Err, IfErr}
-use Rattle.model.specs.Metadata.{Entries, metadata as metadata_of, routing}
+use Rattle.std.proofs.Common.{◌∙◌, ap, subst, ◌≤◌}
+use Rattle.model.specs.Metadata.{metadata as metadata_of, routing}
 use Rattle.proxy_state.specs.Beginning.{rows_up_to}
-use Rattle.shared_cluster.specs.Answers.{IsNotedRouting, NotedRoutingView}
-use Rattle.shared_cluster.specs.Proxies.{LockedProxyView, IsRoutingRefusal, ShowsRouting}
-use Rattle.shared_cluster.specs.declared.refusal.Refusal.{Refusal}
-use Rattle.shared_cluster.specs.declared.refusal.Refusal.TheVariants as refusals
+use Rattle.shared_cluster.specs.Answers.{IsNotedRouting}
+use Rattle.shared_cluster.specs.Proxies.{LockedProxyView}
 use Rattle.shared_cluster.proofs.ProxyRoutings.{is_routing, shows_routing}
 use Rattle.shared_cluster.proofs.proxies.locked_proxy.LockedProxy.routing_at.Goals as goal
 
