@@ -3,7 +3,7 @@
 //! Release 7.1, `CommitProxyServer.actor.cpp`, commitBatch; what differs is marked *profile*.
 
 ghost use Rattle.std.specs.Prelude.{◌≡◌, ◌≤◌, ◌<◌, [], map, None, Some, IfOk, IfErr, OnOk, OnErr};
-ghost use Rattle.std.specs.Prelude.{MatchResult, MatchOption};
+ghost use Rattle.std.specs.Prelude.{IfSome, MatchResult, MatchOption};
 ghost use Rattle.model.specs.Metadata.{metadata as metadata_of};
 ghost use Rattle.model.specs.Shares.{asked};
 ghost use Rattle.model.specs.Finishing.{HoldsMoves, MayBegin, HasBegun, HasFinished};
@@ -101,9 +101,12 @@ impl Proxy {
         self.last_begun
     }
 
-    /// The earliest record that is begun and not finished: the one that is finished next.
+    /// The earliest record that is begun and not finished: the one that is finished next. This
+    /// proxy's record before it is the one last finished, if there is one.
     pub fn awaited(&self) -> Option<&Record>
-        ensures { MatchOption result (self.now.begun ≡ []) (λ rec. IsFirst self.now.begun rec.now) }
+        ensures first { MatchOption result
+            (self.now.begun ≡ []) (λ rec. IsFirst self.now.begun rec.now) }
+        ensures own { IfSome result (λ rec. rec.now.own_previous ≡ self.now.version) }
     {
         match self.begun.as_slice().first() {
             Some(begun) => Some(&begun.rec),

@@ -1,8 +1,9 @@
--- The first record of those begun.
-use Rattle.std.proofs.Common.{◌≡◌, ◌∙◌, sym, ap, map, ◌<◌, List, [], ◌∷◌, length, get_or, arith}
+-- The first record of those begun, which follows the version of the proxy.
+use Rattle.std.proofs.Common.{◌≡◌, ◌∙◌, sym, ap, subst, map, ◌<◌, ℕ, List, [], ◌∷◌, length, get_or, arith}
+use Rattle.model.specs.Configs.{Config}
 use Rattle.model.specs.Finishing.{ProxyView}
 use Rattle.proxy_state.specs.declared.begun.BegunRecord.{BegunRecord}
-use Rattle.proxy_state.specs.Begun.{record_of}
+use Rattle.proxy_state.specs.Begun.{record_of, AreBegun}
 use Rattle.proxy_state.specs.Beginning.{IsFirst}
 use Rattle.proxy_state.proofs.proxy.Proxy.awaited.Goals as goal
 
@@ -10,7 +11,19 @@ first_of_begun : (begun : List BegunRecord) (x : BegunRecord) → 0 < length beg
 first_of_begun [] x some is = absurd (omega (arith, some))
 first_of_begun (y ∷ ys) x some is = (map record_of ys, ap (λ z. record_of z ∷ map record_of ys) (sym is))
 
-pub returns-in-Some : goal.returns-in-Some
-returns-in-Some c =
+-- the first of the begun records follows the version from which they go on
+first_follows : (config : Config) (version last : ℕ) (begun : List BegunRecord) (x : BegunRecord) → AreBegun config version last begun → 0 < length begun → x ≡ get_or begun 0 x → x.rec.own_previous ≡ version
+first_follows config version last [] x chain some is = absurd (omega (arith, some))
+first_follows config version last (y ∷ ys) x chain some is = ap (λ (z : BegunRecord). z.rec.own_previous) is ∙ chain.0.own_previous
+
+pub returns-in-Some-clause-first : goal.returns-in-Some-clause-first
+returns-in-Some-clause-first c =
     let found = first_of_begun c.as_slice.result.now c.in-Some.begun.now c.in-Some.ensures.item.3.0 c.in-Some.ensures.item.1 in
     (found.0, sym (ap (λ (v : ProxyView). v.begun) c.self.view_is) ∙ ap (map record_of) (sym c.as_slice.ensures.value) ∙ found.1)
+
+pub returns-in-Some-clause-own : goal.returns-in-Some-clause-own
+returns-in-Some-clause-own c =
+    let begun : c.as_slice.result.now ≡ c.self.inside.begun.items = c.as_slice.ensures.value in
+    let chain = subst (AreBegun c.self.inside.config c.self.inside.version c.self.inside.last_begun) (sym begun) c.self.invariant.chain in
+    first_follows c.self.inside.config c.self.inside.version c.self.inside.last_begun c.as_slice.result.now c.in-Some.begun.now chain c.in-Some.ensures.item.3.0 c.in-Some.ensures.item.1
+    ∙ ap (λ (v : ProxyView). v.version) c.self.view_is

@@ -23,7 +23,7 @@ returns-in_default-clause-answer c =
     let w = world_of t.rows.items t.moves.items t.judged_counts.items t.finished.items in
     let there : c.args.proxy < t.config.proxies = omega (arith, c.proxies.ensures.value, c.if-proxies-proxy.false) in
     let at = got t.proxies.items c.args.proxy c.index.result.now (omega (arith, there, c.self.invariant.parts.proxy_count)) c.index.ensures in
-    none_begun t.config w c.args.self.now c.args.proxy c.index.result.now t.resolvers.items t.proxies.items (requests_of t.rows.items) c.self.view_is c.self.invariant.parts there at c.in_default.ensures
+    none_begun t.config w c.args.self.now c.args.proxy c.index.result.now t.resolvers.items t.proxies.items (requests_of t.rows.items) c.self.view_is c.self.invariant.parts there at c.in_default.ensures.first
 
 pub returns-in-Some-first_missing-clause-answer : goal.returns-in-Some-first_missing-clause-answer
 returns-in-Some-first_missing-clause-answer c =
@@ -32,10 +32,10 @@ returns-in-Some-first_missing-clause-answer c =
     let there : c.args.proxy < t.config.proxies = omega (arith, c.proxies.ensures.value, c.if-proxies-proxy.false) in
     let at = got t.proxies.items c.args.proxy c.index.result.now (omega (arith, there, c.self.invariant.parts.proxy_count)) c.index.ensures in
     let rec = c.in-Some.rec.now in
-    let rest = c.in-Some.ensures.0 in
+    let rest = c.in-Some.ensures.first.0 in
     let v = c.index.result.now in
     let requests = requests_of t.rows.items in
-    let is : IsAwaited t.config w c.args.proxy rec rest v t.resolvers.items t.proxies.items requests = record { parts = c.self.invariant.parts; there = there; proxy_is = at; begun = c.in-Some.ensures.1 } in
+    let is : IsAwaited t.config w c.args.proxy rec rest v t.resolvers.items t.proxies.items requests = record { parts = c.self.invariant.parts; there = there; proxy_is = at; begun = c.in-Some.ensures.first.1 } in
     let row : c.row-row.result ≡ rec.row = c.row-row.ensures in
     let counts : c.as_slice.result.now ≡ t.judged_counts.items = c.as_slice.ensures.value in
     first_named t.config w c.args.self.now c.args.proxy rec rest v t.resolvers.items t.proxies.items requests c.in-Some-first_missing.resolver c.self.view_is is (c.in-Some-first_missing.ensures ∙ (λ i. slice_get (missing_of (row i) (counts i)) 0))
@@ -47,10 +47,10 @@ kept_replies-requires-clause-kept c =
     let there : c.args.proxy < t.config.proxies = omega (arith, c.proxies.ensures.value, c.if-proxies-proxy.false) in
     let at = got t.proxies.items c.args.proxy c.index.result.now (omega (arith, there, c.self.invariant.parts.proxy_count)) c.index.ensures in
     let rec = c.in-Some.rec.now in
-    let rest = c.in-Some.ensures.0 in
+    let rest = c.in-Some.ensures.first.0 in
     let v = c.index.result.now in
     let requests = requests_of t.rows.items in
-    let is : IsAwaited t.config w c.args.proxy rec rest v t.resolvers.items t.proxies.items requests = record { parts = c.self.invariant.parts; there = there; proxy_is = at; begun = c.in-Some.ensures.1 } in
+    let is : IsAwaited t.config w c.args.proxy rec rest v t.resolvers.items t.proxies.items requests = record { parts = c.self.invariant.parts; there = there; proxy_is = at; begun = c.in-Some.ensures.first.1 } in
     let row : c.row-row.result ≡ rec.row = c.row-row.ensures in
     let counts : c.as_slice.result.now ≡ t.judged_counts.items = c.as_slice.ensures.value in
     let first : None ≡ slice_get (missing_of rec.row t.judged_counts.items) 0 = c.in_default-first_missing.ensures ∙ (λ i. slice_get (missing_of (row i) (counts i)) 0) in
@@ -66,10 +66,10 @@ returns-in_err-replies-clause-answer c =
     let there : c.args.proxy < t.config.proxies = omega (arith, c.proxies.ensures.value, c.if-proxies-proxy.false) in
     let at = got t.proxies.items c.args.proxy c.index.result.now (omega (arith, there, c.self.invariant.parts.proxy_count)) c.index.ensures in
     let rec = c.in-Some.rec.now in
-    let rest = c.in-Some.ensures.0 in
+    let rest = c.in-Some.ensures.first.0 in
     let v = c.index.result.now in
     let requests = requests_of t.rows.items in
-    let is : IsAwaited t.config w c.args.proxy rec rest v t.resolvers.items t.proxies.items requests = record { parts = c.self.invariant.parts; there = there; proxy_is = at; begun = c.in-Some.ensures.1 } in
+    let is : IsAwaited t.config w c.args.proxy rec rest v t.resolvers.items t.proxies.items requests = record { parts = c.self.invariant.parts; there = there; proxy_is = at; begun = c.in-Some.ensures.first.1 } in
     let row : c.row-row.result ≡ rec.row = c.row-row.ensures in
     let counts : c.as_slice.result.now ≡ t.judged_counts.items = c.as_slice.ensures.value in
     let first : None ≡ slice_get (missing_of rec.row t.judged_counts.items) 0 = c.in_default-first_missing.ensures ∙ (λ i. slice_get (missing_of (row i) (counts i)) 0) in
@@ -84,10 +84,10 @@ returns-in_err-finished-clause-answer c =
     let there : c.args.proxy < t.config.proxies = omega (arith, c.proxies.ensures.value, c.if-proxies-proxy.false) in
     let at = got t.proxies.items c.args.proxy c.index.result.now (omega (arith, there, c.self.invariant.parts.proxy_count)) c.index.ensures in
     let rec = c.in-Some.rec.now in
-    let rest = c.in-Some.ensures.0 in
+    let rest = c.in-Some.ensures.first.0 in
     let v = c.index.result.now in
     let requests = requests_of t.rows.items in
-    let is : IsAwaited t.config w c.args.proxy rec rest v t.resolvers.items t.proxies.items requests = record { parts = c.self.invariant.parts; there = there; proxy_is = at; begun = c.in-Some.ensures.1 } in
+    let is : IsAwaited t.config w c.args.proxy rec rest v t.resolvers.items t.proxies.items requests = record { parts = c.self.invariant.parts; there = there; proxy_is = at; begun = c.in-Some.ensures.first.1 } in
     let row : c.row-row.result ≡ rec.row = c.row-row.ensures in
     let counts : c.as_slice.result.now ≡ t.judged_counts.items = c.as_slice.ensures.value in
     let first : None ≡ slice_get (missing_of rec.row t.judged_counts.items) 0 = c.in_default-first_missing.ensures ∙ (λ i. slice_get (missing_of (row i) (counts i)) 0) in
@@ -102,10 +102,10 @@ overflow_add-count c =
     let there : c.args.proxy < t.config.proxies = omega (arith, c.proxies.ensures.value, c.if-proxies-proxy.false) in
     let at = got t.proxies.items c.args.proxy c.index.result.now (omega (arith, there, c.self.invariant.parts.proxy_count)) c.index.ensures in
     let rec = c.in-Some.rec.now in
-    let rest = c.in-Some.ensures.0 in
+    let rest = c.in-Some.ensures.first.0 in
     let v = c.index.result.now in
     let requests = requests_of t.rows.items in
-    let is : IsAwaited t.config w c.args.proxy rec rest v t.resolvers.items t.proxies.items requests = record { parts = c.self.invariant.parts; there = there; proxy_is = at; begun = c.in-Some.ensures.1 } in
+    let is : IsAwaited t.config w c.args.proxy rec rest v t.resolvers.items t.proxies.items requests = record { parts = c.self.invariant.parts; there = there; proxy_is = at; begun = c.in-Some.ensures.first.1 } in
     let within : c.args.proxy < length t.finished.items = omega (arith, there, c.self.invariant.parts.sound.finished) in
     let count : c.index-2.result.now + 1 ≡ suc (slice_index t.finished.items c.args.proxy) = counted t.finished.items c.args.proxy c.index-2.result.now within c.index-2.ensures in
     let small : slice_index t.finished.items c.args.proxy < 9223372036854775808 = count_is_small t.config w c.args.proxy t.last rec rest v t.resolvers.items t.proxies.items requests is c.self.invariant.last_is c.self.invariant.below in
@@ -118,10 +118,10 @@ finish_at-requires c =
     let there : c.args.proxy < t.config.proxies = omega (arith, c.proxies.ensures.value, c.if-proxies-proxy.false) in
     let at = got t.proxies.items c.args.proxy c.index.result.now (omega (arith, there, c.self.invariant.parts.proxy_count)) c.index.ensures in
     let rec = c.in-Some.rec.now in
-    let rest = c.in-Some.ensures.0 in
+    let rest = c.in-Some.ensures.first.0 in
     let v = c.index.result.now in
     let requests = requests_of t.rows.items in
-    let is : IsAwaited t.config w c.args.proxy rec rest v t.resolvers.items t.proxies.items requests = record { parts = c.self.invariant.parts; there = there; proxy_is = at; begun = c.in-Some.ensures.1 } in
+    let is : IsAwaited t.config w c.args.proxy rec rest v t.resolvers.items t.proxies.items requests = record { parts = c.self.invariant.parts; there = there; proxy_is = at; begun = c.in-Some.ensures.first.1 } in
     let row : c.row-row.result ≡ rec.row = c.row-row.ensures in
     let counts : c.as_slice.result.now ≡ t.judged_counts.items = c.as_slice.ensures.value in
     let first : None ≡ slice_get (missing_of rec.row t.judged_counts.items) 0 = c.in_default-first_missing.ensures ∙ (λ i. slice_get (missing_of (row i) (counts i)) 0) in
@@ -140,10 +140,10 @@ invariant_of-self-2 c =
     let there : c.args.proxy < t.config.proxies = omega (arith, c.proxies.ensures.value, c.if-proxies-proxy.false) in
     let at = got t.proxies.items c.args.proxy c.index.result.now (omega (arith, there, c.self.invariant.parts.proxy_count)) c.index.ensures in
     let rec = c.in-Some.rec.now in
-    let rest = c.in-Some.ensures.0 in
+    let rest = c.in-Some.ensures.first.0 in
     let v = c.index.result.now in
     let requests = requests_of t.rows.items in
-    let is : IsAwaited t.config w c.args.proxy rec rest v t.resolvers.items t.proxies.items requests = record { parts = c.self.invariant.parts; there = there; proxy_is = at; begun = c.in-Some.ensures.1 } in
+    let is : IsAwaited t.config w c.args.proxy rec rest v t.resolvers.items t.proxies.items requests = record { parts = c.self.invariant.parts; there = there; proxy_is = at; begun = c.in-Some.ensures.first.1 } in
     let row : c.row-row.result ≡ rec.row = c.row-row.ensures in
     let counts : c.as_slice.result.now ≡ t.judged_counts.items = c.as_slice.ensures.value in
     let first : None ≡ slice_get (missing_of rec.row t.judged_counts.items) 0 = c.in_default-first_missing.ensures ∙ (λ i. slice_get (missing_of (row i) (counts i)) 0) in
@@ -167,10 +167,10 @@ returns-clause-answer c =
     let there : c.args.proxy < t.config.proxies = omega (arith, c.proxies.ensures.value, c.if-proxies-proxy.false) in
     let at = got t.proxies.items c.args.proxy c.index.result.now (omega (arith, there, c.self.invariant.parts.proxy_count)) c.index.ensures in
     let rec = c.in-Some.rec.now in
-    let rest = c.in-Some.ensures.0 in
+    let rest = c.in-Some.ensures.first.0 in
     let v = c.index.result.now in
     let requests = requests_of t.rows.items in
-    let is : IsAwaited t.config w c.args.proxy rec rest v t.resolvers.items t.proxies.items requests = record { parts = c.self.invariant.parts; there = there; proxy_is = at; begun = c.in-Some.ensures.1 } in
+    let is : IsAwaited t.config w c.args.proxy rec rest v t.resolvers.items t.proxies.items requests = record { parts = c.self.invariant.parts; there = there; proxy_is = at; begun = c.in-Some.ensures.first.1 } in
     let row : c.row-row.result ≡ rec.row = c.row-row.ensures in
     let counts : c.as_slice.result.now ≡ t.judged_counts.items = c.as_slice.ensures.value in
     let first : None ≡ slice_get (missing_of rec.row t.judged_counts.items) 0 = c.in_default-first_missing.ensures ∙ (λ i. slice_get (missing_of (row i) (counts i)) 0) in
@@ -194,10 +194,10 @@ returns-clause-ok c =
     let there : c.args.proxy < t.config.proxies = omega (arith, c.proxies.ensures.value, c.if-proxies-proxy.false) in
     let at = got t.proxies.items c.args.proxy c.index.result.now (omega (arith, there, c.self.invariant.parts.proxy_count)) c.index.ensures in
     let rec = c.in-Some.rec.now in
-    let rest = c.in-Some.ensures.0 in
+    let rest = c.in-Some.ensures.first.0 in
     let v = c.index.result.now in
     let requests = requests_of t.rows.items in
-    let is : IsAwaited t.config w c.args.proxy rec rest v t.resolvers.items t.proxies.items requests = record { parts = c.self.invariant.parts; there = there; proxy_is = at; begun = c.in-Some.ensures.1 } in
+    let is : IsAwaited t.config w c.args.proxy rec rest v t.resolvers.items t.proxies.items requests = record { parts = c.self.invariant.parts; there = there; proxy_is = at; begun = c.in-Some.ensures.first.1 } in
     let row : c.row-row.result ≡ rec.row = c.row-row.ensures in
     let counts : c.as_slice.result.now ≡ t.judged_counts.items = c.as_slice.ensures.value in
     let first : None ≡ slice_get (missing_of rec.row t.judged_counts.items) 0 = c.in_default-first_missing.ensures ∙ (λ i. slice_get (missing_of (row i) (counts i)) 0) in
