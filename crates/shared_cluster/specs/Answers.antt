@@ -50,5 +50,5 @@ pub record IsNotedRouting (config : Config) (v : NotedRoutingView) : Type 0 wher
   pub routing_is :
       let known = take rows v.records in
       let rows_then =
-          journal config (history_verdicts config known) (up_to_version v.routing.version known) in
+      journal config (history_verdicts config known) (up_to_version v.routing.version known) in
       v.routing ≡ routing v.routing.version (metadata rows_then)

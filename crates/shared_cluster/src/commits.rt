@@ -3,8 +3,8 @@
 mod all_resolvers;
 mod asking;
 mod commit_fault;
-mod shared_proxy;
 mod replies_to;
+mod shared_proxy;
 
 pub use all_resolvers::AllResolvers;
 pub use asking::Asking;

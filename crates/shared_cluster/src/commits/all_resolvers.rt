@@ -20,9 +20,7 @@ pub struct AllResolvers<'a, 'l, N: Naming> {
 impl<'a, 'l, N: Naming> AllResolvers<'a, 'l, N> {
     /// Takes all resolvers of the cluster in the order of their numbers; otherwise fails with
     /// `WrongResolver`. Does not allocate.
-    pub fn new(
-        resolvers: &'a [SharedResolver<'l, N>],
-    ) -> Result<AllResolvers<'a, 'l, N>, Refusal>
+    pub fn new(resolvers: &'a [SharedResolver<'l, N>]) -> Result<AllResolvers<'a, 'l, N>, Refusal>
         ensures { IfErr result (λ refusal. refusal ≡ refusals.WrongResolver) }
     {
         if resolvers.is_empty() || resolvers.len() != resolvers[0].ledger().config().resolvers() {

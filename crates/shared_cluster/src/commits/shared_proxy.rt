@@ -158,7 +158,9 @@ impl<'l, N: Naming> SharedProxy<'l, N> {
     {
         let row = ready.row();
         let guard = self.lock.lock(rt);
-        let guard = self.finished.wait_while(rt, guard, |locked| locked.awaits_before(row));
+        let guard = self
+            .finished
+            .wait_while(rt, guard, |locked| locked.awaits_before(row));
         let mut shown = ProxyGuard {
             ledger: self.ledger,
             guard,

@@ -154,9 +154,7 @@ impl<N: Naming> LockedResolver<N> {
     pub fn is_early(&self, request: &Request<N>) -> bool
         ensures { result ≡ is_early self.now request.now.plain }
     {
-        !self.closed
-            && request.resolver() == self.number()
-            && self.version() < request.previous()
+        !self.closed && request.resolver() == self.number() && self.version() < request.previous()
     }
 
     /// Answers a request as the definition does. A request that comes next is judged, and the cell of
@@ -209,11 +207,13 @@ impl<N: Naming> LockedResolver<N> {
         let _end = records.end();
         let _rows = ledger.rows();
         match judged(&mut self.memory, &self.column, ledger, request.plain()) {
-            Ok(Gained {
-                reply,
-                column,
-                noted,
-            }) => {
+            Ok(
+                Gained {
+                    reply,
+                    column,
+                    noted,
+                },
+            ) => {
                 self.records = request.into_records();
                 self.column = column;
                 Ok(NotedReply::of(reply, records, noted))

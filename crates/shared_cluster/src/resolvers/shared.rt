@@ -87,7 +87,9 @@ impl<'l, N: Naming> SharedResolver<'l, N> {
         ensures back { IfErr result (λ refused. refused.1 ≡ request) }
     {
         let guard = self.lock.lock(rt);
-        let guard = self.changed.wait_while(rt, guard, |locked| locked.is_early(&request));
+        let guard = self
+            .changed
+            .wait_while(rt, guard, |locked| locked.is_early(&request));
         // (its contract says what the type keeps)
         let _number = guard.number();
         let mut shown = ResolverGuard {
@@ -125,10 +127,7 @@ impl<'a, N: Naming> Model for ResolverGuard<'a, N> {
 
 impl<'a, N: Naming> ResolverGuard<'a, N> {
     /// Answers a request as the definition does, as [`LockedResolver::offer`] says. Does not wait.
-    pub fn offer(
-        &mut self,
-        request: Request<N>,
-    ) -> Result<NotedReply<N>, (Refusal, Request<N>)>
+    pub fn offer(&mut self, request: Request<N>) -> Result<NotedReply<N>, (Refusal, Request<N>)>
         ensures offered { IfOk result (HasOffered self.old request self.new) }
         ensures refused { IfErr result (λ refused.
             IsOfferRefusal self.old request.plain refused.0) }

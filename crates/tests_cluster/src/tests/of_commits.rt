@@ -5,7 +5,9 @@ ghost use Rattle.std.specs.Prelude.{◌≡◌, ◌<◌};
 use agreed_ledger::{BlankLedger, Ledger, Naming, Sequencer, Ticket};
 use model::{Config, Outcome, Routing};
 use mutation::Batch;
-use shared_cluster::{AllResolvers, CommitFault, LockedProxy, Refusal, SharedProxy, SharedResolver};
+use shared_cluster::{
+    AllResolvers, CommitFault, LockedProxy, Refusal, SharedProxy, SharedResolver,
+};
 use std::alloc::Global;
 use std::marker::Brand;
 use std::process::Abort;
@@ -38,16 +40,49 @@ fn row_batch(alloc: Global, tens: usize, ones: usize) -> Result<Batch, Fail>
 {
     let digits = b"0123456789";
     let key = [
-        0xff, b'/', b'k', b'e', b'y', b'S', b'e', b'r', b'v', b'e', b'r', b's', b'/', b'k',
-        digits[tens], digits[ones],
+        0xff,
+        b'/',
+        b'k',
+        b'e',
+        b'y',
+        b'S',
+        b'e',
+        b'r',
+        b'v',
+        b'e',
+        b'r',
+        b's',
+        b'/',
+        b'k',
+        digits[tens],
+        digits[ones],
     ];
     let end = [
-        0xff, b'/', b'k', b'e', b'y', b'S', b'e', b'r', b'v', b'e', b'r', b's', b'/', b'k',
-        digits[tens], digits[ones], 0,
+        0xff,
+        b'/',
+        b'k',
+        b'e',
+        b'y',
+        b'S',
+        b'e',
+        b'r',
+        b'v',
+        b'e',
+        b'r',
+        b's',
+        b'/',
+        b'k',
+        digits[tens],
+        digits[ones],
+        0,
     ];
     let writes = [(key.as_slice(), end.as_slice())];
     let steps = [Step::Set(&key, TEAM), Step::Set(TAG_KEY, b"\x00\x00\x01")];
-    let mutations = if tens == 0 && ones == 0 { &steps[..] } else { &steps[..1] };
+    let mutations = if tens == 0 && ones == 0 {
+        &steps[..]
+    } else {
+        &steps[..1]
+    };
     let given = Given {
         writes: &writes,
         mutations,
@@ -132,7 +167,11 @@ fn routes_at<N: Naming, R: Wait>(
         answer => answer?,
     };
     let routing = noted.value();
-    Ok((routing.version, routing.routes.as_slice().len(), tag_count(routing)))
+    Ok((
+        routing.version,
+        routing.routes.as_slice().len(),
+        tag_count(routing),
+    ))
 }
 
 fn tag_count(routing: &Routing) -> usize {

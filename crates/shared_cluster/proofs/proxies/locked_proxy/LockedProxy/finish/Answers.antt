@@ -16,7 +16,7 @@ pub returns-in_default-clause-refused : goal.returns-in_default-clause-refused
 returns-in_default-clause-refused g c =
     let s = c.self.inside in
     let v : LockedProxyView = record { proxy = s.proxy; records = s.records.known; columns = s.columns } in
-    subst (λ (u : LockedProxyView). IsFinishRefusal u c.args.ready (refusals.OutOfTurn None)) c.self.view_is (none_awaited v c.args.ready c.in_default.ensures)
+    subst (λ (u : LockedProxyView). IsFinishRefusal u c.args.ready (refusals.OutOfTurn None)) c.self.view_is (none_awaited v c.args.ready c.in_default.ensures.first)
 
 pub returns-then-row-clause-refused : goal.returns-then-row-clause-refused
 returns-then-row-clause-refused g c =
@@ -24,7 +24,7 @@ returns-then-row-clause-refused g c =
     let v : LockedProxyView = record { proxy = s.proxy; records = s.records.known; columns = s.columns } in
     let rec = c.in-Some.rec.now in
     subst (λ (u : LockedProxyView). IsFinishRefusal u c.args.ready (refusals.OutOfTurn (Some c.row-row.result))) c.self.view_is
-    (other_awaited v c.args.ready rec c.in-Some.ensures.0 c.row-row.result c.row.result c.in-Some.ensures.1 c.row-row.ensures c.row.ensures.value c.if-row.true)
+    (other_awaited v c.args.ready rec c.in-Some.ensures.first.0 c.row-row.result c.row.result c.in-Some.ensures.first.1 c.row-row.ensures c.row.ensures.value c.if-row.true)
 
 pub returns-in_default-copy-clause-refused : goal.returns-in_default-copy-clause-refused
 returns-in_default-copy-clause-refused g c =
@@ -33,7 +33,7 @@ returns-in_default-copy-clause-refused g c =
     let rec = c.in-Some.rec.now in
     let row : rec.row ≡ c.args.ready.row = sym c.row-row.ensures ∙ c.if-row.false ∙ c.row.ensures.value in
     subst (λ (u : LockedProxyView). IsFinishRefusal u c.args.ready refusals.OutOfMemory) c.self.view_is
-    (awaited_fails v c.args.ready rec c.in-Some.ensures.0 c.in-Some.ensures.1 row)
+    (awaited_fails v c.args.ready rec c.in-Some.ensures.first.0 c.in-Some.ensures.first.1 row)
 
 pub of-ready-requires-clause-first : goal.of-ready-requires-clause-first
 of-ready-requires-clause-first g c = ap (λ (t : Stretch Record). t.first) c.into_parts-replies.ensures.records
@@ -60,7 +60,7 @@ returns-in-Err-clause-refused g c =
     let rec = c.in-Some.rec.now in
     let row : rec.row ≡ c.args.ready.row = sym c.row-row.ensures ∙ c.if-row.false ∙ c.row.ensures.value in
     subst (λ (u : LockedProxyView). IsFinishRefusal u c.args.ready refusals.OutOfMemory) c.self.view_is
-    (awaited_fails v c.args.ready rec c.in-Some.ensures.0 c.in-Some.ensures.1 row)
+    (awaited_fails v c.args.ready rec c.in-Some.ensures.first.0 c.in-Some.ensures.first.1 row)
 
 pub returns-in-Err-clause-back : goal.returns-in-Err-clause-back
 returns-in-Err-clause-back g c =
@@ -88,12 +88,12 @@ of-requires-clause-is g c =
     let x = c.args.ready in
     let v : LockedProxyView = record { proxy = s.proxy; records = s.records.known; columns = s.columns } in
     let rec = c.in-Some.rec.now in
-    let rest = c.in-Some.ensures.0 in
+    let rest = c.in-Some.ensures.first.0 in
     let new = c.finish.new.self in
     let finished = c.in-Ok-finish.finished in
     let row : rec.row ≡ x.row = sym c.row-row.ensures ∙ c.if-row.false ∙ c.row.ensures.value in
     let agree : Agree 0 v.records 0 x.records = agree_from_zero s.records c.records.result.now x.records c.self.invariant.1 c.records.ensures.value c.agree.ensures in
-    let is : IsNext v x rec rest = is_next config v x rec rest c.self.invariant.2 c.row.ensures.kept c.in-Some.ensures.1 row agree in
+    let is : IsNext v x rec rest = is_next config v x rec rest c.self.invariant.2 c.row.ensures.kept c.in-Some.ensures.first.1 row agree in
     let has : HasFinished v.proxy new x.replies finished = subst (λ (rs : Replies). HasFinished v.proxy new rs finished) c.into_parts-replies.ensures.replies c.in-Ok-finish.ensures.finished in
     let records : c.into_parts-replies.result.1.known ≡ x.records = ap (λ (t : Stretch Record). t.known) c.into_parts-replies.ensures.records in
     let columns : c.in-Ok.noted ≡ x.columns = c.in-Ok.ensures ∙ c.columns.ensures in
@@ -107,12 +107,12 @@ invariant_of-self-2 g c =
     let x = c.args.ready in
     let v : LockedProxyView = record { proxy = s.proxy; records = s.records.known; columns = s.columns } in
     let rec = c.in-Some.rec.now in
-    let rest = c.in-Some.ensures.0 in
+    let rest = c.in-Some.ensures.first.0 in
     let new = c.finish.new.self in
     let finished = c.in-Ok-finish.finished in
     let row : rec.row ≡ x.row = sym c.row-row.ensures ∙ c.if-row.false ∙ c.row.ensures.value in
     let agree : Agree 0 v.records 0 x.records = agree_from_zero s.records c.records.result.now x.records c.self.invariant.1 c.records.ensures.value c.agree.ensures in
-    let is : IsNext v x rec rest = is_next config v x rec rest c.self.invariant.2 c.row.ensures.kept c.in-Some.ensures.1 row agree in
+    let is : IsNext v x rec rest = is_next config v x rec rest c.self.invariant.2 c.row.ensures.kept c.in-Some.ensures.first.1 row agree in
     let has : HasFinished v.proxy new x.replies finished = subst (λ (rs : Replies). HasFinished v.proxy new rs finished) c.into_parts-replies.ensures.replies c.in-Ok-finish.ensures.finished in
     let columns : c.into_parts-replies.result.2 ≡ x.columns = c.into_parts-replies.ensures.columns in (
       c.self.invariant.0 ∙ ap (λ (p : ProxyView). p.number) (sym has.after),
@@ -127,12 +127,12 @@ returns-clause-finished g c =
     let x = c.args.ready in
     let v : LockedProxyView = record { proxy = s.proxy; records = s.records.known; columns = s.columns } in
     let rec = c.in-Some.rec.now in
-    let rest = c.in-Some.ensures.0 in
+    let rest = c.in-Some.ensures.first.0 in
     let new = c.finish.new.self in
     let finished = c.in-Ok-finish.finished in
     let row : rec.row ≡ x.row = sym c.row-row.ensures ∙ c.if-row.false ∙ c.row.ensures.value in
     let agree : Agree 0 v.records 0 x.records = agree_from_zero s.records c.records.result.now x.records c.self.invariant.1 c.records.ensures.value c.agree.ensures in
-    let is : IsNext v x rec rest = is_next config v x rec rest c.self.invariant.2 c.row.ensures.kept c.in-Some.ensures.1 row agree in
+    let is : IsNext v x rec rest = is_next config v x rec rest c.self.invariant.2 c.row.ensures.kept c.in-Some.ensures.first.1 row agree in
     let has : HasFinished v.proxy new x.replies finished = subst (λ (rs : Replies). HasFinished v.proxy new rs finished) c.into_parts-replies.ensures.replies c.in-Ok-finish.ensures.finished in
     let records : c.into_parts-replies.result.1.known ≡ x.records = ap (λ (t : Stretch Record). t.known) c.into_parts-replies.ensures.records in
     let noted : c.in-Ok.noted ≡ x.columns = c.in-Ok.ensures ∙ c.columns.ensures in

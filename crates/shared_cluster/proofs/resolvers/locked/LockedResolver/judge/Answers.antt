@@ -71,8 +71,7 @@ invariant_of-self g c =
     let done = c.in-Ok-judged.ensures in
     let one = c.in-Ok-judged.field-0 in
     let judging = is_judging config v c.args.request p c.judged.new.memory one.reply s.column one.column one.noted c.plain.result.now keeps agree judge c.plain.ensures.value column_from_zero refl own done.reply done.gains done.column done.noted done.number done.proxies done.window in
-    let taken = c.into_records.ensures.value in
-    (
+    let taken = c.into_records.ensures.value in (
       ap (λ (t : Stretch Record). t.first) taken,
       judging.first,
       judging.own,
