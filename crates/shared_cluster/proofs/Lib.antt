@@ -5,6 +5,7 @@ mod ProxyBegins
 mod ProxyColumns
 mod ProxyFinishes
 mod ProxyLater
+mod ProxyMeets
 mod ProxyRequests
 mod ProxyRoutings
 mod ProxyRows

@@ -16,6 +16,8 @@ pub mod Ready
 pub mod Answers
 -- what a proxy's lock keeps, and what beginning and finishing do to it
 pub mod Proxies
+-- what two proxies that meet hold alike
+pub mod Meetings
 -- what is asked of all resolvers, and what a commit does
 pub mod Commits
 -- refusals in the model's words, their numbers and names

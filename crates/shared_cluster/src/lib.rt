@@ -20,7 +20,7 @@ mod refusal;
 mod resolvers;
 
 pub use commits::{AllResolvers, Asking, CommitFault, ProxyGuard, SharedProxy};
-pub use proxies::{Begun, Columns, LockedProxy, NotedFinished, NotedRouting, Ready};
+pub use proxies::{Begun, Columns, LockedProxy, Meeting, NotedFinished, NotedRouting, Ready};
 pub use refusal::Refusal;
 pub use resolvers::{LockedResolver, NotedReply, Request, ResolverGuard, SharedResolver};
 pub use turn_world::{Event, Stopped, TurnWorld};

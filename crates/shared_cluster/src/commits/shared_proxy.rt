@@ -4,6 +4,7 @@ ghost use Rattle.std.specs.Prelude.{◌≡◌, ◌<◌, ◌≤◌, IfOk, IfErr, 
 ghost use Rattle.model.specs.Metadata.{metadata as metadata_of};
 ghost use Rattle.proxy_state.specs.Beginning.{rows_up_to};
 ghost use Rattle.shared_cluster.specs.Commits.{HandsBack, HoldsBatch, IsCommitted};
+ghost use Rattle.shared_cluster.specs.Meetings.{Met};
 ghost use Rattle.shared_cluster.specs.Proxies.{BeginsTicket, FinishesReady, ShowsRouting};
 ghost use Rattle.shared_cluster.specs.Proxies.{IsBeginRefusal, IsFinishRefusal};
 ghost use Rattle.shared_cluster.specs.Proxies.{IsLockedProxy, IsRoutingRefusal};
@@ -12,7 +13,7 @@ ghost use Rattle.shared_cluster.specs.declared.refusal.Refusal.TheVariants as re
 use crate::commits::asking::Asking;
 use crate::commits::commit_fault::CommitFault;
 use crate::commits::replies_to::{Collected, collect_replies};
-use crate::proxies::{Begun, Columns, LockedProxy, NotedFinished, NotedRouting, Ready};
+use crate::proxies::{Begun, Columns, LockedProxy, Meeting, NotedFinished, NotedRouting, Ready};
 use crate::refusal::Refusal;
 use agreed_ledger::{Ledger, Naming, Records, Sequencer, Ticket};
 use model::{JournalRow, ProxyNumber, Version};
@@ -239,6 +240,13 @@ impl<'a, N: Naming> ProxyGuard<'a, N> {
         ensures refused { IfErr result (IsRoutingRefusal self.now version) }
     {
         self.guard.routing_at(version)
+    }
+
+    /// Compares the proxy with another locked one, as [`LockedProxy::meet`] says.
+    pub fn meet(&self, other: &ProxyGuard<'_, N>) -> Meeting
+        ensures { Met result self.now.proxy other.now.proxy }
+    {
+        self.guard.meet(&other.guard)
     }
 
     /// The number of the proxy.

@@ -5,6 +5,7 @@ ghost use Rattle.model.specs.Metadata.{metadata as metadata_of};
 ghost use Rattle.agreed_ledger.specs.Sequencing.{IsTicket};
 ghost use Rattle.proxy_state.specs.Beginning.{rows_up_to};
 ghost use Rattle.shared_cluster.specs.Answers.{IsNotedRouting};
+ghost use Rattle.shared_cluster.specs.Meetings.{Met};
 ghost use Rattle.shared_cluster.specs.Proxies.{BeginsTicket, FinishesReady, ShowsRouting};
 ghost use Rattle.shared_cluster.specs.Proxies.{IsBeginRefusal, IsBeginRefusalOf, IsFinishRefusal};
 ghost use Rattle.shared_cluster.specs.Proxies.{IsLockedProxy, IsNewLockedProxy, IsRoutingRefusal};
@@ -13,6 +14,7 @@ ghost use Rattle.shared_cluster.specs.declared.refusal.Refusal.TheVariants as re
 
 use crate::proxies::begun::{Begun, Room, joined_with, room_for};
 use crate::proxies::columns::Columns;
+use crate::proxies::meeting::Meeting;
 use crate::proxies::noted_finished::NotedFinished;
 use crate::proxies::noted_routing::NotedRouting;
 use crate::proxies::ready::Ready;
@@ -278,6 +280,25 @@ impl<N: Naming> LockedProxy<N> {
         let routing = metadata.routing(version)?;
         let noted = self.noted_routing(routing)?;
         Ok(noted)
+    }
+
+    /// Compares the proxy with another one of the cluster. At one version both have the same journal,
+    /// and so the same metadata; else the journal of one begins that of the other. Needs no memory.
+    pub fn meet(&self, other: &LockedProxy<N>) -> Meeting
+        ensures { Met result self.now.proxy other.now.proxy }
+    {
+        let mine = self.records();
+        let theirs = other.records();
+        mine.agree(theirs);
+        let version = self.version();
+        let reached = other.version();
+        if version < reached {
+            Meeting::Behind
+        } else if version == reached {
+            Meeting::Same
+        } else {
+            Meeting::Ahead
+        }
     }
 
     /// The routing with copies of the records and the columns. Fails only with `OutOfMemory`.
