@@ -13,6 +13,7 @@ use std::sync::Wait;
 
 /// All resolvers of a cluster, in order. They are asked one after another: each call enters the
 /// resolver, waits its turn, and lets it go again.
+#[derive(Drop)]
 pub struct AllResolvers<'a, 'l, N: Naming> {
     resolvers: &'a [SharedResolver<'l, N>],
 }
