@@ -2,7 +2,7 @@
 
 ghost use Rattle.std.specs.Prelude.{◌≡◌};
 
-use agreed_ledger::{BlankLedger, Ledger, Naming, Sequencer};
+use agreed_ledger::{BlankLedger, Ledger, Naming, Sequencer, Ticket};
 use model::{Config, Verdict};
 use shared_cluster::{Begun, LockedProxy, NotedReply, Refusal, Request, SharedResolver};
 use std::alloc::Global;
@@ -34,21 +34,29 @@ fn blank(alloc: Global) -> Result<BlankLedger, Fail> {
     }
 }
 
-/// The requests for the batch of a proxy that has begun nothing yet.
-fn begun<N: Naming, R: Wait>(
+/// The ticket of a batch of the proxy.
+fn ticket<N: Naming, R: Wait>(
     rt: &R,
     alloc: Global,
-    ledger: &Ledger<N>,
     sequencer: &Sequencer<'_, N>,
     number: usize,
     given: &[Given<'_>],
+) -> Result<Ticket<N>, Fail> {
+    let batch = batch(alloc, given)?;
+    match sequencer.lock(rt).sequence(number, batch) {
+        Ok(ticket) => Ok(ticket),
+        Err((refusal, _batch)) => Err(Fail::from(refusal)),
+    }
+}
+
+/// The requests for the ticket of a proxy that has begun nothing yet.
+fn begun<N: Naming>(
+    alloc: Global,
+    ledger: &Ledger<N>,
+    number: usize,
+    ticket: Ticket<N>,
 ) -> Result<Begun<N>, Fail> {
     let mut proxy = LockedProxy::new(alloc, ledger, number)?;
-    let batch = batch(alloc, given)?;
-    let ticket = match sequencer.lock(rt).sequence(number, batch) {
-        Ok(ticket) => ticket,
-        Err((refusal, _batch)) => return Err(Fail::from(refusal)),
-    };
     match proxy.begin(ledger, ticket) {
         Ok(begun) => Ok(begun),
         Err((refusal, _ticket)) => Err(Fail::from(refusal)),
@@ -56,10 +64,10 @@ fn begun<N: Naming, R: Wait>(
 }
 
 /// A copy of the request to the resolver.
-fn request<N: Naming>(begun: &Begun<N>, resolver: usize) -> Result<Request<N>, Fail> {
+fn request<N: Naming>(begun: &Begun<N>, resolver: usize) -> Result<Request<N>, Refusal> {
     match begun.requests().get(resolver) {
         Some(request) => Ok(request.copy()?),
-        None => Err(Fail::from("there is no such request")),
+        None => Err(Refusal::WrongResolver),
     }
 }
 
@@ -72,63 +80,49 @@ fn told<N: Naming>(noted: &NotedReply<N>) -> Told {
     (reply.version, first, reply.unseen.as_slice().len())
 }
 
-/// Sends the request, and once more if memory was refused, and lets the resolver go.
+/// Sends the request of this number, waits for its turn, and lets the resolver go.
 fn resolve<N: Naming, R: Wait>(
     rt: &R,
     resolver: &SharedResolver<'_, N>,
-    request: Request<N>,
+    begun: &Begun<N>,
+    number: usize,
 ) -> Result<Told, Refusal> {
+    let request = request(begun, number)?;
     match resolver.resolve(rt, request) {
         Ok((noted, _shown)) => Ok(told(&noted)),
-        Err((Refusal::OutOfMemory, back)) => resolve_back(rt, resolver, back),
         Err((refusal, _back)) => Err(refusal),
     }
 }
 
-/// Sends the request that came back.
-fn resolve_back<N: Naming, R: Wait>(
-    rt: &R,
-    resolver: &SharedResolver<'_, N>,
-    back: Request<N>,
-) -> Result<Told, Refusal> {
-    match resolver.resolve(rt, back) {
-        Ok((noted, _shown)) => Ok(told(&noted)),
-        Err((refusal, _back)) => Err(refusal),
-    }
-}
-
-/// What the resolver tells of the record, in a thread of its own.
-fn resolve_row<N: Naming, R: Wait>(
+/// Offers the request of this number without waiting.
+fn offer<N: Naming, R: Wait>(
     rt: &R,
     resolver: &SharedResolver<'_, N>,
     begun: &Begun<N>,
-) -> Result<Told, Fail> {
-    let request = request(begun, resolver.number())?;
-    Ok(resolve(rt, resolver, request)?)
+    number: usize,
+) -> Result<Told, Refusal> {
+    let request = request(begun, number)?;
+    match resolver.lock(rt).offer(request) {
+        Ok(noted) => Ok(told(&noted)),
+        Err((refusal, _back)) => Err(refusal),
+    }
 }
 
-/// What the resolver tells of three records, whose requests three threads send: the latest first.
-fn resolve_three<N: Naming + Send + Sync, R: Threads + Wait + Abort + Sync>(
+/// What two threads are told that send two requests, the later one first.
+fn resolve_two<N: Naming + Send + Sync, R: Threads + Wait + Abort + Sync>(
     rt: &R,
     resolver: &SharedResolver<'_, N>,
-    rows: &[Begun<N>; 3],
-) -> Result<[Told; 3], Fail> {
-    let [first, second, third] = rows;
-    let (last, (middle, one)) = join(
+    first: &Begun<N>,
+    second: &Begun<N>,
+) -> (Result<Told, Refusal>, Result<Told, Refusal>) {
+    join(
         rt,
-        || resolve_row(rt, resolver, third),
-        || {
-            join(
-                rt,
-                || resolve_row(rt, resolver, second),
-                || resolve_row(rt, resolver, first),
-            )
-        },
-    );
-    Ok([one?, middle?, last?])
+        || resolve(rt, resolver, second, 0),
+        || resolve(rt, resolver, first, 0),
+    )
 }
 
-fn three_wait<N: Naming + Send + Sync, R: Threads + Wait + Abort + Sync>(
+fn two_wait<N: Naming + Send + Sync, R: Threads + Wait + Abort + Sync>(
     rt: &R,
     alloc: Global,
     blank: BlankLedger,
@@ -137,55 +131,24 @@ fn three_wait<N: Naming + Send + Sync, R: Threads + Wait + Abort + Sync>(
 {
     let ledger = blank.named::<N>();
     let sequencer = Sequencer::new(alloc, &ledger)?;
-    let rows = [
-        begun(rt, alloc, &ledger, &sequencer, 0, WRITE)?,
-        begun(rt, alloc, &ledger, &sequencer, 1, READ)?,
-        begun(rt, alloc, &ledger, &sequencer, 2, &[])?,
-    ];
+    let one = ticket(rt, alloc, &sequencer, 0, WRITE)?;
+    let other = ticket(rt, alloc, &sequencer, 1, READ)?;
+    let first = begun(alloc, &ledger, 0, one)?;
+    let second = begun(alloc, &ledger, 1, other)?;
     let resolver = SharedResolver::new(alloc, &ledger, 0)?;
-    let answers = resolve_three(rt, &resolver, &rows)?;
-    let committed = (10, Some(Verdict::Committed), 0);
-    let conflict = (20, Some(Verdict::Conflict), 1);
-    assert!(rt; answers == [committed, conflict, (30, None, 2)]);
+    let (later, earlier) = resolve_two(rt, &resolver, &first, &second);
+    assert!(rt; earlier? == (10, Some(Verdict::Committed), 0));
+    assert!(rt; later? == (20, Some(Verdict::Conflict), 1));
     let shown = resolver.lock(rt);
-    assert!(rt; shown.version() == 30);
+    assert!(rt; shown.version() == 20);
     assert!(rt; shown.remembered() == 2);
     Ok(())
 }
 
 #[test]
-fn three_threads_wait_for_their_turns(rt: HostRuntime) -> Result<(), Fail> {
+fn two_threads_wait_for_their_turns(rt: HostRuntime) -> Result<(), Fail> {
     let alloc = rt.alloc();
-    three_wait::<Brand, _>(&rt, alloc, blank(alloc)?)
-}
-
-fn close_while_one_waits<N: Naming + Send + Sync, R: Threads + Wait + Abort + Sync>(
-    rt: &R,
-    alloc: Global,
-    blank: BlankLedger,
-) -> Result<(), Fail>
-    requires { blank ≡ N.cells }
-{
-    let ledger = blank.named::<N>();
-    let sequencer = Sequencer::new(alloc, &ledger)?;
-    let _first = begun(rt, alloc, &ledger, &sequencer, 0, &[])?;
-    let second = begun(rt, alloc, &ledger, &sequencer, 1, &[])?;
-    let resolver = SharedResolver::new(alloc, &ledger, 0)?;
-    let waiting = request(&second, 0)?;
-    let (answer, ()) = join(
-        rt,
-        || resolve(rt, &resolver, waiting),
-        || resolver.close(rt),
-    );
-    assert!(rt; answer == Err(Refusal::Closed));
-    assert!(rt; resolve(rt, &resolver, request(&second, 0)?) == Err(Refusal::Closed));
-    Ok(())
-}
-
-#[test]
-fn a_closed_resolver_refuses_one_that_waits(rt: HostRuntime) -> Result<(), Fail> {
-    let alloc = rt.alloc();
-    close_while_one_waits::<Brand, _>(&rt, alloc, blank(alloc)?)
+    two_wait::<Brand, _>(&rt, alloc, blank(alloc)?)
 }
 
 fn take_one_cell_twice<N: Naming, R: Wait + Abort>(
@@ -197,14 +160,14 @@ fn take_one_cell_twice<N: Naming, R: Wait + Abort>(
 {
     let ledger = blank.named::<N>();
     let sequencer = Sequencer::new(alloc, &ledger)?;
-    let row = begun(rt, alloc, &ledger, &sequencer, 0, WRITE)?;
+    let one = ticket(rt, alloc, &sequencer, 0, WRITE)?;
+    let row = begun(alloc, &ledger, 0, one)?;
     let resolver = SharedResolver::new(alloc, &ledger, 1)?;
     let other = SharedResolver::new(alloc, &ledger, 1)?;
-    assert!(rt; resolve(rt, &resolver, request(&row, 1)?) == Ok((10, None, 0)));
-    assert!(rt; resolve(rt, &other, request(&row, 1)?) == Err(Refusal::CellTaken));
-    assert!(rt; other.lock(rt).version() == 0);
-    assert!(rt; resolve(rt, &other, request(&row, 1)?) == Err(Refusal::Closed));
-    assert!(rt; resolve(rt, &resolver, request(&row, 1)?) == Ok((10, None, 0)));
+    assert!(rt; resolve(rt, &resolver, &row, 1)? == (10, None, 0));
+    assert!(rt; resolve(rt, &other, &row, 1) == Err(Refusal::CellTaken));
+    assert!(rt; resolve(rt, &other, &row, 1) == Err(Refusal::Closed));
+    assert!(rt; resolve(rt, &resolver, &row, 1)? == (10, None, 0));
     Ok(())
 }
 
@@ -212,31 +175,6 @@ fn take_one_cell_twice<N: Naming, R: Wait + Abort>(
 fn a_second_resolver_of_a_number_is_refused_the_cell(rt: HostRuntime) -> Result<(), Fail> {
     let alloc = rt.alloc();
     take_one_cell_twice::<Brand, _>(&rt, alloc, blank(alloc)?)
-}
-
-/// Offers the request without waiting, and once more if memory was refused.
-fn offer<N: Naming, R: Wait>(
-    rt: &R,
-    resolver: &SharedResolver<'_, N>,
-    request: Request<N>,
-) -> Result<Told, Refusal> {
-    match resolver.lock(rt).offer(request) {
-        Ok(noted) => Ok(told(&noted)),
-        Err((Refusal::OutOfMemory, back)) => offer_back(rt, resolver, back),
-        Err((refusal, _back)) => Err(refusal),
-    }
-}
-
-/// Offers the request that came back.
-fn offer_back<N: Naming, R: Wait>(
-    rt: &R,
-    resolver: &SharedResolver<'_, N>,
-    back: Request<N>,
-) -> Result<Told, Refusal> {
-    match resolver.lock(rt).offer(back) {
-        Ok(noted) => Ok(told(&noted)),
-        Err((refusal, _back)) => Err(refusal),
-    }
 }
 
 fn offer_out_of_turn<N: Naming, R: Wait + Abort>(
@@ -248,47 +186,24 @@ fn offer_out_of_turn<N: Naming, R: Wait + Abort>(
 {
     let ledger = blank.named::<N>();
     let sequencer = Sequencer::new(alloc, &ledger)?;
-    let first = begun(rt, alloc, &ledger, &sequencer, 0, WRITE)?;
-    let second = begun(rt, alloc, &ledger, &sequencer, 1, &[])?;
+    let one = ticket(rt, alloc, &sequencer, 0, WRITE)?;
+    let other = ticket(rt, alloc, &sequencer, 1, READ)?;
+    let first = begun(alloc, &ledger, 0, one)?;
+    let second = begun(alloc, &ledger, 1, other)?;
     let resolver = SharedResolver::new(alloc, &ledger, 0)?;
-    let early = Err(Refusal::Early { version: 0 });
-    assert!(rt; offer(rt, &resolver, request(&second, 0)?) == early);
-    assert!(rt; offer(rt, &resolver, request(&first, 1)?) == Err(Refusal::WrongResolver));
-    let committed = Ok((10, Some(Verdict::Committed), 0));
-    assert!(rt; offer(rt, &resolver, request(&first, 0)?) == committed);
-    assert!(rt; offer(rt, &resolver, request(&first, 0)?) == committed);
-    assert!(rt; resolver.lock(rt).version() == 10);
-    assert!(rt; !resolver.lock(rt).is_closed());
+    assert!(rt; offer(rt, &resolver, &second, 0) == Err(Refusal::Early { version: 0 }));
+    assert!(rt; offer(rt, &resolver, &first, 1) == Err(Refusal::WrongResolver));
+    assert!(rt; offer(rt, &resolver, &first, 0)? == (10, Some(Verdict::Committed), 0));
+    assert!(rt; offer(rt, &resolver, &first, 0)? == (10, Some(Verdict::Committed), 0));
+    resolver.close(rt);
+    assert!(rt; resolve(rt, &resolver, &second, 0) == Err(Refusal::Closed));
     Ok(())
 }
 
 #[test]
-fn an_offer_without_waiting_comes_early_in_turn_or_again(rt: HostRuntime) -> Result<(), Fail> {
+fn an_offer_comes_early_in_turn_again_or_to_one_that_is_closed(
+    rt: HostRuntime,
+) -> Result<(), Fail> {
     let alloc = rt.alloc();
     offer_out_of_turn::<Brand, _>(&rt, alloc, blank(alloc)?)
-}
-
-fn no_such_resolver<N: Naming, R: Abort>(
-    rt: &R,
-    alloc: Global,
-    blank: BlankLedger,
-) -> Result<(), Fail>
-    requires { blank ≡ N.cells }
-{
-    let ledger = blank.named::<N>();
-    match SharedResolver::new(alloc, &ledger, 2) {
-        Ok(_resolver) => Err(Fail::from("there are two resolvers")),
-        Err(refusal) => {
-            assert!(rt; refusal == Refusal::WrongResolver);
-            assert!(rt; refusal.number() == Some(33));
-            assert!(rt; refusal.name() == "WrongResolver");
-            Ok(())
-        }
-    }
-}
-
-#[test]
-fn a_resolver_has_a_number_of_the_cluster(rt: HostRuntime) -> Result<(), Fail> {
-    let alloc = rt.alloc();
-    no_such_resolver::<Brand, _>(&rt, alloc, blank(alloc)?)
 }
