@@ -3,9 +3,9 @@
 ghost use Rattle.std.specs.Prelude.{◌≡◌};
 
 use agreed_ledger::{BlankLedger, Ledger, Naming, Sequencer};
-use model::{Config, Outcome};
+use model::{Config, Finished, Outcome};
 use mutation::Batch;
-use shared_cluster::{AllResolvers, Meeting, Refusal, SharedProxy, SharedResolver};
+use shared_cluster::{AllResolvers, CommitFault, Meeting, Refusal, SharedProxy, SharedResolver};
 use std::alloc::Global;
 use std::marker::Brand;
 use std::process::Abort;
@@ -42,31 +42,53 @@ fn blank(alloc: Global) -> Result<BlankLedger, Fail> {
 /// how many tags its first mutation has.
 type Committed = (u64, bool, usize);
 
-/// Commits a batch, and lets the proxy go; nothing if it failed.
+/// Commits a batch, and lets the proxy go.
 fn commit<N: Naming, R: Wait>(
     rt: &R,
     sequencer: &Sequencer<'_, N>,
     asking: &AllResolvers<'_, '_, N>,
     proxy: &SharedProxy<'_, N>,
     batch: Batch,
-) -> Option<Committed> {
+) -> Result<Committed, Fail> {
     match proxy.commit(rt, sequencer, asking, batch) {
-        Ok((noted, _shown)) => {
-            let finished = noted.value();
-            let first = finished.outcomes.as_slice().first();
-            let is_committed = matches!(first, Some(Outcome::Committed { .. }));
-            let tags = match finished.tagged.as_slice().first() {
-                Some(tagged) => tagged.tags.as_slice().len(),
-                None => 0,
-            };
-            Some((finished.version, is_committed, tags))
-        }
-        Err(_fault) => None,
+        Ok((noted, _shown)) => Ok(committed(noted.value())),
+        Err(fault) => Err(failed(fault)),
     }
 }
 
-/// Why no routing at the version is shown, if none is.
+fn committed(finished: &Finished) -> Committed {
+    let first = finished.outcomes.as_slice().first();
+    let is_committed = matches!(first, Some(Outcome::Committed { .. }));
+    let tags = match finished.tagged.as_slice().first() {
+        Some(tagged) => tagged.tags.as_slice().len(),
+        None => 0,
+    };
+    (finished.version, is_committed, tags)
+}
+
+/// The refusal of a commit, as a test reports it.
+fn failed<N: Naming>(fault: CommitFault<N>) -> Fail {
+    match fault {
+        CommitFault::Sequencing { refusal, batch: _ } => Fail::from(refusal),
+        CommitFault::Beginning { refusal, ticket: _ } => Fail::from(refusal),
+        CommitFault::Resolving { refusal, begun: _ } => Fail::from(refusal),
+        CommitFault::Finishing { refusal, ready: _ } => Fail::from(refusal),
+    }
+}
+
+/// Why no routing at the version is shown, if none is; asked once more after a failed allocation.
 fn routing_refusal<N: Naming, R: Wait>(
+    rt: &R,
+    proxy: &SharedProxy<'_, N>,
+    version: u64,
+) -> Option<Refusal> {
+    match routing_refusal_once(rt, proxy, version) {
+        Some(Refusal::OutOfMemory) => routing_refusal_once(rt, proxy, version),
+        answer => answer,
+    }
+}
+
+fn routing_refusal_once<N: Naming, R: Wait>(
     rt: &R,
     proxy: &SharedProxy<'_, N>,
     version: u64,
@@ -103,9 +125,9 @@ fn commit_two<N: Naming, R: Wait + Abort>(
     let first = SharedProxy::new(alloc, &ledger, 0)?;
     let second = SharedProxy::new(alloc, &ledger, 1)?;
     let placed = batch(alloc, PLACE)?;
-    assert!(rt; commit(rt, &sequencer, &asking, &first, placed) == Some((10, true, 1)));
+    assert!(rt; commit(rt, &sequencer, &asking, &first, placed)? == (10, true, 1));
     let written = batch(alloc, WRITE)?;
-    assert!(rt; commit(rt, &sequencer, &asking, &second, written) == Some((20, true, 1)));
+    assert!(rt; commit(rt, &sequencer, &asking, &second, written)? == (20, true, 1));
     assert!(rt; routing_refusal(rt, &first, 20) == Some(Refusal::NotReached { version: 10 }));
     assert!(rt; routing_refusal(rt, &second, 20).is_none());
     assert!(rt; meeting(rt, &first, &second) == Meeting::Behind);

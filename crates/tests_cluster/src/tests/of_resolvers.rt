@@ -63,10 +63,13 @@ fn begun<N: Naming>(
     }
 }
 
-/// A copy of the request to the resolver.
+/// A copy of the request to the resolver, made once more after a failed allocation.
 fn request<N: Naming>(begun: &Begun<N>, resolver: usize) -> Result<Request<N>, Refusal> {
     match begun.requests().get(resolver) {
-        Some(request) => Ok(request.copy()?),
+        Some(request) => match request.copy() {
+            Ok(copy) => Ok(copy),
+            Err(_) => Ok(request.copy()?),
+        },
         None => Err(Refusal::WrongResolver),
     }
 }
@@ -80,35 +83,67 @@ fn told<N: Naming>(noted: &NotedReply<N>) -> Told {
     (reply.version, first, reply.unseen.as_slice().len())
 }
 
-/// Sends the request of this number, waits for its turn, and lets the resolver go.
+/// Sends the request of this number, waits for its turn, and lets the resolver go; sends it once
+/// more after a failed allocation.
 fn resolve<N: Naming, R: Wait>(
     rt: &R,
     resolver: &SharedResolver<'_, N>,
     begun: &Begun<N>,
     number: usize,
 ) -> Result<Told, Refusal> {
-    let request = request(begun, number)?;
-    match resolver.resolve(rt, request) {
-        Ok((noted, _shown)) => Ok(told(&noted)),
+    match resolve_once(rt, resolver, request(begun, number)?) {
+        Err((Refusal::OutOfMemory, back)) => match resolve_once(rt, resolver, back) {
+            Ok(told) => Ok(told),
+            Err((refusal, _back)) => Err(refusal),
+        },
         Err((refusal, _back)) => Err(refusal),
+        Ok(told) => Ok(told),
     }
 }
 
-/// Offers the request of this number without waiting.
+/// Sends the request, waits for its turn, and lets the resolver go.
+fn resolve_once<N: Naming, R: Wait>(
+    rt: &R,
+    resolver: &SharedResolver<'_, N>,
+    request: Request<N>,
+) -> Result<Told, (Refusal, Request<N>)> {
+    match resolver.resolve(rt, request) {
+        Ok((noted, _shown)) => Ok(told(&noted)),
+        Err(refused) => Err(refused),
+    }
+}
+
+/// Offers the request of this number without waiting, and once more after a failed allocation.
 fn offer<N: Naming, R: Wait>(
     rt: &R,
     resolver: &SharedResolver<'_, N>,
     begun: &Begun<N>,
     number: usize,
 ) -> Result<Told, Refusal> {
-    let request = request(begun, number)?;
-    match resolver.lock(rt).offer(request) {
-        Ok(noted) => Ok(told(&noted)),
+    match offer_once(rt, resolver, request(begun, number)?) {
+        Err((Refusal::OutOfMemory, back)) => match offer_once(rt, resolver, back) {
+            Ok(told) => Ok(told),
+            Err((refusal, _back)) => Err(refusal),
+        },
         Err((refusal, _back)) => Err(refusal),
+        Ok(told) => Ok(told),
     }
 }
 
-/// What two threads are told that send two requests, the later one first.
+/// Offers the request without waiting.
+fn offer_once<N: Naming, R: Wait>(
+    rt: &R,
+    resolver: &SharedResolver<'_, N>,
+    request: Request<N>,
+) -> Result<Told, (Refusal, Request<N>)> {
+    match resolver.lock(rt).offer(request) {
+        Ok(noted) => Ok(told(&noted)),
+        Err(refused) => Err(refused),
+    }
+}
+
+/// What two threads are told that send two requests. The later request is first here: `join` calls
+/// it last where it can make no thread.
 fn resolve_two<N: Naming + Send + Sync, R: Threads + Wait + Abort + Sync>(
     rt: &R,
     resolver: &SharedResolver<'_, N>,
