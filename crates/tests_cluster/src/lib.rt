@@ -1,5 +1,0 @@
-//! The tests of shared_cluster, by its public calls.
-#![tactic(auto)]
-
-#[cfg(test)]
-mod tests;
