@@ -4,7 +4,6 @@ mod Lists
 mod ProxyBegins
 mod ProxyColumns
 mod ProxyFinishes
-mod ProxyLater
 mod ProxyMeets
 mod ProxyRequests
 mod ProxyRoutings

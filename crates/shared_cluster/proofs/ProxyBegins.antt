@@ -17,12 +17,12 @@ use Rattle.model.proofs.History.Chain.{last_versions_rise, own_up_to_previous, v
 use Rattle.model.proofs.History.Growth.{push_cases}
 use Rattle.model.proofs.Journals.ReplyRows.{length-each_below, slice_get-each_below}
 use Rattle.model.proofs.Owners.Moves.{last_moves_at, last_version_at}
-use Rattle.shared_cluster.proofs.ProxyLater.{a_later_record_may_begin}
+use Rattle.model.proofs.Proxies.Beginning.{a_later_record_may_begin}
 use Rattle.model.proofs.Verdicts.Places.{row_at, slice_get-take}
 use Rattle.agreed_ledger.specs.Sequencing.{TicketView, IsTicket}
 use Rattle.shared_cluster.specs.Requests.{RequestView, IsRequestFor}
 use Rattle.shared_cluster.specs.Begun.{AreRequestsFor, BegunView, IsBegun, requests_to_all, with_records}
-use Rattle.shared_cluster.specs.Proxies.{LockedProxyView, IsLockedProxy, IsBeginRefusalOf, BeginsTicket, FollowOneAnother, MayFollow, StandAmong}
+use Rattle.shared_cluster.specs.Proxies.{LockedProxyView, IsLockedProxy, AreOwn, IsBeginRefusalOf, BeginsTicket, FollowOneAnother, MayFollow, StandAmong}
 use Rattle.shared_cluster.specs.declared.refusal.Refusal.TheVariants as refusals
 use Rattle.shared_cluster.proofs.Lists.{first_same, take_all}
 use Rattle.shared_cluster.proofs.ProxyRows.{fewer_rows, journal_of, known_by_history}
@@ -104,8 +104,8 @@ follow_more : (version last : ℕ) (begun : List Record) (rec : Record) → Foll
 follow_more version last [] rec follow own = (own ∙ follow, refl)
 follow_more version last (s ∷ begun) rec follow own = (follow.0, follow_more s.version last begun rec follow.1 own)
 
-pub begun_keeps : (config : Config) (v : LockedProxyView) (t : TicketView) (rec : Record) (new : ProxyView) → Continues config v t rec → HasBegun v.proxy new rec → IsLockedProxy config (record { proxy = new; records = t.records; columns = v.columns })
-begun_keeps config v t rec new is begun =
+pub begun_keeps : (config : Config) (v : LockedProxyView) (t : TicketView) (rec : Record) (new : ProxyView) → Continues config v t rec → MayFollow v.proxy rec → HasBegun v.proxy new rec → IsLockedProxy config (record { proxy = new; records = t.records; columns = v.columns })
+begun_keeps config v t rec new is may begun =
     record {
       config_is = is.keeps.config_is;
       config_of = begun.config ∙ is.keeps.config_of;
@@ -114,6 +114,7 @@ begun_keeps config v t rec new is begun =
       verdicts = subst (λ (rows : List JournalRow). AreVerdicts config (take (length rows) t.records) v.columns) (sym begun.journal) verdicts;
       journal_is = subst (λ (rows : List JournalRow). IsKnownJournal config t.records v.columns (length rows) rows) (sym begun.journal) known;
       version = begun.version ∙ is.keeps.version ∙ ap (λ (rows : List JournalRow). length rows * config.step) (sym begun.journal);
+      own = own;
       begun = stand;
       follow =
           subst (λ (rs : List Record). FollowOneAnother new.version new.last_begun rs) (sym begun.begun)
@@ -151,6 +152,13 @@ begun_keeps config v t rec new is begun =
     known : IsKnownJournal config t.records v.columns n v.proxy.journal
     known = known_by_history config t.records v.columns n v.proxy.journal is.ticket.history verdicts (journal_of config v is.keeps ∙ ap (λ (rs : List Record). journal config (history_verdicts config rs) rs) first)
 
+    own : AreOwn new.number new.begun
+    own place s at = by (push_cases v.proxy.begun rec place s (ap (λ (rs : List Record). slice_get rs place) (sym begun.begun) ∙ at))
+      where
+        by : ((place ≡ length v.proxy.begun) × (rec ≡ s)) ⊎ ((place < length v.proxy.begun) × (slice_get v.proxy.begun place ≡ Some s)) → s.proxy ≡ new.number
+        by (inl last) = ap (λ (r : Record). r.proxy) (sym last.1) ∙ may.own ∙ sym begun.number
+        by (inr sooner) = is.keeps.own place s sooner.1 ∙ sym begun.number
+
     stand : StandAmong t.records new.begun
     stand place s at = by (push_cases v.proxy.begun rec place s (ap (λ (rs : List Record). slice_get rs place) (sym begun.begun) ∙ at))
       where
@@ -173,6 +181,7 @@ new_keeps config v columns limits same number last_begun none version empty move
       verdicts = subst (λ (rows : List JournalRow). AreVerdicts config (take (length rows) []) columns) (sym empty) (no_verdicts config columns);
       journal_is = subst (λ (rows : List JournalRow). IsKnownJournal config [] columns (length rows) rows) (sym empty) refl;
       version = version ∙ start ∙ ap (λ (rows : List JournalRow). length rows * config.step) (sym empty);
+      own = λ place rec at. absurd (nothing place rec (ap (λ (rs : List Record). slice_get rs place) (sym none) ∙ at));
       begun = λ place rec at. absurd (nothing place rec (ap (λ (rs : List Record). slice_get rs place) (sym none) ∙ at));
       follow = subst (λ (rs : List Record). FollowOneAnother v.version v.last_begun rs) (sym none) (last_begun ∙ sym version);
       last_begun = last_begun;

@@ -167,6 +167,7 @@ finished_keeps_at v x rec rest new finished is has =
       verdicts = verdicts;
       journal_is = known_by_history c v.records x.columns (length new.journal) new.journal is.keeps.agreed.history verdicts (journal_after v x rec rest new finished is has ∙ ap (λ (rs : List Record). journal c (history_verdicts c rs) rs) (sym first));
       version = done.0.at ∙ (versions_at c x.records rec.row rec is.ready.history here).1 ∙ ap (λ (n : ℕ). n * c.step) (sym count);
+      own = λ place s at. is.keeps.own (suc place) s (ap (λ (rs : List Record). slice_get rs (suc place)) is.begun ∙ ap (λ (rs : List Record). slice_get rs place) (sym done.0.begun) ∙ at) ∙ ap (λ (u : ProxyView). u.number) (sym has.after);
       begun = λ place s at. is.keeps.begun (suc place) s (ap (λ (rs : List Record). slice_get rs (suc place)) is.begun ∙ ap (λ (rs : List Record). slice_get rs place) (sym done.0.begun) ∙ at);
       follow =
           subst (λ (rs : List Record). FollowOneAnother new.version new.last_begun rs) (sym done.0.begun)
@@ -243,13 +244,20 @@ finishes_ready v x rec rest new finished is has =
     record {
       in_turn = ap first_row is.begun ∙ ap (λ (k : ℕ). Some k) is.row;
       finishes = has;
-      row = row_of v x rec rest new finished is has ∙ is.row;
+      row = row;
+      own = λ s at. ap (λ (r : Record). r.proxy) (same s is.ready.rec (ap (slice_get x.records) (sym row) ∙ at) is.ready.there ∙ same_record v x rec rest is) ∙ is.keeps.own 0 rec (ap (λ (rs : List Record). slice_get rs 0) is.begun) ∙ ap (λ (u : ProxyView). u.number) (sym has.after);
       version = version_of v x rec rest new finished is has;
       records = refl;
       columns = refl;
       noted_records = refl;
       noted_columns = refl;
     }
+  where
+    row : finished.row ≡ x.row
+    row = row_of v x rec rest new finished is has ∙ is.row
+
+    same : (a b : Record) → slice_get x.records x.row ≡ Some a → slice_get x.records x.row ≡ Some b → a ≡ b
+    same a b at_a at_b = cc
 
 -- ---- refusals
 

@@ -122,6 +122,12 @@ pub record ComesNext (config : Config) (v : LockedResolverView) (q : RequestView
   pub is : q.plain ≡ request config rec q.plain.last_received v.memory.number
   pub own : q.plain.resolver ≡ v.memory.number
 
+-- the resolver's version is that of the last of its records
+pub rows_of_resolver : (config : Config) (v : LockedResolverView) → IsLockedResolver config v → v.memory.version ≡ length v.records * config.step
+rows_of_resolver config v keeps =
+    keeps.stands.1.version ∙ last_of_requests config keeps.stands.0 v.memory.number v.records
+    ∙ ap last_version (sym (take_all v.records (length v.records) (omega arith))) ∙ version_before config v.records (length v.records) keeps.history (omega arith)
+
 pub comes_next : (config : Config) (v : LockedResolverView) (q : RequestView) (p : IsRequestFor config q) → IsLockedResolver config v → Agree 0 v.records 0 q.records → course v.memory q.plain ≡ Ok Judge → ComesNext config v q p.rec
 comes_next config v q p keeps agree judged =
     record {
@@ -136,13 +142,8 @@ comes_next config v q p keeps agree judged =
     next : IsNext v.memory q.plain
     next = is_next v.memory q.plain judged
 
-    reached : v.memory.version ≡ length v.records * config.step
-    reached =
-        keeps.stands.1.version ∙ last_of_requests config keeps.stands.0 v.memory.number v.records
-        ∙ ap last_version (sym (take_all v.records (length v.records) (omega arith))) ∙ version_before config v.records (length v.records) keeps.history (omega arith)
-
     row : q.plain.row ≡ length v.records
-    row = same_rows q.plain.row (length v.records) config.step keeps.config_is.step.0 (sym (row_versions config q p).previous ∙ next.chained ∙ reached)
+    row = same_rows q.plain.row (length v.records) config.step keeps.config_is.step.0 (sym (row_versions config q p).previous ∙ next.chained ∙ rows_of_resolver config v keeps)
 
 -- the requests for the records before, and for the record, with the version last received at it
 record ReceivedAt (config : Config) (v : LockedResolverView) (q : RequestView) (rec : Record) (stood : StandsForRecords config v.memory v.records) : Type 0 where

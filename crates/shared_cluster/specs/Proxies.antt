@@ -29,6 +29,11 @@ StandAmong records begun =
     (place : ℕ) (rec : Record) → slice_get begun place ≡ Some rec
     → slice_get records rec.row ≡ Some rec
 
+-- each record that was begun is of the proxy of this number
+abbrev pub AreOwn : ProxyNumber → (begun : List Record) → Type 0
+AreOwn p begun =
+    (place : ℕ) (rec : Record) → slice_get begun place ≡ Some rec → rec.proxy ≡ p
+
 -- The records begun follow one another: the first follows this proxy's record of `version`, and `last`
 -- is the version of the last one, or `version` if there is none.
 abbrev pub FollowOneAnother : (version last : Version) → (begun : List Record) → Type 0
@@ -38,8 +43,9 @@ FollowOneAnother version last (rec ∷ later) =
 
 -- The view is agreed with the ledger up to the row of the proxy's version, the cells of these rows
 -- hold the definition's verdicts, and the journal is that of these rows by the cells. (The metadata is
--- always that of the journal.) The records begun and not finished stand among the records, and follow
--- one another; the last record is the one begun last, and the map of owners holds its moves.
+-- always that of the journal.) The records begun and not finished are of this proxy, stand among the
+-- records, and follow one another; the last record is the one begun last, and the map of owners holds
+-- its moves.
 pub record IsLockedProxy (config : Config) (v : LockedProxyView) : Type 0 where
   pub config_is : IsConfig config
   pub config_of : v.proxy.config ≡ config
@@ -49,6 +55,7 @@ pub record IsLockedProxy (config : Config) (v : LockedProxyView) : Type 0 where
   pub journal_is :
       IsKnownJournal config v.records v.columns (length v.proxy.journal) v.proxy.journal
   pub version : v.proxy.version ≡ length v.proxy.journal * config.step
+  pub own : AreOwn v.proxy.number v.proxy.begun
   pub begun : StandAmong v.records v.proxy.begun
   pub follow : FollowOneAnother v.proxy.version v.proxy.last_begun v.proxy.begun
   pub last_begun : v.proxy.last_begun ≡ last_version v.records
@@ -113,15 +120,20 @@ abbrev pub awaits_before : (begun : List Record) → RowNumber → Bool
 awaits_before [] row = false
 awaits_before (rec ∷ later) row = nat_lt rec.row row
 
--- The proxy finished the record of the row, which was the one to be finished next, by the replies: its
--- journal grew by the rows that it had not seen and by the record's own. The lock has the verdict
--- cells that came with the replies, and so has the answer.
+-- the record of the row, the last of these, is of the proxy of this number
+abbrev pub IsOfProxy : ProxyNumber → RowNumber → List Record → Type 0
+IsOfProxy p row records = (rec : Record) → slice_get records row ≡ Some rec → rec.proxy ≡ p
+
+-- The proxy finished the record of the row, which is its own and was the one to be finished next, by
+-- the replies: its journal grew by the rows that it had not seen and by the record's own. The lock has
+-- the verdict cells that came with the replies, and so has the answer.
 pub record FinishesReady
     (before : LockedProxyView) (ready : ReadyView)
     (after : LockedProxyView) (noted : NotedFinishedView) : Type 0 where
   pub in_turn : first_row before.proxy.begun ≡ Some ready.row
   pub finishes : HasFinished before.proxy after.proxy ready.replies noted.finished
   pub row : noted.finished.row ≡ ready.row
+  pub own : IsOfProxy after.proxy.number noted.finished.row noted.records
   pub version : after.proxy.version ≡ noted.finished.version
   pub records : after.records ≡ before.records
   pub columns : after.columns ≡ ready.columns

@@ -1,6 +1,6 @@
 //! The resolver that threads share.
 
-ghost use Rattle.std.specs.Prelude.{◌≡◌, ◌<◌, ◌≤◌, length, IfOk, IfErr};
+ghost use Rattle.std.specs.Prelude.{◌≡◌, ◌<◌, ◌≤◌, length, IfOk, IfErr, MatchResult};
 ghost use Rattle.shared_cluster.specs.Resolvers.{HasOffered, IsLockedResolver, IsNotEarly};
 ghost use Rattle.shared_cluster.specs.Resolvers.{IsOfferRefusal, ShowsReply, after_refusal};
 ghost use Rattle.shared_cluster.specs.Resolvers.{closed_resolver};
@@ -26,6 +26,14 @@ pub struct SharedResolver<'l, N: Naming> {
     changed: Condvar,
 }
 
+impl<'l, N: Naming> Model for SharedResolver<'l, N> {
+    ghost use Rattle.model.specs.Numbers.{ResolverNumber};
+
+    ghost Value = { ResolverNumber };
+
+    ghost view = { λ r. r.number };
+}
+
 impl<'l, N: Naming> SharedResolver<'l, N> {
     /// The resolver of this number before its first request. Fails with `WrongResolver` if the
     /// cluster has no such resolver, and otherwise only with `OutOfMemory`.
@@ -34,7 +42,9 @@ impl<'l, N: Naming> SharedResolver<'l, N> {
         ledger: &'l Ledger<N>,
         number: ResolverNumber,
     ) -> Result<SharedResolver<'l, N>, Refusal>
-        ensures { IfErr result (λ refusal.
+        ensures { MatchResult result
+            (λ made. (made ≡ number) × (number < N.cells.config.resolvers))
+            (λ refusal.
             (N.cells.config.resolvers ≤ number → refusal ≡ refusals.WrongResolver)
             × (number < N.cells.config.resolvers → refusal ≡ refusals.OutOfMemory)) }
     {
@@ -47,7 +57,9 @@ impl<'l, N: Naming> SharedResolver<'l, N> {
     }
 
     /// The number that it was made with.
-    pub fn number(&self) -> ResolverNumber {
+    pub fn number(&self) -> ResolverNumber
+        ensures { result ≡ self.now }
+    {
         self.number
     }
 

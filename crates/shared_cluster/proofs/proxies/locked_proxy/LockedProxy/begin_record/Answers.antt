@@ -153,7 +153,7 @@ invariant_of-self-2 g c =
     let kept : c.in_ok-kept.field-0.kept.known ≡ t.records = ap (λ (u : Stretch Record). u.known) c.in_ok-kept.ensures.kept in (
       c.self.invariant.0 ∙ sym has.number,
       ap (λ (u : Stretch Record). u.first) c.in_ok-kept.ensures.kept ∙ c.requires.first,
-      subst (λ (rs : List Record). IsLockedProxy config (record { proxy = new; records = rs; columns = s.columns })) (sym kept) (begun_keeps config v t rec new is has),
+      subst (λ (rs : List Record). IsLockedProxy config (record { proxy = new; records = rs; columns = s.columns })) (sym kept) (begun_keeps config v t rec new is (record { own = mine; follows = follows }) has),
     )
 
 pub returns-clause-begun : goal.returns-clause-begun
