@@ -1,8 +1,9 @@
 //! The proxy that threads share.
 
-ghost use Rattle.std.specs.Prelude.{◌≡◌, ◌<◌, ◌≤◌, IfOk, IfErr, MatchResult, OnErr};
+ghost use Rattle.std.specs.Prelude.{◌≡◌, ◌<◌, ◌≤◌, IfOk, IfErr, MatchBool, MatchResult, OnErr};
 ghost use Rattle.model.specs.Metadata.{metadata as metadata_of};
 ghost use Rattle.proxy_state.specs.Beginning.{rows_up_to};
+ghost use Rattle.shared_cluster.specs.Audits.{IsConfirmed};
 ghost use Rattle.shared_cluster.specs.Commits.{HandsBack, HoldsBatch, IsCommitted};
 ghost use Rattle.shared_cluster.specs.Meetings.{Met};
 ghost use Rattle.shared_cluster.specs.Proxies.{BeginsTicket, FinishesReady, ShowsRouting};
@@ -244,8 +245,17 @@ impl<'a, N: Naming> ProxyGuard<'a, N> {
         self.guard.routing_at(version)
     }
 
+    /// Whether the proxy confirms an answer, as [`LockedProxy::confirm`] says.
+    pub fn confirm(&self, answer: &NotedFinished<N>) -> bool
+        ensures { MatchBool result
+            (IsConfirmed N.cells.config self.now answer.now)
+            (self.now.proxy.version < answer.now.finished.version) }
+    {
+        self.guard.confirm(answer)
+    }
+
     /// Compares the proxy with another locked one, as [`LockedProxy::meet`] says.
-    pub fn meet(&self, other: &ProxyGuard<'_, N>) -> Meeting
+    pub(crate) fn meet(&self, other: &ProxyGuard<'_, N>) -> Meeting
         ensures { Met result self.now.proxy other.now.proxy }
     {
         self.guard.meet(&other.guard)
