@@ -8,7 +8,7 @@ ghost use Rattle.shared_cluster.specs.Commits.{HandsBack, HoldsBatch, IsCommitte
 ghost use Rattle.shared_cluster.specs.Meetings.{Met};
 ghost use Rattle.shared_cluster.specs.Proxies.{BeginsTicket, FinishesReady, ShowsRouting};
 ghost use Rattle.shared_cluster.specs.Proxies.{IsBeginRefusal, IsFinishRefusal};
-ghost use Rattle.shared_cluster.specs.Proxies.{IsLockedProxy, IsOfProxy, IsRoutingRefusal};
+ghost use Rattle.shared_cluster.specs.Proxies.{IsLockedProxy, IsRoutingRefusal, ShowsFinished};
 ghost use Rattle.shared_cluster.specs.declared.refusal.Refusal.TheVariants as refusals;
 
 use crate::commits::asking::Asking;
@@ -154,10 +154,7 @@ impl<'l, N: Naming> SharedProxy<'l, N> {
     ) -> Result<(NotedFinished<N>, ProxyGuard<'_, N>), (Refusal, Ready<N>)>
         ensures row { IfOk result (λ made. made.0.finished.row ≡ ready.row) }
         ensures records { IfOk result (λ made. made.0.records ≡ ready.records) }
-        ensures own { IfOk result (λ made.
-            IsOfProxy made.1.proxy.number made.0.finished.row made.0.records) }
-        ensures version { IfOk result (λ made.
-            made.1.proxy.version ≡ made.0.finished.version) }
+        ensures shown { IfOk result (λ made. ShowsFinished made.0 made.1) }
         ensures back { IfErr result (λ refused. refused.1 ≡ ready) }
     {
         let row = ready.row();
