@@ -1,11 +1,9 @@
 mod CommitReplies
 mod CommitRequests
 mod Lists
-mod ProxyAudits
 mod ProxyBegins
 mod ProxyColumns
 mod ProxyFinishes
-mod ProxyHeadline
 mod ProxyMeets
 mod ProxyRequests
 mod ProxyRoutings

@@ -245,22 +245,14 @@ finishes_ready v x rec rest new finished is has =
       in_turn = ap first_row is.begun ∙ ap (λ (k : ℕ). Some k) is.row;
       finishes = has;
       row = row;
-      shown =
-          record {
-            own = λ s at. ap (λ (r : Record). r.proxy) (same s is.ready.rec (ap (slice_get x.records) (sym row) ∙ at) is.ready.there ∙ same_record v x rec rest is) ∙ is.keeps.own 0 rec (ap (λ (rs : List Record). slice_get rs 0) is.begun) ∙ ap (λ (u : ProxyView). u.number) (sym has.after);
-            version = version_of v x rec rest new finished is has;
-            records = ap (λ (k : ℕ). take k v.records) (next (row_of v x rec rest new finished is has)) ∙ all_of_ready v x rec rest is;
-            columns = refl;
-          };
+      own = λ s at. ap (λ (r : Record). r.proxy) (same s is.ready.rec (ap (slice_get x.records) (sym row) ∙ at) is.ready.there ∙ same_record v x rec rest is) ∙ is.keeps.own 0 rec (ap (λ (rs : List Record). slice_get rs 0) is.begun) ∙ ap (λ (u : ProxyView). u.number) (sym has.after);
+      version = version_of v x rec rest new finished is has;
       records = refl;
       columns = refl;
       noted_records = refl;
       noted_columns = refl;
     }
   where
-    next : finished.row ≡ rec.row → finished.row + 1 ≡ suc rec.row
-    next same = omega (arith, same)
-
     row : finished.row ≡ x.row
     row = row_of v x rec rest new finished is has ∙ is.row
 

@@ -245,17 +245,16 @@ is_judged memory q judge judged stands =
 pub is_served : (memory : ResolverView) (q : Request) → course memory q ≡ Ok Judge → Answers memory q IsOk
 is_served memory q judge judged stands = subst (λ (answer : OfferResult). IsOk answer) (sym (is_judged memory q judge judged stands).1) refl
 
-pub has_judged : (config : Config) (v : LockedResolverView) (q : RequestView) (p : IsRequestFor config q) (after : LockedResolverView) (noted_reply : NotedReplyView) → IsLockedResolver config v → ComesNext config v q p.rec → course v.memory q.plain ≡ Ok Judge → RepliesAfterJudged v.memory q.plain noted_reply.reply → GainsRequest v.memory q.plain after.memory
+pub has_judged : (config : Config) (v : LockedResolverView) (q : RequestView) (p : IsRequestFor config q) (after : LockedResolverView) (noted_reply : NotedReplyView) → IsLockedResolver config v → ComesNext config v q p.rec → course v.memory q.plain ≡ Ok Judge → RepliesAfterJudged v.memory q.plain noted_reply.reply
     → IsLockedResolver config after → after.memory.number ≡ v.memory.number → after.records ≡ q.records → after.column ≡ v.column ++ noted_reply.reply.verdicts ∷ [] → after.closed ≡ v.closed → noted_reply.records ≡ q.records → noted_reply.column ≡ after.column
     → HasJudged v q after noted_reply
-has_judged config v q p after noted_reply keeps next judge replied gains kept number records column closed noted_records noted_column =
+has_judged config v q p after noted_reply keeps next judge replied kept number records column closed noted_records noted_column =
     record {
       rec = p.rec;
       row = next.row;
       grown = next.grown;
       records = records;
       column = column;
-      gains = gains;
       number = number;
       version = version_after config v q p.rec after kept records next ∙ sym (ap (λ (one : Reply). one.version) (reply_to_next config v q p.rec noted_reply.reply keeps next replied));
       closed = closed;
@@ -268,7 +267,6 @@ has_judged config v q p after noted_reply keeps next judge replied gains kept nu
 pub record IsJudging (config : Config) (v : LockedResolverView) (q : RequestView) (rec : Record) (memory : ResolverView) (reply : Reply) (column noted_column : ColumnView) : Type 0 where
   pub next : ComesNext config v q rec
   pub replied : RepliesAfterJudged v.memory q.plain reply
-  pub gains : GainsRequest v.memory q.plain memory
   pub grown : column.rows.known ≡ v.column ++ reply.verdicts ∷ []
   pub first : column.rows.first ≡ 0
   pub own : column.resolver ≡ memory.number
@@ -283,7 +281,7 @@ pub is_judging : (config : Config) (v : LockedResolverView) (q : RequestView) (p
     → column ≡ with_rows before (appended before.rows reply.verdicts) → noted_column ≡ column → memory.number ≡ v.memory.number → length memory.proxies ≡ length v.memory.proxies → memory.written.window ≡ v.memory.written.window
     → IsJudging config v q p.rec memory reply column noted_column
 is_judging config v q p memory reply before column noted_column plain keeps agree judge plain_is first known own replied_plain gains_plain column_is noted_is number proxies window =
-    record { next = next; replied = replied; gains = gains; grown = grown; first = first_after; own = own_after; noted_is = noted_is; noted_own = noted_own; kept = kept; noted = noted_next config v q p.rec reply noted_column.rows.known keeps next replied cells verdicts; number = number }
+    record { next = next; replied = replied; grown = grown; first = first_after; own = own_after; noted_is = noted_is; noted_own = noted_own; kept = kept; noted = noted_next config v q p.rec reply noted_column.rows.known keeps next replied cells verdicts; number = number }
   where
     next : ComesNext config v q p.rec
     next = comes_next config v q p keeps agree judge
@@ -325,7 +323,7 @@ offered_next config v now q p memory reply column noted_column after noted_reply
     (record {
       is_open = is_open;
       reply_to = reply_to_request config q p v.memory.number (take q.plain.row q.records) reply judging.next.own (reply_to_next config v q p.rec reply keeps judging.next judging.replied);
-      done = inl (has_judged config v q p judged_view noted_view keeps judging.next judge judging.replied judging.gains judging.kept judging.number refl judging.grown refl refl (ap (λ (c : ColumnView). c.rows.known) judging.noted_is));
+      done = inl (has_judged config v q p judged_view noted_view keeps judging.next judge judging.replied judging.kept judging.number refl judging.grown refl refl (ap (λ (c : ColumnView). c.rows.known) judging.noted_is));
     })))
   where
     judged_view : LockedResolverView
@@ -700,7 +698,6 @@ shown config v q after noted_reply offered = by offered.done
     by : HasJudged v q after noted_reply ⊎ HasRepeated v q after noted_reply → ShowsReply q noted_reply after
     by (inl judged) =
         record {
-          is_open = judged.closed ∙ offered.is_open;
           reply_to = offered.reply_to;
           reached = omega (arith, judged.version);
           noted_records = judged.noted_records;
@@ -709,7 +706,6 @@ shown config v q after noted_reply offered = by offered.done
         }
     by (inr repeated) =
         record {
-          is_open = ap (λ (r : LockedResolverView). r.closed) repeated.unchanged ∙ offered.is_open;
           reply_to = offered.reply_to;
           reached = let same = ap (λ (r : LockedResolverView). r.memory.version) repeated.unchanged in omega (arith, repeated.version, same);
           noted_records = repeated.noted_records;

@@ -6,7 +6,7 @@ use Rattle.model.specs.Stamps.{Given, stamped_from}
 use Rattle.shared_cluster.specs.Requests.{RequestView}
 use Rattle.shared_cluster.specs.NotedReplies.{NotedReplyView, IsReplyToRequest}
 use Rattle.shared_cluster.specs.Answers.{NotedFinishedView}
-use Rattle.shared_cluster.specs.Proxies.{LockedProxyView, ShowsFinished}
+use Rattle.shared_cluster.specs.Proxies.{LockedProxyView, IsOfProxy}
 use Rattle.shared_cluster.specs.declared.commits.commit_fault.CommitFault.{CommitFault}
 use Rattle.shared_cluster.specs.declared.commits.commit_fault.CommitFault.TheVariants as faults
 
@@ -36,11 +36,13 @@ pub record HoldsBatch (row : RowNumber) (records : List Record) (batch : List Gi
   pub there : slice_get records row ≡ Some rec
   pub batch_is : rec.batch ≡ stamped_from rec.version 0 batch
 
--- the finished record holds the batch, and the proxy that is shown has just finished it
+-- The finished record holds the batch, and is of the proxy that is shown. This proxy is at the version
+-- of the answer.
 pub record IsCommitted
     (batch : List Given) (noted : NotedFinishedView) (v : LockedProxyView) : Type 0 where
   pub holds : HoldsBatch noted.finished.row noted.records batch
-  pub shown : ShowsFinished noted v
+  pub own : IsOfProxy v.proxy.number noted.finished.row noted.records
+  pub version : v.proxy.version ≡ noted.finished.version
 
 -- Each fault of a commit returns what its phase was given: the batch, or what holds it.
 abbrev pub HandsBack : {N : Type 0} → List Given → CommitFault N → Type 0

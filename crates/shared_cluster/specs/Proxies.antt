@@ -1,6 +1,6 @@
 -- What a proxy's lock keeps, and what beginning and finishing do to it. *Profile*, but for what a
 -- proxy answers.
-use Rattle.std.specs.Prelude.{◌≡◌, ℕ, ◌+◌, ◌*◌, ◌<◌, ◌≤◌, List, [], ◌∷◌, length, take, Option, Some, None}
+use Rattle.std.specs.Prelude.{◌≡◌, ℕ, ◌*◌, ◌<◌, ◌≤◌, List, [], ◌∷◌, length, take, Option, Some, None}
 use Rattle.std.specs.Prelude.{slice_get, Bool, false, nat_lt}
 use Rattle.model.specs.Numbers.{ProxyNumber, RowNumber, Version}
 use Rattle.model.specs.Configs.{Config, IsConfig}
@@ -124,24 +124,17 @@ awaits_before (rec ∷ later) row = nat_lt rec.row row
 abbrev pub IsOfProxy : ProxyNumber → RowNumber → List Record → Type 0
 IsOfProxy p row records = (rec : Record) → slice_get records row ≡ Some rec → rec.proxy ≡ p
 
--- The finished record is one of the proxy's own. The proxy is at the version of the answer, and has its
--- records and its verdict cells.
-pub record ShowsFinished (noted : NotedFinishedView) (v : LockedProxyView) : Type 0 where
-  pub own : IsOfProxy v.proxy.number noted.finished.row noted.records
-  pub version : v.proxy.version ≡ noted.finished.version
-  pub records : take (noted.finished.row + 1) v.records ≡ noted.records
-  pub columns : v.columns ≡ noted.columns
-
--- The proxy finished the record of the row, which was the one to be finished next, by the replies: its
--- journal grew by the rows that it had not seen and by the record's own. The lock has the verdict
--- cells that came with the replies, and so has the answer.
+-- The proxy finished the record of the row, which is its own and was the one to be finished next, by
+-- the replies: its journal grew by the rows that it had not seen and by the record's own. The lock has
+-- the verdict cells that came with the replies, and so has the answer.
 pub record FinishesReady
     (before : LockedProxyView) (ready : ReadyView)
     (after : LockedProxyView) (noted : NotedFinishedView) : Type 0 where
   pub in_turn : first_row before.proxy.begun ≡ Some ready.row
   pub finishes : HasFinished before.proxy after.proxy ready.replies noted.finished
   pub row : noted.finished.row ≡ ready.row
-  pub shown : ShowsFinished noted after
+  pub own : IsOfProxy after.proxy.number noted.finished.row noted.records
+  pub version : after.proxy.version ≡ noted.finished.version
   pub records : after.records ≡ before.records
   pub columns : after.columns ≡ ready.columns
   pub noted_records : noted.records ≡ ready.records

@@ -11,7 +11,6 @@ use Rattle.model.specs.Requests.{Request, request}
 use Rattle.model.specs.Offers.{OfferResult, OfferFault, answer_to}
 use Rattle.model.specs.Offers as offers
 use Rattle.model.specs.ResolverMemory.{ResolverView, StandsForRequests}
-use Rattle.state_memory.specs.Answers.{GainsRequest}
 use Rattle.shared_cluster.specs.Requests.{RequestView}
 use Rattle.shared_cluster.specs.NotedReplies.{NotedReplyView, IsReplyToRequest}
 use Rattle.shared_cluster.specs.declared.refusal.Refusal.{Refusal}
@@ -79,8 +78,7 @@ abbrev pub IsJudgedAnswer : OfferResult → Type 0
 IsJudgedAnswer answer = (reply : Reply) × (answer ≡ Ok (offers.Judged reply))
 
 -- The request came next and was judged: exactly one row is appended, with the record and the verdict
--- cell that the reply was made by. The reply is the definition's. Whatever requests the memory stood
--- for, it stands for this one after them.
+-- cell that the reply was made by. The reply is the definition's.
 pub record HasJudged
     (before : LockedResolverView) (request : RequestView)
     (after : LockedResolverView) (noted : NotedReplyView) : Type 0 where
@@ -89,7 +87,6 @@ pub record HasJudged
   pub grown : request.records ≡ before.records ++ rec ∷ []
   pub records : after.records ≡ request.records
   pub column : after.column ≡ before.column ++ noted.reply.verdicts ∷ []
-  pub gains : GainsRequest before.memory request.plain after.memory
   pub number : after.memory.number ≡ before.memory.number
   pub version : after.memory.version ≡ noted.reply.version
   pub closed : after.closed ≡ before.closed
@@ -148,23 +145,15 @@ after_refusal before refusal = before
 
 -- ---- what a call that waits its turn returns
 
--- the refusal is not that of an early request
+-- The refusal is not that of an early request.
 abbrev pub IsNotEarly : Refusal → Type 0
 IsNotEarly (refusals.Early version) = ⊥
 IsNotEarly refusal = Unit {0}
 
--- the refusal is one of an offer to a resolver of the cluster, as its lock kept it then, and not that
--- of an early request
-abbrev pub IsResolveRefusal : Config → Request → Refusal → Type 0
-IsResolveRefusal config q refusal =
-    IsNotEarly refusal
-    × ((v : LockedResolverView) × IsLockedResolver config v × IsOfferRefusal v q refusal)
-
--- the resolver that is shown is open and has judged the request: it has come to the reply's version or further,
+-- the resolver that is shown has judged the request: it has come to the reply's version or further,
 -- and has the records and cells that the reply was made by
 pub record ShowsReply (request : RequestView) (noted : NotedReplyView) (v : LockedResolverView) :
     Type 0 where
-  pub is_open : IsFalse v.closed
   pub reply_to : IsReplyToRequest request.plain noted.reply
   pub reached : noted.reply.version ≤ v.memory.version
   pub noted_records : noted.records ≡ request.records

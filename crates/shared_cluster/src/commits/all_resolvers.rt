@@ -1,8 +1,6 @@
 //! Asking resolvers one after another, by entering each.
 
-ghost use Rattle.std.specs.Prelude.{◌≡◌, IfOk, MatchResult};
-ghost use Rattle.model.specs.Configs.{IsConfig};
-ghost use Rattle.model.specs.Shares.{each_below};
+ghost use Rattle.std.specs.Prelude.{◌≡◌, IfOk, IfErr};
 ghost use Rattle.shared_cluster.specs.NotedReplies.{IsReplyToRequest};
 ghost use Rattle.shared_cluster.specs.declared.refusal.Refusal.TheVariants as refusals;
 
@@ -23,13 +21,8 @@ pub struct AllResolvers<'a, 'l, N: Naming> {
 impl<'a, 'l, N: Naming> AllResolvers<'a, 'l, N> {
     /// Takes all resolvers of the cluster in the order of their numbers; otherwise fails with
     /// `WrongResolver`. Does not allocate.
-    // (that the numbers of the cluster are within their limits is known to whoever has the ledger)
     pub fn new(resolvers: &'a [SharedResolver<'l, N>]) -> Result<AllResolvers<'a, 'l, N>, Refusal>
-        ensures { MatchResult result
-            (λ _. resolvers.now ≡ each_below N.cells.config.resolvers)
-            (λ refusal. (refusal ≡ refusals.WrongResolver)
-            × (IsConfig N.cells.config
-            → resolvers.now ≡ each_below N.cells.config.resolvers → ⊥)) }
+        ensures { IfErr result (λ refusal. refusal ≡ refusals.WrongResolver) }
     {
         if resolvers.is_empty() || resolvers.len() != resolvers[0].ledger().config().resolvers() {
             return Err(Refusal::WrongResolver);

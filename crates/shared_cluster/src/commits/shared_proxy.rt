@@ -1,14 +1,13 @@
 //! The proxy that threads share.
 
-ghost use Rattle.std.specs.Prelude.{◌≡◌, ◌<◌, ◌≤◌, IfOk, IfErr, MatchBool, MatchResult, OnErr};
+ghost use Rattle.std.specs.Prelude.{◌≡◌, ◌<◌, ◌≤◌, IfOk, IfErr, MatchResult, OnErr};
 ghost use Rattle.model.specs.Metadata.{metadata as metadata_of};
 ghost use Rattle.proxy_state.specs.Beginning.{rows_up_to};
-ghost use Rattle.shared_cluster.specs.Audits.{IsConfirmed};
 ghost use Rattle.shared_cluster.specs.Commits.{HandsBack, HoldsBatch, IsCommitted};
 ghost use Rattle.shared_cluster.specs.Meetings.{Met};
 ghost use Rattle.shared_cluster.specs.Proxies.{BeginsTicket, FinishesReady, ShowsRouting};
 ghost use Rattle.shared_cluster.specs.Proxies.{IsBeginRefusal, IsFinishRefusal};
-ghost use Rattle.shared_cluster.specs.Proxies.{IsLockedProxy, IsRoutingRefusal, ShowsFinished};
+ghost use Rattle.shared_cluster.specs.Proxies.{IsLockedProxy, IsOfProxy, IsRoutingRefusal};
 ghost use Rattle.shared_cluster.specs.declared.refusal.Refusal.TheVariants as refusals;
 
 use crate::commits::asking::Asking;
@@ -154,7 +153,10 @@ impl<'l, N: Naming> SharedProxy<'l, N> {
     ) -> Result<(NotedFinished<N>, ProxyGuard<'_, N>), (Refusal, Ready<N>)>
         ensures row { IfOk result (λ made. made.0.finished.row ≡ ready.row) }
         ensures records { IfOk result (λ made. made.0.records ≡ ready.records) }
-        ensures shown { IfOk result (λ made. ShowsFinished made.0 made.1) }
+        ensures own { IfOk result (λ made.
+            IsOfProxy made.1.proxy.number made.0.finished.row made.0.records) }
+        ensures version { IfOk result (λ made.
+            made.1.proxy.version ≡ made.0.finished.version) }
         ensures back { IfErr result (λ refused. refused.1 ≡ ready) }
     {
         let row = ready.row();
@@ -242,17 +244,8 @@ impl<'a, N: Naming> ProxyGuard<'a, N> {
         self.guard.routing_at(version)
     }
 
-    /// Whether the proxy confirms an answer, as [`LockedProxy::confirm`] says.
-    pub fn confirm(&self, answer: &NotedFinished<N>) -> bool
-        ensures { MatchBool result
-            (IsConfirmed N.cells.config self.now answer.now)
-            (self.now.proxy.version < answer.now.finished.version) }
-    {
-        self.guard.confirm(answer)
-    }
-
     /// Compares the proxy with another locked one, as [`LockedProxy::meet`] says.
-    pub(crate) fn meet(&self, other: &ProxyGuard<'_, N>) -> Meeting
+    pub fn meet(&self, other: &ProxyGuard<'_, N>) -> Meeting
         ensures { Met result self.now.proxy other.now.proxy }
     {
         self.guard.meet(&other.guard)

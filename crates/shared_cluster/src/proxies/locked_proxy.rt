@@ -1,11 +1,10 @@
 //! A proxy as it stands under its lock.
 
-ghost use Rattle.std.specs.Prelude.{◌≡◌, ◌<◌, ◌≤◌, slice_get, Some, IfOk, IfErr, MatchBool, OnErr};
+ghost use Rattle.std.specs.Prelude.{◌≡◌, ◌<◌, ◌≤◌, slice_get, Some, IfOk, IfErr, OnErr};
 ghost use Rattle.model.specs.Metadata.{metadata as metadata_of};
 ghost use Rattle.agreed_ledger.specs.Sequencing.{IsTicket};
 ghost use Rattle.proxy_state.specs.Beginning.{rows_up_to};
 ghost use Rattle.shared_cluster.specs.Answers.{IsNotedRouting};
-ghost use Rattle.shared_cluster.specs.Audits.{IsConfirmed};
 ghost use Rattle.shared_cluster.specs.Meetings.{Met};
 ghost use Rattle.shared_cluster.specs.Proxies.{BeginsTicket, FinishesReady, ShowsRouting};
 ghost use Rattle.shared_cluster.specs.Proxies.{IsBeginRefusal, IsBeginRefusalOf, IsFinishRefusal};
@@ -300,18 +299,6 @@ impl<N: Naming> LockedProxy<N> {
         } else {
             Meeting::Ahead
         }
-    }
-
-    /// Whether the proxy has come to the version of an answer, of any proxy of the cluster. The
-    /// outcomes and the tags of the answer are then those that the proxy's records and verdict cells
-    /// give for its row. Needs no memory.
-    pub fn confirm(&self, answer: &NotedFinished<N>) -> bool
-        ensures { MatchBool result
-            (IsConfirmed N.cells.config self.now answer.now)
-            (self.now.proxy.version < answer.now.finished.version) }
-    {
-        self.records().agree(answer.records());
-        answer.value().version <= self.version()
     }
 
     /// The routing with copies of the records and the columns. Fails only with `OutOfMemory`.
