@@ -9,13 +9,13 @@ use Rattle.model.specs.declared.reply.Reply.{Reply}
 use Rattle.model.specs.Records.{Record, IsHistory}
 use Rattle.model.specs.Journal.{history_verdicts, list_at}
 use Rattle.model.specs.World.{reply_of}
-use Rattle.model.specs.Agreed.{Column, Columns, KnowsRows, IsVerdictColumn}
+use Rattle.model.specs.Agreed.{Column, Columns, IsVerdictColumn}
 use Rattle.model.specs.Finishing.{Replies, AreRepliesBy, reply_from}
 use Rattle.model.proofs.History.Chain.{element_at}
 use Rattle.model.proofs.Proxies.Finishing.{world_replies}
 use Rattle.model.proofs.Verdicts.Places.{row_at}
 use Rattle.shared_cluster.specs.NotedReplies.{NotedReplyView, IsNotedReply}
-use Rattle.shared_cluster.specs.Ready.{AreRepliesOfAll, ReadyView, IsReady}
+use Rattle.shared_cluster.specs.Ready.{AreRepliesOfAll, IsReady}
 use Rattle.shared_cluster.proofs.Lists.{first_same, take_all}
 use Rattle.shared_cluster.proofs.ProxyColumns.{list_at_is, take_next}
 

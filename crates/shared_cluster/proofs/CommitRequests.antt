@@ -1,16 +1,16 @@
 -- The requests for a record that was begun, and the replies to them.
-use Rattle.std.proofs.Common.{◌≡◌, refl, sym, ap, ◌∙◌, subst, ℕ, zero, suc, ◌+◌, ◌<◌, ◌⊎◌, inl, inr, List, [], ◌∷◌, ◌++◌, map, length, take, slice_get, Option, Some, length-append, arith}
+use Rattle.std.proofs.Common.{◌≡◌, refl, sym, ap, ◌∙◌, subst, ℕ, zero, suc, ◌+◌, ◌<◌, ◌⊎◌, inl, inr, List, [], ◌∷◌, ◌++◌, length, take, slice_get, Some, length-append, arith}
 use Rattle.std.proofs.lemmas.List.{length-map}
 use Rattle.std.proofs.lemmas.Option.{slice_get_within}
 use Rattle.model.specs.Configs.{Config}
-use Rattle.model.specs.Records.{Record, last_version}
+use Rattle.model.specs.Records.{Record}
 use Rattle.model.specs.Shares.{each_below}
 use Rattle.model.specs.Stamps.{Given}
 use Rattle.model.specs.Requests.{Request, request, request_back_to}
 use Rattle.model.specs.World.{record_after}
 use Rattle.model.proofs.History.Growth.{push_cases, slice_get-push}
 use Rattle.model.proofs.History.Chain.{element_at}
-use Rattle.model.proofs.Journals.ReplyRows.{length-each_below}
+use Rattle.model.proofs.Journals.ReplyRows.{length-each_below, slice_get-each_below}
 use Rattle.model.proofs.Verdicts.Places.{row_at}
 use Rattle.agreed_ledger.specs.Sequencing.{SequencedView, TicketView, HasSequenced}
 use Rattle.shared_cluster.specs.Requests.{RequestView}
@@ -117,3 +117,23 @@ order_next requests k q replies noted at so_far to = subst (λ (qs : List Reques
         by place p n (inl last_q) (inr sooner_n) = let count = so_far.count in absurd (omega (arith, count, last_q.0, sooner_n.0))
         by place p n (inr sooner_q) (inl last_n) = let count = so_far.count in absurd (omega (arith, count, last_n.0, sooner_q.0))
         by place p n (inr sooner_q) (inr sooner_n) = so_far.each place p n sooner_q.1 sooner_n.1
+
+-- ---- the numbers of all resolvers
+
+-- a number that does not stand at its place
+pub wrong_number : (numbers : List ℕ) (k n count : ℕ) → slice_get numbers k ≡ Some n → (n ≡ k → ⊥) → numbers ≡ each_below count → ⊥
+wrong_number numbers k n count at apart is =
+    apart (same n k (sym at ∙ ap (λ (ns : List ℕ). slice_get ns k) is ∙ slice_get-each_below count k below))
+  where
+    within : k < length numbers
+    within = slice_get_within numbers k n at
+
+    below : k < count
+    below = let all : length numbers ≡ count = ap (λ (ns : List ℕ). length ns) is ∙ length-each_below count in omega (arith, all, within)
+
+    same : (a b : ℕ) → Some a ≡ Some b → a ≡ b
+    same a b both = cc
+
+-- a list of another length
+pub wrong_count : (numbers : List ℕ) (count : ℕ) → (length numbers ≡ count → ⊥) → numbers ≡ each_below count → ⊥
+wrong_count numbers count apart is = apart (ap (λ (ns : List ℕ). length ns) is ∙ length-each_below count)

@@ -1,9 +1,11 @@
 mod CommitReplies
 mod CommitRequests
 mod Lists
+mod ProxyAudits
 mod ProxyBegins
 mod ProxyColumns
 mod ProxyFinishes
+mod ProxyHeadline
 mod ProxyMeets
 mod ProxyRequests
 mod ProxyRoutings

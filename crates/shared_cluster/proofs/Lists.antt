@@ -1,8 +1,7 @@
 -- Lists of which one begins the other.
-use Rattle.std.proofs.Common.{◌≡◌, refl, sym, ap, ◌∙◌, ℕ, zero, suc, ◌+◌, ◌*◌, ◌<◌, ◌≤◌, List, [], ◌∷◌, ◌++◌, length, take, slice_get, Some, arith}
+use Rattle.std.proofs.Common.{◌≡◌, refl, sym, ap, ◌∙◌, ℕ, zero, suc, ◌*◌, ◌<◌, ◌≤◌, List, [], ◌∷◌, ◌++◌, length, take, slice_get, Some, arith}
 use Rattle.std.proofs.Math.Nat.{mul-lt-mul_of_pos_right}
 use Rattle.facts.specs.Stretches.{Agree, Stretch, StretchesAgree}
-use Rattle.model.specs.Journal.{list_at}
 
 -- the elements after the first ones agree too
 pub agree_rest : {X : Type 0} (x y : X) (xs ys : List X) → Agree 0 (x ∷ xs) 0 (y ∷ ys) → Agree 0 xs 0 ys

@@ -1,5 +1,5 @@
 -- A locked proxy begins the record of a ticket.
-use Rattle.std.proofs.Common.{◌≡◌, refl, sym, ap, ◌∙◌, subst, ℕ, suc, ◌+◌, ◌-◌, ◌*◌, ◌<◌, ◌≤◌, ◌⊎◌, inl, inr, List, [], ◌∷◌, ◌++◌, map, length, take, slice_get, Option, Some, option_map, arith}
+use Rattle.std.proofs.Common.{◌≡◌, refl, sym, ap, ◌∙◌, subst, ℕ, suc, ◌+◌, ◌-◌, ◌*◌, ◌<◌, ◌≤◌, ◌⊎◌, inl, inr, List, [], ◌∷◌, ◌++◌, length, take, slice_get, Option, Some, option_map, arith}
 use Rattle.std.proofs.lemmas.Option.{slice_get-map, slice_get_within}
 use Rattle.std.proofs.lemmas.List.{length-map}
 use Rattle.facts.specs.Stretches.{Agree, HasAt, Lacks, Stretch}
@@ -71,11 +71,11 @@ received config v t rec is =
 -- ---- the requests
 
 -- a request of the definition is for the last of the records
-request_for : (config : Config) (records : List Record) (row : ℕ) (rec : Record) (last_received r : ℕ) → IsHistory config records → length records ≡ row + 1 → slice_get records row ≡ Some rec → last_received ≤ rec.previous → IsRequestFor config (record { plain = request config rec last_received r; records = records })
+request_for : (config : Config) (records : List Record) (row : ℕ) (rec : Record) (last_received r : ℕ) → IsHistory config records → length records ≡ row + 1 → slice_get records row ≡ Some rec → last_received ≤ rec.previous → r < config.resolvers → IsRequestFor config (record { plain = request config rec last_received r; records = records })
 unfolding request_back_to
-request_for config records row rec last_received r history last there received =
+request_for config records row rec last_received r history last there received below =
     let at : rec.row ≡ row = row_at config records row rec history there in
-    record { rec = rec; history = history; last = omega (arith, last, at); there = ap (slice_get records) at ∙ there; is = refl; received = received }
+    record { rec = rec; history = history; last = omega (arith, last, at); there = ap (slice_get records) at ∙ there; is = refl; received = received; resolver = below }
 
 -- the request to resolver r
 pub request_at : (config : Config) (rec : Record) (last_received r : ℕ) (q : Request) → slice_get (requests_to_all config rec last_received) r ≡ Some q → (r < config.resolvers) × (q ≡ request config rec last_received r)
@@ -92,7 +92,7 @@ request_at config rec last_received r q at =
 pub are_requests_for : (config : Config) (v : LockedProxyView) (t : TicketView) (rec : Record) → Continues config v t rec → AreRequestsFor config t.records (requests_to_all config rec v.proxy.version)
 are_requests_for config v t rec is r q at =
     let found = request_at config rec v.proxy.version r q at in
-    subst (λ (p : Request). IsRequestFor config (record { plain = p; records = t.records })) (sym found.1) (request_for config t.records t.row rec v.proxy.version r is.ticket.history is.ticket.last is.there (received config v t rec is))
+    subst (λ (p : Request). IsRequestFor config (record { plain = p; records = t.records })) (sym found.1) (request_for config t.records t.row rec v.proxy.version r is.ticket.history is.ticket.last is.there (received config v t rec is) found.0)
 
 pub is_begun : (config : Config) (v : LockedProxyView) (t : TicketView) (rec : Record) (requests : List RequestView) → Continues config v t rec → requests ≡ with_records t.records (requests_to_all config rec v.proxy.version) → IsBegun config (record { row = t.row; records = t.records; requests = requests })
 is_begun config v t rec requests is are =

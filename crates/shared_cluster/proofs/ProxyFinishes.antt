@@ -1,16 +1,16 @@
 -- A locked proxy finishes the record that it began first, by the replies to it.
-use Rattle.std.proofs.Common.{◌≡◌, refl, sym, ap, ◌∙◌, subst, ℕ, suc, ◌+◌, ◌*◌, ◌<◌, ◌≤◌, List, [], ◌∷◌, ◌++◌, length, take, Bool, true, is_some, slice_get, Option, Some, None, arith}
+use Rattle.std.proofs.Common.{◌≡◌, refl, sym, ap, ◌∙◌, subst, ℕ, suc, ◌+◌, ◌*◌, ◌<◌, ◌≤◌, List, [], ◌∷◌, length, take, is_some, slice_get, Option, Some, None, arith}
 use Rattle.std.proofs.lemmas.Option.{slice_get_within}
 use Rattle.facts.specs.Stretches.{Agree}
 use Rattle.model.specs.Configs.{Config}
 use Rattle.model.specs.declared.reply.Reply.{Reply}
 use Rattle.model.specs.declared.outcome.Finished.{Finished}
 use Rattle.model.specs.declared.journal.JournalRow.{JournalRow}
-use Rattle.model.specs.Records.{Record, IsHistory, last_moves, last_version}
-use Rattle.model.specs.Journal.{VerdictSource, history_verdicts, journal, list_at}
+use Rattle.model.specs.Records.{Record, last_moves, last_version}
+use Rattle.model.specs.Journal.{history_verdicts, journal}
 use Rattle.model.specs.World.{finished_batch, up_to_version}
-use Rattle.model.specs.Agreed.{Columns, IsAgreed, IsKnownJournal, AreVerdicts}
-use Rattle.model.specs.Finishing.{ProxyView, Replies, HoldsMoves, HasFinished, AgreeOnRows, AreRepliesBy, reply_from, unreplied, disagreements}
+use Rattle.model.specs.Agreed.{IsAgreed, AreVerdicts}
+use Rattle.model.specs.Finishing.{ProxyView, HoldsMoves, HasFinished, AgreeOnRows, AreRepliesBy, reply_from, unreplied, disagreements}
 use Rattle.model.specs.Laws.Proxies.{IsBefore, IsAfter, journal_up_to, unseen_rows}
 use Rattle.model.proofs.History.Chain.{own_up_to_previous, up_to_front_are, version_before, versions_at}
 use Rattle.model.proofs.History.Rows.{finished_row, finished_version_is, journal_counted}
@@ -19,7 +19,7 @@ use Rattle.model.proofs.Proxies.AgreeingReplies.{agreeing_do_not, none_below}
 use Rattle.model.proofs.Proxies.Finishing.{true_agree, true_in_step}
 use Rattle.proxy_state.specs.Finishing.{fault_for, finish_fault, replies_fault}
 use Rattle.shared_cluster.specs.Ready.{ReadyView, IsReady}
-use Rattle.shared_cluster.specs.Answers.{NotedFinishedView, IsNotedFinished}
+use Rattle.shared_cluster.specs.Answers.{IsNotedFinished}
 use Rattle.shared_cluster.specs.Proxies.{LockedProxyView, IsLockedProxy, IsFinishRefusal, FinishesReady, FollowOneAnother, first_row}
 use Rattle.shared_cluster.specs.declared.refusal.Refusal.TheVariants as refusals
 use Rattle.shared_cluster.proofs.Lists.{first_same, take_all}
@@ -245,14 +245,22 @@ finishes_ready v x rec rest new finished is has =
       in_turn = ap first_row is.begun ∙ ap (λ (k : ℕ). Some k) is.row;
       finishes = has;
       row = row;
-      own = λ s at. ap (λ (r : Record). r.proxy) (same s is.ready.rec (ap (slice_get x.records) (sym row) ∙ at) is.ready.there ∙ same_record v x rec rest is) ∙ is.keeps.own 0 rec (ap (λ (rs : List Record). slice_get rs 0) is.begun) ∙ ap (λ (u : ProxyView). u.number) (sym has.after);
-      version = version_of v x rec rest new finished is has;
+      shown =
+          record {
+            own = λ s at. ap (λ (r : Record). r.proxy) (same s is.ready.rec (ap (slice_get x.records) (sym row) ∙ at) is.ready.there ∙ same_record v x rec rest is) ∙ is.keeps.own 0 rec (ap (λ (rs : List Record). slice_get rs 0) is.begun) ∙ ap (λ (u : ProxyView). u.number) (sym has.after);
+            version = version_of v x rec rest new finished is has;
+            records = ap (λ (k : ℕ). take k v.records) (next (row_of v x rec rest new finished is has)) ∙ all_of_ready v x rec rest is;
+            columns = refl;
+          };
       records = refl;
       columns = refl;
       noted_records = refl;
       noted_columns = refl;
     }
   where
+    next : finished.row ≡ rec.row → finished.row + 1 ≡ suc rec.row
+    next same = omega (arith, same)
+
     row : finished.row ≡ x.row
     row = row_of v x rec rest new finished is has ∙ is.row
 

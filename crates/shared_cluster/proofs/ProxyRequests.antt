@@ -1,5 +1,5 @@
 -- Requests and copies of records that are put together one by one.
-use Rattle.std.proofs.Common.{◌≡◌, refl, sym, ap, ◌∙◌, subst, ℕ, zero, suc, List, [], ◌∷◌, ◌++◌, length, replicate, slice_get, Some, append_assoc, arith}
+use Rattle.std.proofs.Common.{◌≡◌, sym, ap, ◌∙◌, ℕ, zero, suc, List, [], ◌∷◌, ◌++◌, length, replicate, slice_get, append_assoc}
 use Rattle.facts.specs.Stretches.{Stretch}
 use Rattle.model.specs.Configs.{Config}
 use Rattle.model.specs.Records.{Record}

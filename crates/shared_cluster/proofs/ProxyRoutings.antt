@@ -1,9 +1,8 @@
 -- The routings that a locked proxy returns are those of the records and cells that it knows.
-use Rattle.std.proofs.Common.{◌≡◌, refl, sym, ap, ◌∙◌, subst, ℕ, ◌*◌, ◌≤◌, List, length, take, filter, nat_le, arith}
+use Rattle.std.proofs.Common.{◌≡◌, refl, sym, ap, ◌∙◌, ℕ, ◌≤◌, List, length, arith}
 use Rattle.model.specs.Configs.{Config}
 use Rattle.model.specs.declared.journal.JournalRow.{JournalRow}
 use Rattle.model.specs.declared.routing.Routing.{Routing}
-use Rattle.model.specs.Records.{Record}
 use Rattle.model.specs.Metadata.{Entries, metadata, routing}
 use Rattle.model.specs.Journal.{history_verdicts, journal}
 use Rattle.model.specs.World.{up_to_version}

@@ -1,5 +1,5 @@
 -- Rows and versions of a locked proxy, and its journal by the history of the records that it knows.
-use Rattle.std.proofs.Common.{◌≡◌, refl, sym, ap, ◌∙◌, subst, ℕ, suc, ◌+◌, ◌*◌, ◌<◌, ◌≤◌, List, [], ◌∷◌, ◌++◌, length, take, drop, filter, nat_le, slice_get, Some, take-append-drop, arith}
+use Rattle.std.proofs.Common.{◌≡◌, sym, ap, ◌∙◌, subst, ℕ, ◌*◌, ◌≤◌, List, ◌++◌, length, take, drop, take-append-drop, arith}
 use Rattle.std.proofs.Math.Nat.{mul-lt-mul_of_pos_right}
 use Rattle.std.proofs.Math.Seq.{take-append_seam}
 use Rattle.std.proofs.lemmas.List.{length-take-le}
@@ -9,7 +9,7 @@ use Rattle.model.specs.declared.journal.JournalRow.{JournalRow}
 use Rattle.model.specs.Records.{Record, IsHistory, last_version}
 use Rattle.model.specs.Journal.{history_verdicts, journal}
 use Rattle.model.specs.World.{up_to_version}
-use Rattle.model.specs.Agreed.{Columns, IsAgreed, IsKnownJournal, AreVerdicts}
+use Rattle.model.specs.Agreed.{Columns, IsKnownJournal, AreVerdicts}
 use Rattle.model.proofs.History.Chain.{up_to_front_are, version_before}
 use Rattle.model.proofs.History.Rows.{journal_counted}
 use Rattle.model.proofs.Agreement.Agreed.{agreed_journal}

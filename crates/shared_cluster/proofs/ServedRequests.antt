@@ -1,9 +1,9 @@
 -- What a resolver under its lock makes of a request: of one that comes next, and of one that was judged before.
-use Rattle.std.proofs.Common.{◌≡◌, refl, sym, ap, ◌∙◌, subst, ℕ, suc, ◌+◌, ◌*◌, ◌<◌, ◌≤◌, ◌⊎◌, inl, inr, List, [], ◌∷◌, ◌++◌, map, length, take, Bool, true, false, not, ◌&&◌, nat_eq, nat_le, nat_lt, if◌then◌else◌, slice_get, Option, Some, None, option_map, arith, length-append, append_assoc}
-use Rattle.std.specs.Prelude.{Result, Ok, Err, IsOk, IsTrue, IsFalse}
+use Rattle.std.proofs.Common.{◌≡◌, refl, sym, ap, ◌∙◌, subst, ℕ, ◌+◌, ◌*◌, ◌<◌, ◌≤◌, ◌⊎◌, inl, inr, List, [], ◌∷◌, ◌++◌, length, take, Bool, true, false, not, ◌&&◌, nat_eq, nat_le, nat_lt, if◌then◌else◌, slice_get, Option, Some, None, option_map, arith, length-append}
+use Rattle.std.specs.Prelude.{Result, Ok, Err, IsOk}
 use Rattle.std.proofs.lemmas.Bool.{cases_order, eq-eqb, eqb-true, ne_eqb, leb-true, leb-false, lt-ltb, ltb-true}
 use Rattle.std.proofs.Math.Nat.{mul-lt-mul_of_pos_right}
-use Rattle.std.proofs.lemmas.List.{map-append, length-map, take-map}
+use Rattle.std.proofs.lemmas.List.{map-append, take-map}
 use Rattle.std.proofs.lemmas.Option.{slice_get-map, slice_get_within}
 use Rattle.facts.specs.Stretches.{Agree, Stretch, appended, end_of}
 use Rattle.model.specs.Configs.{Config, IsConfig}
@@ -20,7 +20,7 @@ use Rattle.model.specs.World.{reply_of}
 use Rattle.model.specs.Agreed.{Column, IsVerdictColumn}
 use Rattle.model.specs.ResolverMemory.{ResolverView, StandsForRequests, Course, GiveAgain, Judge, course}
 use Rattle.model.specs.Laws.Resolvers.{answer_on_course}
-use Rattle.model.proofs.History.Growth.{last_version-push}
+use Rattle.model.proofs.History.Growth.{last_version-push, push_cases}
 use Rattle.model.proofs.History.Chain.{element_at, up_to_front, version_before, versions_at}
 use Rattle.model.proofs.Agreement.Holders.{column_first, column_more}
 use Rattle.model.proofs.Agreement.Sources.{replies_later}
@@ -37,7 +37,7 @@ use Rattle.state_memory.specs.declared.refusal.Refusal.{Refusal as OfferRefusal}
 use Rattle.state_memory.specs.declared.refusal.Refusal.TheVariants as offered
 use Rattle.shared_cluster.specs.Requests.{RequestView, IsRequestFor, HasRowVersions}
 use Rattle.shared_cluster.specs.NotedReplies.{NotedReplyView, IsNotedReply, IsReplyToRequest}
-use Rattle.shared_cluster.specs.Resolvers.{Answers, HasJudged, HasOffered, HasRepeated, IsJudgedAnswer, IsLockedResolver, IsNotEarly, IsOfferRefusal, LockedResolverView, ShowsReply, StandsForRecords, after_refusal, is_early, requests_to}
+use Rattle.shared_cluster.specs.Resolvers.{AnswerHas, AreReceivedBefore, HasJudged, HasOffered, HasRepeated, IsJudgedAnswer, IsLockedResolver, IsNotEarly, IsOfferRefusal, LockedResolverView, ShowsReply, StandsForRecords, after_refusal, is_early, requests_to}
 use Rattle.shared_cluster.specs.Refusals.{of_offer}
 use Rattle.shared_cluster.specs.declared.refusal.Refusal.{Refusal}
 use Rattle.shared_cluster.specs.declared.refusal.Refusal.TheVariants as refusals
@@ -121,11 +121,12 @@ pub record ComesNext (config : Config) (v : LockedResolverView) (q : RequestView
   pub history : IsHistory config q.records
   pub is : q.plain ≡ request config rec q.plain.last_received v.memory.number
   pub own : q.plain.resolver ≡ v.memory.number
+  pub received : q.plain.last_received ≤ rec.previous
 
 -- the resolver's version is that of the last of its records
 pub rows_of_resolver : (config : Config) (v : LockedResolverView) → IsLockedResolver config v → v.memory.version ≡ length v.records * config.step
 rows_of_resolver config v keeps =
-    keeps.stands.1.version ∙ last_of_requests config keeps.stands.0 v.memory.number v.records
+    keeps.stands.requests.version ∙ last_of_requests config keeps.stands.received v.memory.number v.records
     ∙ ap last_version (sym (take_all v.records (length v.records) (omega arith))) ∙ version_before config v.records (length v.records) keeps.history (omega arith)
 
 pub comes_next : (config : Config) (v : LockedResolverView) (q : RequestView) (p : IsRequestFor config q) → IsLockedResolver config v → Agree 0 v.records 0 q.records → course v.memory q.plain ≡ Ok Judge → ComesNext config v q p.rec
@@ -137,6 +138,7 @@ comes_next config v q p keeps agree judged =
       history = p.history;
       is = p.is ∙ ap (request config p.rec q.plain.last_received) next.own;
       own = next.own;
+      received = p.received;
     }
   where
     next : IsNext v.memory q.plain
@@ -148,30 +150,41 @@ comes_next config v q p keeps agree judged =
 -- the requests for the records before, and for the record, with the version last received at it
 record ReceivedAt (config : Config) (v : LockedResolverView) (q : RequestView) (rec : Record) (stood : StandsForRecords config v.memory v.records) : Type 0 where
   received : Record → ℕ
-  before : requests_for config received v.memory.number v.records ≡ requests_to config stood.0 v.memory.number v.records
+  before : requests_for config received v.memory.number v.records ≡ requests_to config stood.received v.memory.number v.records
   own : q.plain ≡ request config rec (received rec) v.memory.number
+  sooner : AreReceivedBefore received q.records
 
 received_at : (config : Config) (v : LockedResolverView) (q : RequestView) (rec : Record) (stood : StandsForRecords config v.memory v.records) → IsHistory config v.records → ComesNext config v q rec → ReceivedAt config v q rec stood
-received_at config v q rec stood history next = record { received = received; before = before; own = own }
+received_at config v q rec stood history next = record { received = received; before = before; own = own; sooner = sooner }
   where
     received : Record → ℕ
-    received = with_received stood.0 q.plain.row q.plain.last_received
+    received = with_received stood.received q.plain.row q.plain.last_received
 
-    other : (k : ℕ) (s : Record) → slice_get v.records k ≡ Some s → received s ≡ stood.0 s
+    other : (k : ℕ) (s : Record) → slice_get v.records k ≡ Some s → received s ≡ stood.received s
     other k s at =
         let within : k < length v.records = slice_get_within v.records k s at in
         let row : s.row ≡ k = row_at config v.records k s history at in
         let apart : nat_eq s.row q.plain.row ≡ false = ne_eqb s.row q.plain.row (λ same. let above = next.row in omega (arith, same, row, within, above)) in
-        ap (λ (t : Bool). if t then q.plain.last_received else stood.0 s) apart
+        ap (λ (t : Bool). if t then q.plain.last_received else stood.received s) apart
 
-    before : requests_for config received v.memory.number v.records ≡ requests_to config stood.0 v.memory.number v.records
-    before = map_each (λ (s : Record). request config s (received s) v.memory.number) (λ (s : Record). request config s (stood.0 s) v.memory.number) v.records (λ k s at. ap (λ (n : ℕ). request config s n v.memory.number) (other k s at))
+    before : requests_for config received v.memory.number v.records ≡ requests_to config stood.received v.memory.number v.records
+    before = map_each (λ (s : Record). request config s (received s) v.memory.number) (λ (s : Record). request config s (stood.received s) v.memory.number) v.records (λ k s at. ap (λ (n : ℕ). request config s n v.memory.number) (other k s at))
 
     here : nat_eq rec.row q.plain.row ≡ true
     here = eq-eqb rec.row q.plain.row (row_at config q.records q.plain.row rec next.history next.there)
 
     own : q.plain ≡ request config rec (received rec) v.memory.number
-    own = next.is ∙ ap (λ (t : Bool). request config rec (if t then q.plain.last_received else stood.0 rec) v.memory.number) (sym here)
+    own = next.is ∙ ap (λ (t : Bool). request config rec (if t then q.plain.last_received else stood.received rec) v.memory.number) (sym here)
+
+    sooner : AreReceivedBefore received q.records
+    sooner k s at = by (push_cases v.records rec k s (ap (λ (h : List Record). slice_get h k) (sym next.grown) ∙ at))
+      where
+        last : received rec ≡ q.plain.last_received
+        last = ap (λ (t : Bool). if t then q.plain.last_received else stood.received rec) here
+
+        by : ((k ≡ length v.records) × (rec ≡ s)) ⊎ ((k < length v.records) × (slice_get v.records k ≡ Some s)) → received s ≤ s.previous
+        by (inl new) = subst (λ (one : Record). received one ≤ one.previous) new.1 (subst (λ (n : ℕ). n ≤ rec.previous) (sym last) next.received)
+        by (inr old) = subst (λ (n : ℕ). n ≤ s.previous) (sym (other k s old.1)) (stood.before k s old.1)
 
 before_next : (config : Config) (v : LockedResolverView) (q : RequestView) (rec : Record) → ComesNext config v q rec → take q.plain.row q.records ≡ v.records
 before_next config v q rec next = ap (take q.plain.row) next.grown ∙ take_before v.records rec q.plain.row next.row
@@ -180,9 +193,9 @@ before_next config v q rec next = ap (take q.plain.row) next.grown ∙ take_befo
 pub reply_to_next : (config : Config) (v : LockedResolverView) (q : RequestView) (rec : Record) (reply : Reply) → IsLockedResolver config v → ComesNext config v q rec → RepliesAfterJudged v.memory q.plain reply → reply ≡ reply_of config (history_verdicts config q.records) v.memory.number (take q.plain.row q.records) rec
 reply_to_next config v q rec reply keeps next replied =
     let at = received_at config v q rec keeps.stands keeps.history next in
-    let front : requests_to config keeps.stands.0 v.memory.number v.records ≡ requests_for config at.received v.memory.number (take q.plain.row q.records) =
+    let front : requests_to config keeps.stands.received v.memory.number v.records ≡ requests_for config at.received v.memory.number (take q.plain.row q.records) =
     sym at.before ∙ ap (requests_for config at.received v.memory.number) (sym (before_next config v q rec next)) in
-    replied (requests_to config keeps.stands.0 v.memory.number v.records) keeps.stands.1
+    replied (requests_to config keeps.stands.received v.memory.number v.records) keeps.stands.requests
     ∙ (λ i. request_reply (keeps.window i) (front i) (at.own i))
     ∙ request_reply_is config at.received q.records v.memory.number q.plain.row rec next.history next.there
 
@@ -199,13 +212,18 @@ kept_after_next config v q rec reply memory column closed keeps next replied gai
       verdicts = subst (λ (n : ℕ). IsVerdictColumn config q.records n column) (sym number) verdicts;
       proxies = proxies ∙ keeps.proxies;
       window = window ∙ keeps.window;
-      stands = (at.received, subst (λ (qs : List Request). StandsForRequests memory qs) all (gains (requests_to config keeps.stands.0 v.memory.number v.records) keeps.stands.1));
+      stands =
+          record {
+            received = at.received;
+            before = at.sooner;
+            requests = subst (λ (qs : List Request). StandsForRequests memory qs) all (gains (requests_to config keeps.stands.received v.memory.number v.records) keeps.stands.requests);
+          };
     }
   where
     at : ReceivedAt config v q rec keeps.stands
     at = received_at config v q rec keeps.stands keeps.history next
 
-    all : requests_to config keeps.stands.0 v.memory.number v.records ++ q.plain ∷ [] ≡ requests_to config at.received memory.number q.records
+    all : requests_to config keeps.stands.received v.memory.number v.records ++ q.plain ∷ [] ≡ requests_to config at.received memory.number q.records
     all =
         (λ i. sym at.before i ++ at.own i ∷ [])
         ∙ sym (map-append (λ (s : Record). request config s (at.received s) v.memory.number) v.records (rec ∷ []))
@@ -229,32 +247,33 @@ noted_next config v q rec reply column keeps next replied cells verdicts =
 -- the version that its resolver comes to
 version_after : (config : Config) (v : LockedResolverView) (q : RequestView) (rec : Record) (after : LockedResolverView) → IsLockedResolver config after → after.records ≡ q.records → ComesNext config v q rec → after.memory.version ≡ rec.version
 version_after config v q rec after keeps records next =
-    keeps.stands.1.version ∙ last_of_requests config keeps.stands.0 after.memory.number after.records ∙ ap last_version (records ∙ next.grown) ∙ last_version-push v.records rec
+    keeps.stands.requests.version ∙ last_of_requests config keeps.stands.received after.memory.number after.records ∙ ap last_version (records ∙ next.grown) ∙ last_version-push v.records rec
 
 -- the answer of the definition on the course of judging
-judged_answer : (memory : ResolverView) (q : Request) (reply : Reply) → course memory q ≡ Ok Judge → RepliesAfterJudged memory q reply → Answers memory q (λ answer. answer ≡ Ok (offers.Judged reply))
+judged_answer : (memory : ResolverView) (q : Request) (reply : Reply) → course memory q ≡ Ok Judge → RepliesAfterJudged memory q reply → AnswerHas memory q (λ answer. answer ≡ Ok (offers.Judged reply))
 judged_answer memory q reply judge replied judged stands =
     memory_answers memory judged q stands ∙ ap (answer_on_course (request_reply memory.written.window judged q)) judge ∙ ap (λ (one : Reply). Ok (offers.Judged one)) (sym (replied judged stands))
 
 -- so the definition judges it
-pub is_judged : (memory : ResolverView) (q : Request) → course memory q ≡ Ok Judge → Answers memory q IsJudgedAnswer
+pub is_judged : (memory : ResolverView) (q : Request) → course memory q ≡ Ok Judge → AnswerHas memory q IsJudgedAnswer
 is_judged memory q judge judged stands =
     (request_reply memory.written.window judged q, memory_answers memory judged q stands ∙ ap (answer_on_course (request_reply memory.written.window judged q)) judge)
 
 -- and does not refuse it
-pub is_served : (memory : ResolverView) (q : Request) → course memory q ≡ Ok Judge → Answers memory q IsOk
+pub is_served : (memory : ResolverView) (q : Request) → course memory q ≡ Ok Judge → AnswerHas memory q IsOk
 is_served memory q judge judged stands = subst (λ (answer : OfferResult). IsOk answer) (sym (is_judged memory q judge judged stands).1) refl
 
-pub has_judged : (config : Config) (v : LockedResolverView) (q : RequestView) (p : IsRequestFor config q) (after : LockedResolverView) (noted_reply : NotedReplyView) → IsLockedResolver config v → ComesNext config v q p.rec → course v.memory q.plain ≡ Ok Judge → RepliesAfterJudged v.memory q.plain noted_reply.reply
+pub has_judged : (config : Config) (v : LockedResolverView) (q : RequestView) (p : IsRequestFor config q) (after : LockedResolverView) (noted_reply : NotedReplyView) → IsLockedResolver config v → ComesNext config v q p.rec → course v.memory q.plain ≡ Ok Judge → RepliesAfterJudged v.memory q.plain noted_reply.reply → GainsRequest v.memory q.plain after.memory
     → IsLockedResolver config after → after.memory.number ≡ v.memory.number → after.records ≡ q.records → after.column ≡ v.column ++ noted_reply.reply.verdicts ∷ [] → after.closed ≡ v.closed → noted_reply.records ≡ q.records → noted_reply.column ≡ after.column
     → HasJudged v q after noted_reply
-has_judged config v q p after noted_reply keeps next judge replied kept number records column closed noted_records noted_column =
+has_judged config v q p after noted_reply keeps next judge replied gains kept number records column closed noted_records noted_column =
     record {
       rec = p.rec;
       row = next.row;
       grown = next.grown;
       records = records;
       column = column;
+      gains = gains;
       number = number;
       version = version_after config v q p.rec after kept records next ∙ sym (ap (λ (one : Reply). one.version) (reply_to_next config v q p.rec noted_reply.reply keeps next replied));
       closed = closed;
@@ -267,6 +286,7 @@ has_judged config v q p after noted_reply keeps next judge replied kept number r
 pub record IsJudging (config : Config) (v : LockedResolverView) (q : RequestView) (rec : Record) (memory : ResolverView) (reply : Reply) (column noted_column : ColumnView) : Type 0 where
   pub next : ComesNext config v q rec
   pub replied : RepliesAfterJudged v.memory q.plain reply
+  pub gains : GainsRequest v.memory q.plain memory
   pub grown : column.rows.known ≡ v.column ++ reply.verdicts ∷ []
   pub first : column.rows.first ≡ 0
   pub own : column.resolver ≡ memory.number
@@ -281,7 +301,7 @@ pub is_judging : (config : Config) (v : LockedResolverView) (q : RequestView) (p
     → column ≡ with_rows before (appended before.rows reply.verdicts) → noted_column ≡ column → memory.number ≡ v.memory.number → length memory.proxies ≡ length v.memory.proxies → memory.written.window ≡ v.memory.written.window
     → IsJudging config v q p.rec memory reply column noted_column
 is_judging config v q p memory reply before column noted_column plain keeps agree judge plain_is first known own replied_plain gains_plain column_is noted_is number proxies window =
-    record { next = next; replied = replied; grown = grown; first = first_after; own = own_after; noted_is = noted_is; noted_own = noted_own; kept = kept; noted = noted_next config v q p.rec reply noted_column.rows.known keeps next replied cells verdicts; number = number }
+    record { next = next; replied = replied; gains = gains; grown = grown; first = first_after; own = own_after; noted_is = noted_is; noted_own = noted_own; kept = kept; noted = noted_next config v q p.rec reply noted_column.rows.known keeps next replied cells verdicts; number = number }
   where
     next : ComesNext config v q p.rec
     next = comes_next config v q p keeps agree judge
@@ -322,8 +342,9 @@ offered_next config v now q p memory reply column noted_column after noted_reply
     (subst (λ (n : NotedReplyView). HasOffered v q judged_view n) (sym noted_reply_is)
     (record {
       is_open = is_open;
+      own = judging.next.own;
       reply_to = reply_to_request config q p v.memory.number (take q.plain.row q.records) reply judging.next.own (reply_to_next config v q p.rec reply keeps judging.next judging.replied);
-      done = inl (has_judged config v q p judged_view noted_view keeps judging.next judge judging.replied judging.kept judging.number refl judging.grown refl refl (ap (λ (c : ColumnView). c.rows.known) judging.noted_is));
+      done = inl (has_judged config v q p judged_view noted_view keeps judging.next judge judging.replied judging.gains judging.kept judging.number refl judging.grown refl refl (ap (λ (c : ColumnView). c.rows.known) judging.noted_is));
     })))
   where
     judged_view : LockedResolverView
@@ -419,21 +440,21 @@ again_is : {one other : Reply} → same_answer (Ok (offers.Again one)) (Ok (offe
 again_is {one} {other} same = cc
 
 -- a request that gets a reply again was judged before, and the reply is the definition's
-pub was_judged : (config : Config) (v : LockedResolverView) (q : RequestView) (p : IsRequestFor config q) (reply : Reply) → IsLockedResolver config v → Agree 0 v.records 0 q.records → Answers v.memory q.plain (λ answer. answer ≡ Ok (offers.Again reply)) → WasJudged config v q p.rec reply
+pub was_judged : (config : Config) (v : LockedResolverView) (q : RequestView) (p : IsRequestFor config q) (reply : Reply) → IsLockedResolver config v → Agree 0 v.records 0 q.records → AnswerHas v.memory q.plain (λ answer. answer ≡ Ok (offers.Again reply)) → WasJudged config v q p.rec reply
 was_judged config v q p reply keeps agree answered = by (cases_order q.plain.row (length v.records))
   where
     received : Record → ℕ
-    received = keeps.stands.0
+    received = keeps.stands.received
 
     judged : List Request
-    judged = requests_to config keeps.stands.0 v.memory.number v.records
+    judged = requests_to config keeps.stands.received v.memory.number v.records
 
     last : ℕ
     last = last_request_version judged
 
     last_is : last ≡ length v.records * config.step
     last_is =
-        last_of_requests config keeps.stands.0 v.memory.number v.records
+        last_of_requests config keeps.stands.received v.memory.number v.records
         ∙ ap last_version (sym (take_all v.records (length v.records) (omega arith))) ∙ version_before config v.records (length v.records) keeps.history (omega arith)
 
     versions : HasRowVersions config q.plain
@@ -443,7 +464,7 @@ was_judged config v q p reply keeps agree answered = by (cases_order q.plain.row
     stepping = keeps.config_is.step.0
 
     told : answer_to v.memory.number (length v.memory.proxies) v.memory.written.window judged q.plain ≡ Ok (offers.Again reply)
-    told = answered judged keeps.stands.1
+    told = answered judged keeps.stands.requests
 
     own : q.plain.resolver ≡ v.memory.number
     own = own_of_answer v.memory.number (length v.memory.proxies) v.memory.written.window judged q.plain reply told
@@ -479,7 +500,7 @@ was_judged config v q p reply keeps agree answered = by (cases_order q.plain.row
         passed =
             let version : q.plain.version ≡ p.rec.version = (numbers_of config q p).version in
             let up : p.rec.version ≤ last_version (take (length v.records) v.records) = up_to_front config v.records (length v.records) q.plain.row p.rec keeps.history below at in
-            let all : last_version (take (length v.records) v.records) ≡ last = ap last_version (take_all v.records (length v.records) (omega arith)) ∙ sym (last_of_requests config keeps.stands.0 v.memory.number v.records) in
+            let all : last_version (take (length v.records) v.records) ≡ last = ap last_version (take_all v.records (length v.records) (omega arith)) ∙ sym (last_of_requests config keeps.stands.received v.memory.number v.records) in
             omega (arith, version, up, all)
 
         again : answer_again (reply_at q.plain.version (kept_replies v.memory.written.window judged q.plain.proxy)) q.plain.version (acknowledged_requests q.plain.proxy judged) last ≡ Ok (offers.Again reply)
@@ -509,7 +530,7 @@ was_judged config v q p reply keeps agree answered = by (cases_order q.plain.row
             newer = before_is_newer config p.rec (received p.rec) v.memory.number judged q.plain numbers (leb-false q.plain.version (acknowledged_requests q.plain.proxy judged) above)
 
             one : reply_at before_request.version (kept_replies v.memory.written.window judged before_request.proxy) ≡ Some (request_reply v.memory.written.window (take q.plain.row judged) before_request)
-            one = kept_at v.memory.number (length v.memory.proxies) v.memory.written.window judged q.plain.row before_request keeps.stands.1.in_turn judged_at newer
+            one = kept_at v.memory.number (length v.memory.proxies) v.memory.written.window judged q.plain.row before_request keeps.stands.requests.in_turn judged_at newer
 
             here : reply_at q.plain.version (kept_replies v.memory.written.window judged q.plain.proxy) ≡ Some (request_reply v.memory.written.window (take q.plain.row judged) before_request)
             here = at_numbers config p.rec (received p.rec) v.memory.number (λ (version proxy : ℕ). reply_at version (kept_replies v.memory.written.window judged proxy)) q.plain numbers ∙ one
@@ -530,7 +551,7 @@ noted_again config v q p reply keeps was =
     (subst (λ (h : List Record). IsVerdictColumn config h v.memory.number v.column) was.records (column_first config v.records v.memory.number (q.plain.row + 1) v.column keeps.verdicts))
     was.reply_is
 
-pub has_repeated : (config : Config) (v : LockedResolverView) (q : RequestView) (p : IsRequestFor config q) (after : LockedResolverView) (noted_reply : NotedReplyView) → IsLockedResolver config v → WasJudged config v q p.rec noted_reply.reply → Answers v.memory q.plain (λ answer. answer ≡ Ok (offers.Again noted_reply.reply))
+pub has_repeated : (config : Config) (v : LockedResolverView) (q : RequestView) (p : IsRequestFor config q) (after : LockedResolverView) (noted_reply : NotedReplyView) → IsLockedResolver config v → WasJudged config v q p.rec noted_reply.reply → AnswerHas v.memory q.plain (λ answer. answer ≡ Ok (offers.Again noted_reply.reply))
     → after ≡ v → noted_reply.records ≡ q.records → noted_reply.column ≡ v.column → HasRepeated v q after noted_reply
 has_repeated config v q p after noted_reply keeps was answered same noted_records noted_column =
     record { row = was.row; unchanged = same; version = version; records = was.records; noted_records = noted_records; noted_column = noted_column; answer = answered }
@@ -542,12 +563,12 @@ has_repeated config v q p after noted_reply keeps was answered same noted_record
     version =
         let is : noted_reply.reply.version ≡ p.rec.version = ap (λ (one : Reply). one.version) was.reply_is in
         let up : p.rec.version ≤ last_version (take (length v.records) v.records) = up_to_front config v.records (length v.records) q.plain.row p.rec keeps.history was.row at in
-        let all : last_version (take (length v.records) v.records) ≡ v.memory.version = ap last_version (take_all v.records (length v.records) (omega arith)) ∙ sym (keeps.stands.1.version ∙ last_of_requests config keeps.stands.0 v.memory.number v.records) in
+        let all : last_version (take (length v.records) v.records) ≡ v.memory.version = ap last_version (take_all v.records (length v.records) (omega arith)) ∙ sym (keeps.stands.requests.version ∙ last_of_requests config keeps.stands.received v.memory.number v.records) in
         omega (arith, is, up, all)
 
 -- the reply that is given again
 pub record IsRepeating (config : Config) (v : LockedResolverView) (q : RequestView) (rec : Record) (reply : Reply) : Type 0 where
-  pub answers : Answers v.memory q.plain (λ answer. answer ≡ Ok (offers.Again reply))
+  pub answers : AnswerHas v.memory q.plain (λ answer. answer ≡ Ok (offers.Again reply))
   pub was : WasJudged config v q rec reply
   pub noted : IsNotedReply config (record { reply = reply; records = q.records; column = v.column })
   pub own : v.memory.number ≡ reply.resolver
@@ -555,8 +576,8 @@ pub record IsRepeating (config : Config) (v : LockedResolverView) (q : RequestVi
 pub is_repeating : (config : Config) (v : LockedResolverView) (q : RequestView) (p : IsRequestFor config q) (reply : Reply) (answer : OfferAnswer) (plain : Request) → IsLockedResolver config v → Agree 0 v.records 0 q.records → plain ≡ q.plain → answer ≡ answers.Again reply → AnswersAfterJudged v.memory plain (Ok answer) → IsRepeating config v q p.rec reply
 is_repeating config v q p reply answer plain keeps agree plain_is is answered = record { answers = again; was = was; noted = noted_again config v q p reply keeps was; own = sym (ap (λ (one : Reply). one.resolver) was.reply_is) }
   where
-    again : Answers v.memory q.plain (λ answer. answer ≡ Ok (offers.Again reply))
-    again = subst (λ (one : Request). Answers v.memory one (λ found. found ≡ Ok (offers.Again reply))) plain_is (λ judged stands. answered judged stands ∙ ap (λ (one : OfferAnswer). Ok (answer_of one)) is)
+    again : AnswerHas v.memory q.plain (λ answer. answer ≡ Ok (offers.Again reply))
+    again = subst (λ (one : Request). AnswerHas v.memory one (λ found. found ≡ Ok (offers.Again reply))) plain_is (λ judged stands. answered judged stands ∙ ap (λ (one : OfferAnswer). Ok (answer_of one)) is)
 
     was : WasJudged config v q p.rec reply
     was = was_judged config v q p reply keeps agree again
@@ -568,6 +589,7 @@ offered_again config v now q p reply after noted_reply is is_open keeps repeatin
     (subst (λ (n : NotedReplyView). HasOffered v q after n) (sym noted_reply_is)
     (record {
       is_open = is_open;
+      own = repeating.was.own;
       reply_to = reply_to_request config q p v.memory.number (take q.plain.row q.records) reply repeating.was.own repeating.was.reply_is;
       done = inr (has_repeated config v q p after (record { reply = reply; records = q.records; column = v.column }) keeps repeating.was repeating.answers after_is refl refl);
     }))
@@ -575,8 +597,8 @@ offered_again config v now q p reply after noted_reply is is_open keeps repeatin
 -- a request that does not come next is not judged
 pub never_judged : (config : Config) (v : LockedResolverView) (q : RequestView) (reply : Reply) (answer : OfferAnswer) (plain : Request) → IsLockedResolver config v → (course v.memory q.plain ≡ Ok Judge → ⊥) → plain ≡ q.plain → answer ≡ answers.Judged reply → AnswersAfterJudged v.memory plain (Ok answer) → ⊥
 never_judged config v q reply answer plain keeps other plain_is is answered =
-    not_judged v.memory (requests_to config keeps.stands.0 v.memory.number v.records) q.plain reply keeps.stands.1 other
-    (ap (λ (one : Request). answer_to v.memory.number (length v.memory.proxies) v.memory.written.window (requests_to config keeps.stands.0 v.memory.number v.records) one) (sym plain_is) ∙ answered (requests_to config keeps.stands.0 v.memory.number v.records) keeps.stands.1 ∙ ap (λ (one : OfferAnswer). Ok (answer_of one)) is)
+    not_judged v.memory (requests_to config keeps.stands.received v.memory.number v.records) q.plain reply keeps.stands.requests other
+    (ap (λ (one : Request). answer_to v.memory.number (length v.memory.proxies) v.memory.written.window (requests_to config keeps.stands.received v.memory.number v.records) one) (sym plain_is) ∙ answered (requests_to config keeps.stands.received v.memory.number v.records) keeps.stands.requests ∙ ap (λ (one : OfferAnswer). Ok (answer_of one)) is)
 
 -- ---- a resolver before its first request
 
@@ -590,7 +612,12 @@ new_keeps config v limits there records column proxies window stands =
       verdicts = subst (λ (h : List Record). IsVerdictColumn config h v.memory.number v.column) (sym records) (λ i rec at. absurd (cc));
       proxies = proxies;
       window = window;
-      stands = (λ (rec : Record). 0, subst (λ (h : List Record). StandsForRequests v.memory (requests_to config (λ (rec : Record). 0) v.memory.number h)) (sym records) stands);
+      stands =
+          record {
+            received = λ (rec : Record). 0;
+            before = λ row rec at. omega arith;
+            requests = subst (λ (h : List Record). StandsForRequests v.memory (requests_to config (λ (rec : Record). 0) v.memory.number h)) (sym records) stands;
+          };
     }
 
 -- ---- refusals
@@ -623,7 +650,7 @@ late_refusal v q refusal is_open judge (inl is) = subst (λ (r : Refusal). IsOff
 late_refusal v q refusal is_open judge (inr is) = subst (λ (r : Refusal). IsOfferRefusal v q r) (sym is) (is_open, is_judged v.memory q judge)
 
 -- a request that gets a reply again is not refused
-pub again_served : (memory : ResolverView) (q : Request) (reply : Reply) → Answers memory q (λ answer. answer ≡ Ok (offers.Again reply)) → Answers memory q IsOk
+pub again_served : (memory : ResolverView) (q : Request) (reply : Reply) → AnswerHas memory q (λ answer. answer ≡ Ok (offers.Again reply)) → AnswerHas memory q IsOk
 again_served memory q reply answers judged stands = subst (λ (answer : OfferResult). IsOk answer) (sym (answers judged stands)) refl
 
 -- the definition refuses a request as early only if it is to the resolver, and comes after its version
@@ -663,17 +690,17 @@ early_answer number proxies window judged q version answered = owned (nat_eq q.r
     owned false is same = absurd (cc)
 
 -- such a request has to wait
-early_waits : (config : Config) (v : LockedResolverView) (q : Request) (version : ℕ) → IsLockedResolver config v → is_early v q ≡ false → v.closed ≡ false → Answers v.memory q (λ answer. answer ≡ Err (offers.Early version)) → ⊥
+early_waits : (config : Config) (v : LockedResolverView) (q : Request) (version : ℕ) → IsLockedResolver config v → is_early v q ≡ false → v.closed ≡ false → AnswerHas v.memory q (λ answer. answer ≡ Err (offers.Early version)) → ⊥
 early_waits config v q version keeps waits is_open answers =
-    let found = early_answer v.memory.number (length v.memory.proxies) v.memory.written.window judged q version (answers judged keeps.stands.1) in
+    let found = early_answer v.memory.number (length v.memory.proxies) v.memory.written.window judged q version (answers judged keeps.stands.requests) in
     let own : nat_eq q.resolver v.memory.number ≡ true = eq-eqb q.resolver v.memory.number found.0 in
-    let after : nat_lt v.memory.version q.previous ≡ true = lt-ltb v.memory.version q.previous (let at = keeps.stands.1.version in omega (arith, found.1, at)) in
+    let after : nat_lt v.memory.version q.previous ≡ true = lt-ltb v.memory.version q.previous (let at = keeps.stands.requests.version in omega (arith, found.1, at)) in
     let early : is_early v q ≡ true = (λ i. not (is_open i) && own i && after i) in
     let both : true ≡ false = sym early ∙ waits in
     cc
   where
     judged : List Request
-    judged = requests_to config keeps.stands.0 v.memory.number v.records
+    judged = requests_to config keeps.stands.received v.memory.number v.records
 
 -- a request that need not wait is not refused as early
 pub not_early : (config : Config) (v : LockedResolverView) (q : Request) (refusal : Refusal) → IsLockedResolver config v → is_early v q ≡ false → IsOfferRefusal v q refusal → IsNotEarly refusal
@@ -698,6 +725,8 @@ shown config v q after noted_reply offered = by offered.done
     by : HasJudged v q after noted_reply ⊎ HasRepeated v q after noted_reply → ShowsReply q noted_reply after
     by (inl judged) =
         record {
+          is_open = judged.closed ∙ offered.is_open;
+          number = judged.number ∙ sym offered.own ∙ sym offered.reply_to.resolver;
           reply_to = offered.reply_to;
           reached = omega (arith, judged.version);
           noted_records = judged.noted_records;
@@ -706,6 +735,8 @@ shown config v q after noted_reply offered = by offered.done
         }
     by (inr repeated) =
         record {
+          is_open = ap (λ (r : LockedResolverView). r.closed) repeated.unchanged ∙ offered.is_open;
+          number = ap (λ (r : LockedResolverView). r.memory.number) repeated.unchanged ∙ sym offered.own ∙ sym offered.reply_to.resolver;
           reply_to = offered.reply_to;
           reached = let same = ap (λ (r : LockedResolverView). r.memory.version) repeated.unchanged in omega (arith, repeated.version, same);
           noted_records = repeated.noted_records;

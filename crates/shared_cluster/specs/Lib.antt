@@ -18,6 +18,10 @@ pub mod Answers
 pub mod Proxies
 -- what two proxies that meet hold alike
 pub mod Meetings
+-- what an audit and a confirmation find
+pub mod Audits
+-- what the project promises of the metadata of proxies
+pub mod Headline
 -- what is asked of all resolvers, and what a commit does
 pub mod Commits
 -- refusals in the model's words, their numbers and names

@@ -1,7 +1,7 @@
 -- What a proxy's lock keeps, and what beginning and finishing do to it. *Profile*, but for what a
 -- proxy answers.
-use Rattle.std.specs.Prelude.{◌≡◌, ℕ, ◌*◌, ◌<◌, ◌≤◌, List, [], ◌∷◌, length, take, Option, Some, None}
-use Rattle.std.specs.Prelude.{slice_get, Bool, false, nat_lt}
+use Rattle.std.specs.Prelude.{◌≡◌, ℕ, ◌+◌, ◌*◌, ◌<◌, ◌≤◌, List, [], ◌∷◌, length, take, Option, Some, None}
+use Rattle.std.specs.Prelude.{slice_get, replicate, Bool, false, nat_lt}
 use Rattle.model.specs.Numbers.{ProxyNumber, RowNumber, Version}
 use Rattle.model.specs.Configs.{Config, IsConfig}
 use Rattle.model.specs.declared.journal.JournalRow.{JournalRow}
@@ -61,13 +61,14 @@ pub record IsLockedProxy (config : Config) (v : LockedProxyView) : Type 0 where
   pub last_begun : v.proxy.last_begun ≡ last_version v.records
   pub moves : HoldsMoves v.proxy (last_moves v.records)
 
--- the proxy of this number before its first record
-pub record IsNewLockedProxy (p : ProxyNumber) (v : LockedProxyView) : Type 0 where
+-- the proxy of this number before its first record: no record is begun, and no verdict cell is known
+pub record IsNewLockedProxy (config : Config) (p : ProxyNumber) (v : LockedProxyView) : Type 0 where
   pub number : v.proxy.number ≡ p
   pub version : v.proxy.version ≡ 0
   pub journal : v.proxy.journal ≡ []
   pub begun : v.proxy.begun ≡ []
   pub records : v.records ≡ []
+  pub columns : v.columns ≡ replicate config.resolvers []
 
 -- ---- beginning
 
@@ -124,17 +125,24 @@ awaits_before (rec ∷ later) row = nat_lt rec.row row
 abbrev pub IsOfProxy : ProxyNumber → RowNumber → List Record → Type 0
 IsOfProxy p row records = (rec : Record) → slice_get records row ≡ Some rec → rec.proxy ≡ p
 
--- The proxy finished the record of the row, which is its own and was the one to be finished next, by
--- the replies: its journal grew by the rows that it had not seen and by the record's own. The lock has
--- the verdict cells that came with the replies, and so has the answer.
+-- The finished record is one of the proxy's own. The proxy is at the version of the answer, and has its
+-- records and its verdict cells.
+pub record ShowsFinished (noted : NotedFinishedView) (v : LockedProxyView) : Type 0 where
+  pub own : IsOfProxy v.proxy.number noted.finished.row noted.records
+  pub version : v.proxy.version ≡ noted.finished.version
+  pub records : take (noted.finished.row + 1) v.records ≡ noted.records
+  pub columns : v.columns ≡ noted.columns
+
+-- The proxy finished the record of the row, which was the one to be finished next, by the replies: its
+-- journal grew by the rows that it had not seen and by the record's own. The lock has the verdict
+-- cells that came with the replies, and so has the answer.
 pub record FinishesReady
     (before : LockedProxyView) (ready : ReadyView)
     (after : LockedProxyView) (noted : NotedFinishedView) : Type 0 where
   pub in_turn : first_row before.proxy.begun ≡ Some ready.row
   pub finishes : HasFinished before.proxy after.proxy ready.replies noted.finished
   pub row : noted.finished.row ≡ ready.row
-  pub own : IsOfProxy after.proxy.number noted.finished.row noted.records
-  pub version : after.proxy.version ≡ noted.finished.version
+  pub shown : ShowsFinished noted after
   pub records : after.records ≡ before.records
   pub columns : after.columns ≡ ready.columns
   pub noted_records : noted.records ≡ ready.records

@@ -1,6 +1,7 @@
 -- What a resolver's lock keeps, and what an offer does to it. *Profile*, but for what a resolver
 -- answers.
-use Rattle.std.specs.Prelude.{◌≡◌, ◌+◌, ◌<◌, ◌≤◌, List, [], ◌∷◌, ◌++◌, length, map, take, Bool, true}
+use Rattle.std.specs.Prelude.{◌≡◌, ℕ, ◌+◌, ◌<◌, ◌≤◌, List, [], ◌∷◌, ◌++◌, length, map, take}
+use Rattle.std.specs.Prelude.{slice_get, Some, Bool, true}
 use Rattle.std.specs.Prelude.{false, not, ◌&&◌, nat_eq, nat_lt, IsTrue, IsFalse, ◌⊎◌, Ok, Err, IsOk}
 use Rattle.model.specs.Numbers.{Version, ResolverNumber}
 use Rattle.model.specs.Configs.{Config, IsConfig}
@@ -11,6 +12,7 @@ use Rattle.model.specs.Requests.{Request, request}
 use Rattle.model.specs.Offers.{OfferResult, OfferFault, answer_to}
 use Rattle.model.specs.Offers as offers
 use Rattle.model.specs.ResolverMemory.{ResolverView, StandsForRequests}
+use Rattle.state_memory.specs.Answers.{GainsRequest}
 use Rattle.shared_cluster.specs.Requests.{RequestView}
 use Rattle.shared_cluster.specs.NotedReplies.{NotedReplyView, IsReplyToRequest}
 use Rattle.shared_cluster.specs.declared.refusal.Refusal.{Refusal}
@@ -30,11 +32,17 @@ abbrev pub requests_to :
 requests_to config received r records =
     map (λ (rec : Record). request config rec (received rec) r) records
 
--- the resolver stands for the requests for these records, whichever version was last received at each
-abbrev pub StandsForRecords : Config → ResolverView → List Record → Type 0
-StandsForRecords config memory records =
-    (received : Record → Version)
-    × StandsForRequests memory (requests_to config received memory.number records)
+-- the version last received at each of these records is not above the record's previous version
+abbrev pub AreReceivedBefore : (received : Record → Version) → List Record → Type 0
+AreReceivedBefore received records =
+    (row : ℕ) (rec : Record) → slice_get records row ≡ Some rec → received rec ≤ rec.previous
+
+-- the resolver stands for the requests for these records, with some version last received at each
+pub record StandsForRecords (config : Config) (memory : ResolverView) (records : List Record) :
+    Type 0 where
+  pub received : Record → Version
+  pub before : AreReceivedBefore received records
+  pub requests : StandsForRequests memory (requests_to config received memory.number records)
 
 -- The records of the rows judged are a history. Each row has the verdict cell of this resolver, with
 -- the definition's verdicts on these records. The memory stands for the requests for them.
@@ -68,8 +76,8 @@ is_early v q =
 
 -- What the definition answers has this property, after every list of requests that the resolver
 -- stands for.
-abbrev pub Answers : ResolverView → Request → (OfferResult → Type 0) → Type 0
-Answers memory q property =
+abbrev pub AnswerHas : ResolverView → Request → (OfferResult → Type 0) → Type 0
+AnswerHas memory q property =
     (judged : List Request) → StandsForRequests memory judged
     → property (answer_to memory.number (length memory.proxies) memory.written.window judged q)
 
@@ -78,7 +86,8 @@ abbrev pub IsJudgedAnswer : OfferResult → Type 0
 IsJudgedAnswer answer = (reply : Reply) × (answer ≡ Ok (offers.Judged reply))
 
 -- The request came next and was judged: exactly one row is appended, with the record and the verdict
--- cell that the reply was made by. The reply is the definition's.
+-- cell that the reply was made by. The reply is the definition's. Whatever requests the memory stood
+-- for, it stands for this one after them.
 pub record HasJudged
     (before : LockedResolverView) (request : RequestView)
     (after : LockedResolverView) (noted : NotedReplyView) : Type 0 where
@@ -87,12 +96,13 @@ pub record HasJudged
   pub grown : request.records ≡ before.records ++ rec ∷ []
   pub records : after.records ≡ request.records
   pub column : after.column ≡ before.column ++ noted.reply.verdicts ∷ []
+  pub gains : GainsRequest before.memory request.plain after.memory
   pub number : after.memory.number ≡ before.memory.number
   pub version : after.memory.version ≡ noted.reply.version
   pub closed : after.closed ≡ before.closed
   pub noted_records : noted.records ≡ request.records
   pub noted_column : noted.column ≡ after.column
-  pub answer : Answers before.memory request.plain (λ answer. answer ≡ Ok (offers.Judged noted.reply))
+  pub answer : AnswerHas before.memory request.plain (λ answer. answer ≡ Ok (offers.Judged noted.reply))
 
 -- The request had been judged before: it gets its reply again, and nothing changes.
 pub record HasRepeated
@@ -104,20 +114,21 @@ pub record HasRepeated
   pub records : take (request.plain.row + 1) before.records ≡ request.records
   pub noted_records : noted.records ≡ request.records
   pub noted_column : noted.column ≡ before.column
-  pub answer : Answers before.memory request.plain (λ answer. answer ≡ Ok (offers.Again noted.reply))
+  pub answer : AnswerHas before.memory request.plain (λ answer. answer ≡ Ok (offers.Again noted.reply))
 
--- the resolver is open, and the reply to the request is that of a judging or of a repeat
+-- the resolver is open, the request is to it, and the reply is that of a judging or of a repeat
 pub record HasOffered
     (before : LockedResolverView) (request : RequestView)
     (after : LockedResolverView) (noted : NotedReplyView) : Type 0 where
   pub is_open : IsFalse before.closed
+  pub own : request.plain.resolver ≡ before.memory.number
   pub reply_to : IsReplyToRequest request.plain noted.reply
   pub done : HasJudged before request after noted ⊎ HasRepeated before request after noted
 
 -- the resolver is open, and the definition refuses the request with this fault
 abbrev pub IsFault : LockedResolverView → Request → OfferFault → Type 0
 IsFault before q fault =
-    IsFalse before.closed × Answers before.memory q (λ answer. answer ≡ Err fault)
+    IsFalse before.closed × AnswerHas before.memory q (λ answer. answer ≡ Err fault)
 
 -- Each refusal of an offer comes only by its cause: the resolver is closed; or it is open, and the
 -- definition refuses the request so; or the definition does not refuse it, and an allocation failed;
@@ -130,9 +141,9 @@ IsOfferRefusal before q (refusals.OutsideChain version) = IsFault before q (offe
 IsOfferRefusal before q (refusals.GivenUp acknowledged) = IsFault before q (offers.GivenUp acknowledged)
 IsOfferRefusal before q (refusals.Early version) = IsFault before q (offers.Early version)
 IsOfferRefusal before q refusals.OutOfMemory =
-    IsFalse before.closed × Answers before.memory q IsOk
+    IsFalse before.closed × AnswerHas before.memory q IsOk
 IsOfferRefusal before q refusals.CellTaken =
-    IsFalse before.closed × Answers before.memory q IsJudgedAnswer
+    IsFalse before.closed × AnswerHas before.memory q IsJudgedAnswer
 IsOfferRefusal before q refusals.NotMine = ⊥
 IsOfferRefusal before q (refusals.OutOfOrder expected) = ⊥
 IsOfferRefusal before q (refusals.OutOfTurn expected) = ⊥
@@ -145,15 +156,24 @@ after_refusal before refusal = before
 
 -- ---- what a call that waits its turn returns
 
--- The refusal is not that of an early request.
+-- the refusal is not that of an early request
 abbrev pub IsNotEarly : Refusal → Type 0
 IsNotEarly (refusals.Early version) = ⊥
 IsNotEarly refusal = Unit {0}
 
--- the resolver that is shown has judged the request: it has come to the reply's version or further,
--- and has the records and cells that the reply was made by
-pub record ShowsReply (request : RequestView) (noted : NotedReplyView) (v : LockedResolverView) :
-    Type 0 where
+-- the refusal is one of an offer to a resolver of the cluster, as its lock kept it then, and not that
+-- of an early request
+abbrev pub IsResolveRefusal : Config → Request → Refusal → Type 0
+IsResolveRefusal config q refusal =
+    IsNotEarly refusal
+    × ((v : LockedResolverView) × IsLockedResolver config v × IsOfferRefusal v q refusal)
+
+-- The resolver that is shown is the one that replied. It is open, has come to the reply's version or
+-- further, and has the records and the cells that the reply was made by.
+pub record ShowsReply
+    (request : RequestView) (noted : NotedReplyView) (v : LockedResolverView) : Type 0 where
+  pub is_open : IsFalse v.closed
+  pub number : v.memory.number ≡ noted.reply.resolver
   pub reply_to : IsReplyToRequest request.plain noted.reply
   pub reached : noted.reply.version ≤ v.memory.version
   pub noted_records : noted.records ≡ request.records

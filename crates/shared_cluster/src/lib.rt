@@ -14,11 +14,13 @@
 //! project's profile*.
 #![tactic(auto)]
 
+mod audits;
 mod commits;
 mod proxies;
 mod refusal;
 mod resolvers;
 
+pub use audits::{BehindBy, audit, meet, metadata_of_two};
 pub use commits::{AllResolvers, Asking, CommitFault, ProxyGuard, SharedProxy};
 pub use proxies::{Begun, Columns, LockedProxy, Meeting, NotedFinished, NotedRouting, Ready};
 pub use refusal::Refusal;

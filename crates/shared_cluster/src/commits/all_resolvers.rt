@@ -1,6 +1,9 @@
 //! Asking resolvers one after another, by entering each.
 
-ghost use Rattle.std.specs.Prelude.{◌≡◌, IfOk, IfErr};
+ghost use Rattle.std.specs.Prelude.{◌≡◌, IfErr, IfOk, MatchResult};
+ghost use Rattle.model.specs.Configs.{IsConfig};
+ghost use Rattle.model.specs.Shares.{each_below};
+ghost use Rattle.shared_cluster.specs.Commits.{IsAskRefusal};
 ghost use Rattle.shared_cluster.specs.NotedReplies.{IsReplyToRequest};
 ghost use Rattle.shared_cluster.specs.declared.refusal.Refusal.TheVariants as refusals;
 
@@ -21,10 +24,20 @@ pub struct AllResolvers<'a, 'l, N: Naming> {
 impl<'a, 'l, N: Naming> AllResolvers<'a, 'l, N> {
     /// Takes all resolvers of the cluster in the order of their numbers; otherwise fails with
     /// `WrongResolver`. Does not allocate.
+    // (that the numbers of the cluster are within their limits is known to whoever has the ledger)
     pub fn new(resolvers: &'a [SharedResolver<'l, N>]) -> Result<AllResolvers<'a, 'l, N>, Refusal>
-        ensures { IfErr result (λ refusal. refusal ≡ refusals.WrongResolver) }
+        ensures { MatchResult result
+            (λ _. resolvers.now ≡ each_below N.cells.config.resolvers)
+            (λ refusal. (refusal ≡ refusals.WrongResolver)
+            × (IsConfig N.cells.config
+            → resolvers.now ≡ each_below N.cells.config.resolvers → ⊥)) }
     {
-        if resolvers.is_empty() || resolvers.len() != resolvers[0].ledger().config().resolvers() {
+        if resolvers.is_empty() {
+            return Err(Refusal::WrongResolver);
+        }
+        let config = resolvers[0].ledger().config();
+        let count = config.resolvers();
+        if resolvers.len() != count {
             return Err(Refusal::WrongResolver);
         }
         for (number, resolver) in resolvers.iter().enumerate() {
@@ -37,7 +50,8 @@ impl<'a, 'l, N: Naming> AllResolvers<'a, 'l, N> {
 
     /// Asks one resolver, and lets it go again.
     fn ask<R: Wait>(&self, rt: &R, request: &Request<N>) -> Result<NotedReply<N>, Refusal>
-        ensures { IfOk result (λ noted. IsReplyToRequest request.now.plain noted.reply) }
+        ensures replied { IfOk result (λ noted. IsReplyToRequest request.now.plain noted.reply) }
+        ensures refused { IfErr result IsAskRefusal }
     {
         let resolver = request.resolver();
         if self.resolvers.len() <= resolver {

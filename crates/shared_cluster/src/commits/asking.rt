@@ -8,8 +8,8 @@ use std::sync::Wait;
 
 /// A way to ask resolvers, and to wait for their replies.
 pub trait Asking<N: Naming> {
-    ghost use Rattle.std.specs.Prelude.{IfOk};
-    ghost use Rattle.shared_cluster.specs.Commits.{AreOfOneRecord, AreRepliesInOrder};
+    ghost use Rattle.std.specs.Prelude.{IfErr, IfOk};
+    ghost use Rattle.shared_cluster.specs.Commits.{AreOfOneRecord, AreRepliesInOrder, IsAskRefusal};
 
     /// Asks each resolver its request, and returns the replies in the order of the requests. No call
     /// is promised to stop waiting.
@@ -22,5 +22,6 @@ pub trait Asking<N: Naming> {
         requests: &[Request<N>],
     ) -> Result<Vec<NotedReply<N>>, Refusal>
         requires { AreOfOneRecord requests.now }
-        ensures { IfOk result (λ replies. AreRepliesInOrder requests.now replies.items) };
+        ensures replied { IfOk result (λ replies. AreRepliesInOrder requests.now replies.items) }
+        ensures refused { IfErr result IsAskRefusal };
 }

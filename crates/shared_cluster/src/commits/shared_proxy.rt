@@ -1,13 +1,15 @@
 //! The proxy that threads share.
 
-ghost use Rattle.std.specs.Prelude.{◌≡◌, ◌<◌, ◌≤◌, IfOk, IfErr, MatchResult, OnErr};
+ghost use Rattle.std.specs.Prelude.{◌≡◌, ◌<◌, ◌≤◌, IfOk, IfErr, MatchBool, MatchResult, OnErr};
 ghost use Rattle.model.specs.Metadata.{metadata as metadata_of};
 ghost use Rattle.proxy_state.specs.Beginning.{rows_up_to};
-ghost use Rattle.shared_cluster.specs.Commits.{HandsBack, HoldsBatch, IsCommitted};
+ghost use Rattle.shared_cluster.specs.Audits.{IsConfirmed};
+ghost use Rattle.shared_cluster.specs.Commits.{HandsBack, HoldsBatch, IsAskRefusal, IsCommitted};
+ghost use Rattle.shared_cluster.specs.Commits.{WasFinishRefused};
 ghost use Rattle.shared_cluster.specs.Meetings.{Met};
 ghost use Rattle.shared_cluster.specs.Proxies.{BeginsTicket, FinishesReady, ShowsRouting};
 ghost use Rattle.shared_cluster.specs.Proxies.{IsBeginRefusal, IsFinishRefusal};
-ghost use Rattle.shared_cluster.specs.Proxies.{IsLockedProxy, IsOfProxy, IsRoutingRefusal};
+ghost use Rattle.shared_cluster.specs.Proxies.{IsLockedProxy, IsRoutingRefusal, ShowsFinished};
 ghost use Rattle.shared_cluster.specs.declared.refusal.Refusal.TheVariants as refusals;
 
 use crate::commits::asking::Asking;
@@ -29,8 +31,17 @@ use system_keys::OutOfMemory;
 #[derive(Drop)]
 pub struct SharedProxy<'l, N: Naming> {
     ledger: &'l Ledger<N>,
+    number: ProxyNumber,
     lock: Mutex<LockedProxy<N>>,
     finished: Condvar,
+}
+
+impl<'l, N: Naming> Model for SharedProxy<'l, N> {
+    ghost use Rattle.model.specs.Numbers.{ProxyNumber};
+
+    ghost Value = { ProxyNumber };
+
+    ghost view = { λ p. p.number };
 }
 
 impl<'l, N: Naming> SharedProxy<'l, N> {
@@ -41,15 +52,25 @@ impl<'l, N: Naming> SharedProxy<'l, N> {
         ledger: &'l Ledger<N>,
         number: ProxyNumber,
     ) -> Result<SharedProxy<'l, N>, Refusal>
-        ensures { IfErr result (λ refusal.
+        ensures { MatchResult result
+            (λ made. (made ≡ number) × (number < N.cells.config.proxies))
+            (λ refusal.
             (N.cells.config.proxies ≤ number → refusal ≡ refusals.NoSuchProxy)
             × (number < N.cells.config.proxies → refusal ≡ refusals.OutOfMemory)) }
     {
         Ok(SharedProxy {
             ledger,
+            number,
             lock: Mutex::new(LockedProxy::new(alloc, ledger, number)?),
             finished: Condvar::new(),
         })
+    }
+
+    /// The number that it was made with.
+    pub fn number(&self) -> ProxyNumber
+        ensures { result ≡ self.now }
+    {
+        self.number
     }
 
     /// Waits for the lock. What is under it is known by its type alone: the proxy is agreed with the
@@ -79,6 +100,7 @@ impl<'l, N: Naming> SharedProxy<'l, N> {
     ) -> Result<Ready<N>, (Refusal, Begun<N>)>
         ensures row { IfOk result (λ ready. ready.row ≡ begun.row) }
         ensures records { IfOk result (λ ready. ready.records ≡ begun.records) }
+        ensures refused { IfErr result (λ refused. IsAskRefusal refused.0) }
         ensures back { IfErr result (λ refused. refused.1 ≡ begun) }
     {
         let replies = match asking.ask_all(rt, begun.alloc(), begun.requests()) {
@@ -110,7 +132,7 @@ impl<'l, N: Naming> SharedProxy<'l, N> {
     ) -> Result<(NotedFinished<N>, ProxyGuard<'_, N>), CommitFault<N>>
         ensures { MatchResult result
             (λ made. IsCommitted batch made.0 made.1)
-            (HandsBack batch) }
+            (HandsBack N.cells.config batch) }
     {
         let begun = self.begin_batch(rt, sequencer, batch)?;
         let ready = match self.resolve_all(rt, asking, begun) {
@@ -132,7 +154,7 @@ impl<'l, N: Naming> SharedProxy<'l, N> {
     ) -> Result<Begun<N>, CommitFault<N>>
         ensures { MatchResult result
             (λ begun. HoldsBatch begun.row begun.records batch)
-            (HandsBack batch) }
+            (HandsBack N.cells.config batch) }
     {
         let mut guard = self.lock(rt);
         let ticket = match sequenced(rt, sequencer, guard.number(), batch) {
@@ -153,10 +175,9 @@ impl<'l, N: Naming> SharedProxy<'l, N> {
     ) -> Result<(NotedFinished<N>, ProxyGuard<'_, N>), (Refusal, Ready<N>)>
         ensures row { IfOk result (λ made. made.0.finished.row ≡ ready.row) }
         ensures records { IfOk result (λ made. made.0.records ≡ ready.records) }
-        ensures own { IfOk result (λ made.
-            IsOfProxy made.1.proxy.number made.0.finished.row made.0.records) }
-        ensures version { IfOk result (λ made.
-            made.1.proxy.version ≡ made.0.finished.version) }
+        ensures shown { IfOk result (λ made. ShowsFinished made.0 made.1) }
+        ensures refused { IfErr result (λ refused.
+            WasFinishRefused N.cells.config ready refused.0) }
         ensures back { IfErr result (λ refused. refused.1 ≡ ready) }
     {
         let row = ready.row();
@@ -164,6 +185,8 @@ impl<'l, N: Naming> SharedProxy<'l, N> {
         let guard = self
             .finished
             .wait_while(rt, guard, |locked| locked.awaits_before(row));
+        // (its contract says what the type keeps)
+        let _number = guard.number();
         let mut shown = ProxyGuard {
             ledger: self.ledger,
             guard,
@@ -215,7 +238,7 @@ impl<'a, N: Naming> ProxyGuard<'a, N> {
         self.guard.begin(self.ledger, ticket)
     }
 
-    /// Finishes the record that was begun first, as [`LockedProxy::finish`] says. Does not wait.
+    /// Finishes the first of the records that are begun and not finished, as [`LockedProxy::finish`] says. Does not wait.
     pub fn finish(&mut self, ready: Ready<N>) -> Result<NotedFinished<N>, (Refusal, Ready<N>)>
         ensures finished { IfOk result (FinishesReady self.old ready self.new) }
         ensures refused { IfErr result (λ refused. IsFinishRefusal self.old ready refused.0) }
@@ -244,8 +267,17 @@ impl<'a, N: Naming> ProxyGuard<'a, N> {
         self.guard.routing_at(version)
     }
 
+    /// Whether the proxy confirms an answer, as [`LockedProxy::confirm`] says.
+    pub fn confirm(&self, answer: &NotedFinished<N>) -> bool
+        ensures { MatchBool result
+            (IsConfirmed N.cells.config self.now answer.now)
+            (self.now.proxy.version < answer.now.finished.version) }
+    {
+        self.guard.confirm(answer)
+    }
+
     /// Compares the proxy with another locked one, as [`LockedProxy::meet`] says.
-    pub fn meet(&self, other: &ProxyGuard<'_, N>) -> Meeting
+    pub(crate) fn meet(&self, other: &ProxyGuard<'_, N>) -> Meeting
         ensures { Met result self.now.proxy other.now.proxy }
     {
         self.guard.meet(&other.guard)

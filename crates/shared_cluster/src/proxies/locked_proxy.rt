@@ -1,10 +1,11 @@
 //! A proxy as it stands under its lock.
 
-ghost use Rattle.std.specs.Prelude.{◌≡◌, ◌<◌, ◌≤◌, slice_get, Some, IfOk, IfErr, OnErr};
+ghost use Rattle.std.specs.Prelude.{◌≡◌, ◌<◌, ◌≤◌, slice_get, Some, IfOk, IfErr, MatchBool, OnErr};
 ghost use Rattle.model.specs.Metadata.{metadata as metadata_of};
 ghost use Rattle.agreed_ledger.specs.Sequencing.{IsTicket};
 ghost use Rattle.proxy_state.specs.Beginning.{rows_up_to};
 ghost use Rattle.shared_cluster.specs.Answers.{IsNotedRouting};
+ghost use Rattle.shared_cluster.specs.Audits.{IsConfirmed};
 ghost use Rattle.shared_cluster.specs.Meetings.{Met};
 ghost use Rattle.shared_cluster.specs.Proxies.{BeginsTicket, FinishesReady, ShowsRouting};
 ghost use Rattle.shared_cluster.specs.Proxies.{IsBeginRefusal, IsBeginRefusalOf, IsFinishRefusal};
@@ -69,7 +70,7 @@ impl<N: Naming> LockedProxy<N> {
         ledger: &Ledger<N>,
         number: ProxyNumber,
     ) -> Result<LockedProxy<N>, Refusal>
-        ensures made { IfOk result (IsNewLockedProxy number) }
+        ensures made { IfOk result (IsNewLockedProxy N.cells.config number) }
         ensures refused { IfErr result (λ refusal.
             (N.cells.config.proxies ≤ number → refusal ≡ refusals.NoSuchProxy)
             × (number < N.cells.config.proxies → refusal ≡ refusals.OutOfMemory)) }
@@ -217,7 +218,7 @@ impl<N: Naming> LockedProxy<N> {
         Ok(Begun::of(row, told, requests))
     }
 
-    /// Finishes the record that was begun first, by the replies to it, and returns its outcomes and
+    /// Finishes the first of the records that are begun and not finished, by the replies to it, and returns its outcomes and
     /// its tagged mutations.
     ///
     /// Fails with `OutOfTurn` if the replies are to another record, or if none is begun; it names the
@@ -299,6 +300,22 @@ impl<N: Naming> LockedProxy<N> {
         } else {
             Meeting::Ahead
         }
+    }
+
+    /// Whether the proxy has come to the version of an answer, of any proxy of the cluster. The
+    /// outcomes and the tags of the answer are then those that the proxy's records and verdict cells
+    /// give for its row. Needs no memory.
+    pub fn confirm(&self, answer: &NotedFinished<N>) -> bool
+        ensures { MatchBool result
+            (IsConfirmed N.cells.config self.now answer.now)
+            (self.now.proxy.version < answer.now.finished.version) }
+    {
+        let mine = self.records();
+        let known = answer.records();
+        mine.agree(known);
+        let reached = self.version();
+        let finished = answer.value();
+        finished.version <= reached
     }
 
     /// The routing with copies of the records and the columns. Fails only with `OutOfMemory`.

@@ -11,8 +11,8 @@ use system_keys::OutOfMemory;
 
 /// A request to a resolver, with the records up to its row.
 ///
-/// By its type it is the request that the definition gives for the record of its row, by some version
-/// last received that is not above the record's previous version.
+/// By its type it is the request that the definition gives for the record of its row to a resolver of
+/// the cluster, by some version last received that is not above the record's previous version.
 #[derive(Drop)]
 pub struct Request<N: Naming> {
     plain: PlainRequest,

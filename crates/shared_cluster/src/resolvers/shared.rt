@@ -1,8 +1,8 @@
 //! The resolver that threads share.
 
 ghost use Rattle.std.specs.Prelude.{◌≡◌, ◌<◌, ◌≤◌, length, IfOk, IfErr, MatchResult};
-ghost use Rattle.shared_cluster.specs.Resolvers.{HasOffered, IsLockedResolver, IsNotEarly};
-ghost use Rattle.shared_cluster.specs.Resolvers.{IsOfferRefusal, ShowsReply, after_refusal};
+ghost use Rattle.shared_cluster.specs.Resolvers.{HasOffered, IsLockedResolver, IsOfferRefusal};
+ghost use Rattle.shared_cluster.specs.Resolvers.{IsResolveRefusal, ShowsReply, after_refusal};
 ghost use Rattle.shared_cluster.specs.Resolvers.{closed_resolver};
 ghost use Rattle.shared_cluster.specs.declared.refusal.Refusal.TheVariants as refusals;
 
@@ -95,7 +95,8 @@ impl<'l, N: Naming> SharedResolver<'l, N> {
     ) -> Result<(NotedReply<N>, ResolverGuard<'_, N>), (Refusal, Request<N>)>
         ensures shown { IfOk result (λ made. ShowsReply request made.0 made.1) }
         ensures kept { IfOk result (λ made. IsLockedResolver N.cells.config made.1) }
-        ensures refused { IfErr result (λ refused. IsNotEarly refused.0) }
+        ensures refused { IfErr result (λ refused.
+            IsResolveRefusal N.cells.config request.plain refused.0) }
         ensures back { IfErr result (λ refused. refused.1 ≡ request) }
     {
         let guard = self.lock.lock(rt);

@@ -1,6 +1,5 @@
 -- One request more has its reply.
-use Rattle.std.proofs.Common.{◌≡◌, ◌∙◌, ◌<◌, ◌≤◌, ◌+◌, sym, ap, subst, List, length, take, arith}
-use Rattle.std.specs.Vec.{vec_capacity}
+use Rattle.std.proofs.Common.{◌+◌, sym, subst, List, take, arith}
 use Rattle.shared_cluster.specs.NotedReplies.{NotedReplyView}
 use Rattle.shared_cluster.specs.Commits.{AreRepliesInOrder}
 use Rattle.shared_cluster.proofs.ProxyColumns.{got}
@@ -13,6 +12,6 @@ loop-request-preserved g c =
     let k = c.loop-request.request-index in
     let at = got requests k c.request-item.result (omega arith) c.request-item.is in
     record {
-      replied = subst (λ (rs : List NotedReplyView). AreRepliesInOrder (take (k + 1) requests) rs) (sym c.push_reserved.ensures.items) (order_next requests k c.request-item.result c.loop-request.replies.items c.in_ok-ask.field-0 at c.loop-request.invariant.replied c.in_ok-ask.ensures);
+      replied = subst (λ (rs : List NotedReplyView). AreRepliesInOrder (take (k + 1) requests) rs) (sym c.push_reserved.ensures.items) (order_next requests k c.request-item.result c.loop-request.replies.items c.in_ok-ask.field-0 at c.loop-request.invariant.replied c.in_ok-ask.ensures.replied);
       room = omega (arith, c.loop-request.invariant.room, c.push_reserved.ensures.capacity);
     }

@@ -18,7 +18,7 @@ collect_replies-made-requires-clause-history g c = subst (λ (rs : List Record).
 pub collect_replies-made-requires-clause-replied : goal.collect_replies-made-requires-clause-replied
 collect_replies-made-requires-clause-replied g c =
     let config = g.N.Naming.cells.config in
-    let answered : AreRepliesInOrder c.args.begun.requests c.in-Ok.replies.items = subst (λ (qs : List RequestView). AreRepliesInOrder qs c.in-Ok.replies.items) c.requests.ensures.value c.in-Ok.ensures in
+    let answered : AreRepliesInOrder c.args.begun.requests c.in-Ok.replies.items = subst (λ (qs : List RequestView). AreRepliesInOrder qs c.in-Ok.replies.items) c.requests.ensures.value c.in-Ok.ensures.replied in
     subst (λ (rs : List NotedReplyView). AreRepliesOfAll config c.row-row.result rs) (sym c.as_slice.ensures.value)
     (subst (λ (row : ℕ). AreRepliesOfAll config row c.in-Ok.replies.items) (sym c.row-row.ensures.value)
     (replies_of_all config c.args.begun c.in-Ok.replies.items c.requests.ensures.kept answered))

@@ -1,14 +1,11 @@
 -- A request that comes next is judged.
 use Rattle.std.proofs.Common.{◌≡◌, ◌∙◌, ap, sym, subst, refl}
-use Rattle.std.specs.Prelude.{Ok, ◌⊎◌}
-use mathlib.Core.Logic.{inl, inr}
+use Rattle.std.specs.Prelude.{Ok}
 use Rattle.facts.specs.Stretches.{Stretch}
 use Rattle.model.specs.Records.{Record}
 use Rattle.model.specs.ResolverMemory.{Judge, course}
-use Rattle.shared_cluster.specs.NotedReplies.{IsNotedReply, NotedReplyView}
-use Rattle.shared_cluster.specs.Resolvers.{IsLockedResolver, IsOfferRefusal, LockedResolverView}
-use Rattle.shared_cluster.specs.declared.refusal.Refusal.{Refusal}
-use Rattle.shared_cluster.specs.declared.refusal.Refusal.TheVariants as refusals
+use Rattle.shared_cluster.specs.NotedReplies.{IsNotedReply}
+use Rattle.shared_cluster.specs.Resolvers.{IsLockedResolver, LockedResolverView}
 use Rattle.shared_cluster.proofs.Lists.{agree_from_zero}
 use Rattle.shared_cluster.proofs.ServedRequests.{comes_next, has_room, is_judging, late_refusal, offered_next, served_next}
 use Rattle.shared_cluster.proofs.resolvers.locked.LockedResolver.judge.Goals as goal

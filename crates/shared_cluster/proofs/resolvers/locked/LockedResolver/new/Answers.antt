@@ -1,5 +1,5 @@
 -- A resolver before its first request.
-use Rattle.std.proofs.Common.{◌≡◌, ◌∙◌, ◌<◌, ap, sym, arith}
+use Rattle.std.proofs.Common.{◌∙◌, ◌<◌, ap, sym, arith}
 use Rattle.facts.specs.Stretches.{Stretch}
 use Rattle.agreed_ledger.specs.Cells.{ColumnView}
 use Rattle.model.specs.Configs.{Config}

@@ -1,13 +1,12 @@
 -- A request that does not come next gets its reply again.
-use Rattle.std.proofs.Common.{◌≡◌, ◌∙◌, ap, sym, subst, refl}
-use Rattle.std.specs.Prelude.{Ok}
+use Rattle.std.proofs.Common.{◌≡◌, ◌∙◌, ap, sym, subst}
 use Rattle.facts.specs.Stretches.{Stretch}
 use Rattle.agreed_ledger.specs.Cells.{ColumnView}
 use Rattle.model.specs.Records.{Record}
-use Rattle.model.specs.ResolverMemory.{Judge, ResolverView, course}
+use Rattle.model.specs.ResolverMemory.{ResolverView, course}
 use Rattle.state_memory.specs.Answers.{IsAfterAnswer}
 use Rattle.state_memory.specs.declared.answer.Answer.{Answer as OfferAnswer}
-use Rattle.shared_cluster.specs.NotedReplies.{IsNotedReply, NotedReplyView}
+use Rattle.shared_cluster.specs.NotedReplies.{IsNotedReply}
 use Rattle.shared_cluster.specs.Resolvers.{LockedResolverView}
 use Rattle.shared_cluster.proofs.Lists.{agree_from_zero}
 use Rattle.shared_cluster.proofs.ServedRequests.{is_repeating, never_judged, offered_again}
