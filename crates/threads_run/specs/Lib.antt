@@ -1,0 +1,12 @@
+-- The definitions, in reading order.
+
+-- what a batch may be answered, and the texts of such answers
+pub mod Answers
+-- threads that are started and joined
+pub mod Threads
+-- texts of several parts
+pub mod Parts
+-- the lines that are printed of batches and closings
+pub mod Lines
+-- how a run fails, and which refusals are printed
+pub mod Faults
