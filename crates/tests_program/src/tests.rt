@@ -4,4 +4,5 @@
 //! and wrong ones, stand in `tests/scripts`.
 
 mod of_command_line;
+mod of_threads_run;
 mod of_turns_run;

@@ -1,5 +1,7 @@
 -- The definitions, in reading order.
 
+-- the text of a script: which answers it is of, and their lines
+pub mod Text
 -- what a batch may be answered, and the texts of such answers
 pub mod Answers
 -- threads that are started and joined

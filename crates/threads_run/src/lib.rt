@@ -12,7 +12,9 @@ mod committer;
 mod faults;
 mod lines;
 mod script;
+mod text;
 mod threads;
 
 pub use faults::{RunFault, status_of};
 pub use script::{InitialMove, ThreadsScript};
+pub use text::threads_text;

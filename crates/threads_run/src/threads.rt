@@ -17,6 +17,7 @@ use shared_cluster::AllResolvers;
 use std::alloc::Global;
 use std::marker::PhantomData;
 use std::sync::Wait;
+use std::thread;
 use std::thread::{Promise, PromisedHandle, Scope, Threads};
 use system_keys::{Items, OutOfMemory};
 
@@ -44,7 +45,31 @@ type Handle<'a, N> = PromisedHandle<Result<String, RunFault>, LinesOf<'a, N>>;
 /// Returns the lines of the answers, in the order of the proxies.
 ///
 /// Fails with `OutOfMemory` if a thread could not be started, or was refused memory.
-pub(crate) fn commit_in_scope<'s, 'l, E, N: Naming + Send + Sync, R: Threads + Wait + Sync>(
+pub(crate) fn commit_in_threads<'a, 'l, N: Naming + Send + Sync, R: Threads + Wait + Sync>(
+    rt: &'a R,
+    alloc: Global,
+    cluster: &'a Cluster<'l, N>,
+    asking: &'a AllResolvers<'a, 'l, N>,
+    work: &'a [Items<Batch>],
+) -> Result<String, RunFault>
+    requires { length work.now ≤ length cluster.now.proxies.items }
+    ensures { IfOk result (λ text. IsInParts (AreLinesOfProxy N.cells.config work.now)
+        (length work.now) (string_bytes text)) }
+{
+    thread::scope(
+        thread::scope_env(),
+        rt,
+        move |scope| -> Result<String, RunFault>
+            requires { length work.now ≤ length cluster.now.proxies.items }
+            ensures { IfOk result (λ text.
+                IsInParts (AreLinesOfProxy N.cells.config work.entry.now)
+                (length work.entry.now) (string_bytes text)) }
+        { commit_in_scope(scope, rt, alloc, cluster, asking, work) },
+    )
+}
+
+/// Starts the threads, and waits for them to end.
+fn commit_in_scope<'s, 'l, E, N: Naming + Send + Sync, R: Threads + Wait + Sync>(
     scope: &'s Scope<'s, E>,
     rt: &'s R,
     alloc: Global,
