@@ -4,6 +4,8 @@
 
 mod folding;
 mod running;
+mod sequencing;
 
 pub use folding::tags_after;
 pub use running::{at_one_version, metadata_after};
+pub use sequencing::{record_of, sequence_around_move, sequence_two};
