@@ -1,0 +1,123 @@
+//! A cluster without threads carries out events, and its proxies are read.
+
+ghost use Rattle.std.specs.Prelude.{◌≡◌, ◌+◌, ◌*◌, ◌≤◌, ◌++◌, map, slice_get};
+ghost use Rattle.std.specs.Prelude.{vec_capacity, vec_len, IfOk, IfSome, MatchResult};
+ghost use Rattle.std.specs.declared.option.Option.TheVariants.{Some};
+ghost use Rattle.model.specs.Numbers.{RowNumber};
+ghost use Rattle.model.specs.Records.{Record};
+ghost use Rattle.model.specs.Serial.{IsSerial};
+ghost use Rattle.model.specs.World.{initial_world, world_after, proxy_metadata};
+ghost use Rattle.turn_world.specs.Events.{event_of};
+ghost use Rattle.turn_world.specs.Steps.{HasCarriedOut, HasStopped};
+
+use model::laws::{chain_law, events_law};
+use proxy_state::Metadata;
+use std::alloc::Global;
+use system_keys::OutOfMemory;
+use turn_world::{Answer, Config, Event, Refusal, Stopped, TurnWorld};
+
+/// The metadata of a proxy after the events of a new cluster: the fold of the journal up to the
+/// version of the proxy. None if the cluster has no such proxy. Fails only with `OutOfMemory`.
+pub fn metadata_after(
+    alloc: Global,
+    config: &Config,
+    events: &[Event],
+    proxy: usize,
+) -> Result<Option<Metadata>, OutOfMemory>
+    ensures { let given = map event_of events.now in
+        let world = world_after config.now (initial_world config.now) given in
+        IfOk result (λ found. IfSome found (λ metadata.
+        metadata ≡ proxy_metadata config.now world proxy)) }
+{
+    let mut cluster = TurnWorld::new(alloc, config)?;
+    let Ok(_answers) = cluster.run(alloc, events) else {
+        return Err(OutOfMemory);
+    };
+    match cluster.proxy(proxy) {
+        Some(proxy) => Ok(Some(proxy.metadata().copy()?)),
+        None => Ok(None),
+    }
+}
+
+/// The metadata of two proxies at one version, which is the same. None if the cluster lacks one of
+/// the proxies, or if their versions differ.
+#[tactic(auto, using(crate::proofs::OneVersion::one_metadata))]
+pub fn at_one_version(
+    cluster: &TurnWorld,
+    first: usize,
+    second: usize,
+) -> Option<(&Metadata, &Metadata)>
+    ensures { IfSome result (λ both. both.0.now ≡ both.1.now) }
+{
+    let first = cluster.proxy(first)?;
+    let second = cluster.proxy(second)?;
+    if first.version() != second.version() {
+        return None;
+    }
+    Some((first.metadata(), second.metadata()))
+}
+
+/// The versions of a cluster are the multiples of this number: that of a row's record is the row's
+/// number plus one, times it. The records obey the rule of commit.
+pub fn step_of(cluster: &TurnWorld) -> u64
+    ensures positive { 1 ≤ result }
+    ensures versions { (row : RowNumber) (rec : Record)
+        → slice_get cluster.now.world.history row ≡ Some rec → rec.version ≡ (row + 1) * result }
+    ensures serial { IsSerial cluster.now.config cluster.now.world.history }
+{
+    // (its contract is the law that the row gives the version)
+    chain_law();
+    cluster.config().step()
+}
+
+/// Carries out the events, and goes on once from where the run stopped, if it stopped. The results
+/// of both runs are those of one.
+///
+/// If it stops again, or has no memory to go on, it returns what both runs have carried out.
+pub fn run_on(
+    cluster: &mut TurnWorld,
+    alloc: Global,
+    events: &[Event],
+) -> Result<Vec<Result<Answer, Refusal>>, Stopped>
+    ensures { MatchResult result
+        (λ answers. HasCarriedOut cluster.old cluster.new (map event_of events.now) answers.items)
+        (λ stopped. HasStopped cluster.old cluster.new (map event_of events.now) stopped) }
+{
+    // (its contract is the law that runs of events continue one another)
+    events_law();
+    let Stopped {
+        carried_out,
+        mut answers,
+    } = match cluster.run(alloc, events) {
+        Ok(answers) => return Ok(answers),
+        Err(stopped) => stopped,
+    };
+    let (_, rest) = events.split_at(carried_out);
+    let Ok(()) = answers.reserve(rest.len()) else {
+        return Err(Stopped {
+            carried_out,
+            answers,
+        });
+    };
+    match cluster.run(alloc, rest) {
+        Ok(more) => Ok(joined(answers, more)),
+        Err(stopped) => Err(Stopped {
+            carried_out: carried_out + stopped.carried_out,
+            answers: joined(answers, stopped.answers),
+        }),
+    }
+}
+
+/// The answers and then the further ones, for which there must be room.
+fn joined(
+    mut answers: Vec<Result<Answer, Refusal>>,
+    mut more: Vec<Result<Answer, Refusal>>,
+) -> Vec<Result<Answer, Refusal>>
+    requires { vec_len answers + vec_len more ≤ vec_capacity answers }
+    ensures { result.items ≡ answers.items ++ more.items }
+{
+    let Ok(()) = answers.append(&mut more) else {
+        unreachable!();
+    };
+    answers
+}
