@@ -1,0 +1,5 @@
+//! The tests of shared_cluster, by its public calls.
+#![tactic(auto)]
+
+#[cfg(test)]
+mod tests;

@@ -1,0 +1,8 @@
+//! Tests of resolvers and proxies behind locks, with threads and without. A test that wants memory
+//! for its data ends with that error; the tested calls are made again.
+
+mod answers;
+mod of_commits;
+mod of_resolvers;
+mod phases;
+mod starting;
