@@ -2,7 +2,11 @@
 //! for its data ends with that error; the tested calls are made again.
 
 mod answers;
+mod of_asking;
 mod of_commits;
+mod of_commits_by_threads;
+mod of_phases;
 mod of_resolvers;
+mod of_threads;
 mod phases;
 mod starting;

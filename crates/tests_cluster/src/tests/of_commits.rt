@@ -14,7 +14,7 @@ use system_keys::{KeyRange, Tag};
 use testing::{Given, NOTHING, Step, batch, range};
 
 /// A transaction that gives a server its tag and all keys.
-const PLACE: Given<'static> = Given {
+pub(crate) const PLACE: Given<'static> = Given {
     mutations: &[
         Step::Set(b"\xff/serverTag/server0000000001", b"\x00\x00\x01"),
         Step::Set(b"\xff/keyServers/", b"\x01server0000000001\x00"),
@@ -23,7 +23,7 @@ const PLACE: Given<'static> = Given {
 };
 
 /// A transaction that writes from `k` up to `n`.
-const WRITE: Given<'static> = Given {
+pub(crate) const WRITE: Given<'static> = Given {
     writes: &[(b"k", b"n")],
     mutations: &[Step::Set(b"k", b"1")],
     ..NOTHING
@@ -36,7 +36,7 @@ const READ: Given<'static> = Given {
 };
 
 /// The tag that the first transaction gives the server.
-const TAG: Tag = Tag { locality: 0, id: 1 };
+pub(crate) const TAG: Tag = Tag { locality: 0, id: 1 };
 
 // ---- in order
 
@@ -63,7 +63,7 @@ fn move_keys<N: Naming, R: Wait>(
 }
 
 /// Commits a batch.
-fn commit_line<N: Naming, R: Wait>(
+pub(crate) fn commit_line<N: Naming, R: Wait>(
     rt: &R,
     alloc: Global,
     cluster: &Cluster<'_, N>,
@@ -131,7 +131,7 @@ fn in_order() -> Three {
     ]
 }
 
-fn committed_at(version: u64, number: usize) -> Option<Outcome> {
+pub(crate) fn committed_at(version: u64, number: usize) -> Option<Outcome> {
     Some(Outcome::Committed { version, number })
 }
 
