@@ -1,7 +1,6 @@
-"""Which edits a run tries: those of crates whose text is not the recorded one, and of a sixth of the other crates."""
+"""Of which crates it is recorded that all their edits were refused, and by which texts."""
 import collections
 import hashlib
-import itertools
 import json
 import os
 
@@ -10,12 +9,8 @@ from room import SOURCES, run
 
 HERE = os.path.dirname(os.path.abspath(__file__))
 
-# In how many parts the crates with their recorded text are tried, a part at each commit. A crate's edits are tried
-# together, since its first check costs more than each further edit.
-PARTS = 6
-
 # Of the files of the runner, those that decide no verdict.
-OF_COSTS = ("costs.py",)
+OF_NO_VERDICT = ("choice.py", "costs.py")
 
 
 def digest(words):
@@ -36,7 +31,7 @@ class Records:
         self.room, self.path, self.edits = room, f"{HERE}/refused.txt", collections.defaultdict(list)
         for edit in edits:
             self.edits[edit.crate].append(edit)
-        files = [it for it in sorted(os.listdir(HERE)) if it == "run" or it.endswith(".py") and it not in OF_COSTS]
+        files = [it for it in sorted(os.listdir(HERE)) if it == "run" or it.endswith(".py") and it not in OF_NO_VERDICT]
         kit = run(["rt", "version"], HERE).printed
         self.runner = [(it, read(f"{HERE}/{it}")) for it in files] + [kit]
         self.read_kept()
@@ -56,21 +51,6 @@ class Records:
         sums = {it: self.sum(it) for it in self.edits}
         why = {True: "it has changed since its record", False: "it has no record"}
         return {it: why[it in self.kept] for it in sums if self.kept.get(it) != sums[it]}
-
-    def parts(self):
-        """The part that each crate is in: neighbours in the alphabet, so that each part has about as many edits."""
-        counts = [(it, len(self.edits[it])) for it in sorted(self.edits)]
-        all_edits = sum(count for _, count in counts)
-        before = itertools.accumulate((count for _, count in counts), initial=0)
-        return {crate: PARTS * front // all_edits for (crate, _), front in zip(counts, before)}
-
-    def part_now(self):
-        """Which part of the crates is tried at the present commit; nothing without a history of commits."""
-        git = ["git", "-C", self.room.root]
-        is_shallow = run([*git, "rev-parse", "--is-shallow-repository"], HERE).printed.strip()
-        count = run([*git, "rev-list", "--count", "HEAD"], HERE).printed.strip()
-        has_history = os.path.exists(f"{self.room.root}/.git") and is_shallow == "false" and count.isdigit()
-        return int(count) % PARTS if has_history else None
 
     def write(self, tried):
         """Records the crates all of whose edits were tried and are refused; one with a wrong answer has no record.
