@@ -17,7 +17,8 @@ use Rattle.shared_cluster.specs.Requests.{RequestView}
 use Rattle.shared_cluster.specs.NotedReplies.{NotedReplyView, IsReplyToRequest}
 use Rattle.shared_cluster.specs.Begun.{BegunView, IsBegun, requests_to_all, with_records}
 use Rattle.shared_cluster.specs.Ready.{AreRepliesOfAll}
-use Rattle.shared_cluster.specs.Commits.{AreOfOneRecord, AreRepliesInOrder, HoldsBatch}
+use Rattle.shared_cluster.specs.Commits.{AreOfOneRecord, AreRepliesInOrder, HoldsBatch, IsAskAllRefusal, IsAskRefusal}
+use Rattle.shared_cluster.specs.declared.refusal.Refusal.{Refusal}
 use Rattle.shared_cluster.proofs.ProxyBegins.{request_at}
 use Rattle.shared_cluster.proofs.ProxyColumns.{take_next}
 
@@ -84,11 +85,12 @@ replies_of_all config v replies is answered =
 
 -- ---- a batch that got its record
 
-pub sequenced_holds : (config : Config) (before after : SequencedView) (p : ℕ) (batch : List Given) (t : TicketView) → HasSequenced config before p batch after t → HoldsBatch t.row t.records batch
+pub sequenced_holds : (config : Config) (before after : SequencedView) (p : ℕ) (batch : List Given) (t : TicketView) → HasSequenced config before p batch after t → HoldsBatch p t.row t.records batch
 sequenced_holds config before after p batch t has =
     record {
       rec = rec;
       there = (λ i. slice_get (told i) (has.row i)) ∙ slice_get-push before.records rec;
+      own = refl;
       batch_is = refl;
     }
   where
@@ -118,7 +120,22 @@ order_next requests k q replies noted at so_far to = subst (λ (qs : List Reques
         by place p n (inr sooner_q) (inl last_n) = let count = so_far.count in absurd (omega (arith, count, last_n.0, sooner_q.0))
         by place p n (inr sooner_q) (inr sooner_n) = so_far.each place p n sooner_q.1 sooner_n.1
 
+-- what refuses one of the requests refuses them all
+pub one_refused : (config : Config) (requests : List RequestView) (k : ℕ) (q : RequestView) (refusal : Refusal) → slice_get requests k ≡ Some q → IsAskRefusal config q refusal → IsAskAllRefusal config requests refusal
+one_refused config requests k q refusal at (inl memory) = inl memory
+one_refused config requests k q refusal at (inr refused) = inr (k, q, at, refused)
+
 -- ---- the numbers of all resolvers
+
+-- each number of a resolver of the cluster stands at its place
+pub resolver_within : (numbers : List ℕ) (count r : ℕ) → numbers ≡ each_below count → r < count → r < length numbers
+resolver_within numbers count r is below = let all : length numbers ≡ count = ap (λ (ns : List ℕ). length ns) is ∙ length-each_below count in omega (arith, all, below)
+
+pub number_at : (numbers : List ℕ) (count r n : ℕ) → numbers ≡ each_below count → r < count → slice_get numbers r ≡ Some n → n ≡ r
+number_at numbers count r n is below at = same n r (sym at ∙ ap (λ (ns : List ℕ). slice_get ns r) is ∙ slice_get-each_below count r below)
+  where
+    same : (a b : ℕ) → Some a ≡ Some b → a ≡ b
+    same a b both = cc
 
 -- a number that does not stand at its place
 pub wrong_number : (numbers : List ℕ) (k n count : ℕ) → slice_get numbers k ≡ Some n → (n ≡ k → ⊥) → numbers ≡ each_below count → ⊥

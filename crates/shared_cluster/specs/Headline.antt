@@ -1,5 +1,5 @@
--- What this project promises of the metadata of proxies, in one record. *Profile*, but for the rule of
--- commit.
+-- What this project promises of the metadata of proxies, in one record. *Profile*, but for the rule
+-- of commit.
 use Rattle.std.specs.Prelude.{◌≡◌, Contains}
 use Rattle.model.specs.Configs.{Config}
 use Rattle.model.specs.Records.{IsHistory, last_version}
@@ -15,10 +15,11 @@ use Rattle.shared_cluster.specs.Proxies.{LockedProxyView}
 --
 -- The records up to the version of the first proxy are a history that ends at this version. The
 -- metadata of each is the fold, in the order of versions, of exactly the state transactions of its
--- records that every resolver committed and that the lock rule let pass (`journal` has the verdicts of
--- all resolvers, and `metadata` applies the rule). Two proxies at one version have the same metadata. Each
--- mutation of the answer has the tags of the metadata after its record. And of the transactions that
--- these records commit, none read a range that another wrote between its snapshot and itself.
+-- records that every resolver committed and that the lock rule let pass (`journal` has the verdicts
+-- of all resolvers, and `metadata` applies the rule). Two proxies at one version have the same
+-- metadata. Each mutation of the answer has the tags of the metadata after its record. And of the
+-- transactions that these records commit, none read a range that another wrote between its snapshot
+-- and itself.
 pub record Headline
     (config : Config) (one other : LockedProxyView) (mine theirs : Entries)
     (answer : NotedFinishedView) : Type 0 where

@@ -1,9 +1,9 @@
 -- What a resolver's lock keeps, and what an offer does to it. *Profile*, but for what a resolver
 -- answers.
 use Rattle.std.specs.Prelude.{◌≡◌, ℕ, ◌+◌, ◌<◌, ◌≤◌, List, [], ◌∷◌, ◌++◌, length, map, take}
-use Rattle.std.specs.Prelude.{slice_get, Some, Bool, true}
+use Rattle.std.specs.Prelude.{slice_get, Option, Some, None, Bool, true}
 use Rattle.std.specs.Prelude.{false, not, ◌&&◌, nat_eq, nat_lt, IsTrue, IsFalse, ◌⊎◌, Ok, Err, IsOk}
-use Rattle.model.specs.Numbers.{Version, ResolverNumber}
+use Rattle.model.specs.Numbers.{Version, ResolverNumber, RowNumber}
 use Rattle.model.specs.Configs.{Config, IsConfig}
 use Rattle.model.specs.Records.{Record, IsHistory}
 use Rattle.model.specs.declared.reply.Reply.{Reply}
@@ -13,6 +13,7 @@ use Rattle.model.specs.Offers.{OfferResult, OfferFault, answer_to}
 use Rattle.model.specs.Offers as offers
 use Rattle.model.specs.ResolverMemory.{ResolverView, StandsForRequests}
 use Rattle.state_memory.specs.Answers.{GainsRequest}
+use Rattle.agreed_ledger.specs.Cells.{NotedVerdicts, AreKnownAt}
 use Rattle.shared_cluster.specs.Requests.{RequestView}
 use Rattle.shared_cluster.specs.NotedReplies.{NotedReplyView, IsReplyToRequest}
 use Rattle.shared_cluster.specs.declared.refusal.Refusal.{Refusal}
@@ -149,6 +150,13 @@ IsOfferRefusal before q (refusals.OutOfOrder expected) = ⊥
 IsOfferRefusal before q (refusals.OutOfTurn expected) = ⊥
 IsOfferRefusal before q (refusals.NotReached version) = ⊥
 
+-- With the refusal of a taken cell, and with no other, comes a note of the verdict cell of this row
+-- and this resolver, which knows the verdicts in it.
+abbrev pub TellsTaken : RowNumber → ResolverNumber → Refusal → Option NotedVerdicts → Type 0
+TellsTaken row r refusals.CellTaken taken =
+    (note : NotedVerdicts) × (taken ≡ Some note) × AreKnownAt row r note
+TellsTaken row r refusal taken = taken ≡ None
+
 -- a refused offer leaves the resolver unchanged, but closed after a taken cell
 abbrev pub after_refusal : LockedResolverView → Refusal → LockedResolverView
 after_refusal before refusals.CellTaken = closed_resolver before
@@ -161,12 +169,13 @@ abbrev pub IsNotEarly : Refusal → Type 0
 IsNotEarly (refusals.Early version) = ⊥
 IsNotEarly refusal = Unit {0}
 
--- the refusal is one of an offer to a resolver of the cluster, as its lock kept it then, and not that
--- of an early request
-abbrev pub IsResolveRefusal : Config → Request → Refusal → Type 0
-IsResolveRefusal config q refusal =
+-- the refusal is one of an offer to the resolver of this number, as its lock kept it then, and not
+-- that of an early request
+abbrev pub IsResolveRefusal : Config → ResolverNumber → Request → Refusal → Type 0
+IsResolveRefusal config r q refusal =
     IsNotEarly refusal
-    × ((v : LockedResolverView) × IsLockedResolver config v × IsOfferRefusal v q refusal)
+    × ((v : LockedResolverView)
+    × IsLockedResolver config v × (v.memory.number ≡ r) × IsOfferRefusal v q refusal)
 
 -- The resolver that is shown is the one that replied. It is open, has come to the reply's version or
 -- further, and has the records and the cells that the reply was made by.

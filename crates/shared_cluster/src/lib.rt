@@ -24,5 +24,5 @@ pub use audits::{BehindBy, audit, meet, metadata_of_two};
 pub use commits::{AllResolvers, Asking, CommitFault, ProxyGuard, SharedProxy};
 pub use proxies::{Begun, Columns, LockedProxy, Meeting, NotedFinished, NotedRouting, Ready};
 pub use refusal::Refusal;
-pub use resolvers::{LockedResolver, NotedReply, Request, ResolverGuard, SharedResolver};
+pub use resolvers::{LockedResolver, NotedReply, Refused, Request, ResolverGuard, SharedResolver};
 pub use turn_world::{Event, Stopped, TurnWorld};

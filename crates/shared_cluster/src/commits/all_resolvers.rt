@@ -19,6 +19,7 @@ use std::sync::Wait;
 #[derive(Drop)]
 pub struct AllResolvers<'a, 'l, N: Naming> {
     resolvers: &'a [SharedResolver<'l, N>],
+    ghost all: { resolvers.now ≡ each_below N.cells.config.resolvers },
 }
 
 impl<'a, 'l, N: Naming> AllResolvers<'a, 'l, N> {
@@ -48,19 +49,20 @@ impl<'a, 'l, N: Naming> AllResolvers<'a, 'l, N> {
         Ok(AllResolvers { resolvers })
     }
 
-    /// Asks one resolver, and lets it go again.
+    /// Asks the resolver that the request names, and lets it go again.
     fn ask<R: Wait>(&self, rt: &R, request: &Request<N>) -> Result<NotedReply<N>, Refusal>
         ensures replied { IfOk result (λ noted. IsReplyToRequest request.now.plain noted.reply) }
-        ensures refused { IfErr result IsAskRefusal }
+        ensures refused { IfErr result (IsAskRefusal N.cells.config request.now) }
     {
-        let resolver = request.resolver();
-        if self.resolvers.len() <= resolver {
-            return Err(Refusal::WrongResolver);
-        }
         let copy = request.copy()?;
-        match self.resolvers[resolver].resolve(rt, copy) {
+        // (its contract says that the cluster has the resolver)
+        let resolver = request.plain().resolver();
+        let Some(shared) = self.resolvers.get(resolver) else {
+            unreachable!();
+        };
+        match shared.resolve(rt, copy) {
             Ok((noted, _guard)) => Ok(noted),
-            Err((refusal, _request)) => Err(refusal),
+            Err(refused) => Err(refused.refusal),
         }
     }
 }

@@ -9,12 +9,14 @@ use std::sync::Wait;
 /// A way to ask resolvers, and to wait for their replies.
 pub trait Asking<N: Naming> {
     ghost use Rattle.std.specs.Prelude.{IfErr, IfOk};
-    ghost use Rattle.shared_cluster.specs.Commits.{AreOfOneRecord, AreRepliesInOrder, IsAskRefusal};
+    ghost use Rattle.shared_cluster.specs.Commits.{AreOfOneRecord, AreRepliesInOrder};
+    ghost use Rattle.shared_cluster.specs.Commits.{IsAskAllRefusal};
 
     /// Asks each resolver its request, and returns the replies in the order of the requests. No call
     /// is promised to stop waiting.
     ///
-    /// If it fails, some resolvers may have been asked: asked again, they give the same replies.
+    /// Fails as the resolver that one of the requests names does, or with `OutOfMemory`. Then some
+    /// resolvers may have been asked: asked again, they give the same replies.
     fn ask_all<R: Wait>(
         &self,
         rt: &R,
@@ -23,5 +25,5 @@ pub trait Asking<N: Naming> {
     ) -> Result<Vec<NotedReply<N>>, Refusal>
         requires { AreOfOneRecord requests.now }
         ensures replied { IfOk result (λ replies. AreRepliesInOrder requests.now replies.items) }
-        ensures refused { IfErr result IsAskRefusal };
+        ensures refused { IfErr result (IsAskAllRefusal N.cells.config requests.now) };
 }

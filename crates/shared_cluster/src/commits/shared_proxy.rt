@@ -4,8 +4,8 @@ ghost use Rattle.std.specs.Prelude.{◌≡◌, ◌<◌, ◌≤◌, IfOk, IfErr, 
 ghost use Rattle.model.specs.Metadata.{metadata as metadata_of};
 ghost use Rattle.proxy_state.specs.Beginning.{rows_up_to};
 ghost use Rattle.shared_cluster.specs.Audits.{IsConfirmed};
-ghost use Rattle.shared_cluster.specs.Commits.{HandsBack, HoldsBatch, IsAskRefusal, IsCommitted};
-ghost use Rattle.shared_cluster.specs.Commits.{WasFinishRefused};
+ghost use Rattle.shared_cluster.specs.Commits.{HandsBack, HoldsBatch, IsAskAllRefusal, IsCommitted};
+ghost use Rattle.shared_cluster.specs.Commits.{WasFinishRefused, WasSequenceRefused};
 ghost use Rattle.shared_cluster.specs.Meetings.{Met};
 ghost use Rattle.shared_cluster.specs.Proxies.{BeginsTicket, FinishesReady, ShowsRouting};
 ghost use Rattle.shared_cluster.specs.Proxies.{IsBeginRefusal, IsFinishRefusal};
@@ -58,28 +58,43 @@ impl<'l, N: Naming> SharedProxy<'l, N> {
             (N.cells.config.proxies ≤ number → refusal ≡ refusals.NoSuchProxy)
             × (number < N.cells.config.proxies → refusal ≡ refusals.OutOfMemory)) }
     {
-        Ok(SharedProxy {
-            ledger,
-            number,
-            lock: Mutex::new(LockedProxy::new(alloc, ledger, number)?),
-            finished: Condvar::new(),
-        })
+        Ok(SharedProxy::of(ledger, LockedProxy::new(alloc, ledger, number)?))
     }
 
-    /// The number that it was made with.
+    /// This proxy, with a lock.
+    fn of(ledger: &'l Ledger<N>, locked: LockedProxy<N>) -> SharedProxy<'l, N>
+        ensures number { result ≡ locked.proxy.number }
+        ensures there { locked.proxy.number < N.cells.config.proxies }
+    {
+        SharedProxy {
+            ledger,
+            number: locked.number(),
+            lock: Mutex::new(locked),
+            finished: Condvar::new(),
+        }
+    }
+
+    /// The number of the proxy under the lock.
     pub fn number(&self) -> ProxyNumber
         ensures { result ≡ self.now }
     {
         self.number
     }
 
-    /// Waits for the lock. What is under it is known by its type alone: the proxy is agreed with the
-    /// ledger up to the row of its version, and its metadata is the fold of the journal so known.
+    /// Waits for the lock of the proxy of this number. What is under it is otherwise known by its
+    /// type alone: the proxy is agreed with the ledger up to the row of its version, and its metadata
+    /// is the fold of the journal so known.
     pub fn lock<R: Wait>(&self, rt: &R) -> ProxyGuard<'_, N>
-        ensures { IsLockedProxy N.cells.config result }
+        ensures kept { IsLockedProxy N.cells.config result }
+        ensures number { result.proxy.number ≡ self.now }
     {
+        let number = self.number;
         let guard = self.lock.lock(rt);
-        // (its contract says what the type keeps)
+        // (that the proxy under the lock has this number no type says, so it is looked at; the
+        // contract of its number says what the type keeps)
+        let guard = self
+            .finished
+            .wait_while(rt, guard, |locked| locked.number() != number);
         let _number = guard.number();
         ProxyGuard {
             ledger: self.ledger,
@@ -100,7 +115,8 @@ impl<'l, N: Naming> SharedProxy<'l, N> {
     ) -> Result<Ready<N>, (Refusal, Begun<N>)>
         ensures row { IfOk result (λ ready. ready.row ≡ begun.row) }
         ensures records { IfOk result (λ ready. ready.records ≡ begun.records) }
-        ensures refused { IfErr result (λ refused. IsAskRefusal refused.0) }
+        ensures refused { IfErr result (λ refused.
+            IsAskAllRefusal N.cells.config begun.requests refused.0) }
         ensures back { IfErr result (λ refused. refused.1 ≡ begun) }
     {
         let replies = match asking.ask_all(rt, begun.alloc(), begun.requests()) {
@@ -131,8 +147,8 @@ impl<'l, N: Naming> SharedProxy<'l, N> {
         batch: Batch,
     ) -> Result<(NotedFinished<N>, ProxyGuard<'_, N>), CommitFault<N>>
         ensures { MatchResult result
-            (λ made. IsCommitted batch made.0 made.1)
-            (HandsBack N.cells.config batch) }
+            (λ made. IsCommitted self.now batch made.0 made.1)
+            (HandsBack N.cells self.now batch) }
     {
         let begun = self.begin_batch(rt, sequencer, batch)?;
         let ready = match self.resolve_all(rt, asking, begun) {
@@ -153,11 +169,11 @@ impl<'l, N: Naming> SharedProxy<'l, N> {
         batch: Batch,
     ) -> Result<Begun<N>, CommitFault<N>>
         ensures { MatchResult result
-            (λ begun. HoldsBatch begun.row begun.records batch)
-            (HandsBack N.cells.config batch) }
+            (λ begun. HoldsBatch self.now begun.row begun.records batch)
+            (HandsBack N.cells self.now batch) }
     {
         let mut guard = self.lock(rt);
-        let ticket = match sequenced(rt, sequencer, guard.number(), batch) {
+        let ticket = match sequenced(rt, sequencer, self.number, batch) {
             Ok(ticket) => ticket,
             Err((refusal, batch)) => return Err(CommitFault::Sequencing { refusal, batch }),
         };
@@ -175,16 +191,19 @@ impl<'l, N: Naming> SharedProxy<'l, N> {
     ) -> Result<(NotedFinished<N>, ProxyGuard<'_, N>), (Refusal, Ready<N>)>
         ensures row { IfOk result (λ made. made.0.finished.row ≡ ready.row) }
         ensures records { IfOk result (λ made. made.0.records ≡ ready.records) }
+        ensures number { IfOk result (λ made. made.1.proxy.number ≡ self.now) }
         ensures shown { IfOk result (λ made. ShowsFinished made.0 made.1) }
         ensures refused { IfErr result (λ refused.
-            WasFinishRefused N.cells.config ready refused.0) }
+            WasFinishRefused N.cells.config self.now ready refused.0) }
         ensures back { IfErr result (λ refused. refused.1 ≡ ready) }
     {
+        let number = self.number;
         let row = ready.row();
         let guard = self.lock.lock(rt);
-        let guard = self
-            .finished
-            .wait_while(rt, guard, |locked| locked.awaits_before(row));
+        // (as in `lock`, the number is looked at)
+        let guard = self.finished.wait_while(rt, guard, |locked| {
+            locked.number() != number || locked.awaits_before(row)
+        });
         // (its contract says what the type keeps)
         let _number = guard.number();
         let mut shown = ProxyGuard {
@@ -204,7 +223,8 @@ fn sequenced<R: Wait, N: Naming>(
     proxy: ProxyNumber,
     batch: Batch,
 ) -> Result<Ticket<N>, (agreed_ledger::Refusal, Batch)>
-    ensures ticket { IfOk result (λ ticket. HoldsBatch ticket.row ticket.records batch) }
+    ensures ticket { IfOk result (λ ticket. HoldsBatch proxy ticket.row ticket.records batch) }
+    ensures refused { IfErr result (λ refused. WasSequenceRefused N.cells proxy refused.0) }
     ensures back { IfErr result (λ refused. refused.1 ≡ batch) }
 {
     let mut guard = sequencer.lock(rt);
@@ -238,7 +258,8 @@ impl<'a, N: Naming> ProxyGuard<'a, N> {
         self.guard.begin(self.ledger, ticket)
     }
 
-    /// Finishes the first of the records that are begun and not finished, as [`LockedProxy::finish`] says. Does not wait.
+    /// Finishes the first of the records that are begun and not finished, as
+    /// [`LockedProxy::finish`] says. Does not wait.
     pub fn finish(&mut self, ready: Ready<N>) -> Result<NotedFinished<N>, (Refusal, Ready<N>)>
         ensures finished { IfOk result (FinishesReady self.old ready self.new) }
         ensures refused { IfErr result (λ refused. IsFinishRefusal self.old ready refused.0) }

@@ -218,8 +218,8 @@ impl<N: Naming> LockedProxy<N> {
         Ok(Begun::of(row, told, requests))
     }
 
-    /// Finishes the first of the records that are begun and not finished, by the replies to it, and returns its outcomes and
-    /// its tagged mutations.
+    /// Finishes the first of the records that are begun and not finished, by the replies to it, and
+    /// returns its outcomes and its tagged mutations.
     ///
     /// Fails with `OutOfTurn` if the replies are to another record, or if none is begun; it names the
     /// row of the record that is finished next. Otherwise fails only with `OutOfMemory`. Each failure

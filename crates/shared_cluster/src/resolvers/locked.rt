@@ -1,21 +1,24 @@
 //! A resolver as it stands under its lock.
 
-ghost use Rattle.std.specs.Prelude.{◌≡◌, ◌<◌, ◌≤◌, ◌⊎◌, length, Ok, IfOk, IfErr, OnOk, OnErr, IsFalse};
+ghost use Rattle.std.specs.Prelude.{◌≡◌, ◌<◌, ◌≤◌, length, Ok, IfOk, IfErr, OnOk, OnErr, IsFalse};
 ghost use Rattle.facts.specs.Stretches.{appended, end_of};
+ghost use Rattle.facts.specs.Unsets.{IfTaken};
 ghost use Rattle.model.specs.ResolverMemory.{course};
 ghost use Rattle.model.specs.ResolverMemory as way;
-ghost use Rattle.agreed_ledger.specs.Cells.{verdict_cells, with_rows};
+ghost use Rattle.agreed_ledger.specs.Cells.{AreKnownAt, verdict_cells, with_rows};
+ghost use Rattle.share_judge.specs.Answers.{IfNotKept};
 ghost use Rattle.state_memory.specs.Answers.{GainsRequest, RepliesAfterJudged};
 ghost use Rattle.shared_cluster.specs.Resolvers.{HasOffered};
 ghost use Rattle.shared_cluster.specs.Resolvers.{IsLockedResolver, IsNewLockedResolver};
-ghost use Rattle.shared_cluster.specs.Resolvers.{IsOfferRefusal, after_refusal, closed_resolver};
-ghost use Rattle.shared_cluster.specs.Resolvers.{is_early};
+ghost use Rattle.shared_cluster.specs.Resolvers.{IsOfferRefusal, TellsTaken, after_refusal};
+ghost use Rattle.shared_cluster.specs.Resolvers.{closed_resolver, is_early};
 ghost use Rattle.shared_cluster.specs.declared.refusal.Refusal.TheVariants as refusals;
 
 use crate::refusal::Refusal;
 use crate::resolvers::noted_reply::NotedReply;
+use crate::resolvers::refused::Refused;
 use crate::resolvers::request::Request;
-use agreed_ledger::{Column, Ledger, Naming, Records};
+use agreed_ledger::{Column, Ledger, Naming, Records, VerdictNote};
 use facts::Unset;
 use model::{Reply, ResolverNumber, Version};
 use request_builder::Request as PlainRequest;
@@ -162,21 +165,25 @@ impl<N: Naming> LockedResolver<N> {
     ///
     /// Fails with `Closed` if the resolver is closed, and otherwise with the refusal of the
     /// definition. A request that does not fail so fails only with `OutOfMemory`, or with `CellTaken`
-    /// if the verdict cell of its row held verdicts before. Each failure returns the request and
-    /// leaves the resolver unchanged, but that `CellTaken` closes it.
+    /// and a note that knows the verdicts in the cell of its row, if that cell held some before.
+    /// Each failure returns the request and leaves the resolver unchanged, but that `CellTaken`
+    /// closes it.
     pub fn offer(
         &mut self,
         ledger: &Ledger<N>,
         request: Request<N>,
-    ) -> Result<NotedReply<N>, (Refusal, Request<N>)>
+    ) -> Result<NotedReply<N>, Refused<N>>
         ensures offered { IfOk result (HasOffered self.old request self.new) }
         ensures refused { IfErr result (λ refused.
-            IsOfferRefusal self.old request.plain refused.0) }
-        ensures left { IfErr result (λ refused. self.new ≡ after_refusal self.old refused.0) }
-        ensures back { IfErr result (λ refused. refused.1 ≡ request) }
+            IsOfferRefusal self.old request.plain refused.refusal) }
+        ensures taken { IfErr result (λ refused. TellsTaken request.plain.row
+            self.old.memory.number refused.refusal refused.taken) }
+        ensures left { IfErr result (λ refused.
+            self.new ≡ after_refusal self.old refused.refusal) }
+        ensures back { IfErr result (λ refused. refused.request ≡ request) }
     {
         if self.closed {
-            return Err((Refusal::Closed, request));
+            return Err(Refused::by(Refusal::Closed, request));
         }
         if self.memory.comes_next(request.plain()) {
             self.judge(ledger, request)
@@ -190,17 +197,20 @@ impl<N: Naming> LockedResolver<N> {
         &mut self,
         ledger: &Ledger<N>,
         request: Request<N>,
-    ) -> Result<NotedReply<N>, (Refusal, Request<N>)>
+    ) -> Result<NotedReply<N>, Refused<N>>
         requires open { IsFalse self.old.closed }
         requires next { course self.old.memory request.plain ≡ Ok way.Judge }
         ensures offered { IfOk result (HasOffered self.old request self.new) }
         ensures refused { IfErr result (λ refused.
-            IsOfferRefusal self.old request.plain refused.0) }
-        ensures left { IfErr result (λ refused. self.new ≡ after_refusal self.old refused.0) }
-        ensures back { IfErr result (λ refused. refused.1 ≡ request) }
+            IsOfferRefusal self.old request.plain refused.refusal) }
+        ensures taken { IfErr result (λ refused. TellsTaken request.plain.row
+            self.old.memory.number refused.refusal refused.taken) }
+        ensures left { IfErr result (λ refused.
+            self.new ≡ after_refusal self.old refused.refusal) }
+        ensures back { IfErr result (λ refused. refused.request ≡ request) }
     {
         let Ok(records) = request.records().copy() else {
-            return Err((Refusal::OutOfMemory, request));
+            return Err(Refused::by(Refusal::OutOfMemory, request));
         };
         self.records.agree(&records);
         // (their contracts say that the ledger has a verdict cell for the row)
@@ -218,30 +228,34 @@ impl<N: Naming> LockedResolver<N> {
                 self.column = column;
                 Ok(NotedReply::of(reply, records, noted))
             }
-            Err(refusal) => {
-                self.closed = matches!(refusal, Refusal::CellTaken);
-                Err((refusal, request))
+            Err(why) => {
+                let refused = Refused::unjudged(why, request);
+                self.closed = matches!(refused.refusal, Refusal::CellTaken);
+                Err(refused)
             }
         }
     }
 
     /// Gives a request that does not come next its reply again, or refuses it.
-    fn repeat(&mut self, request: Request<N>) -> Result<NotedReply<N>, (Refusal, Request<N>)>
+    fn repeat(&mut self, request: Request<N>) -> Result<NotedReply<N>, Refused<N>>
         requires open { IsFalse self.old.closed }
         requires other { course self.old.memory request.plain ≡ Ok way.Judge → ⊥ }
         ensures offered { IfOk result (HasOffered self.old request self.new) }
         ensures refused { IfErr result (λ refused.
-            IsOfferRefusal self.old request.plain refused.0) }
-        ensures left { IfErr result (λ refused. self.new ≡ after_refusal self.old refused.0) }
-        ensures back { IfErr result (λ refused. refused.1 ≡ request) }
+            IsOfferRefusal self.old request.plain refused.refusal) }
+        ensures taken { IfErr result (λ refused. TellsTaken request.plain.row
+            self.old.memory.number refused.refusal refused.taken) }
+        ensures left { IfErr result (λ refused.
+            self.new ≡ after_refusal self.old refused.refusal) }
+        ensures back { IfErr result (λ refused. refused.request ≡ request) }
     {
         let reply = match self.memory.offer(request.plain()) {
             Ok(Answer::Again(reply)) => reply,
             Ok(Answer::Judged(_)) => unreachable!(),
-            Err(refusal) => return Err((Refusal::of_offer(refusal), request)),
+            Err(refusal) => return Err(Refused::by(Refusal::of_offer(refusal), request)),
         };
         let Ok(column) = self.column.copy() else {
-            return Err((Refusal::OutOfMemory, request));
+            return Err(Refused::by(Refusal::OutOfMemory, request));
         };
         self.records.agree(request.records());
         Ok(NotedReply::of(reply, request.into_records(), column))
@@ -250,14 +264,14 @@ impl<N: Naming> LockedResolver<N> {
 
 /// Judges the request, which comes next, and gives the next cell of the column its verdicts.
 ///
-/// Fails only with `OutOfMemory`, or with `CellTaken` if the cell held verdicts before. The resolver
-/// is then unchanged.
+/// Fails with `Taken` and a note that knows the cell's verdicts if it held some before, and
+/// otherwise only if an allocation fails. The resolver is then unchanged.
 fn judged<N: Naming>(
     memory: &mut Resolver,
     column: &Column<N>,
     ledger: &Ledger<N>,
     request: &PlainRequest,
-) -> Result<Gained<N>, Refusal>
+) -> Result<Gained<N>, NotJudged<Unset<VerdictNote<N>>>>
     requires next { course memory.old request.now ≡ Ok way.Judge }
     requires room { end_of column.now.rows < length (verdict_cells N.cells column.now.resolver) }
     ensures reply { IfOk result (λ gained.
@@ -270,39 +284,43 @@ fn judged<N: Naming>(
     ensures proxies { length memory.new.proxies ≡ length memory.old.proxies }
     ensures window { memory.new.written.window ≡ memory.old.written.window }
     ensures err { OnErr result (memory.new ≡ memory.old) }
-    ensures refused { IfErr result (λ refusal.
-        (refusal ≡ refusals.OutOfMemory) ⊎ (refusal ≡ refusals.CellTaken)) }
+    ensures taken { IfErr result (λ why. IfNotKept why (λ unset.
+        IfTaken unset (AreKnownAt (end_of column.now.rows) column.now.resolver))) }
 {
     match memory.judge_with(request, |verdicts| column_with(column, ledger, verdicts)) {
-        Ok((reply, (column, noted))) => Ok(Gained {
-            reply,
-            column,
-            noted,
-        }),
-        Err(NotJudged::OutOfMemory) => Err(Refusal::OutOfMemory),
-        Err(NotJudged::NotKept(refusal)) => Err(refusal),
+        Ok((reply, columns)) => {
+            let (column, noted) = columns;
+            Ok(Gained {
+                reply,
+                column,
+                noted,
+            })
+        }
+        Err(why) => Err(why),
     }
 }
 
 /// The column with these verdicts in its next cell, and a copy of it.
 ///
-/// Fails only with `OutOfMemory`, or with `CellTaken` if the cell held verdicts before.
+/// Fails with `Taken` and a note that knows the cell's verdicts if it held some before, and
+/// otherwise only with `OutOfMemory`.
 fn column_with<N: Naming>(
     column: &Column<N>,
     ledger: &Ledger<N>,
     verdicts: Verdicts,
-) -> Result<(Column<N>, Column<N>), Refusal>
+) -> Result<(Column<N>, Column<N>), Unset<VerdictNote<N>>>
     requires { end_of column.now.rows < length (verdict_cells N.cells column.now.resolver) }
     ensures column { IfOk result (λ made. made.0
         ≡ with_rows column.now (appended column.now.rows verdicts)) }
     ensures copy { IfOk result (λ made. made.1 ≡ made.0) }
-    ensures refused { IfErr result (λ refusal.
-        (refusal ≡ refusals.OutOfMemory) ⊎ (refusal ≡ refusals.CellTaken)) }
+    ensures taken { IfErr result (λ unset.
+        IfTaken unset (AreKnownAt (end_of column.now.rows) column.now.resolver)) }
 {
-    let mut more = column.copy()?;
+    let Ok(mut more) = column.copy() else {
+        return Err(Unset::OutOfMemory);
+    };
     match more.set_and_copy(ledger, verdicts) {
         Ok(noted) => Ok((more, noted)),
-        Err((Unset::OutOfMemory, _verdicts)) => Err(Refusal::OutOfMemory),
-        Err((Unset::Taken(_), _verdicts)) => Err(Refusal::CellTaken),
+        Err((unset, _verdicts)) => Err(unset),
     }
 }

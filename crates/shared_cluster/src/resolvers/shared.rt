@@ -2,13 +2,14 @@
 
 ghost use Rattle.std.specs.Prelude.{◌≡◌, ◌<◌, ◌≤◌, length, IfOk, IfErr, MatchResult};
 ghost use Rattle.shared_cluster.specs.Resolvers.{HasOffered, IsLockedResolver, IsOfferRefusal};
-ghost use Rattle.shared_cluster.specs.Resolvers.{IsResolveRefusal, ShowsReply, after_refusal};
-ghost use Rattle.shared_cluster.specs.Resolvers.{closed_resolver};
+ghost use Rattle.shared_cluster.specs.Resolvers.{IsResolveRefusal, ShowsReply, TellsTaken};
+ghost use Rattle.shared_cluster.specs.Resolvers.{after_refusal, closed_resolver};
 ghost use Rattle.shared_cluster.specs.declared.refusal.Refusal.TheVariants as refusals;
 
 use crate::refusal::Refusal;
 use crate::resolvers::locked::LockedResolver;
 use crate::resolvers::noted_reply::NotedReply;
+use crate::resolvers::refused::Refused;
 use crate::resolvers::request::Request;
 use agreed_ledger::{Column, Ledger, Naming, Records};
 use model::{ResolverNumber, Version};
@@ -48,15 +49,23 @@ impl<'l, N: Naming> SharedResolver<'l, N> {
             (N.cells.config.resolvers ≤ number → refusal ≡ refusals.WrongResolver)
             × (number < N.cells.config.resolvers → refusal ≡ refusals.OutOfMemory)) }
     {
-        Ok(SharedResolver {
-            ledger,
-            number,
-            lock: Mutex::new(LockedResolver::new(alloc, ledger, number)?),
-            changed: Condvar::new(),
-        })
+        Ok(SharedResolver::of(ledger, LockedResolver::new(alloc, ledger, number)?))
     }
 
-    /// The number that it was made with.
+    /// This resolver, with a lock.
+    fn of(ledger: &'l Ledger<N>, locked: LockedResolver<N>) -> SharedResolver<'l, N>
+        ensures number { result ≡ locked.memory.number }
+        ensures there { locked.memory.number < N.cells.config.resolvers }
+    {
+        SharedResolver {
+            ledger,
+            number: locked.number(),
+            lock: Mutex::new(locked),
+            changed: Condvar::new(),
+        }
+    }
+
+    /// The number of the resolver under the lock.
     pub fn number(&self) -> ResolverNumber
         ensures { result ≡ self.now }
     {
@@ -68,13 +77,20 @@ impl<'l, N: Naming> SharedResolver<'l, N> {
         self.ledger
     }
 
-    /// Waits for the lock. What is under it is known by its type alone: records that are a history,
-    /// and for each of them the verdicts of the definition.
+    /// Waits for the lock of the resolver of this number. What is under it is otherwise known by
+    /// its type alone: records that are a history, and for each of them the verdicts of the
+    /// definition.
     pub fn lock<R: Wait>(&self, rt: &R) -> ResolverGuard<'_, N>
-        ensures { IsLockedResolver N.cells.config result }
+        ensures kept { IsLockedResolver N.cells.config result }
+        ensures number { result.memory.number ≡ self.now }
     {
+        let number = self.number;
         let guard = self.lock.lock(rt);
-        // (its contract says what the type keeps)
+        // (that the resolver under the lock has this number no type says, so it is looked at; the
+        // contract of its number says what the type keeps)
+        let guard = self
+            .changed
+            .wait_while(rt, guard, |locked| locked.number() != number);
         let _number = guard.number();
         ResolverGuard {
             ledger: self.ledger,
@@ -92,17 +108,22 @@ impl<'l, N: Naming> SharedResolver<'l, N> {
         &self,
         rt: &R,
         request: Request<N>,
-    ) -> Result<(NotedReply<N>, ResolverGuard<'_, N>), (Refusal, Request<N>)>
+    ) -> Result<(NotedReply<N>, ResolverGuard<'_, N>), Refused<N>>
         ensures shown { IfOk result (λ made. ShowsReply request made.0 made.1) }
         ensures kept { IfOk result (λ made. IsLockedResolver N.cells.config made.1) }
+        ensures number { IfOk result (λ made. made.1.memory.number ≡ self.now) }
         ensures refused { IfErr result (λ refused.
-            IsResolveRefusal N.cells.config request.plain refused.0) }
-        ensures back { IfErr result (λ refused. refused.1 ≡ request) }
+            IsResolveRefusal N.cells.config self.now request.plain refused.refusal) }
+        ensures taken { IfErr result (λ refused.
+            TellsTaken request.plain.row self.now refused.refusal refused.taken) }
+        ensures back { IfErr result (λ refused. refused.request ≡ request) }
     {
+        let number = self.number;
         let guard = self.lock.lock(rt);
-        let guard = self
-            .changed
-            .wait_while(rt, guard, |locked| locked.is_early(&request));
+        // (as in `lock`, the number is looked at)
+        let guard = self.changed.wait_while(rt, guard, |locked| {
+            locked.number() != number || locked.is_early(&request)
+        });
         // (its contract says what the type keeps)
         let _number = guard.number();
         let mut shown = ResolverGuard {
@@ -140,12 +161,15 @@ impl<'a, N: Naming> Model for ResolverGuard<'a, N> {
 
 impl<'a, N: Naming> ResolverGuard<'a, N> {
     /// Answers a request as the definition does, as [`LockedResolver::offer`] says. Does not wait.
-    pub fn offer(&mut self, request: Request<N>) -> Result<NotedReply<N>, (Refusal, Request<N>)>
+    pub fn offer(&mut self, request: Request<N>) -> Result<NotedReply<N>, Refused<N>>
         ensures offered { IfOk result (HasOffered self.old request self.new) }
         ensures refused { IfErr result (λ refused.
-            IsOfferRefusal self.old request.plain refused.0) }
-        ensures left { IfErr result (λ refused. self.new ≡ after_refusal self.old refused.0) }
-        ensures back { IfErr result (λ refused. refused.1 ≡ request) }
+            IsOfferRefusal self.old request.plain refused.refusal) }
+        ensures taken { IfErr result (λ refused. TellsTaken request.plain.row
+            self.old.memory.number refused.refusal refused.taken) }
+        ensures left { IfErr result (λ refused.
+            self.new ≡ after_refusal self.old refused.refusal) }
+        ensures back { IfErr result (λ refused. refused.request ≡ request) }
         ensures kept { IsLockedResolver N.cells.config self.new }
     {
         let answer = self.guard.offer(self.ledger, request);
