@@ -1,1 +1,5 @@
+pub mod AskedAll
+pub mod FinishedTwo
 pub mod OneVersion
+pub mod RepliesInCells
+pub mod StoppedRuns

@@ -2,3 +2,13 @@
 
 -- the tickets of batches that are sequenced one after another
 pub mod Tickets
+-- two records that a proxy finishes, one after the other
+pub mod Finishing
+-- what two proxies of a cluster show, each right after it has committed
+pub mod Starting
+-- a resolver that replied, with the cell that its reply stands in
+pub mod Resolving
+-- the replies of all resolvers to a record that was begun
+pub mod Asking
+-- why a commit failed, whichever its phase
+pub mod Causes

@@ -2,10 +2,22 @@
 //! proved from the public contracts of what it calls. No program uses this library.
 #![tactic(auto)]
 
+mod asking;
+mod committing;
+mod finishing;
 mod folding;
+mod refused;
+mod resolving;
 mod running;
 mod sequencing;
+mod starting;
 
+pub use asking::{ask_each, resolve_again};
+pub use committing::commit_or_go_on;
+pub use finishing::{commit_two, finish_two};
 pub use folding::tags_after;
-pub use running::{at_one_version, metadata_after};
+pub use refused::Refused;
+pub use resolving::{offer_and_look, offer_twice, resolve_and_look};
+pub use running::{at_one_version, metadata_after, run_on};
 pub use sequencing::{record_of, sequence_around_move, sequence_two};
+pub use starting::{Shown, promise_from_nothing};

@@ -1,13 +1,16 @@
 //! A cluster without threads carries out events, and its proxies are read.
 
-ghost use Rattle.std.specs.Prelude.{◌≡◌, map, IfOk, IfSome};
+ghost use Rattle.std.specs.Prelude.{◌≡◌, ◌+◌, ◌≤◌, ◌++◌, map};
+ghost use Rattle.std.specs.Prelude.{vec_capacity, vec_len, IfOk, IfSome, MatchResult};
 ghost use Rattle.model.specs.World.{initial_world, world_after, proxy_metadata};
 ghost use Rattle.turn_world.specs.Events.{event_of};
+ghost use Rattle.turn_world.specs.Steps.{HasCarriedOut, HasStopped};
 
+use model::laws::events_law;
 use proxy_state::Metadata;
 use std::alloc::Global;
 use system_keys::OutOfMemory;
-use turn_world::{Config, Event, TurnWorld};
+use turn_world::{Answer, Config, Event, Refusal, Stopped, TurnWorld};
 
 /// The metadata of a proxy after the events of a new cluster: the fold of the journal up to the
 /// version of the proxy. None if the cluster has no such proxy. Fails only with `OutOfMemory`.
@@ -48,4 +51,56 @@ pub fn at_one_version(
         return None;
     }
     Some((first.metadata(), second.metadata()))
+}
+
+/// Carries out the events, and goes on once from where the run stopped, if it stopped. The results
+/// of both runs are those of one.
+///
+/// If it stops again, or has no memory to go on, it returns what both runs have carried out.
+pub fn run_on(
+    cluster: &mut TurnWorld,
+    alloc: Global,
+    events: &[Event],
+) -> Result<Vec<Result<Answer, Refusal>>, Stopped>
+    ensures { MatchResult result
+        (λ answers. HasCarriedOut cluster.old cluster.new (map event_of events.now) answers.items)
+        (λ stopped. HasStopped cluster.old cluster.new (map event_of events.now) stopped) }
+{
+    // (its contract is the law that runs of events continue one another)
+    events_law();
+    let Stopped {
+        carried_out,
+        mut answers,
+    } = match cluster.run(alloc, events) {
+        Ok(answers) => return Ok(answers),
+        Err(stopped) => stopped,
+    };
+    let (_, rest) = events.split_at(carried_out);
+    let Ok(()) = answers.reserve(rest.len()) else {
+        return Err(Stopped {
+            carried_out,
+            answers,
+        });
+    };
+    match cluster.run(alloc, rest) {
+        Ok(more) => Ok(joined(answers, more)),
+        Err(stopped) => Err(Stopped {
+            carried_out: carried_out + stopped.carried_out,
+            answers: joined(answers, stopped.answers),
+        }),
+    }
+}
+
+/// The answers and then the further ones, for which there must be room.
+fn joined(
+    mut answers: Vec<Result<Answer, Refusal>>,
+    mut more: Vec<Result<Answer, Refusal>>,
+) -> Vec<Result<Answer, Refusal>>
+    requires { vec_len answers + vec_len more ≤ vec_capacity answers }
+    ensures { result.items ≡ answers.items ++ more.items }
+{
+    let Ok(()) = answers.append(&mut more) else {
+        unreachable!();
+    };
+    answers
 }

@@ -1,0 +1,47 @@
+-- Two records that a locked proxy finishes, one after the other.
+use Rattle.std.specs.Prelude.{◌≡◌, ◌<◌, List, ◌∷◌, slice_get, Some}
+use Rattle.model.specs.Numbers.{ProxyNumber}
+use Rattle.model.specs.Records.{Record}
+use Rattle.model.specs.Stamps.{Given}
+use Rattle.shared_cluster.specs.Ready.{ReadyView}
+use Rattle.shared_cluster.specs.Answers.{NotedFinishedView}
+use Rattle.shared_cluster.specs.Commits.{HoldsBatch}
+use Rattle.shared_cluster.specs.Proxies.{LockedProxyView, IsOfProxy}
+
+-- The answer is to the record of the replies: it is of the same row, with the same records and cells,
+-- and in this row stands the record that was begun.
+pub record IsAnswerTo (rec : Record) (ready : ReadyView) (noted : NotedFinishedView) : Type 0 where
+  pub record_row : rec.row ≡ ready.row
+  pub row : noted.finished.row ≡ ready.row
+  pub records : noted.records ≡ ready.records
+  pub columns : noted.columns ≡ ready.columns
+  pub there : slice_get noted.records noted.finished.row ≡ Some rec
+
+-- The two records were the first ones begun, in this order, and are so no longer. The answers are to
+-- them, and their versions increase. Both records are of the proxy, which has come to the version of
+-- the second.
+pub record FinishesBoth
+    (before : LockedProxyView) (first second : ReadyView)
+    (after : LockedProxyView) (answer next_answer : NotedFinishedView) : Type 0 where
+  pub rec : Record
+  pub next : Record
+  pub rest : List Record
+  pub begun : before.proxy.begun ≡ rec ∷ next ∷ rest
+  pub left : after.proxy.begun ≡ rest
+  pub answer_to : IsAnswerTo rec first answer
+  pub next_answer_to : IsAnswerTo next second next_answer
+  pub increase : answer.finished.version < next_answer.finished.version
+  pub own : IsOfProxy after.proxy.number answer.finished.row answer.records
+  pub next_own : IsOfProxy after.proxy.number next_answer.finished.row next_answer.records
+  pub version : after.proxy.version ≡ next_answer.finished.version
+  pub records : after.records ≡ before.records
+  pub columns : after.columns ≡ second.columns
+
+-- Two answers of one proxy, in the order of their versions. In the row of each stands a record of the
+-- proxy with its batch.
+pub record AnswerInOrder
+    (batch next_batch : List Given) (answer next_answer : NotedFinishedView) : Type 0 where
+  pub number : ProxyNumber
+  pub increase : answer.finished.version < next_answer.finished.version
+  pub holds : HoldsBatch number answer.finished.row answer.records batch
+  pub next_holds : HoldsBatch number next_answer.finished.row next_answer.records next_batch

@@ -1,0 +1,112 @@
+//! A batch is committed, also after one failure.
+
+ghost use Rattle.std.specs.Prelude.{◌≡◌, IfOk};
+ghost use Rattle.shared_cluster.specs.Commits.{HoldsBatch};
+
+use crate::refused::Refused;
+use agreed_ledger::{Naming, Sequencer, Ticket};
+use mutation::Batch;
+use shared_cluster::{Asking, Begun, CommitFault, NotedFinished, Ready, SharedProxy};
+use std::sync::Wait;
+
+/// Commits a batch, and goes on once from what a failed commit returns. In the row of the answer
+/// stands a record with the batch, whichever phase had failed.
+///
+/// Fails as the phase does that fails again.
+pub fn commit_or_go_on<N: Naming, R: Wait, A: Asking<N>>(
+    rt: &R,
+    proxy: &SharedProxy<'_, N>,
+    sequencer: &Sequencer<'_, N>,
+    asking: &A,
+    batch: Batch,
+) -> Result<NotedFinished<N>, Refused>
+    ensures { IfOk result (λ noted.
+        HoldsBatch proxy.now noted.finished.row noted.records batch) }
+{
+    match proxy.commit(rt, sequencer, asking, batch) {
+        Ok((noted, _guard)) => Ok(noted),
+        Err(CommitFault::Sequencing { refusal: _, batch }) => {
+            commit_once(rt, proxy, sequencer, asking, batch)
+        }
+        Err(CommitFault::Beginning { refusal: _, ticket }) => begin(rt, proxy, asking, ticket),
+        Err(CommitFault::Resolving { refusal: _, begun }) => resolve(rt, proxy, asking, begun),
+        Err(CommitFault::Finishing { refusal: _, ready }) => finish(rt, proxy, ready),
+    }
+}
+
+/// Commits a batch. What a failed commit returns is dropped.
+fn commit_once<N: Naming, R: Wait, A: Asking<N>>(
+    rt: &R,
+    proxy: &SharedProxy<'_, N>,
+    sequencer: &Sequencer<'_, N>,
+    asking: &A,
+    batch: Batch,
+) -> Result<NotedFinished<N>, Refused>
+    ensures { IfOk result (λ noted.
+        HoldsBatch proxy.now noted.finished.row noted.records batch) }
+{
+    match proxy.commit(rt, sequencer, asking, batch) {
+        Ok((noted, _guard)) => Ok(noted),
+        Err(fault) => Err(Refused::by(&fault)),
+    }
+}
+
+/// Begins the record of the ticket, and goes on.
+fn begin<N: Naming, R: Wait, A: Asking<N>>(
+    rt: &R,
+    proxy: &SharedProxy<'_, N>,
+    asking: &A,
+    ticket: Ticket<N>,
+) -> Result<NotedFinished<N>, Refused>
+    ensures { IfOk result (λ noted.
+        (noted.finished.row ≡ ticket.row) × (noted.records ≡ ticket.records)) }
+{
+    let begun = begun(rt, proxy, ticket)?;
+    resolve(rt, proxy, asking, begun)
+}
+
+/// Begins the record of the ticket, and lets the proxy go.
+fn begun<N: Naming, R: Wait>(
+    rt: &R,
+    proxy: &SharedProxy<'_, N>,
+    ticket: Ticket<N>,
+) -> Result<Begun<N>, Refused>
+    ensures row { IfOk result (λ begun. begun.row ≡ ticket.row) }
+    ensures records { IfOk result (λ begun. begun.records ≡ ticket.records) }
+{
+    match proxy.lock(rt).begin(ticket) {
+        Ok(begun) => Ok(begun),
+        Err((refusal, _ticket)) => Err(Refused::ByCluster(refusal)),
+    }
+}
+
+/// Asks all resolvers for the record, and finishes it.
+fn resolve<N: Naming, R: Wait, A: Asking<N>>(
+    rt: &R,
+    proxy: &SharedProxy<'_, N>,
+    asking: &A,
+    begun: Begun<N>,
+) -> Result<NotedFinished<N>, Refused>
+    ensures { IfOk result (λ noted.
+        (noted.finished.row ≡ begun.row) × (noted.records ≡ begun.records)) }
+{
+    match proxy.resolve_all(rt, asking, begun) {
+        Ok(ready) => finish(rt, proxy, ready),
+        Err((refusal, _begun)) => Err(Refused::ByCluster(refusal)),
+    }
+}
+
+/// Finishes the record.
+fn finish<N: Naming, R: Wait>(
+    rt: &R,
+    proxy: &SharedProxy<'_, N>,
+    ready: Ready<N>,
+) -> Result<NotedFinished<N>, Refused>
+    ensures { IfOk result (λ noted.
+        (noted.finished.row ≡ ready.row) × (noted.records ≡ ready.records)) }
+{
+    match proxy.lock(rt).finish(ready) {
+        Ok(noted) => Ok(noted),
+        Err((refusal, _ready)) => Err(Refused::ByCluster(refusal)),
+    }
+}

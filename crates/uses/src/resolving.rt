@@ -1,0 +1,82 @@
+//! A resolver replies to a request, and its cell of the row is looked at.
+
+ghost use Rattle.std.specs.Prelude.{◌≡◌, IfErr, IfOk, OnErr};
+ghost use Rattle.shared_cluster.specs.NotedReplies.{IsNotedReply};
+ghost use Rattle.shared_cluster.specs.Resolvers.{HasOffered};
+ghost use Rattle.uses.specs.Resolving.{KeepsAll, RepliesInItsCell, StandsInItsCell};
+
+use agreed_ledger::Naming;
+use shared_cluster::{NotedReply, Refusal, Refused, Request, ResolverGuard, SharedResolver};
+use std::sync::Wait;
+
+/// Waits until the resolver replies to the request. The verdicts of the reply stand in the cell of
+/// its row, in the column of the resolver that is then locked.
+///
+/// Fails as [`SharedResolver::resolve`] does, and returns the request.
+pub fn resolve_and_look<'a, N: Naming, R: Wait>(
+    rt: &R,
+    resolver: &'a SharedResolver<'_, N>,
+    request: Request<N>,
+) -> Result<(NotedReply<N>, ResolverGuard<'a, N>), Refused<N>>
+    ensures shown { IfOk result (λ made. StandsInItsCell request made.0 made.1) }
+    ensures back { IfErr result (λ refused. refused.request ≡ request) }
+{
+    let (noted, guard) = resolver.resolve(rt, request)?;
+    // (its contract says what the type keeps of the reply)
+    let _reply = noted.value();
+    Ok((noted, guard))
+}
+
+/// Offers the request to a locked resolver. The verdicts of the reply stand in the cell of its row,
+/// and the resolver keeps what it had.
+///
+/// Fails as [`ResolverGuard::offer`] does, and returns the request. The resolver is then as it was, or
+/// closed and otherwise as it was.
+pub fn offer_and_look<N: Naming>(
+    guard: &mut ResolverGuard<'_, N>,
+    request: Request<N>,
+) -> Result<NotedReply<N>, Refused<N>>
+    ensures replied { IfOk result (RepliesInItsCell guard.old request guard.new) }
+    ensures kept { OnErr result (KeepsAll guard.old guard.new) }
+    ensures back { IfErr result (λ refused. refused.request ≡ request) }
+{
+    let noted = guard.offer(request)?;
+    // (its contract says what the type keeps of the reply)
+    let _reply = noted.value();
+    Ok(noted)
+}
+
+/// Offers a request twice to a locked resolver. The second reply is the first again, with the same
+/// records and cells, and changes nothing.
+///
+/// Fails as [`ResolverGuard::offer`] does. If the second offer fails, the first was done all the same.
+pub fn offer_twice<N: Naming>(
+    guard: &mut ResolverGuard<'_, N>,
+    request: Request<N>,
+) -> Result<(NotedReply<N>, NotedReply<N>), Refusal>
+    ensures replied { IfOk result (λ both. RepliesInItsCell guard.old request guard.new both.0) }
+    ensures same { IfOk result (λ both. both.1 ≡ both.0) }
+{
+    let copy = request.copy()?;
+    let noted = offered(guard, request)?;
+    let again = offered(guard, copy)?;
+    Ok((noted, again))
+}
+
+/// Offers the request. A refused one is dropped.
+fn offered<N: Naming>(
+    guard: &mut ResolverGuard<'_, N>,
+    request: Request<N>,
+) -> Result<NotedReply<N>, Refusal>
+    ensures offered { IfOk result (HasOffered guard.old request guard.new) }
+    ensures kept { IfOk result (IsNotedReply N.cells.config) }
+{
+    match guard.offer(request) {
+        Ok(noted) => {
+            // (its contract says what the type keeps of the reply)
+            let _reply = noted.value();
+            Ok(noted)
+        }
+        Err(refused) => Err(refused.refusal),
+    }
+}

@@ -1,0 +1,176 @@
+//! A cluster starts from nothing, two of its proxies commit, and the promise holds of their metadata.
+
+ghost use Rattle.std.specs.Prelude.{◌≡◌, ◌<◌, IfOk};
+ghost use Rattle.model.specs.Shares.{each_below};
+ghost use Rattle.shared_cluster.specs.Commits.{IsCommitted};
+ghost use Rattle.uses.specs.Starting.{KeepsPromise, ShowsPromise};
+
+use crate::refused::Refused;
+use agreed_ledger::{BlankLedger, Ledger, Naming, Sequencer};
+use model::{Config, Finished};
+use mutation::Batch;
+use proxy_state::Metadata;
+use shared_cluster::{
+    AllResolvers, Asking, NotedFinished, ProxyGuard, Refusal, SharedProxy, SharedResolver,
+    metadata_of_two,
+};
+use std::alloc::Global;
+use std::marker::Brand;
+use std::sync::Wait;
+use system_keys::OutOfMemory;
+
+/// What two proxies show right after each has committed a batch.
+#[derive(Drop)]
+pub struct Shown {
+    /// The metadata of the first proxy.
+    pub mine: Metadata,
+    /// The metadata of the second proxy.
+    pub theirs: Metadata,
+    /// The batch that the first proxy finished.
+    pub finished: Finished,
+    /// The batch that the second proxy finished.
+    pub next_finished: Finished,
+}
+
+/// Makes a cluster of these numbers, whose ledger has so many rows, and commits a batch on its first
+/// proxy and one on its second. Both then show their metadata, of which the promise of this project
+/// holds.
+///
+/// Fails if the cluster has no second proxy, and as the calls do that make its parts and commit.
+pub fn promise_from_nothing<R: Wait>(
+    rt: &R,
+    alloc: Global,
+    rows: usize,
+    config: Config,
+    batch: Batch,
+    next_batch: Batch,
+) -> Result<Shown, Refused>
+    ensures { IfOk result (λ shown. KeepsPromise config batch next_batch
+        shown.mine shown.theirs shown.finished shown.next_finished) }
+{
+    let blank = Ledger::new(alloc, rows, config)?;
+    in_cluster::<Brand, R>(rt, alloc, blank, batch, next_batch)
+}
+
+/// Names the cells of the ledger, makes the parts of the cluster, and commits.
+fn in_cluster<N: Naming, R: Wait>(
+    rt: &R,
+    alloc: Global,
+    blank: BlankLedger,
+    batch: Batch,
+    next_batch: Batch,
+) -> Result<Shown, Refused>
+    requires { blank ≡ N.cells }
+    ensures { IfOk result (λ shown. KeepsPromise N.cells.config batch next_batch
+        shown.mine shown.theirs shown.finished shown.next_finished) }
+{
+    let ledger = blank.named::<N>();
+    let sequencer = Sequencer::new(alloc, &ledger)?;
+    let resolvers = new_resolvers(alloc, &ledger)?;
+    let asking = asking_all(&ledger, resolvers.as_slice());
+    let one = SharedProxy::new(alloc, &ledger, 0)?;
+    let other = SharedProxy::new(alloc, &ledger, 1)?;
+    commit_on_both(rt, &sequencer, &asking, &one, &other, batch, next_batch)
+}
+
+/// Each resolver of the cluster before its first request, in the order of their numbers. Fails only
+/// with `OutOfMemory`.
+fn new_resolvers<'l, N: Naming>(
+    alloc: Global,
+    ledger: &'l Ledger<N>,
+) -> Result<Vec<SharedResolver<'l, N>>, OutOfMemory>
+    ensures { IfOk result (λ made. made.items ≡ each_below N.cells.config.resolvers) }
+{
+    let count = ledger.config().resolvers();
+    let mut made = Vec::with_capacity(alloc, count)?;
+    for number in 0..count {
+        made.push(new_resolver(alloc, ledger, number)?)?;
+    }
+    Ok(made)
+}
+
+/// The resolver of this number before its first request. Fails only with `OutOfMemory`.
+fn new_resolver<'l, N: Naming>(
+    alloc: Global,
+    ledger: &'l Ledger<N>,
+    number: usize,
+) -> Result<SharedResolver<'l, N>, OutOfMemory>
+    requires { number < N.cells.config.resolvers }
+    ensures { IfOk result (λ made. made ≡ number) }
+{
+    match SharedResolver::new(alloc, ledger, number) {
+        Ok(made) => Ok(made),
+        Err(Refusal::OutOfMemory) => Err(OutOfMemory),
+        Err(_) => unreachable!(),
+    }
+}
+
+/// Takes all resolvers of the cluster, which are never refused.
+fn asking_all<'a, 'l, N: Naming>(
+    ledger: &Ledger<N>,
+    resolvers: &'a [SharedResolver<'l, N>],
+) -> AllResolvers<'a, 'l, N>
+    requires { resolvers.now ≡ each_below N.cells.config.resolvers }
+{
+    // (its contract says that the numbers of the cluster are within their limits)
+    let _config = ledger.config();
+    let Ok(asking) = AllResolvers::new(resolvers) else {
+        unreachable!();
+    };
+    asking
+}
+
+/// Commits a batch on each of two different proxies. Both stay locked until their metadata is shown.
+fn commit_on_both<N: Naming, R: Wait, A: Asking<N>>(
+    rt: &R,
+    sequencer: &Sequencer<'_, N>,
+    asking: &A,
+    one: &SharedProxy<'_, N>,
+    other: &SharedProxy<'_, N>,
+    batch: Batch,
+    next_batch: Batch,
+) -> Result<Shown, Refused>
+    ensures { IfOk result (λ shown. KeepsPromise N.cells.config batch next_batch
+        shown.mine shown.theirs shown.finished shown.next_finished) }
+{
+    let (answer, mine) = committed(rt, one, sequencer, asking, batch)?;
+    let (next_answer, theirs) = committed(rt, other, sequencer, asking, next_batch)?;
+    Ok(shown_by(&mine, &theirs, &answer, &next_answer)?)
+}
+
+/// Commits a batch. What a failed commit returns is dropped.
+fn committed<'a, N: Naming, R: Wait, A: Asking<N>>(
+    rt: &R,
+    proxy: &'a SharedProxy<'_, N>,
+    sequencer: &Sequencer<'_, N>,
+    asking: &A,
+    batch: Batch,
+) -> Result<(NotedFinished<N>, ProxyGuard<'a, N>), Refused>
+    ensures { IfOk result (λ made. IsCommitted proxy.now batch made.0 made.1) }
+{
+    match proxy.commit(rt, sequencer, asking, batch) {
+        Ok(made) => Ok(made),
+        Err(fault) => Err(Refused::by(&fault)),
+    }
+}
+
+/// Copies of what two proxies and their answers show. Fails only with `OutOfMemory`.
+fn shown_by<N: Naming>(
+    one: &ProxyGuard<'_, N>,
+    other: &ProxyGuard<'_, N>,
+    answer: &NotedFinished<N>,
+    next_answer: &NotedFinished<N>,
+) -> Result<Shown, OutOfMemory>
+    ensures { IfOk result (λ shown. ShowsPromise N.cells.config one.now other.now
+        answer.now next_answer.now
+        shown.mine shown.theirs shown.finished shown.next_finished) }
+{
+    let (mine, theirs) = metadata_of_two(one, other, answer);
+    let (_mine, _theirs) = metadata_of_two(one, other, next_answer);
+    Ok(Shown {
+        mine: mine.copy()?,
+        theirs: theirs.copy()?,
+        finished: answer.value().copy()?,
+        next_finished: next_answer.value().copy()?,
+    })
+}
