@@ -1,23 +1,23 @@
 //! Requests for records, and what resolvers behind locks answer.
 
+use crate::tests::phases::Phase;
 use agreed_ledger::Naming;
 use model::{Reply, Verdict};
-use shared_cluster::{Begun, NotedReply, Refusal, Request, SharedResolver};
+use shared_cluster::{NotedReply, Refusal, Refused, Request, SharedResolver};
 use std::sync::Wait;
-use system_keys::OutOfMemory;
 use testing::twice;
 
-/// A copy of the request for the record of a row to a resolver.
+/// A copy of the request for the record of a row, which is begun, to a resolver.
 fn request<N: Naming>(
-    rows: &[Begun<N>],
+    rows: &[Phase<N>],
     row: usize,
     resolver: usize,
 ) -> Result<Request<N>, Refusal> {
-    let Some(begun) = rows.get(row) else {
+    let Some(Phase::Begun(begun)) = rows.get(row) else {
         return Err(Refusal::NoSuchProxy);
     };
     match begun.requests().get(resolver) {
-        Some(request) => Ok(twice!(request.copy(), OutOfMemory)?),
+        Some(request) => Ok(request.copy()?),
         None => Err(Refusal::WrongResolver),
     }
 }
@@ -27,18 +27,9 @@ pub(crate) type Told = (u64, Option<Verdict>, usize);
 
 pub(crate) type Answer = Result<Told, Refusal>;
 
-pub(crate) fn told(reply: &Reply) -> Told {
+fn told(reply: &Reply) -> Told {
     let first = reply.verdicts.as_slice().first().copied();
     (reply.version, first, reply.unseen.as_slice().len())
-}
-
-/// How a request is brought to a resolver.
-#[derive(Clone, Copy)]
-pub(crate) enum Way {
-    /// It waits its turn.
-    Wait,
-    /// It does not wait.
-    Offer,
 }
 
 /// Waits with the request for its turn, and lets the resolver go.
@@ -46,64 +37,44 @@ fn resolve<N: Naming, R: Wait>(
     rt: &R,
     resolver: &SharedResolver<'_, N>,
     request: Request<N>,
-) -> Result<NotedReply<N>, (Refusal, Request<N>)> {
+) -> Result<NotedReply<N>, Refused<N>> {
     match resolver.resolve(rt, request) {
         Ok((noted, _shown)) => Ok(noted),
         Err(refused) => Err(refused),
     }
 }
 
-/// Offers the request, and lets the resolver go.
-fn offer<N: Naming, R: Wait>(
-    rt: &R,
-    resolver: &SharedResolver<'_, N>,
-    request: Request<N>,
-) -> Result<NotedReply<N>, (Refusal, Request<N>)> {
-    resolver.lock(rt).offer(request)
-}
-
-/// The answer to the request, and the request if it was refused.
+/// Brings a copy of the request, which waits its turn or does not.
 fn answer_once<N: Naming, R: Wait>(
     rt: &R,
     resolver: &SharedResolver<'_, N>,
-    way: Way,
-    request: Request<N>,
-) -> Result<Told, (Refusal, Request<N>)> {
-    let answer = match way {
-        Way::Wait => resolve(rt, resolver, request),
-        Way::Offer => offer(rt, resolver, request),
-    };
-    match answer {
-        Ok(noted) => Ok(told(noted.value())),
-        Err(refused) => Err(refused),
-    }
-}
-
-/// The answer to the request, which is brought once more after a failed allocation.
-fn answer_to<N: Naming, R: Wait>(
-    rt: &R,
-    resolver: &SharedResolver<'_, N>,
-    way: Way,
-    request: Request<N>,
-) -> Answer {
-    let answer = match answer_once(rt, resolver, way, request) {
-        Err((Refusal::OutOfMemory, back)) => answer_once(rt, resolver, way, back),
-        answer => answer,
-    };
-    match answer {
-        Ok(told) => Ok(told),
-        Err((refusal, _back)) => Err(refusal),
-    }
-}
-
-/// The answer to the request for the record of a row to the resolver of its number.
-pub(crate) fn answer<N: Naming, R: Wait>(
-    rt: &R,
-    resolver: &SharedResolver<'_, N>,
-    way: Way,
-    rows: &[Begun<N>],
+    waits: bool,
+    rows: &[Phase<N>],
     row: usize,
 ) -> Answer {
     let request = request(rows, row, resolver.number())?;
-    answer_to(rt, resolver, way, request)
+    let answered = if waits {
+        resolve(rt, resolver, request)
+    } else {
+        resolver.lock(rt).offer(request)
+    };
+    match answered {
+        Ok(noted) => Ok(told(noted.value())),
+        Err(refused) => Err(refused.refusal),
+    }
+}
+
+/// The answer to the request for the record of a row to the resolver of its number, which is brought
+/// once more after a failed allocation.
+pub(crate) fn answer<N: Naming, R: Wait>(
+    rt: &R,
+    resolver: &SharedResolver<'_, N>,
+    waits: bool,
+    rows: &[Phase<N>],
+    row: usize,
+) -> Answer {
+    twice!(
+        answer_once(rt, resolver, waits, rows, row),
+        Refusal::OutOfMemory
+    )
 }

@@ -1,16 +1,16 @@
-//! Tests of commits.
+//! Tests of commits, one after the other.
 
 ghost use Rattle.std.specs.Prelude.{◌≡◌};
 
-use crate::tests::phases::{Cluster, Committed, commit, parts};
-use crate::tests::starting::{Line, blank};
-use agreed_ledger::{BlankLedger, Naming, Refusal};
+use crate::tests::commits::{Commit, commit};
+use crate::tests::starting::{Cluster, Line, blank};
+use agreed_ledger::{BlankLedger, Naming};
 use model::Outcome;
 use std::alloc::Global;
 use std::marker::Brand;
 use std::sync::Wait;
 use std::test::Fail;
-use system_keys::{KeyRange, Tag};
+use system_keys::Tag;
 use testing::{Given, NOTHING, Step, batch, range};
 
 /// A transaction that gives a server its tag and all keys.
@@ -35,118 +35,94 @@ const READ: Given<'static> = Given {
     ..NOTHING
 };
 
+const LINES: [Line<'static>; 3] = [(0, &[PLACE, WRITE]), (1, &[WRITE, READ]), (0, &[READ])];
+
 /// The tag that the first transaction gives the server.
-const TAG: Tag = Tag { locality: 0, id: 1 };
+const TAG: Option<Tag> = Some(Tag { locality: 0, id: 1 });
 
-// ---- in order
+const FIRST_AT_10: Outcome = Outcome::Committed {
+    version: 10,
+    number: 0,
+};
 
-/// Moves the keys of the range to the resolver.
-fn moved<N: Naming, R: Wait>(
-    rt: &R,
-    cluster: &Cluster<'_, N>,
-    range: &KeyRange,
-    dest: usize,
-) -> Result<u64, Refusal> {
-    cluster.proxies.sequencer.lock(rt).move_range(range, dest)
-}
+const SECOND_AT_10: Outcome = Outcome::Committed {
+    version: 10,
+    number: 1,
+};
 
-/// Moves the keys from `m` on to the last resolver.
+const FIRST_AT_20: Outcome = Outcome::Committed {
+    version: 20,
+    number: 0,
+};
+
+/// What the three batches come to, over one resolver and over two.
+const WANTED: [Commit; 3] = [
+    Ok(((10, 10), [Some(FIRST_AT_10), Some(SECOND_AT_10)], 3, TAG)),
+    Ok((
+        (20, 20),
+        [Some(FIRST_AT_20), Some(Outcome::Conflict)],
+        1,
+        TAG,
+    )),
+    Ok(((30, 30), [Some(Outcome::Conflict), None], 0, None)),
+];
+
+/// Moves the keys from `m` on to the last of so many resolvers.
 fn move_keys<N: Naming, R: Wait>(
     rt: &R,
     alloc: Global,
     cluster: &Cluster<'_, N>,
+    resolvers: usize,
 ) -> Result<(), Fail> {
     let range = range(alloc, b"m", b"t")?;
-    let dest = cluster.resolvers.len().saturating_sub(1);
-    let _date = moved(rt, cluster, &range, dest)?;
+    let dest = resolvers.saturating_sub(1);
+    let _date = cluster.sequencer.lock(rt).move_range(&range, dest)?;
     Ok(())
 }
 
-/// Commits a batch.
-fn commit_line<N: Naming, R: Wait>(
+/// The number of the first batch that does not come to what is wanted.
+fn first_wrong<N: Naming, R: Wait>(
     rt: &R,
     alloc: Global,
     cluster: &Cluster<'_, N>,
-    line: Line<'_>,
-) -> Result<Option<Committed>, Fail> {
-    let batch = batch(alloc, line.1)?;
-    Ok(commit(rt, cluster, line.0, batch))
+) -> Result<Option<usize>, Fail> {
+    for (number, (proxy, given)) in LINES.iter().enumerate() {
+        let batch = batch(alloc, *given)?;
+        if WANTED.get(number) != Some(&commit(rt, cluster, *proxy, batch)) {
+            return Ok(Some(number));
+        }
+    }
+    Ok(None)
 }
 
-type Three = [Option<Committed>; 3];
-
-/// Commits three batches of two proxies.
-fn commit_three<N: Naming, R: Wait>(
-    rt: &R,
-    alloc: Global,
-    cluster: &Cluster<'_, N>,
-) -> Result<Three, Fail> {
-    move_keys(rt, alloc, cluster)?;
-    let first = commit_line(rt, alloc, cluster, (0, &[PLACE, WRITE]))?;
-    let second = commit_line(rt, alloc, cluster, (1, &[WRITE, READ]))?;
-    let third = commit_line(rt, alloc, cluster, (0, &[READ]))?;
-    Ok([first, second, third])
-}
-
-fn commit_in_order<N: Naming, R: Wait>(
+fn first_wrong_of<N: Naming, R: Wait>(
     rt: &R,
     alloc: Global,
     blank: BlankLedger,
-    resolvers: &[usize],
-) -> Result<Three, Fail>
+    numbers: &[usize],
+) -> Result<Option<usize>, Fail>
     requires { blank ≡ N.cells }
 {
     let ledger = blank.named::<N>();
-    let cluster = parts(alloc, &ledger, resolvers)?;
-    commit_three(rt, alloc, &cluster)
+    let cluster = Cluster::new(alloc, &ledger, numbers)?;
+    move_keys(rt, alloc, &cluster, numbers.len())?;
+    first_wrong(rt, alloc, &cluster)
 }
 
-/// What three commits in order come to.
-fn in_order() -> Three {
-    [
-        Some(Committed {
-            version: 10,
-            first: committed_at(10, 0),
-            second: committed_at(10, 1),
-            mutations: 3,
-            tag: Some(TAG),
-            shown: 10,
-        }),
-        Some(Committed {
-            version: 20,
-            first: committed_at(20, 0),
-            second: Some(Outcome::Conflict),
-            mutations: 1,
-            tag: Some(TAG),
-            shown: 20,
-        }),
-        Some(Committed {
-            version: 30,
-            first: Some(Outcome::Conflict),
-            second: None,
-            mutations: 0,
-            tag: None,
-            shown: 30,
-        }),
-    ]
-}
-
-fn committed_at(version: u64, number: usize) -> Option<Outcome> {
-    Some(Outcome::Committed { version, number })
+/// As above, with resolvers of these numbers in a cluster of its own.
+fn first_wrong_over<R: Wait>(
+    rt: &R,
+    alloc: Global,
+    numbers: &[usize],
+) -> Result<Option<usize>, Fail> {
+    let blank = blank(alloc, 3, numbers.len())?;
+    first_wrong_of::<Brand, _>(rt, alloc, blank, numbers)
 }
 
 #[test]
-fn commits_over_one_resolver_are_in_order(rt: HostRuntime) -> Result<(), Fail> {
+fn commits_over_one_resolver_and_over_two_are_in_order(rt: HostRuntime) -> Result<(), Fail> {
     let alloc = rt.alloc();
-    let three = commit_in_order::<Brand, _>(&rt, alloc, blank(alloc, 1)?, &[0])?;
-    assert!(&rt; three == in_order());
-    Ok(())
-}
-
-#[test]
-fn commits_over_two_resolvers_are_in_order(rt: HostRuntime) -> Result<(), Fail> {
-    let alloc = rt.alloc();
-    let three = commit_in_order::<Brand, _>(&rt, alloc, blank(alloc, 2)?, &[0, 1])?;
-    assert!(&rt; three == in_order());
+    assert!(&rt; first_wrong_over(&rt, alloc, &[0])? == None);
+    assert!(&rt; first_wrong_over(&rt, alloc, &[0, 1])? == None);
     Ok(())
 }

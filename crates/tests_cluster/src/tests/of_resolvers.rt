@@ -2,20 +2,17 @@
 
 ghost use Rattle.std.specs.Prelude.{◌≡◌};
 
-use crate::tests::answers::{Answer, Way, answer};
-use crate::tests::starting::{Line, blank, new_rows};
+use crate::tests::answers::{Answer, answer};
+use crate::tests::phases::{Phase, Step, first_wrong};
+use crate::tests::starting::{Cluster, Line, blank, tickets};
 use agreed_ledger::{BlankLedger, Ledger, Naming};
 use model::Verdict;
-use shared_cluster::{Begun, Refusal, SharedResolver};
+use shared_cluster::{Refusal, SharedResolver};
 use std::alloc::Global;
 use std::marker::Brand;
 use std::sync::Wait;
 use std::test::Fail;
-use std::thread::{Threads, join};
 use testing::{Given, NOTHING, twice};
-
-/// How often a thread looks at a resolver before it closes it.
-const LOOKS: usize = 10_000;
 
 /// A batch that writes at `k`.
 const WRITE: &[Given<'static>] = &[Given {
@@ -31,6 +28,22 @@ const READ: &[Given<'static>] = &[Given {
 
 /// The first record writes where the second reads.
 const LINES: &[Line<'static>] = &[(0, WRITE), (1, READ)];
+
+/// Each is begun by its proxy.
+const BEGIN: &[Step] = &[(0, 0, None), (1, 1, None)];
+
+/// Both records, begun and not resolved.
+pub(crate) fn begun<N: Naming, R: Wait>(
+    rt: &R,
+    alloc: Global,
+    cluster: &Cluster<'_, N>,
+) -> Result<Vec<Phase<N>>, Fail> {
+    let mut rows = tickets(rt, alloc, cluster, LINES)?;
+    match first_wrong(rt, cluster, &mut rows, BEGIN) {
+        None => Ok(rows),
+        Some(_) => Err(Fail::from("a record was not begun")),
+    }
+}
 
 const COMMITTED_AT_10: Answer = Ok((10, Some(Verdict::Committed), 0));
 
@@ -69,151 +82,84 @@ fn three_numbers<N: Naming, R: Wait>(rt: &R, alloc: Global, blank: BlankLedger) 
 #[test]
 fn a_resolver_has_its_number(rt: HostRuntime) -> Result<(), Fail> {
     let alloc = rt.alloc();
-    let found = three_numbers::<Brand, _>(&rt, alloc, blank(alloc, 2)?);
+    let found = three_numbers::<Brand, _>(&rt, alloc, blank(alloc, 1, 2)?);
     assert!(&rt; found == [Ok((0, 0)), Ok((1, 1)), Err(Refusal::WrongResolver)]);
     Ok(())
 }
 
 // ---- turns
 
-/// The answers to two requests that come out of turn, in turn and again.
-fn answer_in_turn<N: Naming, R: Wait>(
+/// A request: the resolver's place, whether it waits its turn, its row, and what is to be answered.
+type Ask = (usize, bool, usize, Answer);
+
+const WAITS: bool = true;
+
+const OFFERED: bool = false;
+
+/// Requests that come out of turn, in turn and again.
+const IN_TURN: &[Ask] = &[
+    (0, OFFERED, 1, Err(Refusal::Early { version: 0 })),
+    (0, OFFERED, 0, COMMITTED_AT_10),
+    (0, WAITS, 0, COMMITTED_AT_10),
+    (0, WAITS, 1, CONFLICT_AT_20),
+    (0, OFFERED, 1, CONFLICT_AT_20),
+    (0, OFFERED, 0, COMMITTED_AT_10),
+];
+
+/// A request to one of two resolvers of one number, and then to the other.
+const BY_TWO: &[Ask] = &[
+    (0, WAITS, 0, COMMITTED_AT_10),
+    (1, WAITS, 0, Err(Refusal::CellTaken)),
+    (1, WAITS, 0, Err(Refusal::Closed)),
+    (1, OFFERED, 0, Err(Refusal::Closed)),
+    (0, WAITS, 0, COMMITTED_AT_10),
+];
+
+/// The place of the first request that is not answered as it is to be.
+fn first_other<N: Naming, R: Wait>(
     rt: &R,
-    resolver: &SharedResolver<'_, N>,
-    rows: &[Begun<N>],
-) -> [Answer; 6] {
-    [
-        answer(rt, resolver, Way::Offer, rows, 1),
-        answer(rt, resolver, Way::Offer, rows, 0),
-        answer(rt, resolver, Way::Wait, rows, 0),
-        answer(rt, resolver, Way::Wait, rows, 1),
-        answer(rt, resolver, Way::Offer, rows, 1),
-        answer(rt, resolver, Way::Offer, rows, 0),
-    ]
+    cluster: &Cluster<'_, N>,
+    rows: &[Phase<N>],
+    asks: &[Ask],
+) -> Option<usize> {
+    for (place, (resolver, waits, row, wanted)) in asks.iter().enumerate() {
+        let Some(resolver) = cluster.resolvers().get(*resolver) else {
+            return Some(place);
+        };
+        if answer(rt, resolver, *waits, rows, *row) != *wanted {
+            return Some(place);
+        }
+    }
+    None
 }
 
-fn in_turn<N: Naming, R: Wait>(
+fn first_other_of<N: Naming, R: Wait>(
     rt: &R,
     alloc: Global,
     blank: BlankLedger,
-) -> Result<[Answer; 6], Fail>
+    numbers: &[usize],
+    asks: &[Ask],
+) -> Result<Option<usize>, Fail>
     requires { blank ≡ N.cells }
 {
     let ledger = blank.named::<N>();
-    let rows = new_rows(rt, alloc, &ledger, LINES)?;
-    let resolver = SharedResolver::new(alloc, &ledger, 0)?;
-    Ok(answer_in_turn(rt, &resolver, rows.as_slice()))
+    let cluster = Cluster::new(alloc, &ledger, numbers)?;
+    let rows = begun(rt, alloc, &cluster)?;
+    Ok(first_other(rt, &cluster, rows.as_slice(), asks))
 }
 
 #[test]
 fn a_request_comes_early_in_turn_or_again(rt: HostRuntime) -> Result<(), Fail> {
     let alloc = rt.alloc();
-    let answers = in_turn::<Brand, _>(&rt, alloc, blank(alloc, 1)?)?;
-    let wanted = [
-        Err(Refusal::Early { version: 0 }),
-        COMMITTED_AT_10,
-        COMMITTED_AT_10,
-        CONFLICT_AT_20,
-        CONFLICT_AT_20,
-        COMMITTED_AT_10,
-    ];
-    assert!(&rt; answers == wanted);
+    let blank = blank(alloc, 2, 1)?;
+    assert!(&rt; first_other_of::<Brand, _>(&rt, alloc, blank, &[0], IN_TURN)? == None);
     Ok(())
-}
-
-// ---- closing
-
-/// Looks at the resolver, so that another thread waits by then, and closes it.
-fn close_later<N: Naming, R: Wait>(rt: &R, resolver: &SharedResolver<'_, N>) {
-    for _look in 0..LOOKS {
-        let _version = resolver.lock(rt).version();
-    }
-    resolver.close(rt);
-}
-
-/// The answer to a request that waits in one thread, while another closes the resolver.
-fn answer_while_closing<N: Naming + Send + Sync, R: Threads + Wait + Sync>(
-    rt: &R,
-    resolver: &SharedResolver<'_, N>,
-    rows: &[Begun<N>],
-) -> Answer {
-    let (answer, ()) = join(
-        rt,
-        || answer(rt, resolver, Way::Wait, rows, 1),
-        || close_later(rt, resolver),
-    );
-    answer
-}
-
-/// The answers to requests that wait while a resolver is closed, and that come later.
-fn close_on_waiting<N: Naming + Send + Sync, R: Threads + Wait + Sync>(
-    rt: &R,
-    alloc: Global,
-    blank: BlankLedger,
-) -> Result<[Answer; 3], Fail>
-    requires { blank ≡ N.cells }
-{
-    let ledger = blank.named::<N>();
-    let rows = new_rows(rt, alloc, &ledger, LINES)?;
-    let resolver = SharedResolver::new(alloc, &ledger, 0)?;
-    Ok([
-        answer_while_closing(rt, &resolver, rows.as_slice()),
-        answer(rt, &resolver, Way::Wait, rows.as_slice(), 0),
-        answer(rt, &resolver, Way::Offer, rows.as_slice(), 0),
-    ])
-}
-
-#[test]
-fn threads_that_wait_are_told_of_a_closed_resolver(rt: HostRuntime) -> Result<(), Fail> {
-    let alloc = rt.alloc();
-    let answers = close_on_waiting::<Brand, _>(&rt, alloc, blank(alloc, 1)?)?;
-    assert!(&rt; answers == [Err(Refusal::Closed); 3]);
-    Ok(())
-}
-
-// ---- taken cells
-
-/// The answers of two resolvers of one number to one request.
-fn answer_by_two<N: Naming, R: Wait>(
-    rt: &R,
-    one: &SharedResolver<'_, N>,
-    other: &SharedResolver<'_, N>,
-    rows: &[Begun<N>],
-) -> [Answer; 5] {
-    [
-        answer(rt, one, Way::Wait, rows, 0),
-        answer(rt, other, Way::Wait, rows, 0),
-        answer(rt, other, Way::Wait, rows, 0),
-        answer(rt, other, Way::Offer, rows, 0),
-        answer(rt, one, Way::Wait, rows, 0),
-    ]
-}
-
-fn take_cell_twice<N: Naming, R: Wait>(
-    rt: &R,
-    alloc: Global,
-    blank: BlankLedger,
-) -> Result<[Answer; 5], Fail>
-    requires { blank ≡ N.cells }
-{
-    let ledger = blank.named::<N>();
-    let rows = new_rows(rt, alloc, &ledger, LINES)?;
-    let one = SharedResolver::new(alloc, &ledger, 0)?;
-    let other = SharedResolver::new(alloc, &ledger, 0)?;
-    Ok(answer_by_two(rt, &one, &other, rows.as_slice()))
 }
 
 #[test]
 fn a_second_resolver_of_a_number_is_refused_the_cell(rt: HostRuntime) -> Result<(), Fail> {
     let alloc = rt.alloc();
-    let answers = take_cell_twice::<Brand, _>(&rt, alloc, blank(alloc, 1)?)?;
-    let wanted = [
-        COMMITTED_AT_10,
-        Err(Refusal::CellTaken),
-        Err(Refusal::Closed),
-        Err(Refusal::Closed),
-        COMMITTED_AT_10,
-    ];
-    assert!(&rt; answers == wanted);
+    let blank = blank(alloc, 2, 1)?;
+    assert!(&rt; first_other_of::<Brand, _>(&rt, alloc, blank, &[0, 0], BY_TWO)? == None);
     Ok(())
 }

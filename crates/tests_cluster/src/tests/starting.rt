@@ -1,68 +1,76 @@
-//! What the tests start from: a ledger, the parts of a cluster, and requests for records.
+//! What the tests start from: a ledger, the parts of a cluster, and tickets.
 
+use crate::tests::phases::Phase;
 use agreed_ledger::{BlankLedger, Ledger, Naming, Sequencer, Ticket};
 use model::Config;
-use shared_cluster::{Begun, Refusal, SharedProxy, SharedResolver};
+use shared_cluster::{SharedProxy, SharedResolver};
 use std::alloc::Global;
 use std::sync::Wait;
 use std::test::Fail;
 use testing::{Given, batch, room, twice};
 
-/// A ledger of twelve rows, for three proxies and so many resolvers.
-pub(crate) fn blank(alloc: Global, resolvers: usize) -> Result<BlankLedger, Fail> {
-    let config = Config::new(3, resolvers, 100, 10)?;
+/// A ledger of so many rows, for three proxies and so many resolvers.
+pub(crate) fn blank(alloc: Global, rows: usize, resolvers: usize) -> Result<BlankLedger, Fail> {
+    let config = Config::new(3, resolvers, 1000, 10)?;
     let made = twice!(
-        Ledger::new(alloc, 12, config),
+        Ledger::new(alloc, rows, config),
         agreed_ledger::Refusal::OutOfMemory
     );
     Ok(made?)
 }
 
-/// The proxies of a cluster, and the sequencer that gives their batches versions.
+/// The parts of a cluster: all proxies, and some resolvers.
 #[derive(Drop)]
-pub(crate) struct Proxies<'l, N: Naming> {
+pub(crate) struct Cluster<'l, N: Naming> {
     pub(crate) sequencer: Sequencer<'l, N>,
-    all: Vec<SharedProxy<'l, N>>,
+    proxies: Vec<SharedProxy<'l, N>>,
+    resolvers: Vec<SharedResolver<'l, N>>,
 }
 
-impl<'l, N: Naming> Proxies<'l, N> {
-    /// All proxies before their first records.
-    pub(crate) fn new(alloc: Global, ledger: &'l Ledger<N>) -> Result<Proxies<'l, N>, Fail> {
-        Ok(Proxies {
+impl<'l, N: Naming> Cluster<'l, N> {
+    /// The parts before the first record, with resolvers of these numbers.
+    pub(crate) fn new(
+        alloc: Global,
+        ledger: &'l Ledger<N>,
+        numbers: &[usize],
+    ) -> Result<Cluster<'l, N>, Fail> {
+        Ok(Cluster {
             sequencer: Sequencer::new(alloc, ledger)?,
-            all: all_proxies(alloc, ledger)?,
+            proxies: proxies(alloc, ledger)?,
+            resolvers: resolvers(alloc, ledger, numbers)?,
         })
     }
 
     /// The proxy of this number.
-    pub(crate) fn get(&self, number: usize) -> Option<&SharedProxy<'l, N>> {
-        self.all.as_slice().get(number)
+    pub(crate) fn proxy(&self, number: usize) -> Option<&SharedProxy<'l, N>> {
+        self.proxies.as_slice().get(number)
+    }
+
+    /// The resolvers.
+    pub(crate) fn resolvers(&self) -> &[SharedResolver<'l, N>] {
+        self.resolvers.as_slice()
     }
 }
 
-fn all_proxies<'l, N: Naming>(
+fn proxies<'l, N: Naming>(
     alloc: Global,
     ledger: &'l Ledger<N>,
 ) -> Result<Vec<SharedProxy<'l, N>>, Fail> {
-    let count = ledger.config().proxies();
-    let mut all = room(alloc, count)?;
-    for number in 0..count {
-        let proxy = SharedProxy::new(alloc, ledger, number)?;
-        all.push(proxy)?;
+    let mut made = room(alloc, 3)?;
+    for number in 0..3 {
+        made.push(SharedProxy::new(alloc, ledger, number)?)?;
     }
-    Ok(all)
+    Ok(made)
 }
 
-/// Resolvers of these numbers before their first requests.
-pub(crate) fn resolvers<'l, N: Naming>(
+fn resolvers<'l, N: Naming>(
     alloc: Global,
     ledger: &'l Ledger<N>,
     numbers: &[usize],
 ) -> Result<Vec<SharedResolver<'l, N>>, Fail> {
     let mut made = room(alloc, numbers.len())?;
     for number in numbers {
-        let resolver = SharedResolver::new(alloc, ledger, *number)?;
-        made.push(resolver)?;
+        made.push(SharedResolver::new(alloc, ledger, *number)?)?;
     }
     Ok(made)
 }
@@ -71,67 +79,29 @@ pub(crate) fn resolvers<'l, N: Naming>(
 pub(crate) type Line<'a> = (usize, &'a [Given<'a>]);
 
 /// The ticket of a batch.
-pub(crate) fn ticket<N: Naming, R: Wait>(
+fn ticket<N: Naming, R: Wait>(
     rt: &R,
     alloc: Global,
-    sequencer: &Sequencer<'_, N>,
+    cluster: &Cluster<'_, N>,
     line: Line<'_>,
 ) -> Result<Ticket<N>, Fail> {
-    let (proxy, given) = line;
-    let batch = batch(alloc, given)?;
-    match sequencer.lock(rt).sequence(proxy, batch) {
+    let batch = batch(alloc, line.1)?;
+    match cluster.sequencer.lock(rt).sequence(line.0, batch) {
         Ok(ticket) => Ok(ticket),
         Err((refusal, _batch)) => Err(Fail::from(refusal)),
     }
 }
 
-/// The requests for a record, which its proxy begins.
-fn begun<N: Naming, R: Wait>(
-    rt: &R,
-    proxy: &SharedProxy<'_, N>,
-    ticket: Ticket<N>,
-) -> Result<Begun<N>, Fail> {
-    match proxy.lock(rt).begin(ticket) {
-        Ok(begun) => Ok(begun),
-        Err((refusal, _ticket)) => Err(Fail::from(refusal)),
-    }
-}
-
-/// Begins the record of a batch.
-fn begun_row<N: Naming, R: Wait>(
+/// The tickets of these batches, in the order of the rows.
+pub(crate) fn tickets<N: Naming, R: Wait>(
     rt: &R,
     alloc: Global,
-    proxies: &Proxies<'_, N>,
-    line: Line<'_>,
-) -> Result<Begun<N>, Fail> {
-    let ticket = ticket(rt, alloc, &proxies.sequencer, line)?;
-    match proxies.get(line.0) {
-        Some(proxy) => begun(rt, proxy, ticket),
-        None => Err(Fail::from(Refusal::NoSuchProxy)),
-    }
-}
-
-/// The requests for the records of these batches, in the order of the rows. None is finished.
-pub(crate) fn begun_rows<N: Naming, R: Wait>(
-    rt: &R,
-    alloc: Global,
-    proxies: &Proxies<'_, N>,
+    cluster: &Cluster<'_, N>,
     lines: &[Line<'_>],
-) -> Result<Vec<Begun<N>>, Fail> {
+) -> Result<Vec<Phase<N>>, Fail> {
     let mut rows = room(alloc, lines.len())?;
     for line in lines {
-        rows.push(begun_row(rt, alloc, proxies, *line)?)?;
+        rows.push(Phase::Sequenced(ticket(rt, alloc, cluster, *line)?))?;
     }
     Ok(rows)
-}
-
-/// The requests of new proxies for the records of these batches.
-pub(crate) fn new_rows<N: Naming, R: Wait>(
-    rt: &R,
-    alloc: Global,
-    ledger: &Ledger<N>,
-    lines: &[Line<'_>],
-) -> Result<Vec<Begun<N>>, Fail> {
-    let proxies = Proxies::new(alloc, ledger)?;
-    begun_rows(rt, alloc, &proxies, lines)
 }
