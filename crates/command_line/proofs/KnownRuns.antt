@@ -2,10 +2,10 @@
 use Rattle.std.proofs.Common.{List, Option, subst}
 use Rattle.clap.specs.Words.{Text}
 use Rattle.mode_choice.specs.CommandLine.{GivesMode}
-use Rattle.mode_choice.specs.KnownLines.{IsFoldLine, IsRejectedLine, IsTurnsLine}
+use Rattle.mode_choice.specs.KnownLines.{IsFoldLine, IsRejectedLine, IsThreadsLine, IsTurnsLine}
 use Rattle.mode_choice.specs.declared.mode.Mode.{Mode}
-use Rattle.mode_choice.specs.declared.mode.Mode.TheVariants.{Fold, Turns}
-use Rattle.mode_choice.proofs.KnownWords.{fold_line_gives, rejected_line_refused, turns_line_gives}
+use Rattle.mode_choice.specs.declared.mode.Mode.TheVariants.{Fold, Turns, Threads}
+use Rattle.mode_choice.proofs.KnownWords.{fold_line_gives, rejected_line_refused, threads_line_gives, turns_line_gives}
 use Rattle.command_line.specs.Statuses.{IsRejected}
 use Rattle.command_line.specs.WordRuns.{RunsMode, RunsOrRunsOut, RunsWords}
 use Rattle.command_line.specs.declared.status.Status.{Status}
@@ -26,7 +26,12 @@ pub turns_line_plays : (words : List Text) (status : Status) (unchanged : Type 0
     → RunsWords words status unchanged runs → IsTurnsLine words → RunsOrRunsOut status unchanged (runs Turns)
 turns_line_plays words status unchanged runs run line = mode_runs words status unchanged runs Turns run (turns_line_gives run.names words line)
 
--- a command line of another mode, or a call for help, is rejected
+-- a command line that commits batches in threads
+pub threads_line_commits : (words : List Text) (status : Status) (unchanged : Type 0) (runs : Mode → Type 0)
+    → RunsWords words status unchanged runs → IsThreadsLine words → RunsOrRunsOut status unchanged (runs Threads)
+threads_line_commits words status unchanged runs run line = mode_runs words status unchanged runs Threads run (threads_line_gives run.names words line)
+
+-- a command line with the name of a mode in other letters, or a call for help, is rejected
 pub rejected_line_rejected : (words : List Text) (status : Status) (unchanged : Type 0) (runs : Mode → Type 0)
     → RunsWords words status unchanged runs → IsRejectedLine words → IsRejected status × unchanged
 rejected_line_rejected words status unchanged runs run line = run.refused (rejected_line_refused run.names words line)

@@ -4,7 +4,7 @@ use Rattle.clap.specs.Words.{Text, fault_of, matches_of}
 use Rattle.mode_choice.specs.CommandLine.{ModeNames, command_line, mode_of}
 use Rattle.command_line.specs.Statuses.{IsRejected}
 use Rattle.mode_choice.specs.declared.mode.Mode.{Mode}
-use Rattle.mode_choice.specs.declared.mode.Mode.TheVariants.{Fold, Turns}
+use Rattle.mode_choice.specs.declared.mode.Mode.TheVariants.{Fold, Turns, Threads}
 use Rattle.command_line.specs.declared.status.Status.{Status}
 use Rattle.command_line.specs.declared.status.Status.TheVariants.{CommandLineRefused, Ran}
 use Rattle.fold_run.specs.Text.{fold_text}
@@ -14,12 +14,8 @@ use Rattle.scripts.specs.declared.devices.Sink.{Ghosts as SinkView}
 use Rattle.scripts.specs.declared.devices.Source.{Ghosts as SourceView}
 use Rattle.scripts.specs.declared.status.RunStatus.{RunStatus}
 use Rattle.scripts.specs.declared.status.RunStatus.TheVariants.{OutOfMemory}
+use Rattle.threads_run.specs.Runs.{RunsThreads}
 use Rattle.turns_run.specs.Text.{turns_text}
-
--- the answer to a script in this mode
-abbrev pub answer_in : Mode → List ℕ → Answer
-answer_in Fold = fold_text
-answer_in Turns = turns_text
 
 -- what a run leaves that answers its input so: what it wrote, and its devices
 pub record RunsBy {S T : Type 0} (answer_to : List ℕ → Answer)
@@ -28,6 +24,29 @@ pub record RunsBy {S T : Type 0} (answer_to : List ℕ → Answer)
   pub text : WritesTextOf answer_to (source.remaining source_old)
       (sink.written sink_old) (sink.written sink_new) status
   pub devices : LeavesDevices answer_to source source_old source_new sink sink_old sink_new status
+
+-- what a run in this mode leaves
+abbrev pub RunsIn : Mode → {S T : Type 0} → (source : SourceView S) → (source_old source_new : S)
+    → (sink : SinkView T) → (sink_old sink_new : T) → RunStatus → Type 0
+RunsIn Fold = RunsBy fold_text
+RunsIn Turns = RunsBy turns_text
+RunsIn Threads = RunsThreads
+
+-- what a run leaves of its devices that had one answer of several
+abbrev pub LeavesDevicesOfOne : {S T : Type 0} → (source : SourceView S)
+    → (source_old source_new : S) → (sink : SinkView T) → (sink_old sink_new : T)
+    → RunStatus → Type 0
+LeavesDevicesOfOne source source_old source_new sink sink_old sink_new status =
+    (answer : Answer)
+    × LeavesDevices (λ _. answer) source source_old source_new sink sink_old sink_new status
+
+-- what a run in this mode leaves of its devices; a script for threads has several answers
+abbrev pub LeavesDevicesIn : Mode → {S T : Type 0} → (source : SourceView S)
+    → (source_old source_new : S) → (sink : SinkView T) → (sink_old sink_new : T)
+    → RunStatus → Type 0
+LeavesDevicesIn Fold = LeavesDevices fold_text
+LeavesDevicesIn Turns = LeavesDevices turns_text
+LeavesDevicesIn Threads = LeavesDevicesOfOne
 
 -- what a run in a mode leaves; every command line that `clap` takes gives a mode
 abbrev pub RunsMode : Option Mode → (Mode → Type 0) → Type 0

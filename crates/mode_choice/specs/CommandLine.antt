@@ -17,7 +17,8 @@ use Rattle.mode_choice.specs.declared.mode.Mode.TheVariants.{Fold}
 -- the names of the modes, wherever they lie in memory
 pub record ModeNames : Type 0 where
   pub list : Bor (List (Bor Text))
-  pub texts : map (λ name. name.now) list.now ≡ codes "fold" ∷ codes "turns" ∷ []
+  pub texts : map (λ name. name.now) list.now
+      ≡ codes "fold" ∷ codes "turns" ∷ codes "threads" ∷ []
 
 -- the one argument: a word among the names
 abbrev pub mode_rule : ModeNames → Rule

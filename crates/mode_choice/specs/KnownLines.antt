@@ -10,7 +10,12 @@ IsFoldLine words = (words ≡ []) ⊎ (words ≡ codes "fold" ∷ [])
 abbrev pub IsTurnsLine : List Text → Type 0
 IsTurnsLine words = words ≡ codes "turns" ∷ []
 
--- the words of a command line that is rejected: a mode that does not exist yet, or a call for help
+-- the words of a command line that commits batches in threads: `threads` alone
+abbrev pub IsThreadsLine : List Text → Type 0
+IsThreadsLine words = words ≡ codes "threads" ∷ []
+
+-- the words of a command line that is rejected: the name of a mode in other letters, or a call for
+-- help
 abbrev pub IsRejectedLine : List Text → Type 0
-IsRejectedLine words = (words ≡ codes "threads" ∷ [])
+IsRejectedLine words = (words ≡ codes "Threads" ∷ [])
     ⊎ (words ≡ codes "--help" ∷ []) ⊎ (words ≡ codes "-h" ∷ [])

@@ -9,10 +9,12 @@ pub enum Mode {
     Fold,
     /// Carries out the events of a script in a cluster without threads.
     Turns,
+    /// Commits the batches of a script, those of each proxy in a thread of its own.
+    Threads,
 }
 
 /// The names of the modes, as the command line takes them.
-pub static NAMES: [&str; 2] = ["fold", "turns"];
+pub static NAMES: [&str; 3] = ["fold", "turns", "threads"];
 
 impl Mode {
     /// The mode of this name.
@@ -22,6 +24,7 @@ impl Mode {
         match name {
             "fold" => Some(Mode::Fold),
             "turns" => Some(Mode::Turns),
+            "threads" => Some(Mode::Threads),
             _ => None,
         }
     }

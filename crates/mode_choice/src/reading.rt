@@ -25,7 +25,7 @@ const ABOUT: &str =
 
 // What the modes read and print, as the help says it.
 const MODES: &str =
-    "fold: rows of a journal, folded to a routing; turns: events of a cluster, carried out in order [default: fold]";
+    "fold: rows of a journal, folded to a routing; turns: events of a cluster, carried out in order; threads: batches of proxies, each proxy a thread [default: fold]";
 
 // The command line `proxy_run [MODE]`.
 fn command<'a>(alloc: Global) -> Result<Command<'a>, AllocError>

@@ -14,29 +14,34 @@ use std::io::ErrorKind;
 use std::process::ExitCode;
 
 fn main(rt: HostRuntime) -> ExitCode {
-    let status = run_process(&rt);
+    let status = match words(&rt) {
+        Ok(words) => {
+            let mut reader = Reader::new(rt.stdin());
+            let mut writer = Writer::new(rt.stdout());
+            run_words(&rt, words.as_slice(), &mut reader, &mut writer)
+        }
+        Err(status) => status,
+    };
     if let Status::CommandLineRefused(text) = &status {
         let _ = rt.eprint(text);
     }
     ExitCode::from(status.number())
 }
 
-// The run that the process was started for: its words, its standard input and its standard output.
-fn run_process(rt: &HostRuntime) -> Status {
+// The words after the program's name, or how the program ends without them.
+fn words(rt: &HostRuntime) -> Result<Vec<String>, Status> {
     let alloc = rt.alloc();
     let args = match env::args(rt) {
         Ok(args) => args,
-        Err(error) if error.kind() == ErrorKind::OutOfMemory => return Status::Ran(
+        Err(error) if error.kind() == ErrorKind::OutOfMemory => return Err(Status::Ran(
             RunStatus::OutOfMemory,
-        ),
-        Err(_) => return words_are_no_text(alloc),
+        )),
+        Err(_) => return Err(words_are_no_text(alloc)),
     };
-    let Ok(words) = args.skip(1).collect::<Vec<String>>(alloc) else {
-        return Status::Ran(RunStatus::OutOfMemory);
-    };
-    let mut reader = Reader::new(rt.stdin());
-    let mut writer = Writer::new(rt.stdout());
-    run_words(rt, words.as_slice(), &mut reader, &mut writer)
+    match args.skip(1).collect::<Vec<String>>(alloc) {
+        Ok(words) => Ok(words),
+        Err(_) => Err(Status::Ran(RunStatus::OutOfMemory)),
+    }
 }
 
 // Refuses a command line with a word that is not UTF-8: `clap` takes text alone.

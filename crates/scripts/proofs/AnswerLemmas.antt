@@ -16,6 +16,7 @@ pub answer_of-fault : {X : Type 0} (printed : X → List ℕ) (said : Result X S
 answer_of-fault printed said faults.NotJson result fails numbered is = rw fails is
 answer_of-fault printed said faults.BadShape result fails numbered is = rw fails is
 answer_of-fault printed said (faults.Refused refusal) result fails numbered is = rw fails is
+answer_of-fault printed said faults.NoSuchResolver result fails numbered is = rw fails is
 answer_of-fault printed said faults.OutOfMemory (Ok output) fails numbered is =
     let none : IsSome {T = ℕ} None = numbered in cc
 answer_of-fault printed said faults.OutOfMemory (Err memory) fails numbered is = tt

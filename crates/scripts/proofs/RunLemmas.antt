@@ -8,7 +8,7 @@ use Rattle.scripts.specs.Runs.{BeginsAnswer, IsInput, WritesAnswer, WritesTextOf
 use Rattle.scripts.specs.Statuses.{IsAnswered}
 use Rattle.scripts.specs.declared.status.RunStatus.{RunStatus}
 use Rattle.scripts.specs.declared.status.RunStatus.TheVariants.{Done, ScriptRefused}
-use Rattle.scripts.specs.declared.status.RunStatus.TheVariants.{DeviceFailed, OutOfMemory}
+use Rattle.scripts.specs.declared.status.RunStatus.TheVariants.{DeviceFailed, OutOfMemory, ClusterRefused}
 
 -- nothing was written
 pub begins_nothing : (answer_to : List ℕ → Answer) (input old : Option (List ℕ))
@@ -35,3 +35,4 @@ writes_text answer_to input old new bytes text Done ok read is ends put = whole_
 writes_text answer_to input old new bytes text ScriptRefused ok read is ends put = whole_text answer_to input old new bytes text ScriptRefused read is ends put
 writes_text answer_to input old new bytes text DeviceFailed ok read is ends put = absurd ok
 writes_text answer_to input old new bytes text OutOfMemory ok read is ends put = absurd ok
+writes_text answer_to input old new bytes text ClusterRefused ok read is ends put = absurd ok

@@ -1,6 +1,6 @@
 -- The refusals of a batch, in their order (this project's profile).
-use Rattle.std.specs.Prelude.{List, length, nat_le, if◌then◌else◌, Option, Some, None, option_map}
-use Rattle.std.specs.Prelude.{Result}
+use Rattle.std.specs.Prelude.{List, length, map, nat_le, if◌then◌else◌, Option, Some, None}
+use Rattle.std.specs.Prelude.{option_map, Result}
 use Rattle.std.specs.Option.{option_or}
 use Rattle.system_keys.specs.AsSpecified.{unless_fault}
 use Rattle.model.specs.Stamps.{Given}
@@ -8,6 +8,8 @@ use Rattle.mutation.specs.declared.refusal.Refusal.{Refusal}
 use Rattle.mutation.specs.declared.refusal.Refusal.TheVariants as refusals
 use Rattle.mutation.specs.Faults.{first_fault, transaction_fault}
 use Rattle.mutation.specs.Limits.{batch_limit}
+use Rattle.mutation.specs.Transactions.{given_from}
+use Rattle.mutation.specs.declared.transaction.Transaction.{Transaction}
 use Rattle.scripts.specs.declared.script_fault.ScriptFault.{ScriptFault}
 use Rattle.scripts.specs.declared.script_fault.ScriptFault.TheVariants as faults
 
@@ -25,6 +27,10 @@ batch_fault transactions =
 abbrev pub checked_batch : List Given → Result (List Given) ScriptFault
 checked_batch transactions =
     unless_fault (option_map faults.Refused (batch_fault transactions)) transactions
+
+-- the batch of transactions that are not checked yet, or its first fault
+abbrev pub checked_transactions : List Transaction → Result (List Given) ScriptFault
+checked_transactions transactions = checked_batch (map given_from transactions)
 
 -- the transactions, as they were given, or the first fault of one
 abbrev pub checked_each : List Given → Result (List Given) ScriptFault

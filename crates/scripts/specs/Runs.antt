@@ -8,7 +8,7 @@ use Rattle.scripts.specs.declared.devices.Sink.{Ghosts as SinkView}
 use Rattle.scripts.specs.declared.devices.Source.{Ghosts as SourceView}
 use Rattle.scripts.specs.declared.status.RunStatus.{RunStatus}
 use Rattle.scripts.specs.declared.status.RunStatus.TheVariants.{Done, ScriptRefused}
-use Rattle.scripts.specs.declared.status.RunStatus.TheVariants.{DeviceFailed, OutOfMemory}
+use Rattle.scripts.specs.declared.status.RunStatus.TheVariants.{DeviceFailed, OutOfMemory, ClusterRefused}
 
 -- ---- what a run writes, by the answer to its input
 
@@ -29,7 +29,7 @@ BeginsAnswer answer_to input old new = (bytes : List ℕ) × IsInput input bytes
     × AppendsBeginning old new (answer_to bytes).text
 
 -- the whole text was written; or a beginning of it, perhaps nothing, if a device or an allocation
--- failed
+-- failed; no cluster refuses where the bytes alone decide the text
 abbrev pub WritesTextOf : (List ℕ → Answer) → Option (List ℕ) → Option (List ℕ) → Option (List ℕ)
     → RunStatus → Type 0
 WritesTextOf answer_to input old new Done = WritesAnswer answer_to input old new Done
@@ -37,6 +37,7 @@ WritesTextOf answer_to input old new ScriptRefused =
     WritesAnswer answer_to input old new ScriptRefused
 WritesTextOf answer_to input old new DeviceFailed = BeginsAnswer answer_to input old new
 WritesTextOf answer_to input old new OutOfMemory = BeginsAnswer answer_to input old new
+WritesTextOf answer_to input old new ClusterRefused = ⊥
 
 -- ---- what a run leaves of its devices
 
@@ -71,6 +72,7 @@ pub record LeavesDevices {S T : Type 0} (answer_to : List ℕ → Answer)
   pub no_read_failed : IsUnfailed status → source.failed source_new ≡ source.failed source_old
   pub no_write_failed : IsUnfailed status → sink.failed sink_new ≡ sink.failed sink_old
   pub out_of_memory : status ≡ OutOfMemory → sink_new ≡ sink_old
+  pub cluster_refused : status ≡ ClusterRefused → sink_new ≡ sink_old
   -- an answered run read the whole input, and it is no longer than the limit on read calls permits
   pub ended : IsAnswered status → IsAtEnd (source.remaining source_new)
   pub input_length : IsAnswered status

@@ -2,7 +2,7 @@
 use Rattle.std.specs.Prelude.{ℕ}
 use Rattle.scripts.specs.declared.status.RunStatus.{RunStatus}
 use Rattle.scripts.specs.declared.status.RunStatus.TheVariants.{Done, ScriptRefused}
-use Rattle.scripts.specs.declared.status.RunStatus.TheVariants.{DeviceFailed, OutOfMemory}
+use Rattle.scripts.specs.declared.status.RunStatus.TheVariants.{DeviceFailed, OutOfMemory, ClusterRefused}
 
 -- the number that the process ends with
 abbrev pub run_status_number : RunStatus → ℕ
@@ -10,6 +10,7 @@ run_status_number Done = 0
 run_status_number ScriptRefused = 1
 run_status_number DeviceFailed = 3
 run_status_number OutOfMemory = 4
+run_status_number ClusterRefused = 5
 
 -- a whole text was written: the result of the script, or its refusal
 abbrev pub IsAnswered : RunStatus → Type 0

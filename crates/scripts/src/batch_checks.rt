@@ -3,12 +3,15 @@
 ghost use Rattle.std.specs.Prelude.{◌≡◌, None, map, IfOk, OnOk};
 ghost use Rattle.mutation.specs.Faults.{first_fault, transaction_fault};
 ghost use Rattle.mutation.specs.Transactions.{given_from};
-ghost use Rattle.scripts.specs.BatchChecks.{checked_batch, checked_each, fault_of_refusal};
+ghost use Rattle.scripts.specs.BatchChecks.{checked_batch, checked_each, checked_transactions};
+ghost use Rattle.scripts.specs.BatchChecks.{fault_of_refusal};
 ghost use Rattle.scripts.specs.ScriptFaults.{IsReadAs};
 
+use crate::checks::Checked;
 use crate::script_fault::ScriptFault;
 use mutation::{Admitted, Batch, Refusal, Transaction, admit};
 use std::alloc::Global;
+use system_keys::Items;
 
 impl From<Refusal> for ScriptFault {
     ghost from_gives = { λ refusal fault. fault ≡ fault_of_refusal refusal };
@@ -18,6 +21,14 @@ impl From<Refusal> for ScriptFault {
             Refusal::OutOfMemory => ScriptFault::OutOfMemory,
             refused => ScriptFault::Refused(refused),
         }
+    }
+}
+
+impl Checked<Items<Transaction>> for Batch {
+    ghost checked = { checked_transactions };
+
+    fn check(alloc: Global, raw: Items<Transaction>) -> Result<Batch, ScriptFault> {
+        admit_batch(alloc, raw.as_slice())
     }
 }
 

@@ -42,6 +42,14 @@ impl Checked<RawChange> for Change {
     }
 }
 
+impl<R: Drop, X: Checked<R>> Checked<Items<R>> for Items<X> {
+    ghost checked = { each_checked X.checked };
+
+    fn check(alloc: Global, raw: Items<R>) -> Result<Items<X>, ScriptFault> {
+        check_each(alloc, raw)
+    }
+}
+
 /// Returns the range, or its fault.
 pub fn check_range(range: GivenRange) -> Result<KeyRange, ScriptFault>
     ensures { IsReadAs (λ found. found) result (checked_range range) }

@@ -21,6 +21,9 @@ pub enum ScriptFault {
     /// A key, a value, a range, a transaction or a batch of the script is refused.
     #[error("{0}")]
     Refused(Refusal),
+    /// A move goes to a resolver that the cluster does not have.
+    #[error("there is no such resolver")]
+    NoSuchResolver,
     /// An allocation failed.
     #[error("out of memory")]
     OutOfMemory,
@@ -37,6 +40,7 @@ impl ScriptFault {
             ScriptFault::NotJson => Some(70),
             ScriptFault::BadShape => Some(71),
             ScriptFault::Refused(refusal) => refusal.number(),
+            ScriptFault::NoSuchResolver => Some(20),
             ScriptFault::OutOfMemory => None,
         }
     }
@@ -49,6 +53,7 @@ impl ScriptFault {
             ScriptFault::NotJson => "NotJson",
             ScriptFault::BadShape => "BadShape",
             ScriptFault::Refused(refusal) => refusal.name(),
+            ScriptFault::NoSuchResolver => "NoSuchResolver",
             ScriptFault::OutOfMemory => "OutOfMemory",
         }
     }

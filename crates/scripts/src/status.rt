@@ -13,6 +13,8 @@ pub enum RunStatus {
     DeviceFailed,
     /// An allocation failed.
     OutOfMemory,
+    /// The cluster refused a batch that it had room and a version for; nothing was written.
+    ClusterRefused,
 }
 
 impl RunStatus {
@@ -25,6 +27,7 @@ impl RunStatus {
             RunStatus::ScriptRefused => 1,
             RunStatus::DeviceFailed => 3,
             RunStatus::OutOfMemory => 4,
+            RunStatus::ClusterRefused => 5,
         }
     }
 }

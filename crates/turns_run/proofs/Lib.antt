@@ -1,5 +1,4 @@
 pub mod AnswerLemmas
-pub mod ConfigLemmas
 pub mod EventLemmas
 pub mod OrderLemmas
 pub mod WorldLemmas

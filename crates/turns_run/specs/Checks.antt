@@ -18,9 +18,9 @@ abbrev pub checked_event : RawEvent → Result Event ScriptFault
 checked_event (raw.Sequence proxy batch) = do
   transactions ← checked_batch (map given_from batch)
   Ok (events.Sequence proxy transactions)
-checked_event (raw.Move range resolver) = do
-  moved ← checked_range range
-  Ok (events.Move moved resolver)
+checked_event (raw.Move moved) = do
+  range ← checked_range moved.range
+  Ok (events.Move range moved.dest)
 checked_event (raw.Offer row resolver) = Ok (events.Offer row resolver)
 checked_event (raw.Finish proxy) = Ok (events.Finish proxy)
 

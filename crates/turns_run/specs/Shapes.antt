@@ -3,10 +3,10 @@
 use Rattle.std.specs.Prelude.{codes, if◌then◌else◌, Option, Some, None}
 use Rattle.serde_json.specs.Data.{Data}
 use Rattle.serde_json.specs.Find.{get}
-use Rattle.model.specs.Configs.{Config, is_config}
-use Rattle.scripts.specs.BatchShapes.{batch_shape, range_shape}
+use Rattle.scripts.specs.BatchShapes.{batch_shape}
 use Rattle.scripts.specs.Shapes.{◌>>=◌, number_shape, bytes_shape, list_shape}
 use Rattle.scripts.specs.Shapes.{has_fields, field_shape}
+use Rattle.cluster_scripts.specs.Shapes.{config_shape, move_shape}
 use Rattle.turns_run.specs.declared.script.RawTurns.{RawTurns}
 use Rattle.turns_run.specs.declared.script.RawEvent.{RawEvent}
 use Rattle.turns_run.specs.declared.script.RawEvent.TheVariants.{Sequence, Move, Offer, Finish}
@@ -24,14 +24,10 @@ abbrev pub sequence_shape : Data → Option RawEvent
 sequence_shape d = if has_fields 2 d then sequence_fields d else None
 
 -- `{"range":[begin,end],"resolver":N}`
-abbrev pub move_fields : Data → Option RawEvent
-move_fields d = do
-  range ← field_shape range_shape (codes "range") d
-  resolver ← field_shape number_shape (codes "resolver") d
-  Some (Move range resolver)
-
-abbrev pub move_shape : Data → Option RawEvent
-move_shape d = if has_fields 2 d then move_fields d else None
+abbrev pub move_event_shape : Data → Option RawEvent
+move_event_shape d = do
+  moved ← move_shape d
+  Some (Move moved)
 
 -- `{"row":N,"resolver":N}`
 abbrev pub offer_fields : Data → Option RawEvent
@@ -61,7 +57,7 @@ or_form (Some value) shape next = shape value
 abbrev pub named_event : Data → Option RawEvent
 named_event d =
     or_form (get (codes "sequence") d) sequence_shape
-    (or_form (get (codes "move") d) move_shape
+    (or_form (get (codes "move") d) move_event_shape
     (or_form (get (codes "offer") d) offer_shape
     (or_form (get (codes "finish") d) finish_shape None)))
 
@@ -70,23 +66,6 @@ abbrev pub event_shape : Data → Option RawEvent
 event_shape d = if has_fields 1 d then named_event d else None
 
 -- ---- the script
-
-abbrev pub config_within : Config → Option Config
-config_within config = if is_config config then Some config else None
-
--- the numbers of the cluster, within their limits
-abbrev pub config_shape : Data → Option Config
-config_shape d = do
-  proxies ← field_shape number_shape (codes "proxies") d
-  resolvers ← field_shape number_shape (codes "resolvers") d
-  window ← field_shape number_shape (codes "window") d
-  step ← field_shape number_shape (codes "step") d
-  config_within (record {
-    proxies = proxies;
-    resolvers = resolvers;
-    window = window;
-    step = step;
-  })
 
 -- `{"proxies":N,"resolvers":N,"window":N,"step":N,"events":[..],"ask":[..]}`
 abbrev pub script_fields : Data → Option RawTurns

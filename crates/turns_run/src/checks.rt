@@ -16,9 +16,9 @@ impl Checked<RawEvent> for Event {
                 proxy,
                 batch: admit_batch(alloc, batch.as_slice())?,
             }),
-            RawEvent::Move { range, dest } => Ok(Event::Move {
-                range: check_range(range)?,
-                dest,
+            RawEvent::Move(moved) => Ok(Event::Move {
+                range: check_range(moved.range)?,
+                dest: moved.dest,
             }),
             RawEvent::Offer { row, resolver } => Ok(Event::Offer { row, resolver }),
             RawEvent::Finish { proxy } => Ok(Event::Finish { proxy }),

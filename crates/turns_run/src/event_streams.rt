@@ -2,16 +2,17 @@
 
 ghost use Rattle.std.specs.Prelude.{◌≡◌, ◌+◌, IfSome, Some, codes};
 ghost use Rattle.serde_json.specs.Data.{Data, member, no_members, object};
-ghost use Rattle.scripts.specs.BatchShapes.{batch_shape, range_shape};
+ghost use Rattle.scripts.specs.BatchShapes.{batch_shape};
 ghost use Rattle.scripts.specs.Shapes.{count_members, number_shape};
 ghost use Rattle.scripts.specs.Streams.{Slot, Takes, TakesData, one};
-ghost use Rattle.turns_run.specs.Shapes.{event_shape, finish_shape, move_shape, offer_shape};
-ghost use Rattle.turns_run.specs.Shapes.{sequence_shape};
+ghost use Rattle.turns_run.specs.Shapes.{event_shape, finish_shape, move_event_shape};
+ghost use Rattle.turns_run.specs.Shapes.{offer_shape, sequence_shape};
 ghost use Rattle.turns_run.specs.Streams.{Holds};
 
 use crate::script::RawEvent;
+use cluster_scripts::GivenMove;
 use json::Reader as TokenReader;
-use mutation::{GivenRange, Transaction};
+use mutation::Transaction;
 use scripts::{Fields, Streamed, take_into, take_object};
 use std::alloc::Global;
 use system_keys::Items;
@@ -53,13 +54,9 @@ fn take_sequence(alloc: Global, reader: &mut TokenReader<'_>, depth: usize) -> O
 }
 
 fn take_move(alloc: Global, reader: &mut TokenReader<'_>, depth: usize) -> Option<RawEvent>
-    ensures { IfSome result (λ event. Takes move_shape depth reader.old event reader.new) }
+    ensures { IfSome result (λ event. Takes move_event_shape depth reader.old event reader.new) }
 {
-    let fields: MoveFields = take_object(alloc, reader, depth)?;
-    Some(RawEvent::Move {
-        range: fields.range?,
-        dest: fields.resolver?,
-    })
+    Some(RawEvent::Move(GivenMove::from_tokens(alloc, reader, depth)?))
 }
 
 fn take_offer(alloc: Global, reader: &mut TokenReader<'_>, depth: usize) -> Option<RawEvent>
@@ -139,40 +136,6 @@ impl Fields for SequenceFields {
         match name {
             "proxy" => take_into(&mut self.proxy, alloc, reader, depth),
             "batch" => take_into(&mut self.batch, alloc, reader, depth),
-            _ => None,
-        }
-    }
-}
-
-// The fields of a move of a range, as they come.
-#[derive(Drop)]
-struct MoveFields {
-    range: Option<GivenRange>,
-    resolver: Option<usize>,
-}
-
-impl Fields for MoveFields {
-    ghost holds = { λ f ms. Slot range_shape (codes "range") f.range ms
-        × Slot number_shape (codes "resolver") f.resolver ms
-        × (count_members ms ≡ one f.range + one f.resolver) };
-
-    fn none() -> MoveFields {
-        MoveFields {
-            range: None,
-            resolver: None,
-        }
-    }
-
-    fn take_field(
-        &mut self,
-        alloc: Global,
-        reader: &mut TokenReader<'_>,
-        depth: usize,
-        name: &str,
-    ) -> Option<()> {
-        match name {
-            "range" => take_into(&mut self.range, alloc, reader, depth),
-            "resolver" => take_into(&mut self.resolver, alloc, reader, depth),
             _ => None,
         }
     }

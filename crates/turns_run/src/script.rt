@@ -1,7 +1,8 @@
 //! Turns scripts: the events of a cluster without threads, and keys whose tags are asked.
 
+use cluster_scripts::GivenMove;
 use model::Config;
-use mutation::{GivenRange, Transaction};
+use mutation::Transaction;
 use system_keys::{Bytes, Items};
 use turn_world::Event;
 
@@ -39,12 +40,7 @@ pub(crate) enum RawEvent {
         batch: Items<Transaction>,
     },
     /// A range moves.
-    Move {
-        /// The range.
-        range: GivenRange,
-        /// The number of the resolver that it moves to.
-        dest: usize,
-    },
+    Move(GivenMove),
     /// A resolver gets a request.
     Offer {
         /// The row of the record.

@@ -3,12 +3,12 @@
 ghost use Rattle.serde_json.specs.View.{view};
 ghost use Rattle.scripts.specs.ScriptFaults.{IsReadAs};
 ghost use Rattle.scripts.specs.Shapes.{or_bad_shape};
-ghost use Rattle.turns_run.specs.Shapes.{config_shape, event_shape, finish_shape, move_shape};
+ghost use Rattle.turns_run.specs.Shapes.{event_shape, finish_shape, move_event_shape};
 ghost use Rattle.turns_run.specs.Shapes.{named_event, offer_shape, script_shape};
 ghost use Rattle.turns_run.specs.Shapes.{sequence_shape};
 
 use crate::script::{RawEvent, RawTurns};
-use model::Config;
+use cluster_scripts::{GivenMove, config};
 use scripts::{ScriptFault, Shaped, field, has_fields};
 use serde_json::Value;
 use std::alloc::Global;
@@ -25,21 +25,6 @@ impl Shaped for RawTurns {
             events: field(alloc, value, "events")?,
             ask: field(alloc, value, "ask")?,
         })
-    }
-}
-
-// The numbers of the cluster, if they are within their limits.
-#[tactic(auto, using(crate::proofs::ConfigLemmas::within_limits, crate::proofs::ConfigLemmas::outside_limits))]
-fn config(alloc: Global, value: &Value) -> Result<Config, ScriptFault>
-    ensures { IsReadAs (λ found. found) result (or_bad_shape (config_shape (view value.now))) }
-{
-    let proxies = field(alloc, value, "proxies")?;
-    let resolvers = field(alloc, value, "resolvers")?;
-    let window = field(alloc, value, "window")?;
-    let step = field(alloc, value, "step")?;
-    match Config::new(proxies, resolvers, window, step) {
-        Ok(config) => Ok(config),
-        Err(_) => Err(ScriptFault::BadShape),
     }
 }
 
@@ -85,15 +70,9 @@ fn sequence(alloc: Global, value: &Value) -> Result<RawEvent, ScriptFault>
 }
 
 fn move_range(alloc: Global, value: &Value) -> Result<RawEvent, ScriptFault>
-    ensures { IsReadAs (λ found. found) result (or_bad_shape (move_shape (view value.now))) }
+    ensures { IsReadAs (λ found. found) result (or_bad_shape (move_event_shape (view value.now))) }
 {
-    if !has_fields(value, 2) {
-        return Err(ScriptFault::BadShape);
-    }
-    Ok(RawEvent::Move {
-        range: field(alloc, value, "range")?,
-        dest: field(alloc, value, "resolver")?,
-    })
+    Ok(RawEvent::Move(GivenMove::shaped(alloc, value)?))
 }
 
 fn offer(alloc: Global, value: &Value) -> Result<RawEvent, ScriptFault>

@@ -13,7 +13,7 @@ use std::alloc::Global;
 use system_keys::{Bytes, Items};
 
 impl Streamed for RawTurns {
-    #[tactic(auto, using(crate::proofs::ConfigLemmas::within_limits))]
+    #[tactic(auto, using(cluster_scripts::proofs::ConfigLemmas::within_limits))]
     fn from_tokens(alloc: Global, reader: &mut TokenReader<'_>, depth: usize) -> Option<RawTurns> {
         let fields: TurnsFields = take_object(alloc, reader, depth)?;
         let (proxies, resolvers) = (fields.proxies?, fields.resolvers?);

@@ -3,12 +3,16 @@
 use command_line::{Status, run_words};
 use scripts::{Reader, RunStatus, Writer};
 use std::process::Abort;
+use std::sync::Wait;
+use std::thread::Threads;
 
 const NO_WORDS: &[&str] = &[];
 
 const FOLD: &[&str] = &["fold"];
 
 const WORD_TURNS: &[&str] = &["turns"];
+
+const WORD_THREADS: &[&str] = &["threads"];
 
 const BAD_SHAPE: &str = "refused 71 BadShape\n";
 
@@ -22,8 +26,17 @@ const TURNS: &[u8] = br#"{"proxies":1,"resolvers":1,"window":1,"step":1,"ask":[]
 const TURNS_TEXT: &str =
     "sequence row 0 version 1\nproxy 0\nversion 0\nlocked no\nmetadata_version none\n";
 
-const THREADS: &str = "error: invalid value 'threads' for '[MODE]'
-  [possible values: fold, turns]
+// One proxy without batches: it commits the closing alone.
+const THREADS: &[u8] = br#"{"proxies":1,"resolvers":1,"window":1,"step":1,"rows":1,"moves":[],
+"work":[[]],"ask":[]}"#;
+
+const THREADS_TEXT: &str =
+    "closing 0 version 1\nproxy 0\nversion 1\nlocked no\nmetadata_version none\naudit 0 ok\n";
+
+const OTHER_LETTERS: &str = "error: invalid value 'Threads' for '[MODE]'
+  [possible values: fold, turns, threads]
+
+  tip: a similar value exists: 'threads'
 
 For more information, try '--help'.
 hint: the script is read on standard input: proxy_run < script.json
@@ -35,7 +48,7 @@ const HELP: &str =
 Usage: proxy_run [MODE]
 
 Arguments:
-  [MODE]  fold: rows of a journal, folded to a routing; turns: events of a cluster, carried out in order [default: fold] [possible values: fold, turns]
+  [MODE]  fold: rows of a journal, folded to a routing; turns: events of a cluster, carried out in order; threads: batches of proxies, each proxy a thread [default: fold] [possible values: fold, turns, threads]
 
 Options:
   -h, --help  Print help
@@ -53,7 +66,12 @@ struct Ended {
     left: usize,
 }
 
-fn run_over(rt: &impl AllocGlobal, words: &[&str], script: &mut &[u8], room: &mut [u8]) -> Status {
+fn run_over<R: AllocGlobal + Threads + Wait + Sync>(
+    rt: &R,
+    words: &[&str],
+    script: &mut &[u8],
+    room: &mut [u8],
+) -> Status {
     let mut reader = Reader::new(script);
     let mut writer = Writer::new(room);
     run_words(rt, words, &mut reader, &mut writer)
@@ -66,8 +84,8 @@ fn is_refusal(status: &Status, says: &str) -> bool {
     }
 }
 
-fn run_once(
-    rt: &impl AllocGlobal,
+fn run_once<R: AllocGlobal + Threads + Wait + Sync>(
+    rt: &R,
     words: &[&str],
     given: &[u8],
     says: &str,
@@ -83,7 +101,13 @@ fn run_once(
 }
 
 // Runs these words over the script, and once more, from its beginning, after `OutOfMemory`.
-fn run(rt: &impl AllocGlobal, words: &[&str], given: &[u8], says: &str, room: &mut [u8]) -> Ended {
+fn run<R: AllocGlobal + Threads + Wait + Sync>(
+    rt: &R,
+    words: &[&str],
+    given: &[u8],
+    says: &str,
+    room: &mut [u8],
+) -> Ended {
     let ended = run_once(rt, words, given, says, room);
     if ended.number == RunStatus::OutOfMemory.number() {
         run_once(rt, words, given, says, room)
@@ -99,7 +123,13 @@ fn has_text_alone(room: &[u8], text: &[u8]) -> bool {
 
 // The words are taken, the whole script is read and answered by this text, and the status has this
 // number.
-fn answers(rt: &(impl Abort + AllocGlobal), words: &[&str], script: &[u8], text: &str, number: u8) {
+fn answers<R: Abort + AllocGlobal + Threads + Wait + Sync>(
+    rt: &R,
+    words: &[&str],
+    script: &[u8],
+    text: &str,
+    number: u8,
+) {
     let mut room = ROOM;
     let ended = run(rt, words, script, "", &mut room);
     assert!(rt; ended.number == number && ended.left == 0);
@@ -107,7 +137,7 @@ fn answers(rt: &(impl Abort + AllocGlobal), words: &[&str], script: &[u8], text:
 }
 
 // The words are refused with exactly this text, and nothing is read or written.
-fn refuses(rt: &(impl Abort + AllocGlobal), words: &[&str], says: &str) {
+fn refuses<R: Abort + AllocGlobal + Threads + Wait + Sync>(rt: &R, words: &[&str], says: &str) {
     let mut room = ROOM;
     let ended = run(rt, words, SCRIPT, says, &mut room);
     assert!(rt; ended.is_refused && ended.left == SCRIPT.len(), "{says}");
@@ -141,7 +171,7 @@ const HYPHENS_AND_THREADS: &[&str] = &["--", "threads"];
 #[test]
 fn the_word_after_two_hyphens_is_the_mode(rt: HostRuntime) {
     answers(&rt, HYPHENS_AND_TURNS, TURNS, TURNS_TEXT, 0);
-    refuses(&rt, HYPHENS_AND_THREADS, THREADS);
+    answers(&rt, HYPHENS_AND_THREADS, THREADS, THREADS_TEXT, 0);
 }
 
 #[test]
@@ -150,32 +180,38 @@ fn the_word_turns_carries_out_events(rt: HostRuntime) {
 }
 
 #[test]
-fn a_mode_refuses_the_script_of_the_other(rt: HostRuntime) {
+fn the_word_threads_commits_batches(rt: HostRuntime) {
+    answers(&rt, WORD_THREADS, THREADS, THREADS_TEXT, 0);
+}
+
+#[test]
+fn a_mode_refuses_the_script_of_another(rt: HostRuntime) {
     answers(&rt, WORD_TURNS, SCRIPT, BAD_SHAPE, 1);
     answers(&rt, FOLD, TURNS, BAD_SHAPE, 1);
+    answers(&rt, WORD_THREADS, TURNS, BAD_SHAPE, 1);
 }
 
 // Words, and the text with which they are refused.
 type Refused = (&'static [&'static str], &'static str);
 
-fn refuses_each(rt: &(impl Abort + AllocGlobal), refused: &[Refused]) {
+fn refuses_each<R: Abort + AllocGlobal + Threads + Wait + Sync>(rt: &R, refused: &[Refused]) {
     for (words, says) in refused {
         refuses(rt, *words, *says);
     }
 }
 
-const OTHER_MODES: &[Refused] = &[(&["threads"], THREADS)];
+const IN_OTHER_LETTERS: &[Refused] = &[(&["Threads"], OTHER_LETTERS)];
 
 #[test]
-fn other_modes_are_refused(rt: HostRuntime) {
-    refuses_each(&rt, OTHER_MODES);
+fn a_mode_in_other_letters_is_refused(rt: HostRuntime) {
+    refuses_each(&rt, IN_OTHER_LETTERS);
 }
 
 const PATHS: &[Refused] = &[
     (
         &["examples/two_servers.json"],
         "error: invalid value 'examples/two_servers.json' for '[MODE]'
-  [possible values: fold, turns]
+  [possible values: fold, turns, threads]
 
 For more information, try '--help'.
 hint: the script is read on standard input: proxy_run < script.json
@@ -224,7 +260,7 @@ hint: the script is read on standard input: proxy_run < script.json
     (
         &[""],
         "error: a value is required for '[MODE]' but none was supplied
-  [possible values: fold, turns]
+  [possible values: fold, turns, threads]
 
 For more information, try '--help'.
 hint: the script is read on standard input: proxy_run < script.json

@@ -22,6 +22,7 @@ const STATUSES: &[(RunStatus, u8)] = &[
     (RunStatus::ScriptRefused, 1),
     (RunStatus::DeviceFailed, 3),
     (RunStatus::OutOfMemory, 4),
+    (RunStatus::ClusterRefused, 5),
 ];
 
 #[test]
@@ -54,6 +55,7 @@ const WORDS: &[(ScriptFault, &str)] = &[
         ScriptFault::Refused(mutation::Refusal::BatchTooLarge),
         "a batch is too large",
     ),
+    (ScriptFault::NoSuchResolver, "there is no such resolver"),
     (ScriptFault::OutOfMemory, "out of memory"),
 ];
 
@@ -126,6 +128,7 @@ fn faults_have_their_numbers_and_names(rt: HostRuntime) {
             "KeyTooLong",
         ),
         (ScriptFault::from(Refusal::BadRow), Some(14), "BadRow"),
+        (ScriptFault::NoSuchResolver, Some(20), "NoSuchResolver"),
         (ScriptFault::OutOfMemory, None, "OutOfMemory"),
     ] {
         assert!(rt; is_known_as(fault, number, name), "{name}");

@@ -1,8 +1,8 @@
 use Rattle.std.proofs.Common.{rules, ◌≡◌, ◌∙◌, Option, Some, ap, inl, inr, refl, subst, sym}
 use Rattle.command_line.specs.WordRuns.{RunsMode}
 use Rattle.mode_choice.specs.declared.mode.Mode.{Mode}
-use Rattle.mode_choice.specs.declared.mode.Mode.TheVariants.{Fold, Turns}
-use Rattle.command_line.proofs.KnownRuns.{fold_line_folds, rejected_line_rejected, turns_line_plays}
+use Rattle.mode_choice.specs.declared.mode.Mode.TheVariants.{Fold, Turns, Threads}
+use Rattle.command_line.proofs.KnownRuns.{fold_line_folds, rejected_line_rejected, threads_line_commits, turns_line_plays}
 use Rattle.command_line.proofs.run.run_words.Goals as goal
 
 -- the mode that was given ran
@@ -29,6 +29,15 @@ returns-in-Ok-Turns-clause-mode g c =
           (record { text = c.run_turns.ensures.turns; devices = c.run_turns.ensures.devices }));
     }
 
+pub returns-in-Ok-Threads-clause-mode : goal.returns-in-Ok-Threads-clause-mode
+returns-in-Ok-Threads-clause-mode g c =
+    let chosen = c.in-Ok-Threads.ensures in
+    record {
+      names = chosen.names;
+      refused = λ some. let bad = chosen.refused some in cc;
+      taken = λ none. inr (runs_given _ Threads _ (chosen.taken none ∙ ap (λ mode. Some mode) c.in-Ok-Threads.field-0-is) c.run_threads.ensures);
+    }
+
 pub returns-in-Err-Words-clause-mode : goal.returns-in-Err-Words-clause-mode
 returns-in-Err-Words-clause-mode g c =
     let chosen = c.in-Err-Words.ensures in
@@ -46,6 +55,27 @@ returns-in-Ok-Fold-clause-rejected g c = rejected_line_rejected _ _ _ _ (returns
 
 pub returns-in-Ok-Fold-clause-devices : goal.returns-in-Ok-Fold-clause-devices
 returns-in-Ok-Fold-clause-devices g c = (Fold, c.run_fold.ensures.devices)
+
+pub returns-in-Ok-Fold-clause-threads : goal.returns-in-Ok-Fold-clause-threads
+returns-in-Ok-Fold-clause-threads g c = threads_line_commits _ _ _ _ (returns-in-Ok-Fold-clause-mode g c)
+
+pub returns-in-Ok-Threads-clause-fold : goal.returns-in-Ok-Threads-clause-fold
+returns-in-Ok-Threads-clause-fold g c = fold_line_folds _ _ _ _ (returns-in-Ok-Threads-clause-mode g c)
+
+pub returns-in-Ok-Threads-clause-turns : goal.returns-in-Ok-Threads-clause-turns
+returns-in-Ok-Threads-clause-turns g c = turns_line_plays _ _ _ _ (returns-in-Ok-Threads-clause-mode g c)
+
+pub returns-in-Ok-Threads-clause-rejected : goal.returns-in-Ok-Threads-clause-rejected
+returns-in-Ok-Threads-clause-rejected g c = rejected_line_rejected _ _ _ _ (returns-in-Ok-Threads-clause-mode g c)
+
+pub returns-in-Ok-Threads-clause-devices : goal.returns-in-Ok-Threads-clause-devices
+returns-in-Ok-Threads-clause-devices g c = (Threads, (c.run_threads.ensures.answer, c.run_threads.ensures.devices))
+
+pub returns-in-Ok-Turns-clause-threads : goal.returns-in-Ok-Turns-clause-threads
+returns-in-Ok-Turns-clause-threads g c = threads_line_commits _ _ _ _ (returns-in-Ok-Turns-clause-mode g c)
+
+pub returns-in-Err-Words-clause-threads : goal.returns-in-Err-Words-clause-threads
+returns-in-Err-Words-clause-threads g c = threads_line_commits _ _ _ _ (returns-in-Err-Words-clause-mode g c)
 
 pub returns-in-Ok-Turns-clause-fold : goal.returns-in-Ok-Turns-clause-fold
 returns-in-Ok-Turns-clause-fold g c = fold_line_folds _ _ _ _ (returns-in-Ok-Turns-clause-mode g c)

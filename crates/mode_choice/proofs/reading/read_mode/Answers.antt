@@ -4,7 +4,7 @@ use Rattle.clap.specs.Words.{App, fault_of, first_of, found_of, is_simple, is_si
 use Rattle.clap.specs.Kinds.{HasKind}
 use Rattle.clap.proofs.WalkLemmas.{first_value-rows}
 use Rattle.mode_choice.specs.CommandLine.{ModeNames, mode_given}
-use Rattle.mode_choice.proofs.OfferedModes.{fold_or_turns, some_mode}
+use Rattle.mode_choice.proofs.OfferedModes.{is_name, some_mode}
 use Rattle.std.specs.Prelude.{IsSome, Option}
 use Rattle.mode_choice.specs.declared.mode.Mode.{Mode}
 use Rattle.mode_choice.proofs.reading.read_mode.Goals as goal
@@ -12,7 +12,11 @@ use Rattle.mode_choice.proofs.reading.read_mode.Goals as goal
 -- names for a command line that no command was made of
 abbrev some_names : ModeNames
 some_names = record {
-  list = record { ref_ptr = (0, 0); now = record { ref_ptr = (0, 0); now = codes "fold" } ∷ record { ref_ptr = (0, 0); now = codes "turns" } ∷ [] };
+  list = record {
+    ref_ptr = (0, 0);
+    now = record { ref_ptr = (0, 0); now = codes "fold" } ∷ record { ref_ptr = (0, 0); now = codes "turns" }
+        ∷ record { ref_ptr = (0, 0); now = codes "threads" } ∷ [];
+  };
   texts = refl;
 }
 
@@ -46,4 +50,4 @@ pub returns-clause-offered : goal.returns-clause-offered
 returns-clause-offered g c =
     let line = c.in_ok-command.ensures in
     subst (λ (mode : Option Mode). IsSome mode) (sym c.mode_in.ensures)
-    (some_mode _ (λ word is. fold_or_turns line.0 word (line.1.passes c.in_ok-matches.matches word c.in_ok-matches.ensures.parsed is)))
+    (some_mode _ (λ word is. is_name line.0 word (line.1.passes c.in_ok-matches.matches word c.in_ok-matches.ensures.parsed is)))

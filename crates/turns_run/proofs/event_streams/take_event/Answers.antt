@@ -1,6 +1,6 @@
 use Rattle.std.proofs.Common.{codes, refl}
 use Rattle.scripts.proofs.StreamObjectLemmas.{if_some_weaker}
-use Rattle.turns_run.specs.Shapes.{finish_shape, move_shape, offer_shape, sequence_shape}
+use Rattle.turns_run.specs.Shapes.{finish_shape, move_event_shape, offer_shape, sequence_shape}
 use Rattle.turns_run.proofs.EventLemmas.{named_field}
 use Rattle.turns_run.proofs.event_streams.take_event.Goals as goal
 
@@ -12,7 +12,7 @@ returns-in-sequence c =
 pub returns-in-move : goal.returns-in-move
 returns-in-move c =
     rw c.in-move.is (if_some_weaker c.take_move.result (λ event taken.
-    named_field move_shape (codes "move") c.args.depth c.args.reader.now c.take_move.new.reader event (λ d. refl) taken) c.take_move.ensures)
+    named_field move_event_shape (codes "move") c.args.depth c.args.reader.now c.take_move.new.reader event (λ d. refl) taken) c.take_move.ensures)
 
 pub returns-in-offer : goal.returns-in-offer
 returns-in-offer c =

@@ -2,7 +2,7 @@ use Rattle.std.proofs.Common.{codes, refl, arith}
 use Rattle.scripts.specs.BatchShapes.{range_shape}
 use Rattle.scripts.specs.Shapes.{number_shape}
 use Rattle.scripts.proofs.StreamObjectLemmas.{slot_put, slot_other, count_new, if_some_weaker}
-use Rattle.turns_run.proofs.event_streams.MoveFieldsFields.take_field.Goals as goal
+use Rattle.cluster_scripts.proofs.streams.MoveFieldsFields.take_field.Goals as goal
 
 pub returns-in-range : goal.returns-in-range
 returns-in-range c =

@@ -4,7 +4,7 @@ use Rattle.std.specs.Prelude.{Option, Some, None}
 use Rattle.std.specs.Cmp.Derive.{both_true}
 use Rattle.std.proofs.lemmas.Bool.{leb-true, le-leb}
 use Rattle.model.specs.Configs.{Config, IsConfig, is_config, is_from_one, proxies_limit, resolvers_limit, window_limit, step_limit, version_limit}
-use Rattle.turns_run.specs.Shapes.{config_within}
+use Rattle.cluster_scripts.specs.Shapes.{config_within}
 
 both_of : (a b : Bool) → (a && b) ≡ true → (a ≡ true) × (b ≡ true)
 both_of true b is = (refl, is)

@@ -1,0 +1,38 @@
+-- What each exit of a run writes, and what it leaves of the devices.
+use Rattle.std.proofs.Common.{rules, inl, inr, refl}
+use Rattle.threads_run.specs.Runs.{answer_in}
+use Rattle.threads_run.proofs.RunLemmas.{no_answer, writes_whole}
+use Rattle.threads_run.proofs.run.run_threads.Goals as goal
+
+pub returns-in-Err-OutOfMemory : goal.returns-in-Err-OutOfMemory
+returns-in-Err-OutOfMemory g c = record { answer = no_answer; text = refl; devices = search rules }
+
+pub returns-in-Err-Device : goal.returns-in-Err-Device
+returns-in-Err-Device g c = record { answer = no_answer; text = inl refl; devices = search rules }
+
+pub returns-in-Err-Limit : goal.returns-in-Err-Limit
+returns-in-Err-Limit g c = record { answer = no_answer; text = inl refl; devices = search rules }
+
+pub returns-in-Err-OutOfMemory-answer : goal.returns-in-Err-OutOfMemory-answer
+returns-in-Err-OutOfMemory-answer g c = record { answer = no_answer; text = refl; devices = search rules }
+
+pub returns-in-Err-Refused : goal.returns-in-Err-Refused
+returns-in-Err-Refused g c = record {
+  answer = no_answer;
+  text = (refl, (c.in-Ok.bytes.items, search rules, search rules));
+  devices = search rules;
+}
+
+pub returns-in-Ok-write_all : goal.returns-in-Ok-write_all
+returns-in-Ok-write_all g c = record {
+  answer = answer_in c.in-Ok-answer.output;
+  text = writes_whole c.in-Ok-answer.output _ _ _ c.in-Ok.bytes.items c.in-Ok-answer.ensures.answered (search rules) (search rules) (search rules);
+  devices = search rules;
+}
+
+pub returns : goal.returns
+returns g c = record {
+  answer = answer_in c.in-Ok-answer.output;
+  text = inr ((c.in-Ok.bytes.items, search rules, search rules), search rules);
+  devices = search rules;
+}

@@ -1,0 +1,64 @@
+-- How a run fails by the faults of its commits, and which refusals are printed (this project's
+-- profile).
+use Rattle.std.specs.Prelude.{⊤, Result, Ok, Err}
+use Rattle.agreed_ledger.specs.declared.refusal.Refusal.{Refusal as LedgerRefusal}
+use Rattle.agreed_ledger.specs.declared.refusal.Refusal.TheVariants as ledger
+use Rattle.scripts.specs.declared.status.RunStatus.{RunStatus}
+use Rattle.scripts.specs.declared.status.RunStatus.TheVariants as statuses
+use Rattle.shared_cluster.specs.declared.commits.commit_fault.CommitFault.{CommitFault}
+use Rattle.shared_cluster.specs.declared.commits.commit_fault.CommitFault.TheVariants as phases
+use Rattle.shared_cluster.specs.declared.refusal.Refusal.{Refusal}
+use Rattle.shared_cluster.specs.declared.refusal.Refusal.TheVariants as refusals
+use Rattle.threads_run.specs.declared.faults.RunFault.{RunFault}
+use Rattle.threads_run.specs.declared.faults.RunFault.TheVariants as faults
+
+-- want of memory, if either fault is that
+abbrev pub graver : RunFault → RunFault → RunFault
+graver faults.OutOfMemory other = faults.OutOfMemory
+graver faults.Refused other = other
+
+-- `Ok` if both are, and otherwise the graver fault
+abbrev pub both : Result ⊤ RunFault → Result ⊤ RunFault → Result ⊤ RunFault
+both (Ok _) other = other
+both (Err fault) (Ok _) = Err fault
+both (Err fault) (Err second) = Err (graver fault second)
+
+-- how a run fails that the sequencer refused so
+abbrev pub of_ledger : LedgerRefusal → RunFault
+of_ledger ledger.OutOfMemory = faults.OutOfMemory
+of_ledger refusal = faults.Refused
+
+-- how a run fails that a proxy or a resolver refused so
+abbrev pub of_cluster : Refusal → RunFault
+of_cluster refusals.OutOfMemory = faults.OutOfMemory
+of_cluster refusal = faults.Refused
+
+-- how a run fails in which a commit has this fault: want of memory is want of memory in each phase
+abbrev pub fault_of : {N : Type 0} → CommitFault N → RunFault
+fault_of (phases.Sequencing refusal batch) = of_ledger refusal
+fault_of (phases.Beginning refusal ticket) = of_cluster refusal
+fault_of (phases.Resolving refusal begun) = of_cluster refusal
+fault_of (phases.Finishing refusal ready) = of_cluster refusal
+
+-- how a run ends that fails so
+abbrev pub fault_status : RunFault → RunStatus
+fault_status faults.OutOfMemory = statuses.OutOfMemory
+fault_status faults.Refused = statuses.ClusterRefused
+
+-- how a run ends in which a commit has this fault
+abbrev pub status_of : {N : Type 0} → CommitFault N → RunStatus
+status_of fault = fault_status (fault_of fault)
+
+-- the refusal of a batch that gets no record is printed where the ledger or the versions end; any
+-- other ends the run
+abbrev pub printed_of_ledger : LedgerRefusal → Result LedgerRefusal RunFault
+printed_of_ledger (ledger.LedgerFull rows) = Ok (ledger.LedgerFull rows)
+printed_of_ledger ledger.VersionsEnd = Ok ledger.VersionsEnd
+printed_of_ledger refusal = Err (of_ledger refusal)
+
+-- the refusal that is printed of a commit that has this fault, or how the run fails
+abbrev pub printed_refusal : {N : Type 0} → CommitFault N → Result LedgerRefusal RunFault
+printed_refusal (phases.Sequencing refusal batch) = printed_of_ledger refusal
+printed_refusal (phases.Beginning refusal ticket) = Err (of_cluster refusal)
+printed_refusal (phases.Resolving refusal begun) = Err (of_cluster refusal)
+printed_refusal (phases.Finishing refusal ready) = Err (of_cluster refusal)

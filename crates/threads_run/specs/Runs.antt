@@ -1,0 +1,57 @@
+-- What a run of a threads script writes, and what it leaves of its source and its sink (this
+-- project's profile).
+use Rattle.std.specs.Prelude.{◌≡◌, ◌⊎◌, ℕ, List, Option, Result, Ok, Err, IsOk, string_bytes}
+use Rattle.std.specs.Io.KnownBytes.{Appends}
+use Rattle.scripts.specs.Answers.{Answer, refused_answer}
+use Rattle.scripts.specs.Devices.{AppendsBeginning}
+use Rattle.scripts.specs.Runs.{IsInput, LeavesDevices}
+use Rattle.scripts.specs.declared.devices.Sink.{Ghosts as SinkView}
+use Rattle.scripts.specs.declared.devices.Source.{Ghosts as SourceView}
+use Rattle.scripts.specs.declared.output.Output.{Output}
+use Rattle.scripts.specs.declared.script_fault.ScriptFault.{ScriptFault}
+use Rattle.scripts.specs.declared.status.RunStatus.{RunStatus}
+use Rattle.scripts.specs.declared.status.RunStatus.TheVariants.{Done, ScriptRefused}
+use Rattle.scripts.specs.declared.status.RunStatus.TheVariants.{DeviceFailed, OutOfMemory, ClusterRefused}
+use Rattle.threads_run.specs.Scripts.{script_of}
+use Rattle.threads_run.specs.Text.{IsThreadsText}
+use Rattle.threads_run.specs.declared.script.ThreadsScript.{ThreadsScript}
+
+-- a script is answered by a text of it, and one with a fault by its refusal
+abbrev pub Answers : Result ThreadsScript ScriptFault → Answer → Type 0
+Answers (Ok script) answer = IsThreadsText script answer.text × (answer.status ≡ Done)
+Answers (Err fault) answer = answer ≡ refused_answer fault
+
+-- an answer to the bytes of a script; threads may give several
+abbrev pub IsAnswerTo : List ℕ → Answer → Type 0
+IsAnswerTo bytes answer = Answers (script_of bytes) answer
+
+-- the answer that an output is
+abbrev pub answer_in : Output → Answer
+answer_in output = record { text = string_bytes output.text; status = output.status }
+
+-- the answer is one to the whole input, as far as the source exposes it
+abbrev pub AnswersInput : Option (List ℕ) → Answer → Type 0
+AnswersInput input answer = (bytes : List ℕ) × IsInput input bytes × IsAnswerTo bytes answer
+
+-- The whole text of the answer was written; or a beginning of it, perhaps nothing, if a device
+-- failed. Nothing was written if an allocation failed, or the cluster refused a call.
+abbrev pub WritesAnswer : Answer → (input old new : Option (List ℕ)) → RunStatus → Type 0
+WritesAnswer answer input old new Done =
+    AnswersInput input answer × Appends old new answer.text × (answer.status ≡ Done)
+WritesAnswer answer input old new ScriptRefused =
+    AnswersInput input answer × Appends old new answer.text × (answer.status ≡ ScriptRefused)
+WritesAnswer answer input old new DeviceFailed =
+    (new ≡ old) ⊎ (AnswersInput input answer × AppendsBeginning old new answer.text)
+WritesAnswer answer input old new OutOfMemory = new ≡ old
+WritesAnswer answer input old new ClusterRefused =
+    (new ≡ old) × ((bytes : List ℕ) × IsInput input bytes × IsOk (script_of bytes))
+
+-- what a run writes, and what it leaves of its devices; `answer` is the one that it had to write, and
+-- the empty one if it came to none
+pub record RunsThreads {S T : Type 0} (source : SourceView S) (source_old source_new : S)
+    (sink : SinkView T) (sink_old sink_new : T) (status : RunStatus) : Type 0 where
+  pub answer : Answer
+  pub text : WritesAnswer answer (source.remaining source_old)
+      (sink.written sink_old) (sink.written sink_new) status
+  pub devices : LeavesDevices (λ _. answer) source source_old source_new
+      sink sink_old sink_new status

@@ -1,0 +1,135 @@
+//! A proxy that commits batches, and prints their answers.
+
+ghost use Rattle.std.specs.Prelude.{◌≡◌, [], IfOk, OnOk, string_bytes};
+ghost use Rattle.threads_run.specs.Answers.{AreBatchLines, IsClosingLine, IsCommitOf, IsLineOf};
+ghost use Rattle.threads_run.specs.Lines.{batch_line};
+ghost use Rattle.threads_run.specs.Parts.{GrowsBy};
+
+use crate::faults::{RunFault, printed_refusal};
+use crate::lines::{print_closed, print_finished, print_refused, print_unclosed};
+use agreed_ledger::{Naming, Refusal, Sequencer};
+use model::ProxyNumber;
+use mutation::Batch;
+use shared_cluster::{AllResolvers, NotedFinished, SharedProxy, SharedResolver};
+use std::alloc::Global;
+use std::sync::Wait;
+
+/// A proxy of a cluster, and what it commits by.
+#[derive(Drop)]
+pub(crate) struct Committer<'a, 'l, N: Naming> {
+    pub(crate) number: ProxyNumber,
+    pub(crate) proxy: &'a SharedProxy<'l, N>,
+    pub(crate) sequencer: &'a Sequencer<'l, N>,
+    pub(crate) asking: &'a AllResolvers<'a, 'l, N>,
+    pub(crate) resolvers: &'a [SharedResolver<'l, N>],
+    ghost own: { proxy.now ≡ number },
+}
+
+/// What a commit came to that does not end the run.
+#[derive(Drop)]
+enum Committed<N: Naming> {
+    /// The batch is finished.
+    Finished(NotedFinished<N>),
+    /// The batch got no record: the ledger is full, or there are no more versions.
+    NoRecord(Refusal),
+}
+
+impl<'a, 'l, N: Naming> Committer<'a, 'l, N> {
+    /// Commits the batches in order, and returns the lines of their answers. If it fails, it has
+    /// closed each resolver, so that no other proxy waits for this one.
+    pub(crate) fn run<R: Wait>(
+        &self,
+        rt: &R,
+        alloc: Global,
+        batches: &[Batch],
+    ) -> Result<String, RunFault>
+        ensures { IfOk result (λ text.
+            AreBatchLines N.cells.config self.now.number batches.now (string_bytes text)) }
+    {
+        let mut text = String::new(alloc);
+        match self.print_batches(rt, &mut text, batches) {
+            Ok(()) => Ok(text),
+            Err(fault) => {
+                close_all(rt, self.resolvers);
+                Err(fault)
+            }
+        }
+    }
+
+    fn print_batches<R: Wait>(
+        &self,
+        rt: &R,
+        text: &mut String,
+        batches: &[Batch],
+    ) -> Result<(), RunFault>
+        ensures { OnOk result
+            (GrowsBy (AreBatchLines N.cells.config self.now.number batches.now)
+            (string_bytes text.old) (string_bytes text.new)) }
+    {
+        for (place, batch) in batches.iter().enumerate() {
+            self.print_batch(rt, text, place, batch)?;
+        }
+        Ok(())
+    }
+
+    /// Commits a batch, and prints its answer.
+    fn print_batch<R: Wait>(
+        &self,
+        rt: &R,
+        text: &mut String,
+        place: usize,
+        batch: &Batch,
+    ) -> Result<(), RunFault>
+        ensures { OnOk result
+            (GrowsBy (IsLineOf N.cells.config self.now.number
+            (batch_line self.now.number place) batch.now)
+            (string_bytes text.old) (string_bytes text.new)) }
+    {
+        match self.commit(rt, batch)? {
+            Committed::Finished(noted) => print_finished(text, self.number, place, noted.value())?,
+            Committed::NoRecord(refusal) => print_refused(text, self.number, place, &refusal)?,
+        }
+        Ok(())
+    }
+
+    /// Commits an empty batch, by which the proxy closes, and prints its answer.
+    pub(crate) fn print_closing<R: Wait>(
+        &self,
+        rt: &R,
+        text: &mut String,
+        empty: &Batch,
+    ) -> Result<(), RunFault>
+        requires { empty.now ≡ [] }
+        ensures { OnOk result
+            (GrowsBy (IsClosingLine N.cells.config self.now.number)
+            (string_bytes text.old) (string_bytes text.new)) }
+    {
+        match self.commit(rt, empty)? {
+            Committed::Finished(noted) => print_closed(text, self.number, noted.value())?,
+            Committed::NoRecord(refusal) => print_unclosed(text, self.number, &refusal)?,
+        }
+        Ok(())
+    }
+
+    /// Commits a copy of the batch.
+    fn commit<R: Wait>(&self, rt: &R, batch: &Batch) -> Result<Committed<N>, RunFault>
+        ensures { IfOk result (IsCommitOf N.cells.config self.now.number batch.now) }
+    {
+        let copy = batch.copy()?;
+        match self.proxy.commit(rt, self.sequencer, self.asking, copy) {
+            Ok((noted, _guard)) => {
+                // (its contract says what the type keeps of the outcomes)
+                let _finished = noted.value();
+                Ok(Committed::Finished(noted))
+            }
+            Err(fault) => Ok(Committed::NoRecord(printed_refusal(&fault)?)),
+        }
+    }
+}
+
+/// Closes each resolver.
+pub(crate) fn close_all<N: Naming, R: Wait>(rt: &R, resolvers: &[SharedResolver<'_, N>]) {
+    for resolver in resolvers {
+        resolver.close(rt);
+    }
+}
