@@ -239,16 +239,16 @@ def try_devices(trial, root, folder):
 def try_words(trial):
     """Refused words are answered before a device is touched, and their status stays where their text cannot be written."""
     for redirections in ("<&-", "< /", "> /dev/full", ">&-", "<&- >&-"):
-        status, out, err = run_shell(trial, redirections, "threads")
-        trial.expect((status, out) == (COMMAND_LINE_REFUSED, b"") and err, "ends wrong with threads %s" % redirections)
+        status, out, err = run_shell(trial, redirections, "Threads")
+        trial.expect((status, out) == (COMMAND_LINE_REFUSED, b"") and err, "ends wrong with Threads %s" % redirections)
     for redirections in ("2>&-", "2> /dev/full", "<&- >&- 2>&-"):
-        got = run_shell(trial, redirections, "threads")
-        trial.expect(got == (COMMAND_LINE_REFUSED, b"", b""), "ends wrong with threads %s: %r" % (redirections, got))
+        got = run_shell(trial, redirections, "Threads")
+        trial.expect(got == (COMMAND_LINE_REFUSED, b"", b""), "ends wrong with Threads %s: %r" % (redirections, got))
 
 
 def refuse_in_words(trial):
     """Each growth while words are refused: the status is 2 or 4, and nothing stands on standard output."""
-    for words in (["threads"], ["fold", "turns"], ["--help"], [b"\xff"]):
+    for words in (["Threads"], ["fold", "turns"], ["--help"], [b"\xff"]):
         number, refused = 0, True
         while refused:
             number += 1

@@ -2,9 +2,10 @@
 
 What a case must be answered follows from the fault that it plants, by docs/FORMATS.md: a text of which `serde_json` reads no
 value is 70; a value without the form is 71, also where other faults stand before it; and otherwise the first fault of a key,
-a value, a range, a stamp or a batch in the order of the script.
+a value, a range, a stamp or a batch in the order of the script, and last of all a move to a resolver that is not there.
 """
 import functools
+import random
 
 import content_cases
 import fold_shape_cases
@@ -14,27 +15,42 @@ import right_cases
 import shape_cases
 import size_cases
 import text_cases
+import threads_content_cases
+import threads_order_cases
+import threads_right_cases
+import threads_shape_cases
 import turns_content_cases
 import turns_order_cases
 import turns_right_cases
 import turns_shape_cases
-from forms import FOLD, TURNS
+from forms import FOLD, THREADS, TURNS
 
 OF_EACH_FORM = [kind for part in (shape_cases, text_cases, json_cases, size_cases) for kind in part.OF_EACH_FORM]
 OF_FOLD = [kind for part in (right_cases, fold_shape_cases, content_cases, order_cases, size_cases) for kind in part.CASES]
 OF_TURNS = [kind for part in (turns_right_cases, turns_shape_cases, turns_content_cases, turns_order_cases) for kind in part.CASES]
+OF_THREADS = [
+    kind for part in (threads_right_cases, threads_shape_cases, threads_content_cases, threads_order_cases) for kind in part.CASES
+]
+
+# how many cases of a kind that each form has are tried, drawn by the kind's name; all where there is no number. Threads scripts
+# are read as turns scripts are, but for a few fields
+FORMS = ((FOLD, OF_FOLD, None), (TURNS, OF_TURNS, None), (THREADS, OF_THREADS, 300))
 
 
 def kinds_of_cases():
     """For each kind of case a call that makes its cases."""
-    for form, of_the_form in ((FOLD, OF_FOLD), (TURNS, OF_TURNS)):
+    for form, of_the_form, most in FORMS:
         for kind in OF_EACH_FORM:
-            yield functools.partial(cases_of, form, kind, form)
+            yield functools.partial(cases_of, form, kind, most, form)
         for kind in of_the_form:
-            yield functools.partial(cases_of, form, kind)
+            yield functools.partial(cases_of, form, kind, None)
 
 
-def cases_of(form, kind, *more):
-    """Each case of a kind: its mode, its kind, what it is, its bytes, and what must be answered."""
-    for name, script, answer in kind(*more):
+def cases_of(form, kind, most, *more):
+    """Each case of a kind, or as many as that: its mode, its kind, what it is, its bytes, and what must be answered."""
+    for name, script, answer in some_of(list(kind(*more)), kind.__name__, most) if most else kind(*more):
         yield form.mode, kind.__name__, name, script if isinstance(script, bytes) else script.encode(), answer
+
+
+def some_of(cases, name, most):
+    return random.Random(name).sample(cases, min(most, len(cases)))

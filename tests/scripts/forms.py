@@ -66,8 +66,8 @@ def fold_of_value(text):
     return write({"resolvers": 1, "rows": [{"version": 3, "states": [state]}], "ask": [text]})
 
 
-def printed_fold(spelled):
-    return 'version 3\nlocked no\nmetadata_version "%s"\ntags "%s" none\n' % (spelled, spelled)
+def printed_fold(spelled, version=3):
+    return 'version %d\nlocked no\nmetadata_version "%s"\ntags "%s" none\n' % (version, spelled, spelled)
 
 
 def good_turns():
@@ -130,5 +130,59 @@ def printed_turns(spelled):
     return lines + printed_fold(spelled)
 
 
+def good_threads():
+    """A script without a fault, with a move and a mutation of each kind, which comes to the same in every order."""
+    mutations = [
+        {"set": [SERVER_TAG + SERVER_1, "\\x00\\x00\\x01"]},
+        {"clear": ["a", "b"]},
+        {"set_stamped": ["k", "\\x00" * 14]},
+    ]
+    row = [{"set": [KEY_SERVERS, "\\x01" + SERVER_1 + "\\x00"]}]
+    return {
+        "proxies": 2,
+        "resolvers": 2,
+        "window": 100,
+        "step": 10,
+        "rows": 4,
+        "moves": [{"range": ["m", "t"], "resolver": 1}],
+        "work": [
+            [[{"snapshot": 7, "reads": [["n", "o"]], "writes": [["a", "c"]], "mutations": mutations, "lock_aware": True}]],
+            [[{"snapshot": 0, "reads": [], "writes": [], "mutations": row, "lock_aware": False}]],
+        ],
+        "ask": ["a"],
+    }
+
+
+THREADS_ANSWER = """\
+batch 0 0 committed
+batch 1 0 committed
+closing 0 version 30
+closing 1 version 40
+proxy 0
+version 30
+locked no
+metadata_version none
+route "" 0:1
+tags "a" 0:1
+proxy 1
+version 40
+locked no
+metadata_version none
+route "" 0:1
+tags "a" 0:1
+"""
+
+
+def threads_of_value(text):
+    batch = [{"snapshot": 0, "reads": [], "writes": [], "mutations": [{"set": [METADATA_VERSION, text]}], "lock_aware": True}]
+    numbers = {"proxies": 1, "resolvers": 1, "window": 1, "step": 3, "rows": 2}
+    return write({**numbers, "moves": [], "work": [[batch]], "ask": [text]})
+
+
+def printed_threads(spelled):
+    return "batch 0 0 committed\nclosing 0 version 6\nproxy 0\n" + printed_fold(spelled, 6)
+
+
 FOLD = Form("fold", good_fold, FOLD_ANSWER, "set_stamped", fold_of_value, printed_fold)
 TURNS = Form("turns", good_turns, TURNS_ANSWER, "verdicts", turns_of_value, printed_turns)
+THREADS = Form("threads", good_threads, THREADS_ANSWER, "events", threads_of_value, printed_threads)

@@ -10,6 +10,7 @@ EMPTY_RANGE = "refused 13 EmptyRange\n"
 BAD_ROW = "refused 14 BadRow\n"
 BAD_STAMP = "refused 15 BadStamp\n"
 BATCH_TOO_LARGE = "refused 16 BatchTooLarge\n"
+NO_SUCH_RESOLVER = "refused 20 NoSuchResolver\n"
 
 SERVER_1, SERVER_2, SERVER_3 = "server0000000001", "server0000000002", "server0000000003"
 KEY_SERVERS, SERVER_TAG = "\\xff/keyServers/", "\\xff/serverTag/"
@@ -52,12 +53,14 @@ def places(value, path=()):
 
 KINDS = {
     "resolvers": "number", "version": "number", "lock_aware": "bool", "verdicts": "verdict", "proxies": "number", "window": "number",
-    "step": "number", "proxy": "number", "resolver": "number", "row": "number", "snapshot": "number",
+    "step": "number", "proxy": "number", "resolver": "number", "row": "number", "rows": "number", "snapshot": "number",
 }
 
 
 def kind_at(path, value):
-    """What a script must have at a place: a list, an object, a number, a bool, a verdict, or bytes."""
+    """What a script must have at a place: a list, one of batches, an object, a number, a bool, a verdict, or bytes."""
+    if len(path) == 2 and path[0] == "work":
+        return "batches"
     if isinstance(value, (dict, list)):
         return type(value).__name__
     return KINDS.get([step for step in path if isinstance(step, str)][-1], "bytes")

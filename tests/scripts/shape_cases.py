@@ -21,8 +21,8 @@ SAMPLES = {
     '"7"': ("bytes",),
     '"true"': ("bytes",),
     '"committed"': ("bytes", "verdict"),
-    "[]": ("list",),
-    "[[]]": (),
+    "[]": ("list", "batches"),
+    "[[]]": ("batches",),
     "[null]": (),
     "{}": (),
     '{"x":1}': (),
@@ -41,7 +41,7 @@ def extra_fields(form):
     """One more field, by each name that stands anywhere in the form, and by others."""
     names = ["", "x", "set", "clear", "set_stamped", "version", "states", "mutations", "lock_aware", "verdicts"]
     names += ["resolvers", "rows", "ask", "snapshot", "reads", "writes", "proxies", "window", "step", "events", "sequence", "proxy"]
-    names += ["batch", "move", "range", "resolver", "offer", "row", "finish"]
+    names += ["batch", "move", "range", "resolver", "offer", "row", "finish", "moves", "work"]
     for path, value in form.places("dict"):
         for name in names:
             if name not in value:

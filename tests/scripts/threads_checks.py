@@ -18,9 +18,9 @@ import turns_reference
 from reference import fold, metadata_lines
 from script import LOCKED, METADATA_VERSION, SERVER_1, SERVER_2, write
 from threads_orders import UNKNOWN, what_is_wrong
+from threads_random import random_threads
 from threads_reference import committed_rows, refused_after, script_of
-from threads_words import closings, committed, meetings, move, routes, three_by_nine, threads
-from turns_random import Drawn
+from threads_words import closings, committed, meetings, move, reading_and_writing, routes, three_by_nine, threads
 from turns_words import LOCK, lines, one_key, put, put_servers, put_tag, shown, stamp, transaction
 
 SEEDS = 60
@@ -180,10 +180,6 @@ def no_version_left():
             yield "%d rows, %s" % (rows, said), script, text, False, said == word
 
 
-def reading_and_writing(key, other):
-    return [transaction(0, [one_key(key)], [one_key(other)], [put(other, "1")])]
-
-
 def conflicts():
     """Of those that read and write one key, one is committed; of two that read what the other writes, either; of a ring, two."""
     words = ("committed", "conflict", "too_old")
@@ -264,28 +260,6 @@ def by_all_orders(name, script, every, rng=random):
 
 
 # ---- random scripts
-
-
-def random_threads(rng, proxies, batches, transactions=(0, 1, 1, 2)):
-    """A script of so many proxies with so many batches each, or a few less; most snapshots lie among its versions."""
-    drawn = Drawn(rng)
-    drawn.resolvers, drawn.step = rng.choice([1, 2, 3, 4]), rng.choice([1, 10, 10, 10, 140])
-    drawn.window = rng.choice([2, 5, 30, 1000]) * drawn.step
-    work = []
-    for _ in range(proxies):
-        work.append([])
-        for _ in range(max(0, batches - rng.choice([0, 0, 0, 1]))):
-            drawn.owners = [0] * rng.randrange(proxies * batches)
-            work[-1].append([drawn.transaction() for _ in range(rng.choice(transactions))])
-    if work[0] and rng.random() < 0.7:
-        work[0][0] = drawn.first_batch()["sequence"]["batch"]
-    moves = [move(*drawn.span(), rng.randrange(drawn.resolvers)) for _ in range(rng.choice([0, 0, 1, 3]))]
-    count = sum(map(len, work))
-    rows = rng.choice([4096, count + proxies, max(1, count + rng.randrange(-2, proxies))])
-    return threads(
-        *work, moves=moves, ask=["a", "\\xff", ""][: rng.randrange(4)], resolvers=drawn.resolvers, window=drawn.window,
-        step=drawn.step, rows=rows,
-    )
 
 
 def random_small(seeds):

@@ -1,6 +1,8 @@
 """Words for threads scripts and for what they are answered."""
+import re
+
 from script import KEY_SERVERS, SERVER_1
-from turns_words import one_key, put_servers, put_tag, transaction
+from turns_words import one_key, put, put_servers, put_tag, transaction
 
 
 def threads(*work, moves=(), ask=(), resolvers=2, window=1000, step=10, rows=100):
@@ -27,12 +29,22 @@ def three_by_nine(rows):
     return threads(*([putting_row(9 * proxy + number) for number in range(9)] for proxy in range(3)), ask=["k13"], rows=rows)
 
 
+def reading_and_writing(key, other):
+    """A batch that reads one key and writes the other."""
+    return [transaction(0, [one_key(key)], [one_key(other)], [put(other, "1")])]
+
+
 # ---- answers
+
+
+def outcomes(proxy, *words):
+    """The lines of a proxy's batches with these outcomes."""
+    return ["batch %d %d %s" % (proxy, number, it) for number, it in enumerate(words)]
 
 
 def committed(*counts):
     """The lines of committed batches of one transaction, for proxies with so many of them."""
-    return ["batch %d %d committed" % (proxy, number) for proxy, count in enumerate(counts) for number in range(count)]
+    return [line for proxy, count in enumerate(counts) for line in outcomes(proxy, *["committed"] * count)]
 
 
 def closings(*ends):
@@ -49,6 +61,14 @@ def meetings(*versions):
     pairs = [(p, q) for p in range(len(versions)) for q in range(p + 1, len(versions))]
     words = ["meet %d %d %s" % (p, q, met(versions[p], versions[q])) for p, q in pairs]
     return words + ["audit %d ok" % proxy for proxy in range(len(versions))]
+
+
+def with_meetings(text):
+    """A text with the lines of meetings and audits at its end, which follow from the versions of its proxies."""
+    if "\naudit " in text:
+        return text
+    versions = map(int, re.findall(r"^proxy \d+\nversion (\d+)$", text, re.MULTILINE))
+    return text + "".join(line + "\n" for line in meetings(*versions))
 
 
 def met(version, other):

@@ -44,6 +44,19 @@ STAMP_FAULTS = {
     "a stamped key past all": (stamp("\\xff" * 10_000, ZEROS + offset(0)), KEY_OUTSIDE),
 }
 
+# stamped values with room for their stamp: one at each end of the longest value, one of ten bytes, and keys that are like kept rows
+FINE_STAMPS = {
+    "ten bytes and an offset": stamp("k", "0123456789" + offset(0)),
+    "a stamp at the end": stamp("k", "ab" + ZEROS + offset(2)),
+    "a stamp at the end of the longest value": stamp("k", "v" * 99_996 + offset(99_986)),
+    "a stamp at the front of the longest value": stamp("k", "v" * 99_996 + offset(0)),
+    "a stamp of the longest key": stamp("k" * 10_000, ZEROS + offset(0)),
+    "a stamp of no key": stamp("", ZEROS + offset(0)),
+    "a stamp of the last key": stamp(content_cases.LAST_KEY, ZEROS + offset(0)),
+    "a stamp of a short serverTag key": stamp(SERVER_TAG + SERVER_1[1:], ZEROS + offset(0)),
+    "a stamp before the keyServers rows": stamp("\\xff/keyServers", ZEROS + offset(0)),
+}
+
 # stamps with two faults each: the lesser number is answered
 STAMPS_OF_TWO_FAULTS = [
     (stamp(LONG_BEGIN, LONG_VALUE), KEY_TOO_LONG),
@@ -122,17 +135,7 @@ def no_fault():
 
 def stamps_with_room():
     """A stamp at each end of the longest value, in a value of ten bytes, and in keys that are like kept rows."""
-    for name, mutation in {
-        "ten bytes and an offset": stamp("k", "0123456789" + offset(0)),
-        "a stamp at the end": stamp("k", "ab" + ZEROS + offset(2)),
-        "a stamp at the end of the longest value": stamp("k", "v" * 99_996 + offset(99_986)),
-        "a stamp at the front of the longest value": stamp("k", "v" * 99_996 + offset(0)),
-        "a stamp of the longest key": stamp("k" * 10_000, ZEROS + offset(0)),
-        "a stamp of no key": stamp("", ZEROS + offset(0)),
-        "a stamp of the last key": stamp(content_cases.LAST_KEY, ZEROS + offset(0)),
-        "a stamp of a short serverTag key": stamp(SERVER_TAG + SERVER_1[1:], ZEROS + offset(0)),
-        "a stamp before the keyServers rows": stamp("\\xff/keyServers", ZEROS + offset(0)),
-    }.items():
+    for name, mutation in FINE_STAMPS.items():
         yield case(name, script_of(events_of(mutation)), *carried_out(1))
     text, stamped = "abcdefghijklm", "\\x00" * 7 + "\\x0a\\x00\\x00"
     for place in range(4):

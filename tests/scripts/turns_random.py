@@ -137,9 +137,8 @@ def lists_of_content(script):
             yield event["move"], RANGE_FAULTS
 
 
-def plant_content(rng, script):
-    """Puts a fault into a random list or move, where there is one: the fault, and what is answered."""
-    wholes = list(lists_of_content(script))
+def plant_content(rng, wholes):
+    """Puts a fault into one of these lists and moves at random, if there are any: the fault, and what is answered."""
     if not wholes:
         return None, None
     mutations = [it for it in wholes if it[1] is MUTATION_FAULTS]
@@ -178,7 +177,7 @@ def wrong_script(rng):
     script = right_script(rng)
     large = rng.random() < 0.1
     kinds = rng.sample(["content", "content", "content", "form", "text"], rng.choice([0, 1, 2] if large else [1, 1, 2, 3]))
-    planted = [plant_content(rng, script) for _ in range(kinds.count("content"))]
+    planted = [plant_content(rng, list(lists_of_content(script))) for _ in range(kinds.count("content"))]
     if large:
         plant_large_batch(rng, script)
     answer = first_fault(script, planted)

@@ -1,6 +1,6 @@
 """Turns scripts without their form: numbers of the cluster, events, mutations, and fields that stand elsewhere."""
 from forms import TURNS
-from script import BAD_SHAPE, Fields, at, changed, write
+from script import BAD_SHAPE, Fields, at, write
 from turns_words import case, finish, move, offer, sequence, shown, transaction, turns
 
 EVENT = ("events", 1, "sequence")
@@ -87,25 +87,25 @@ def events_of_wrong_form():
         yield "%r for an event" % (word,), write(turns() | {"events": [word]}), BAD_SHAPE
 
 
-def mutations_of_wrong_form():
+def wrong_mutations():
     """A mutation by another name, two in one object, and the forms of other mutations."""
     pair = ["k", "l"]
     for other in ("Set", "setStamped", "set-stamped", "set_stamp", "stamped", "SetStamped", "clear_range", "set_versionstamped_value", "add", ""):
-        yield "%r for a mutation" % other, with_mutation({other: pair}), BAD_SHAPE
+        yield "%r for a mutation" % other, {other: pair}
     for first, second in (("set", "clear"), ("set", "set_stamped"), ("clear", "set_stamped")):
-        yield "%s and %s in one" % (first, second), with_mutation({first: pair, second: pair}), BAD_SHAPE
-        yield "%s and %s in one, turned" % (first, second), with_mutation({second: pair, first: pair}), BAD_SHAPE
+        yield "%s and %s in one" % (first, second), {first: pair, second: pair}
+        yield "%s and %s in one, turned" % (first, second), {second: pair, first: pair}
     for name in ("set", "clear", "set_stamped"):
         for value in (None, {}, {"key": "k", "value": "v"}, "kl", [pair], [["k"], ["l"]], ["k", None], [7, "l"]):
-            yield "%s of %r" % (name, value), with_mutation({name: value}), BAD_SHAPE
-        yield "%s as a list" % name, with_mutation([name, *pair]), BAD_SHAPE
-        doubled = Fields([(name, pair), (name, pair[:1])])
-        yield "%s twice, the last one short" % name, with_mutation(doubled), BAD_SHAPE
-    yield "no mutation", with_mutation({}), BAD_SHAPE
+            yield "%s of %r" % (name, value), {name: value}
+        yield "%s as a list" % name, [name, *pair]
+        yield "%s twice, the last one short" % name, Fields([(name, pair), (name, pair[:1])])
+    yield "no mutation", {}
 
 
-def with_mutation(mutation):
-    return write(changed(TURNS.good(), (*FIRST, "mutations", 1), mutation))
+def mutations_of_wrong_form():
+    for name, mutation in wrong_mutations():
+        yield name, write(TURNS.changed((*FIRST, "mutations", 1), mutation)), BAD_SHAPE
 
 
 CASES = (
