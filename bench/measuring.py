@@ -8,7 +8,7 @@ import tempfile
 import time
 
 ROOT = os.path.dirname(os.path.dirname(os.path.abspath(__file__)))
-sys.path.insert(0, os.path.join(ROOT, "tests", "memory"))
+sys.path[:0] = [os.path.join(ROOT, "tests", "memory"), os.path.join(ROOT, "tests")]
 PROGRAM = os.path.join(ROOT, "crates", "proxy_run", "out", "proxy_run")
 
 from program import first_field_twice  # noqa: E402

@@ -1,7 +1,8 @@
 """The built program where memory or a device fails it: each call of each kind refused, short calls, and strange devices.
 
 The status is 3 for a device, and 4 for a growth, or that of the example where the growth did not matter. What was written is a
-beginning of the example's output, and nothing where a read was refused. No other line is written.
+beginning of the example's output, and nothing where a read was refused. No other line is written. What holds where the growths
+of a threads script are refused, threads.py says.
 """
 import concurrent.futures
 import errno
@@ -14,6 +15,8 @@ import threading
 import time
 from typing import NamedTuple
 
+import watched
+
 SCRIPT_REFUSED, COMMAND_LINE_REFUSED, DEVICE_FAILED, OUT_OF_MEMORY = 1, 2, 3, 4
 
 # how many read calls a run may make, that which meets the end among them, and how many bytes each asks for
@@ -22,6 +25,12 @@ READ_SIZE = 4_096
 
 # what a run takes beside its input, at most: the program, the C library and the stack
 BESIDE = 2**26
+
+# how many seconds a run may take
+LIMIT = 120
+
+# how many growths fewer a run of threads takes at least, whose growths have no fixed number, if it is read as its tokens come
+FEWER_IN_THREADS = 20
 
 
 class Example(NamedTuple):
@@ -35,8 +44,8 @@ class Example(NamedTuple):
 
 
 def examples(root):
-    """The stored examples: those of `fold`, and in a folder those of `turns`."""
-    for folder, words in (("examples", []), (os.path.join("examples", "turns"), ["turns"])):
+    """The stored examples: those of `fold`, and in folders those of the other modes."""
+    for folder, words in (("examples", []), *((os.path.join("examples", mode), [mode]) for mode in ("turns", "threads"))):
         for name in sorted(os.listdir(os.path.join(root, folder))):
             if name.endswith(".json"):
                 path = os.path.join(root, folder, name)
@@ -59,7 +68,10 @@ class Trial:
             os.remove(self.mark)
         told = dict(os.environ, LD_PRELOAD=self.shim, REFUSE_MARK=self.mark)
         told.update((name, str(value)) for name, value in variables.items())
-        ended = subprocess.run([self.program, *words], input=script, env=told, capture_output=True, timeout=120)
+        try:
+            ended = watched.run([self.program, *words], script, LIMIT, env=told)
+        except watched.Hung as hung:
+            raise watched.Hung("%s on %.100r with %s: %s" % (words, script, variables, hung)) from None
         return ended, os.path.exists(self.mark)
 
     def expect(self, fine, what):
@@ -82,7 +94,10 @@ def refuse_each(trial, example, variable, judge, **more):
 
 
 def refuse_growths(trial, example):
-    """Each growth once, and each with all that follow."""
+    """Each growth once, and each with all that follow, where they come in one order."""
+    if example.words == ["threads"]:
+        return
+
     def judge(_, ended):
         whole = (ended.returncode, ended.stdout) == (example.status, example.output)
         return whole or (ended.returncode == OUT_OF_MEMORY and example.output.startswith(ended.stdout))
@@ -119,7 +134,8 @@ def read_by_tokens(trial, example):
     if status == 0:
         count = count_growths(trial, script, words)
         by_tree = count_growths(trial, first_field_twice(script), words)
-        trial.expect(count + by_tree // 10 < by_tree, "%s: is read through a tree: %d growths, and %d" % (name, count, by_tree))
+        fewer = FEWER_IN_THREADS if words == ["threads"] else by_tree // 10
+        trial.expect(count + fewer < by_tree, "%s: is read through a tree: %d growths, and %d" % (name, count, by_tree))
 
 
 def refuse_reads(trial, example):
@@ -306,16 +322,19 @@ def tried(program, shim, mark, trial_and_arguments):
     """How many runs one trial took, and what went wrong in them."""
     trial_of, *arguments = trial_and_arguments
     trial = Trial(program, shim, mark)
-    trial_of(trial, *arguments)
+    try:
+        trial_of(trial, *arguments)
+    except watched.Hung as hung:
+        trial.expect(False, str(hung))
     return trial.runs, trial.faults
 
 
-def try_program(program, root, shim, folder):
-    """How many runs were tried, and what went wrong."""
+def try_program(program, root, shim, folder, more):
+    """How many runs were tried, in these trials and in more, and what went wrong."""
     stored = list(examples(root))
     trials = [(trial_of, example) for example in stored for trial_of in OF_EACH_EXAMPLE]
     trials += [(reach_read_limit, example) for example in (stored[0], stored[-1])]
-    trials += [(trial_of,) for trial_of in OF_THE_PROGRAM] + [(try_devices, root, folder)]
+    trials += [(trial_of,) for trial_of in OF_THE_PROGRAM] + [(try_devices, root, folder), *more]
 
     marks = [os.path.join(folder, "mark %d" % number) for number in range(len(trials))]
     with concurrent.futures.ProcessPoolExecutor(os.cpu_count()) as at_once:

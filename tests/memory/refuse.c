@@ -1,6 +1,7 @@
-/* Preloaded into a program: refuses a growth of memory, a read or a write, or makes reads and writes short.
+/* Preloaded into a program: refuses a growth of memory, a read, a write or a thread, makes reads and writes short, or
+ * holds threads up.
  *
- * REFUSE_GROWTH, REFUSE_READ, REFUSE_WRITE: the number of the call that is refused, from 1.
+ * REFUSE_GROWTH, REFUSE_READ, REFUSE_WRITE, REFUSE_THREAD: the number of the call that is refused, from 1.
  * REFUSE_ON: where it is set, all calls of that kind from then on are refused, not this one alone.
  * REFUSE_ERROR: the errno of a refused read or write; EIO without it. Of 0 the call answers 0, and not -1.
  * REFUSE_MARK: a file that is made when a call was refused.
@@ -11,26 +12,37 @@
  * REFUSE_FIRST, REFUSE_STEP, REFUSE_TURN: how many growths are refused so, each of them; of those that follow, one of
  * so many; and which, from 0.
  * SHORT_READ, SHORT_WRITE: how many bytes one call takes at most.
+ * SHAKE: a number from 1, from which it is drawn in which growths, and in which calls that wait for another thread or
+ * wake one, a thread sleeps for a moment or gives way to others. So runs differ in which thread comes first.
  */
 #define _GNU_SOURCE
 #include <dlfcn.h>
 #include <errno.h>
 #include <fcntl.h>
+#include <pthread.h>
+#include <sched.h>
+#include <stdarg.h>
 #include <stdio.h>
 #include <stdlib.h>
 #include <string.h>
 #include <sys/wait.h>
+#include <time.h>
 #include <unistd.h>
 
 /* How long a child may take, in seconds. */
 #define CHILD_LIMIT 30
 
-static long growths, reads, writes;
+/* Of a thousand calls of a thread that is shaken, how many sleep and how many give way, and how long a sleep is at most. */
+#define SLEEPS 10
+#define YIELDS 50
+#define NANOSECONDS 100000
+
+static long growths, reads, writes, threads;
 static int is_child;
 
 /* What the variables say; a number is -1 where its variable is not set. */
 struct settings {
-    long growth, read, write, then, first, step, turn, short_read, short_write;
+    long growth, read, write, thread, then, first, step, turn, short_read, short_write, shake;
     int on, error;
     const char *mark, *each;
 };
@@ -50,12 +62,14 @@ static const struct settings *told(void)
         it.growth = number_of("REFUSE_GROWTH");
         it.read = number_of("REFUSE_READ");
         it.write = number_of("REFUSE_WRITE");
+        it.thread = number_of("REFUSE_THREAD");
         it.then = number_of("REFUSE_THEN");
         it.first = number_of("REFUSE_FIRST");
         it.step = number_of("REFUSE_STEP");
         it.turn = number_of("REFUSE_TURN");
         it.short_read = number_of("SHORT_READ");
         it.short_write = number_of("SHORT_WRITE");
+        it.shake = number_of("SHAKE");
         it.on = getenv("REFUSE_ON") != NULL;
         it.error = getenv("REFUSE_ERROR") == NULL ? EIO : (int)number_of("REFUSE_ERROR");
         it.mark = getenv("REFUSE_MARK");
@@ -178,11 +192,32 @@ static size_t shortened(long most, size_t count)
     return most >= 0 && (size_t)most < count ? (size_t)most : count;
 }
 
+/* Lets the thread sleep or give way now and then, where threads are shaken: which calls do is drawn for each thread. */
+static void shake(void)
+{
+    static long shaken;
+    static __thread unsigned long drawn;
+    if (told()->shake <= 0)
+        return;
+    if (drawn == 0)
+        drawn = 0x9e3779b97f4a7c15 * (1000 * told()->shake + __atomic_add_fetch(&shaken, 1, __ATOMIC_SEQ_CST));
+    drawn ^= drawn << 13;
+    drawn ^= drawn >> 7;
+    drawn ^= drawn << 17;
+    unsigned long call = drawn >> 20 & 1023;
+    struct timespec moment = {0, (drawn >> 30) % NANOSECONDS};
+    if (call < SLEEPS)
+        nanosleep(&moment, NULL);
+    else if (call < SLEEPS + YIELDS)
+        sched_yield();
+}
+
 void *malloc(size_t size)
 {
     static void *(*next)(size_t);
     if (next == NULL)
         next = dlsym(RTLD_NEXT, "malloc");
+    shake();
     return is_growth_refused() ? refuse_growth() : next(size);
 }
 
@@ -212,4 +247,28 @@ ssize_t write(int file, const void *bytes, size_t count)
     if (is_refused(told()->write, &writes))
         return refuse_device();
     return next(file, bytes, shortened(told()->short_write, count));
+}
+
+int pthread_create(pthread_t *thread, const pthread_attr_t *attributes, void *(*start)(void *), void *argument)
+{
+    static int (*next)(pthread_t *, const pthread_attr_t *, void *(*)(void *), void *);
+    if (next == NULL)
+        next = dlsym(RTLD_NEXT, "pthread_create");
+    return is_refused(told()->thread, &threads) ? EAGAIN : next(thread, attributes, start, argument);
+}
+
+/* By this call locks are waited for, and the threads that wait are woken. */
+long syscall(long number, ...)
+{
+    static long (*next)(long, ...);
+    long more[6];
+    va_list rest;
+    if (next == NULL)
+        next = dlsym(RTLD_NEXT, "syscall");
+    va_start(rest, number);
+    for (int at = 0; at < 6; at++)
+        more[at] = va_arg(rest, long);
+    va_end(rest);
+    shake();
+    return next(number, more[0], more[1], more[2], more[3], more[4], more[5]);
 }

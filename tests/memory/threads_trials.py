@@ -1,0 +1,98 @@
+"""The built program on threads scripts: growths and threads are refused to it, and its threads are held up at random.
+
+Which growth has which number, and what a script comes to, depends on how the threads come. So it is not one text that a run is
+compared with. A run must end in time, and with one of two ends: with status 0 and a text that some order of the batches gives,
+as tests/scripts/threads_orders.py decides, or with the status of want of memory and nothing written.
+"""
+import functools
+
+from program import OUT_OF_MEMORY, Example, refuse_each
+from script import KEY_SERVERS, LOCKED, SERVER_1, write
+from threads_orders import what_is_wrong
+from threads_random import random_cases
+from threads_words import move, threads
+from turns_words import one_key, put, put_servers, put_tag, transaction
+
+# how many numbers of growths are tried past the first that a run does not reach
+PAST = 20
+
+# how many of the growths that are refused while the threads are shaken, of how many random scripts each is run how often
+EVERY_SHAKEN, SEEDS, TIMES = 2, 60, 5
+
+
+def example(name, *work, **more):
+    """A script with these lists of batches; what it is answered is left open."""
+    return Example(name, ["threads"], write(threads(*work, ask=["a", "z"], **more)).encode(), None, 0)
+
+
+def two_by_two():
+    """Two proxies with two batches each, all different: they conflict, lock the database and change the metadata."""
+    tags = [put_tag(SERVER_1, "\\x00\\x00\\x01"), put_servers("", SERVER_1)]
+    first = [transaction(0, [one_key("n")], [one_key("a")], tags)]
+    second = [transaction(0, [one_key("a")], [one_key("n")], [put("a", "1")]), transaction(10, [], [], [put_servers("m", SERVER_1)], True)]
+    third = [transaction(0, [], [one_key(LOCKED)], [put(LOCKED, "L")], True)]
+    last = [transaction(0, [], [], [{"clear": [KEY_SERVERS, KEY_SERVERS[:-1] + "0"]}], True), transaction(0, [one_key("n")])]
+    return example("two proxies with two batches each", [first, last], [second, third], moves=[move("m", "t", 1)])
+
+
+@functools.lru_cache(maxsize=None)
+def fault_of(script, text):
+    return what_is_wrong(script, text.decode(), meetings=True)
+
+
+def is_right(example, ended):
+    """Whether a run ended in one of the two ways."""
+    if ended.returncode == OUT_OF_MEMORY:
+        return not ended.stdout and not ended.stderr
+    return ended.returncode == example.status and not ended.stderr and not fault_of(example.script, ended.stdout)
+
+
+def refuse_growths(trial, example):
+    """Each growth once, and each with all that follow; and numbers past the last, since there may be more growths another time."""
+    for more in ({}, {"REFUSE_ON": 1}):
+        count = refuse_each(trial, example, "REFUSE_GROWTH", lambda _, ended: is_right(example, ended), **more)
+        for number in range(count + 2, count + PAST):
+            ended, _ = trial.run(example.script, example.words, REFUSE_GROWTH=number, **more)
+            trial.expect(is_right(example, ended), "%s: ends wrong where growth %d is refused: %r" % (example.name, number, ended))
+
+
+def refuse_shaken(trial, example):
+    """One of some growths, each while the threads are shaken in another way."""
+    number, refused = 1, True
+    while refused:
+        ended, refused = trial.run(example.script, example.words, REFUSE_GROWTH=number, SHAKE=number)
+        trial.expect(is_right(example, ended), "%s: ends wrong where growth %d is refused, shaken: %r" % (example.name, number, ended))
+        number += EVERY_SHAKEN
+
+
+def refuse_threads(trial):
+    """The start of each thread in turn, while those before it run or have ended: want of memory, and all threads end."""
+    def is_want_of_memory(_, ended):
+        return (ended.returncode, ended.stdout) == (OUT_OF_MEMORY, b"")
+
+    for proxies in (1, 2, 8):
+        tried = example("%d proxies" % proxies, *[[[transaction(0, [], [one_key("a")])]] * 5] * proxies)
+        for more in ({}, {"REFUSE_ON": 1}, {"SHAKE": 1}):
+            count = refuse_each(trial, tried, "REFUSE_THREAD", is_want_of_memory, **more)
+            trial.expect(count == proxies, "%d proxies: %d threads are started" % (proxies, count))
+
+
+def shake_random(trial):
+    """Random scripts, each some times with its threads shaken in another way: all texts are right, and they differ."""
+    different = 0
+    for _, kind, seed, script, _ in random_cases(range(SEEDS)):
+        if kind == "random_right":
+            drawn, texts = Example("random threads, %s" % seed, ["threads"], script, None, 0), set()
+            for time in range(TIMES):
+                ended, _ = trial.run(script, drawn.words, SHAKE=time + 1)
+                texts.add(ended.stdout)
+                trial.expect(is_right(drawn, ended), "%s: ends wrong with its threads shaken: %r" % (drawn.name, ended))
+            different += len(texts) > 1
+    trial.expect(different, "no random script came to two texts with its threads shaken")
+
+
+def trials(stored):
+    """All trials, with the stored examples: each a call and what it takes beside the runs."""
+    for tried in (two_by_two(), *(it for it in stored if it.words == ["threads"])):
+        yield from ((refuse_growths, tried), (refuse_shaken, tried))
+    yield from ((refuse_threads,), (shake_random,))
