@@ -1,12 +1,16 @@
 """Copies of the repository in which crates are checked, so that no check changes the work tree."""
 import collections
 import os
+import re
 import shutil
 import subprocess
 import tempfile
 import time
 
 SOURCES = ("src", "specs", "proofs")
+
+# What `rt ci` prints of a library that it has proved, or that an earlier run on this machine has proved.
+PROVED = re.compile(r"rt: (\w+) (?:proved$|is kept: )")
 
 # What a program printed, and what it took: seconds, and those of a processor.
 Ran = collections.namedtuple("Ran", "printed status seconds processor")
@@ -50,10 +54,10 @@ class Room:
         return found
 
     def take_proved(self):
-        """Takes the libraries that `rt ci` has proved since the last call: where it ends, it may put older ones there."""
+        """Takes the libraries that `rt ci` has proved, or found kept, since the last call: where it ends, it may put older ones there."""
         with open(self.ci_output, encoding="utf-8", errors="replace") as file:
-            said = set(map(str.rstrip, file))
-        for crate in (it for it in self.below if it not in self.taken and f"rt: {it} proved" in said):
+            said = {found[1] for found in map(PROVED.match, file) if found}
+        for crate in (it for it in self.below if it not in self.taken and it in said):
             copy_folder(f"{self.root}/crates/{crate}/out/rlib", f"{self.home(crate)}/out/rlib")
             self.taken.add(crate)
 
