@@ -16,7 +16,7 @@ use Rattle.scripts.specs.declared.script_fault.ScriptFault.TheVariants as faults
 use Rattle.threads_run.specs.Checks.{checked_move, checked_script, checked_work, has_resolver, with_resolvers}
 use Rattle.threads_run.specs.Limits.{is_within_limits, script_shape}
 use Rattle.threads_run.specs.Runnable.{IsRunnable}
-use Rattle.threads_run.specs.Shapes.{fields_shape}
+use Rattle.threads_run.specs.Shapes.{threads_fields_shape}
 use Rattle.threads_run.specs.declared.script.RawThreads.{RawThreads}
 use Rattle.threads_run.specs.declared.script.ThreadsScript.{ThreadsScript}
 use Rattle.threads_run.specs.declared.script.UndatedMove.{UndatedMove}
@@ -77,7 +77,7 @@ checked_runnable raw script within is = with_checked raw script (each_checked ch
 
 -- ---- the whole script
 
-with_fields : (d : Data) (script : ThreadsScript) (f : Option RawThreads) → fields_shape d ≡ f → checked_raw checked_script (script_shape d) ≡ Ok script → IsRunnable script
+with_fields : (d : Data) (script : ThreadsScript) (f : Option RawThreads) → threads_fields_shape d ≡ f → checked_raw checked_script (script_shape d) ≡ Ok script → IsRunnable script
 with_fields d script None none is =
     let refused : checked_raw checked_script (script_shape d) ≡ Err faults.BadShape = rw none refl in
     absurd (cc)
@@ -93,7 +93,7 @@ with_fields d script (Some raw) some is = by (is_within_limits raw) refl
 
 with_data : (script : ThreadsScript) (value : Option Data) → checked_data script_shape checked_script value ≡ Ok script → IsRunnable script
 with_data script None is = absurd (cc)
-with_data script (Some d) is = with_fields d script (fields_shape d) refl is
+with_data script (Some d) is = with_fields d script (threads_fields_shape d) refl is
 
 -- a script that was read can be run
 pub read_runnable : (bytes : List ℕ) (script : ThreadsScript) → read_as script_shape checked_script bytes ≡ Ok script → IsRunnable script

@@ -3,7 +3,7 @@ use Rattle.std.proofs.Common.{◌≡◌, ◌++◌, ◌+◌, ◌∙◌, [], ◌�
 use Rattle.std.specs.Prelude.{◌⊎◌, ⊤, slice_get, Some, Result, Ok, Err, IfOk, IsOk, OnOk, MatchResult, string_bytes}
 use Rattle.model.specs.Stamps.{Given}
 use Rattle.threads_run.specs.Answers.{AreLinesOfProxy}
-use Rattle.threads_run.specs.Faults.{both}
+use Rattle.threads_run.specs.Faults.{join_results}
 use Rattle.threads_run.specs.Parts.{GrowsBy, IsInParts}
 use Rattle.threads_run.specs.Threads.{AreInOrder, AreInPlace, AreLinesOfThread, AreLinesOfThreads}
 use Rattle.threads_run.specs.declared.faults.RunFault.{RunFault}
@@ -58,7 +58,7 @@ drop_next (y ∷ ys) (suc k) x rest is =
     (at, ap (λ n. drop n (y ∷ ys)) more ∙ later)
 
 -- both went well
-pub both_ok : (one other : Result ⊤ RunFault) → IsOk (both one other) → IsOk one × IsOk other
+pub both_ok : (one other : Result ⊤ RunFault) → IsOk (join_results one other) → IsOk one × IsOk other
 both_ok (Ok _) (Ok _) ok = (search, search)
 both_ok (Ok _) (Err fault) ok = absurd (cc)
 both_ok (Err fault) (Ok _) ok = absurd (cc)

@@ -18,10 +18,10 @@ graver faults.OutOfMemory other = faults.OutOfMemory
 graver faults.Refused other = other
 
 -- `Ok` if both are, and otherwise the graver fault
-abbrev pub both : Result ⊤ RunFault → Result ⊤ RunFault → Result ⊤ RunFault
-both (Ok _) other = other
-both (Err fault) (Ok _) = Err fault
-both (Err fault) (Err second) = Err (graver fault second)
+abbrev pub join_results : Result ⊤ RunFault → Result ⊤ RunFault → Result ⊤ RunFault
+join_results (Ok _) other = other
+join_results (Err fault) (Ok _) = Err fault
+join_results (Err fault) (Err second) = Err (graver fault second)
 
 -- how a run fails that the sequencer refused so
 abbrev pub of_ledger : LedgerRefusal → RunFault

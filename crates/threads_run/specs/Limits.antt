@@ -5,7 +5,7 @@ use Rattle.model.specs.Configs.{is_from_one}
 use Rattle.agreed_ledger.specs.Cells.{ledger_limit}
 use Rattle.scripts.specs.Shapes.{◌>>=◌}
 use Rattle.threads_run.specs.declared.script.RawThreads.{RawThreads}
-use Rattle.threads_run.specs.Shapes.{fields_shape}
+use Rattle.threads_run.specs.Shapes.{threads_fields_shape}
 
 -- from 1 row to as many as a ledger can have, and one list of work for each proxy
 abbrev pub is_within_limits : RawThreads → Bool
@@ -18,5 +18,5 @@ limited script = if is_within_limits script then Some script else None
 -- the script that a value is, if it has the form and is within the limits
 abbrev pub script_shape : Data → Option RawThreads
 script_shape d = do
-  script ← fields_shape d
+  script ← threads_fields_shape d
   limited script

@@ -15,19 +15,19 @@ abbrev pub work_shape : Data → Option (List (List (List Transaction)))
 work_shape = list_shape (list_shape batch_shape)
 
 -- the script with these numbers, and with the lists of the object
-abbrev pub with_lists : Config → ℕ → Data → Option RawThreads
-with_lists config rows d = do
+abbrev pub threads_with_lists : Config → ℕ → Data → Option RawThreads
+threads_with_lists config rows d = do
   moves ← field_shape (list_shape move_shape) (codes "moves") d
   work ← field_shape work_shape (codes "work") d
   ask ← field_shape (list_shape bytes_shape) (codes "ask") d
   Some (record { config = config; rows = rows; moves = moves; work = work; ask = ask })
 
 -- `{"proxies":N,"resolvers":N,"window":N,"step":N,"rows":N,"moves":[..],"work":[[..]..],"ask":[..]}`
-abbrev pub script_fields : Data → Option RawThreads
-script_fields d = do
+abbrev pub threads_fields : Data → Option RawThreads
+threads_fields d = do
   config ← config_shape d
   rows ← field_shape number_shape (codes "rows") d
-  with_lists config rows d
+  threads_with_lists config rows d
 
-abbrev pub fields_shape : Data → Option RawThreads
-fields_shape d = if has_fields 8 d then script_fields d else None
+abbrev pub threads_fields_shape : Data → Option RawThreads
+threads_fields_shape d = if has_fields 8 d then threads_fields d else None

@@ -1,8 +1,9 @@
 -- Threads that are started and joined, one for each proxy. `number` is the proxy of a thread, and
 -- `batches` those that it commits.
-use Rattle.std.specs.Prelude.{◌≡◌, ℕ, List, length, slice_get, Some}
+use Rattle.std.specs.Prelude.{◌≡◌, ℕ, List, length, slice_get, Some, ◌++◌}
 use Rattle.model.specs.Numbers.{ProxyNumber}
 use Rattle.model.specs.Stamps.{Given}
+use Rattle.threads_run.specs.Answers.{AreLinesOfProxy}
 use Rattle.threads_run.specs.Parts.{IsInParts}
 
 -- each number is its place
@@ -34,3 +35,16 @@ abbrev pub AreLinesOfThreads :
     → (batches : X → List (List Given)) → (text : List ℕ) → Type 0
 AreLinesOfThreads AreLines threads number batches text =
     IsInParts (AreLinesOfThread AreLines threads number batches) (length threads) text
+
+-- the lines of answers to the batches that the proxies commit, and then of those to the closings;
+-- `AreLines` says which are those of one proxy, `AreClosings` which those of all closings
+pub record AreAnswerLines
+    (AreLines : ProxyNumber → List (List Given) → (text : List ℕ) → Type 0)
+    (AreClosings : (text : List ℕ) → Type 0)
+    (work : List (List (List Given)))
+    (text : List ℕ) : Type 0 where
+  pub batches : List ℕ
+  pub closings : List ℕ
+  pub answered : IsInParts (AreLinesOfProxy AreLines work) (length work) batches
+  pub closed : AreClosings closings
+  pub text_is : text ≡ batches ++ closings

@@ -1,17 +1,13 @@
 //! The cluster of a run: the sequencer, the resolvers and the proxies of one ledger.
 
 ghost use Rattle.std.specs.Prelude.{◌≡◌, ◌<◌, length, IfOk};
-ghost use Rattle.threads_run.specs.Answers.{AreBatchLines};
 ghost use Rattle.threads_run.specs.Threads.{AreInPlace};
 
-use crate::committer::{Committer, close_all};
 use crate::faults::{RunFault, of_ledger};
 use crate::script::UndatedMove;
-use crate::threads::CommitsBatches;
 use agreed_ledger::{Ledger, Naming, Sequencer};
 use model::ProxyNumber;
-use mutation::Batch;
-use shared_cluster::{AllResolvers, SharedProxy, SharedResolver};
+use shared_cluster::{SharedProxy, SharedResolver};
 use std::alloc::Global;
 use std::sync::Wait;
 use system_keys::OutOfMemory;
@@ -35,8 +31,8 @@ impl<'l, N: Naming> Cluster<'l, N> {
     {
         Ok(Cluster {
             sequencer: Sequencer::new(alloc, ledger)?,
-            resolvers: resolvers_of(alloc, ledger)?,
-            proxies: proxies_of(alloc, ledger)?,
+            resolvers: shared_resolvers(alloc, ledger)?,
+            proxies: shared_proxies(alloc, ledger)?,
         })
     }
 
@@ -46,24 +42,6 @@ impl<'l, N: Naming> Cluster<'l, N> {
         ensures { result.now ≡ number }
     {
         &self.proxies[number]
-    }
-
-    /// The proxy of this number, with what it commits by.
-    pub(crate) fn committer<'a>(
-        &'a self,
-        asking: &'a AllResolvers<'a, 'l, N>,
-        number: ProxyNumber,
-    ) -> Committer<'a, 'l, N>
-        requires { number < length self.now.proxies.items }
-        ensures { result.number ≡ number }
-    {
-        Committer {
-            number,
-            proxy: self.proxy(number),
-            sequencer: &self.sequencer,
-            asking,
-            resolvers: self.resolvers.as_slice(),
-        }
     }
 
     /// Carries out the moves, in order.
@@ -82,36 +60,8 @@ impl<'l, N: Naming> Cluster<'l, N> {
     }
 }
 
-/// The cluster, and all its resolvers as they are asked.
-#[derive(Drop)]
-pub(crate) struct Running<'a, 'l, N: Naming> {
-    pub(crate) cluster: &'a Cluster<'l, N>,
-    pub(crate) asking: &'a AllResolvers<'a, 'l, N>,
-}
-
-impl<'a, 'l, N: Naming> CommitsBatches for Running<'a, 'l, N> {
-    ghost are_lines = { AreBatchLines N.cells.config };
-
-    ghost proxies = { λ running. length running.cluster.now.proxies.items };
-
-    fn commit_batches<R: Wait>(
-        &self,
-        rt: &R,
-        alloc: Global,
-        number: ProxyNumber,
-        batches: &[Batch],
-    ) -> Result<String, RunFault> {
-        let committer = self.cluster.committer(self.asking, number);
-        committer.run(rt, alloc, batches)
-    }
-
-    fn close<R: Wait>(&self, rt: &R) {
-        close_all(rt, self.cluster.resolvers.as_slice());
-    }
-}
-
 /// All resolvers of the cluster. Fails only with `OutOfMemory`.
-fn resolvers_of<'l, N: Naming>(
+fn shared_resolvers<'l, N: Naming>(
     alloc: Global,
     ledger: &'l Ledger<N>,
 ) -> Result<Vec<SharedResolver<'l, N>>, OutOfMemory>
@@ -130,7 +80,7 @@ fn resolvers_of<'l, N: Naming>(
 }
 
 /// All proxies of the cluster. Fails only with `OutOfMemory`.
-fn proxies_of<'l, N: Naming>(
+fn shared_proxies<'l, N: Naming>(
     alloc: Global,
     ledger: &'l Ledger<N>,
 ) -> Result<Vec<SharedProxy<'l, N>>, OutOfMemory>

@@ -6,22 +6,25 @@ ghost use Rattle.threads_run.specs.Lines.{batch_line};
 ghost use Rattle.threads_run.specs.Parts.{GrowsBy};
 
 use crate::faults::{RunFault, printed_refusal};
-use crate::lines::{print_closed, print_finished, print_refused, print_unclosed};
+use crate::lines::{
+    print_closing_version, print_finished_batch, print_refused_batch, print_refused_closing,
+};
 use agreed_ledger::{Naming, Refusal, Sequencer};
+use inboxes::Channels;
 use model::ProxyNumber;
 use mutation::Batch;
-use shared_cluster::{AllResolvers, NotedFinished, SharedProxy, SharedResolver};
+use shared_cluster::{NotedFinished, SharedProxy};
 use std::alloc::Global;
 use std::sync::Wait;
+use workers::ProxyInboxes;
 
 /// A proxy of a cluster, and what it commits by.
 #[derive(Drop)]
-pub(crate) struct Committer<'a, 'l, N: Naming> {
+pub(crate) struct Committer<'a, 'l, N: Naming, M: Channels> {
     pub(crate) number: ProxyNumber,
     pub(crate) proxy: &'a SharedProxy<'l, N>,
     pub(crate) sequencer: &'a Sequencer<'l, N>,
-    pub(crate) asking: &'a AllResolvers<'a, 'l, N>,
-    pub(crate) resolvers: &'a [SharedResolver<'l, N>],
+    pub(crate) inboxes: &'a ProxyInboxes<N, M>,
     ghost own: { proxy.now ≡ number },
 }
 
@@ -34,9 +37,9 @@ enum Committed<N: Naming> {
     NoRecord(Refusal),
 }
 
-impl<'a, 'l, N: Naming> Committer<'a, 'l, N> {
-    /// Commits the batches in order, and returns the lines of their answers. If it fails, it has
-    /// closed each resolver, so that no other proxy waits for this one.
+impl<'a, 'l, N: Naming, M: Channels> Committer<'a, 'l, N, M> {
+    /// Commits the batches in order, and returns the lines of their answers. If it fails, it
+    /// has asked each worker to close its resolver, so that no other proxy waits for this one.
     pub(crate) fn run<R: Wait>(
         &self,
         rt: &R,
@@ -50,7 +53,7 @@ impl<'a, 'l, N: Naming> Committer<'a, 'l, N> {
         match self.print_batches(rt, &mut text, batches) {
             Ok(()) => Ok(text),
             Err(fault) => {
-                close_all(rt, self.resolvers);
+                self.inboxes.close(rt);
                 Err(fault)
             }
         }
@@ -86,8 +89,18 @@ impl<'a, 'l, N: Naming> Committer<'a, 'l, N> {
             (string_bytes text.old) (string_bytes text.new)) }
     {
         match self.commit(rt, batch)? {
-            Committed::Finished(noted) => print_finished(text, self.number, place, noted.value())?,
-            Committed::NoRecord(refusal) => print_refused(text, self.number, place, &refusal)?,
+            Committed::Finished(noted) => print_finished_batch(
+                text,
+                self.number,
+                place,
+                noted.value(),
+            )?,
+            Committed::NoRecord(refusal) => print_refused_batch(
+                text,
+                self.number,
+                place,
+                &refusal,
+            )?,
         }
         Ok(())
     }
@@ -105,8 +118,8 @@ impl<'a, 'l, N: Naming> Committer<'a, 'l, N> {
             (string_bytes text.old) (string_bytes text.new)) }
     {
         match self.commit(rt, empty)? {
-            Committed::Finished(noted) => print_closed(text, self.number, noted.value())?,
-            Committed::NoRecord(refusal) => print_unclosed(text, self.number, &refusal)?,
+            Committed::Finished(noted) => print_closing_version(text, self.number, noted.value())?,
+            Committed::NoRecord(refusal) => print_refused_closing(text, self.number, &refusal)?,
         }
         Ok(())
     }
@@ -116,7 +129,7 @@ impl<'a, 'l, N: Naming> Committer<'a, 'l, N> {
         ensures { IfOk result (IsCommitOf N.cells.config self.now.number batch.now) }
     {
         let copy = batch.copy()?;
-        match self.proxy.commit(rt, self.sequencer, self.asking, copy) {
+        match self.proxy.commit(rt, self.sequencer, self.inboxes, copy) {
             Ok((noted, _guard)) => {
                 // (its contract says what the type keeps of the outcomes)
                 let _finished = noted.value();
@@ -124,12 +137,5 @@ impl<'a, 'l, N: Naming> Committer<'a, 'l, N> {
             }
             Err(fault) => Ok(Committed::NoRecord(printed_refusal(&fault)?)),
         }
-    }
-}
-
-/// Closes each resolver.
-pub(crate) fn close_all<N: Naming, R: Wait>(rt: &R, resolvers: &[SharedResolver<'_, N>]) {
-    for resolver in resolvers {
-        resolver.close(rt);
     }
 }

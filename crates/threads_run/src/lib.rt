@@ -1,6 +1,6 @@
 //! Runs of threads scripts: a script is read and checked, a cluster of real parts behind locks is
-//! made, one thread for each proxy commits that proxy's batches, and the lines of all answers and of
-//! the proxies are written.
+//! made, one thread serves the inbox of each resolver, one thread for each proxy commits that proxy's
+//! batches, and the lines of all answers and of the proxies are written.
 //!
 //! Facts cross from a thread to the one that joins it by a promise: what a thread returns is known to
 //! be the lines of answers to the batches that it was given.
@@ -17,7 +17,9 @@ mod lines;
 mod meetings;
 mod reading;
 mod run;
+mod running;
 mod script;
+mod serving;
 mod shapes;
 mod streams;
 mod text;

@@ -14,7 +14,7 @@ use system_keys::OutOfMemory;
 
 /// Prints the outcomes of a batch, which stands at this place among those of the proxy. Fails only
 /// with `OutOfMemory`.
-pub(crate) fn print_finished(
+pub(crate) fn print_finished_batch(
     text: &mut String,
     proxy: ProxyNumber,
     place: usize,
@@ -30,7 +30,7 @@ pub(crate) fn print_finished(
 }
 
 /// Prints that a batch got no record. Fails only with `OutOfMemory`.
-pub(crate) fn print_refused(
+pub(crate) fn print_refused_batch(
     text: &mut String,
     proxy: ProxyNumber,
     place: usize,
@@ -46,7 +46,7 @@ pub(crate) fn print_refused(
 }
 
 /// Prints the version of the batch by which a proxy closes. Fails only with `OutOfMemory`.
-pub(crate) fn print_closed(
+pub(crate) fn print_closing_version(
     text: &mut String,
     proxy: ProxyNumber,
     finished: &Finished,
@@ -61,7 +61,7 @@ pub(crate) fn print_closed(
 }
 
 /// Prints that the batch by which a proxy closes got no record. Fails only with `OutOfMemory`.
-pub(crate) fn print_unclosed(
+pub(crate) fn print_refused_closing(
     text: &mut String,
     proxy: ProxyNumber,
     refusal: &Refusal,

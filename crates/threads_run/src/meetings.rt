@@ -81,7 +81,7 @@ pub(crate) fn print_audits<N: Naming, R: Wait>(
         (GrowsBy (IsInParts (IsAuditLine N.cells.config) (length cluster.now.proxies.items))
         (string_bytes text.old) (string_bytes text.new)) }
 {
-    let guards = lock_all(rt, alloc, cluster.resolvers.as_slice())?;
+    let guards = lock_resolvers(rt, alloc, cluster.resolvers.as_slice())?;
     for number in 0..cluster.proxies.len() {
         let audited = audit(&cluster.proxy(number).lock(rt), guards.as_slice());
         print_audit(text, number, &audited)?;
@@ -90,7 +90,7 @@ pub(crate) fn print_audits<N: Naming, R: Wait>(
 }
 
 /// Locks all resolvers, in order.
-fn lock_all<'a, N: Naming, R: Wait>(
+fn lock_resolvers<'a, N: Naming, R: Wait>(
     rt: &R,
     alloc: Global,
     resolvers: &'a [SharedResolver<'_, N>],

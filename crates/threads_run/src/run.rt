@@ -33,7 +33,7 @@ pub fn run_threads<R: Threads + Wait + Sync, S: Source, T: Sink>(
         Err(ReadFault::Device) => return RunStatus::DeviceFailed,
         Err(ReadFault::Limit) => return RunStatus::DeviceFailed,
     };
-    let output = match answer(rt, alloc, &bytes) {
+    let output = match threads_answer(rt, alloc, &bytes) {
         Ok(output) => output,
         Err(RunFault::OutOfMemory) => return RunStatus::OutOfMemory,
         Err(RunFault::Refused) => return RunStatus::ClusterRefused,
@@ -45,7 +45,11 @@ pub fn run_threads<R: Threads + Wait + Sync, S: Source, T: Sink>(
 }
 
 /// The output for a threads script: what it comes to, or its first fault (this project's profile).
-fn answer<R: Threads + Wait + Sync>(rt: &R, alloc: Global, bytes: &[u8]) -> Result<Output, RunFault>
+fn threads_answer<R: Threads + Wait + Sync>(
+    rt: &R,
+    alloc: Global,
+    bytes: &[u8],
+) -> Result<Output, RunFault>
     ensures answer { IfOk result (λ output. IsAnswerTo bytes.now (answer_in output)) }
     ensures answered { IfOk result (λ output. IsAnswered output.status) }
     ensures refused { IsErrOf result faults.Refused → IsOk (script_of bytes.now) }

@@ -4,7 +4,7 @@ ghost use Rattle.serde_json.specs.View.{view};
 ghost use Rattle.scripts.specs.ScriptFaults.{IsReadAs};
 ghost use Rattle.scripts.specs.Shapes.{or_bad_shape};
 ghost use Rattle.threads_run.specs.Limits.{script_shape};
-ghost use Rattle.threads_run.specs.Shapes.{fields_shape, with_lists};
+ghost use Rattle.threads_run.specs.Shapes.{threads_fields_shape, threads_with_lists};
 
 use crate::limits::is_within_limits;
 use crate::script::RawThreads;
@@ -18,7 +18,7 @@ impl Shaped for RawThreads {
     ghost shape = { script_shape };
 
     fn shaped(alloc: Global, value: &Value) -> Result<RawThreads, ScriptFault> {
-        let script = fields(alloc, value)?;
+        let script = threads_fields(alloc, value)?;
         if is_within_limits(&script) {
             Ok(script)
         } else {
@@ -28,26 +28,26 @@ impl Shaped for RawThreads {
 }
 
 // The script that the fields of the value are, within its limits or not.
-fn fields(alloc: Global, value: &Value) -> Result<RawThreads, ScriptFault>
-    ensures { IsReadAs (λ found. found) result (or_bad_shape (fields_shape (view value.now))) }
+fn threads_fields(alloc: Global, value: &Value) -> Result<RawThreads, ScriptFault>
+    ensures { IsReadAs (λ found. found) result (or_bad_shape (threads_fields_shape (view value.now))) }
 {
     if !has_fields(value, 8) {
         return Err(ScriptFault::BadShape);
     }
     let numbers = config(alloc, value)?;
     let rows = field(alloc, value, "rows")?;
-    with_lists(alloc, numbers, rows, value)
+    threads_with_lists(alloc, numbers, rows, value)
 }
 
 // The script with these numbers, and with the lists of the value.
-fn with_lists(
+fn threads_with_lists(
     alloc: Global,
     config: Config,
     rows: usize,
     value: &Value,
 ) -> Result<RawThreads, ScriptFault>
     ensures { IsReadAs (λ found. found) result
-        (or_bad_shape (with_lists config rows (view value.now))) }
+        (or_bad_shape (threads_with_lists config rows (view value.now))) }
 {
     Ok(RawThreads {
         config,

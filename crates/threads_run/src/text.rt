@@ -1,25 +1,29 @@
 //! What a threads script comes to.
 
-ghost use Rattle.std.specs.Prelude.{◌≡◌, [], length, IfOk, OnOk, string_bytes};
-ghost use Rattle.threads_run.specs.Answers.{IsClosingLine};
+ghost use Rattle.std.specs.Prelude.{◌≡◌, length, IfOk, OnOk, string_bytes};
+ghost use Rattle.threads_run.specs.Answers.{AreBatchLines, IsClosingLine};
 ghost use Rattle.threads_run.specs.Parts.{GrowsBy, IsInParts};
+ghost use Rattle.threads_run.specs.Threads.{AreAnswerLines};
 ghost use Rattle.threads_run.specs.Text.{IsProxyText, IsThreadsText};
 
-use crate::cluster::{Cluster, Running};
+use crate::cluster::Cluster;
 use crate::faults::{RunFault, of_ledger};
 use crate::meetings::{print_audits, print_meetings};
+use crate::running::{Running, Serving};
 use crate::script::ThreadsScript;
-use crate::threads::commit_in_threads;
+use crate::serving::commit_over_workers;
 use agreed_ledger::{BlankLedger, Ledger, Naming};
 use cluster_lines::print_proxy_metadata;
+use inboxes::{BlankInboxes, Channels, InboxRoom, ProxySenders};
 use model::ProxyNumber;
 use mutation::Batch;
-use shared_cluster::{AllResolvers, SharedProxy};
+use shared_cluster::SharedProxy;
 use std::alloc::Global;
 use std::marker::Brand;
 use std::sync::Wait;
 use std::thread::Threads;
-use system_keys::{Bytes, OutOfMemory};
+use system_keys::{Bytes, Items, OutOfMemory};
+use workers::ProxyInboxes;
 
 /// Returns what a threads script comes to (this project's profile): the lines of its batches, which
 /// each proxy's own thread commits, of the closings, of each proxy, of each two proxies that meet, and
@@ -39,13 +43,13 @@ pub(crate) fn threads_text<R: Threads + Wait + Sync>(
         return Err(RunFault::Refused);
     }
     match Ledger::new(alloc, script.rows, script.config) {
-        Ok(blank) => text_in::<Brand, R>(rt, alloc, blank, script),
+        Ok(blank) => threads_text_in::<Brand, R>(rt, alloc, blank, script),
         Err(refusal) => Err(of_ledger(refusal)),
     }
 }
 
 /// What the script comes to in a cluster about this ledger.
-fn text_in<N: Naming + Send + Sync, R: Threads + Wait + Sync>(
+fn threads_text_in<N: Naming + Send + Sync, R: Threads + Wait + Sync>(
     rt: &R,
     alloc: Global,
     blank: BlankLedger,
@@ -59,48 +63,56 @@ fn text_in<N: Naming + Send + Sync, R: Threads + Wait + Sync>(
     let ledger = blank.named::<N>();
     let cluster = Cluster::new(alloc, &ledger)?;
     cluster.move_ranges(rt, script.moves.as_slice())?;
-    let Ok(asking) = AllResolvers::new(cluster.resolvers.as_slice()) else {
-        return Err(RunFault::Refused);
-    };
-    let running = Running {
-        cluster: &cluster,
-        asking: &asking,
-    };
-    let mut text = commit_in_threads(rt, alloc, &running, script.work.as_slice())?;
-    print_closings(rt, alloc, &mut text, &running)?;
+    let inboxes = BlankInboxes::new(alloc, &ledger)?;
+    let work = script.work.as_slice();
+    let mut text = answers_over::<N, Brand, R>(rt, alloc, &ledger, &cluster, inboxes, work)?;
     print_proxies(rt, alloc, &mut text, &cluster, script.ask.as_slice())?;
     print_meetings(rt, &mut text, &cluster)?;
     print_audits(rt, alloc, &mut text, &cluster)?;
     Ok(text)
 }
 
-/// Lets each proxy in order commit one empty batch, by which it closes, and prints the answers.
-fn print_closings<N: Naming, R: Wait>(
+/// The lines of the answers to all batches and closings, over these inboxes.
+fn answers_over<N: Naming + Send + Sync, M: Channels + Send + Sync, R: Threads + Wait + Sync>(
     rt: &R,
     alloc: Global,
-    text: &mut String,
-    running: &Running<'_, '_, N>,
-) -> Result<(), RunFault>
-    ensures { OnOk result (GrowsBy
-        (IsInParts (IsClosingLine N.cells.config) (length running.now.cluster.now.proxies.items))
-        (string_bytes text.old) (string_bytes text.new)) }
+    ledger: &Ledger<N>,
+    cluster: &Cluster<'_, N>,
+    blank: BlankInboxes<N>,
+    work: &[Items<Batch>],
+) -> Result<String, RunFault>
+    requires places { blank ≡ M.places }
+    requires proxies { length cluster.now.proxies.items ≡ N.cells.config.proxies }
+    requires work { length work.now ≡ N.cells.config.proxies }
+    ensures { let closings = IsInParts (IsClosingLine N.cells.config) N.cells.config.proxies in
+        IfOk result (λ text.
+        AreAnswerLines (AreBatchLines N.cells.config) closings work.now (string_bytes text)) }
 {
-    let empty = empty_batch(alloc)?;
-    for number in 0..running.cluster.proxies.len() {
-        let committer = running.cluster.committer(running.asking, number);
-        committer.print_closing(rt, text, &empty)?;
-    }
-    Ok(())
+    let room = InboxRoom::<N, M>::new(alloc, ledger)?;
+    let (senders, ends) = blank.named::<M>(room);
+    let serving = Serving {
+        resolvers: cluster.resolvers.as_slice(),
+    };
+    let running = Running {
+        cluster,
+        inboxes: inboxes_of(alloc, ledger, senders)?,
+    };
+    commit_over_workers(rt, alloc, &serving, ends, running, work)
 }
 
-/// The batch without transactions. Fails only with `OutOfMemory`, and in fact never.
-fn empty_batch(alloc: Global) -> Result<Batch, OutOfMemory>
-    ensures { IfOk result (λ batch. batch ≡ []) }
+/// The inboxes as each proxy sends to them, in the order of the proxies.
+fn inboxes_of<N: Naming, M: Channels>(
+    alloc: Global,
+    ledger: &Ledger<N>,
+    senders: Vec<ProxySenders<N, M>>,
+) -> Result<Vec<ProxyInboxes<N, M>>, OutOfMemory>
+    ensures { IfOk result (λ inboxes. length inboxes.items ≡ length senders.items) }
 {
-    match Batch::new(Vec::new(alloc)) {
-        Ok(batch) => Ok(batch),
-        Err(_refused) => Err(OutOfMemory),
+    let mut inboxes = Vec::with_capacity(alloc, senders.len())?;
+    for one in senders {
+        inboxes.push(ProxyInboxes::new(ledger, one))?;
     }
+    Ok(inboxes)
 }
 
 /// Prints each proxy, in order: its number, its routing, and the tags of the asked keys. Fails only

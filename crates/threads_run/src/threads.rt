@@ -5,8 +5,8 @@ ghost use Rattle.std.specs.Prelude.{Err, string_bytes};
 ghost use Rattle.model.specs.Numbers.{ProxyNumber};
 ghost use Rattle.model.specs.Stamps.{Given};
 ghost use Rattle.threads_run.specs.Answers.{AreLinesOfProxy};
-ghost use Rattle.threads_run.specs.Faults.{both};
-ghost use Rattle.threads_run.specs.Parts.{IsInParts};
+ghost use Rattle.threads_run.specs.Faults.{join_results};
+ghost use Rattle.threads_run.specs.Parts.{GrowsBy, IsInParts};
 ghost use Rattle.threads_run.specs.Threads.{AreInOrder, AreLinesOfThreads};
 
 use crate::faults::RunFault;
@@ -23,6 +23,8 @@ use system_keys::{Items, OutOfMemory};
 pub(crate) trait CommitsBatches {
     ghost are_lines: { ProxyNumber → List (List Given) → (text : List ℕ) → Type 0 };
 
+    ghost are_closings: { (proxies : ℕ) → (text : List ℕ) → Type 0 };
+
     ghost proxies: { Self → ℕ };
 
     /// Commits the batches of the proxy in order, and returns the lines of their answers. If it
@@ -37,8 +39,21 @@ pub(crate) trait CommitsBatches {
         requires { number < proxies self.now }
         ensures { IfOk result (λ text. are_lines number batches.now (string_bytes text)) };
 
+    /// Lets each proxy in order commit one empty batch, by which it closes, and prints the answers.
+    fn print_closings<R: Wait>(
+        &self,
+        rt: &R,
+        alloc: Global,
+        text: &mut String,
+    ) -> Result<(), RunFault>
+        ensures { OnOk result (GrowsBy (are_closings (proxies self.now))
+            (string_bytes text.old) (string_bytes text.new)) };
+
     /// Lets all threads that wait for an answer end.
     fn close<R: Wait>(&self, rt: &R);
+
+    /// Lets the proxies end: they ask no resolver any more.
+    fn end<R: Wait>(self, rt: &R);
 }
 
 /// What a thread promises of what it returns: the lines of answers to these batches of the proxy, or
@@ -98,13 +113,13 @@ fn commit_in_scope<'s, E, C: CommitsBatches + Sync, R: Threads + Wait + Sync>(
     ensures { IfOk result (λ text. IsInParts (AreLinesOfProxy C.are_lines work.now)
         (length work.now) (string_bytes text)) }
 {
-    let handles = start_all(scope, rt, alloc, shared, work)?;
-    join_all(rt, alloc, handles)
+    let handles = start_proxy_threads(scope, rt, alloc, shared, work)?;
+    join_proxy_threads(rt, alloc, handles)
 }
 
 /// Starts a thread for each proxy. If one cannot be started, closes what the threads wait for, waits
 /// for those that were started, and fails with `OutOfMemory`.
-fn start_all<'s, E, C: CommitsBatches + Sync, R: Threads + Wait + Sync>(
+fn start_proxy_threads<'s, E, C: CommitsBatches + Sync, R: Threads + Wait + Sync>(
     scope: &'s Scope<'s, E>,
     rt: &'s R,
     alloc: Global,
@@ -119,9 +134,9 @@ fn start_all<'s, E, C: CommitsBatches + Sync, R: Threads + Wait + Sync>(
     let mut handles = Vec::with_capacity(alloc, work.len())?;
     for number in 0..work.len() {
         let batches = work[number].as_slice();
-        let Ok(handle) = start(scope, rt, alloc, shared, number, batches) else {
+        let Ok(handle) = start_proxy_thread(scope, rt, alloc, shared, number, batches) else {
             shared.close(rt);
-            end_all(rt, handles);
+            await_proxy_threads(rt, handles);
             return Err(OutOfMemory);
         };
         handles.push_reserved(handle);
@@ -130,7 +145,7 @@ fn start_all<'s, E, C: CommitsBatches + Sync, R: Threads + Wait + Sync>(
 }
 
 /// Starts the thread of a proxy. Fails if it cannot be started.
-fn start<'s, E, C: CommitsBatches + Sync, R: Threads + Wait + Sync>(
+fn start_proxy_thread<'s, E, C: CommitsBatches + Sync, R: Threads + Wait + Sync>(
     scope: &'s Scope<'s, E>,
     rt: &'s R,
     alloc: Global,
@@ -159,7 +174,7 @@ fn start<'s, E, C: CommitsBatches + Sync, R: Threads + Wait + Sync>(
 }
 
 /// Waits for the threads to end.
-fn end_all<C: CommitsBatches, R: Threads>(rt: &R, handles: Vec<Handle<'_, C>>) {
+fn await_proxy_threads<C: CommitsBatches, R: Threads>(rt: &R, handles: Vec<Handle<'_, C>>) {
     for handle in handles {
         let _returned = handle.join(rt);
     }
@@ -167,7 +182,7 @@ fn end_all<C: CommitsBatches, R: Threads>(rt: &R, handles: Vec<Handle<'_, C>>) {
 
 /// Waits for the threads to end, and returns their texts, one after the other. If any failed, fails
 /// with the gravest of their faults.
-fn join_all<C: CommitsBatches, R: Threads>(
+fn join_proxy_threads<C: CommitsBatches, R: Threads>(
     rt: &R,
     alloc: Global,
     handles: Vec<Handle<'_, C>>,
@@ -179,14 +194,17 @@ fn join_all<C: CommitsBatches, R: Threads>(
     let mut text = String::new(alloc);
     let mut joined = Ok(());
     for handle in handles {
-        joined = both(joined, append(&mut text, handle.join(rt)));
+        joined = join_results(joined, append_returned_lines(&mut text, handle.join(rt)));
     }
     joined?;
     Ok(text)
 }
 
 /// Appends what a thread returned, or fails as it did.
-fn append(text: &mut String, returned: Result<String, RunFault>) -> Result<(), RunFault>
+fn append_returned_lines(
+    text: &mut String,
+    returned: Result<String, RunFault>,
+) -> Result<(), RunFault>
     ensures { MatchResult returned
         (λ told. OnOk result (string_bytes text.new ≡ string_bytes text.old ++ string_bytes told))
         (λ fault. result ≡ Err fault) }
@@ -199,8 +217,8 @@ fn append(text: &mut String, returned: Result<String, RunFault>) -> Result<(), R
 }
 
 /// `Ok` if both are, and otherwise the graver fault.
-fn both(one: Result<(), RunFault>, other: Result<(), RunFault>) -> Result<(), RunFault>
-    ensures { result ≡ both one other }
+fn join_results(one: Result<(), RunFault>, other: Result<(), RunFault>) -> Result<(), RunFault>
+    ensures { result ≡ join_results one other }
 {
     match (one, other) {
         (Err(fault), Err(second)) => Err(fault.or(second)),

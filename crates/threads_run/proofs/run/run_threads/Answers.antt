@@ -13,8 +13,8 @@ returns-in-Err-Device g c = record { answer = no_answer; text = inl refl; device
 pub returns-in-Err-Limit : goal.returns-in-Err-Limit
 returns-in-Err-Limit g c = record { answer = no_answer; text = inl refl; devices = search rules }
 
-pub returns-in-Err-OutOfMemory-answer : goal.returns-in-Err-OutOfMemory-answer
-returns-in-Err-OutOfMemory-answer g c = record { answer = no_answer; text = refl; devices = search rules }
+pub returns-in-Err-OutOfMemory-threads_answer : goal.returns-in-Err-OutOfMemory-threads_answer
+returns-in-Err-OutOfMemory-threads_answer g c = record { answer = no_answer; text = refl; devices = search rules }
 
 pub returns-in-Err-Refused : goal.returns-in-Err-Refused
 returns-in-Err-Refused g c = record {
@@ -25,14 +25,14 @@ returns-in-Err-Refused g c = record {
 
 pub returns-in-Ok-write_all : goal.returns-in-Ok-write_all
 returns-in-Ok-write_all g c = record {
-  answer = answer_in c.in-Ok-answer.output;
-  text = writes_whole c.in-Ok-answer.output _ _ _ c.in-Ok.bytes.items c.in-Ok-answer.ensures.answered (search rules) (search rules) (search rules);
+  answer = answer_in c.in-Ok-threads_answer.output;
+  text = writes_whole c.in-Ok-threads_answer.output _ _ _ c.in-Ok.bytes.items c.in-Ok-threads_answer.ensures.answered (search rules) (search rules) (search rules);
   devices = search rules;
 }
 
 pub returns : goal.returns
 returns g c = record {
-  answer = answer_in c.in-Ok-answer.output;
+  answer = answer_in c.in-Ok-threads_answer.output;
   text = inr ((c.in-Ok.bytes.items, search rules, search rules), search rules);
   devices = search rules;
 }

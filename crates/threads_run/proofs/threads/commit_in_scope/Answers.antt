@@ -6,6 +6,6 @@ use Rattle.threads_run.proofs.threads.commit_in_scope.Goals as goal
 
 pub returns : goal.returns
 returns g c =
-    IfOk-weaker c.join_all.result _ _
+    IfOk-weaker c.join_proxy_threads.result _ _
     (λ text lines. lines_of_proxies c.in_ok-handles.handles.items (λ thread. thread.promise.number) (λ thread. thread.promise.batches.now) g.C.CommitsBatches.are_lines c.args.work.now (string_bytes text) c.in_ok-handles.ensures.ordered c.in_ok-handles.ensures.count lines)
-    c.join_all.ensures
+    c.join_proxy_threads.ensures

@@ -6,14 +6,14 @@ use Rattle.threads_run.specs.Lines.{batch_line}
 use Rattle.threads_run.proofs.AnswerLemmas.{finished_line, refused_line}
 use Rattle.threads_run.proofs.committer.Committer.print_batch.Goals as goal
 
-pub returns-in_ok-print_finished-in-Finished : goal.returns-in_ok-print_finished-in-Finished
-returns-in_ok-print_finished-in-Finished g c =
+pub returns-in_ok-print_finished_batch-in-Finished : goal.returns-in_ok-print_finished_batch-in-Finished
+returns-in_ok-print_finished_batch-in-Finished g c =
     let config = g.N.Naming.cells.config in
-    finished_line config c.args.self.now.number (batch_line c.args.self.now.number c.args.place) c.args.batch.now c.in-Finished.noted c.value.result.now (string_bytes c.args.text.now) (string_bytes c.print_finished.new.text)
-    (subst (IsCommitOf config c.args.self.now.number c.args.batch.now) c.in-Finished.is c.in_ok-noted.ensures) c.value.ensures.value c.in_ok-print_finished-in-Finished.ensures
+    finished_line config c.args.self.now.number (batch_line c.args.self.now.number c.args.place) c.args.batch.now c.in-Finished.noted c.value.result.now (string_bytes c.args.text.now) (string_bytes c.print_finished_batch.new.text)
+    (subst (IsCommitOf config c.args.self.now.number c.args.batch.now) c.in-Finished.is c.in_ok-noted.ensures) c.value.ensures.value c.in_ok-print_finished_batch-in-Finished.ensures
 
-pub returns-in_ok-print_refused-in-NoRecord : goal.returns-in_ok-print_refused-in-NoRecord
-returns-in_ok-print_refused-in-NoRecord g c =
+pub returns-in_ok-print_refused_batch-in-NoRecord : goal.returns-in_ok-print_refused_batch-in-NoRecord
+returns-in_ok-print_refused_batch-in-NoRecord g c =
     let config = g.N.Naming.cells.config in
-    refused_line config c.args.self.now.number (batch_line c.args.self.now.number c.args.place) c.args.batch.now c.in-NoRecord.refusal (string_bytes c.args.text.now) (string_bytes c.print_refused.new.text)
-    (subst (IsCommitOf config c.args.self.now.number c.args.batch.now) c.in-NoRecord.is c.in_ok-noted.ensures) c.in_ok-print_refused-in-NoRecord.ensures
+    refused_line config c.args.self.now.number (batch_line c.args.self.now.number c.args.place) c.args.batch.now c.in-NoRecord.refusal (string_bytes c.args.text.now) (string_bytes c.print_refused_batch.new.text)
+    (subst (IsCommitOf config c.args.self.now.number c.args.batch.now) c.in-NoRecord.is c.in_ok-noted.ensures) c.in_ok-print_refused_batch-in-NoRecord.ensures

@@ -8,18 +8,18 @@ use Rattle.threads_run.specs.Parts.{GrowsBy}
 use Rattle.threads_run.proofs.AnswerLemmas.{finished_line, refused_line}
 use Rattle.threads_run.proofs.committer.Committer.print_closing.Goals as goal
 
-pub returns-in_ok-print_closed-in-Finished : goal.returns-in_ok-print_closed-in-Finished
-returns-in_ok-print_closed-in-Finished g c =
+pub returns-in_ok-print_closing_version-in-Finished : goal.returns-in_ok-print_closing_version-in-Finished
+returns-in_ok-print_closing_version-in-Finished g c =
     let config = g.N.Naming.cells.config in
     let line = closing_line c.args.self.now.number in
-    subst (λ (batch : List Given). GrowsBy (IsLineOf config c.args.self.now.number line batch) (string_bytes c.args.text.now) (string_bytes c.print_closed.new.text)) c.requires
-    (finished_line config c.args.self.now.number line c.args.empty.now c.in-Finished.noted c.value.result.now (string_bytes c.args.text.now) (string_bytes c.print_closed.new.text)
-    (subst (IsCommitOf config c.args.self.now.number c.args.empty.now) c.in-Finished.is c.in_ok-noted.ensures) c.value.ensures.value c.in_ok-print_closed-in-Finished.ensures)
+    subst (λ (batch : List Given). GrowsBy (IsLineOf config c.args.self.now.number line batch) (string_bytes c.args.text.now) (string_bytes c.print_closing_version.new.text)) c.requires
+    (finished_line config c.args.self.now.number line c.args.empty.now c.in-Finished.noted c.value.result.now (string_bytes c.args.text.now) (string_bytes c.print_closing_version.new.text)
+    (subst (IsCommitOf config c.args.self.now.number c.args.empty.now) c.in-Finished.is c.in_ok-noted.ensures) c.value.ensures.value c.in_ok-print_closing_version-in-Finished.ensures)
 
-pub returns-in_ok-print_unclosed-in-NoRecord : goal.returns-in_ok-print_unclosed-in-NoRecord
-returns-in_ok-print_unclosed-in-NoRecord g c =
+pub returns-in_ok-print_refused_closing-in-NoRecord : goal.returns-in_ok-print_refused_closing-in-NoRecord
+returns-in_ok-print_refused_closing-in-NoRecord g c =
     let config = g.N.Naming.cells.config in
     let line = closing_line c.args.self.now.number in
-    subst (λ (batch : List Given). GrowsBy (IsLineOf config c.args.self.now.number line batch) (string_bytes c.args.text.now) (string_bytes c.print_unclosed.new.text)) c.requires
-    (refused_line config c.args.self.now.number line c.args.empty.now c.in-NoRecord.refusal (string_bytes c.args.text.now) (string_bytes c.print_unclosed.new.text)
-    (subst (IsCommitOf config c.args.self.now.number c.args.empty.now) c.in-NoRecord.is c.in_ok-noted.ensures) c.in_ok-print_unclosed-in-NoRecord.ensures)
+    subst (λ (batch : List Given). GrowsBy (IsLineOf config c.args.self.now.number line batch) (string_bytes c.args.text.now) (string_bytes c.print_refused_closing.new.text)) c.requires
+    (refused_line config c.args.self.now.number line c.args.empty.now c.in-NoRecord.refusal (string_bytes c.args.text.now) (string_bytes c.print_refused_closing.new.text)
+    (subst (IsCommitOf config c.args.self.now.number c.args.empty.now) c.in-NoRecord.is c.in_ok-noted.ensures) c.in_ok-print_refused_closing-in-NoRecord.ensures)

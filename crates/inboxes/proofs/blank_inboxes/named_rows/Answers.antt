@@ -1,0 +1,50 @@
+-- One proxy more has its side.
+use Rattle.std.proofs.Common.{◌≡◌, ◌∙◌, ◌+◌, [], ◌∷◌, ℕ, List, sym, ap, length, length-append, drop, arith}
+use Rattle.std.specs.Vec.Iter.{into_iter_items}
+use Rattle.inboxes.specs.Blanks.{BlankRow}
+use Rattle.inboxes.specs.Ends.{ProxyView}
+use Rattle.inboxes.proofs.Each.{drop_next, each_grown}
+use Rattle.inboxes.proofs.blank_inboxes.named_rows.Goals as goal
+
+pub named_row-requires-clause-places : goal.named_row-requires-clause-places
+named_row-requires-clause-places g c =
+    let rows = c.args.rows.items in
+    let done = length c.loop-row.sides.items in
+    let rest = into_iter_items c.next.new.self in
+    let (at, later) = drop_next rows done c.in-Some.row rest (sym c.loop-row.invariant.left ∙ c.in-Some.ensures.steps.0) in
+    ap (λ (r : BlankRow). r.places) (c.requires.rows.1 done c.in-Some.row at)
+
+pub named_row-requires-clause-proxy : goal.named_row-requires-clause-proxy
+named_row-requires-clause-proxy g c =
+    let rows = c.args.rows.items in
+    let done = length c.loop-row.sides.items in
+    let rest = into_iter_items c.next.new.self in
+    let (at, later) = drop_next rows done c.in-Some.row rest (sym c.loop-row.invariant.left ∙ c.in-Some.ensures.steps.0) in
+    let is = ap (λ (r : BlankRow). r.proxy) (c.requires.rows.1 done c.in-Some.row at) in
+    let count = ap (λ (rs : List BlankRow). length rs) c.in-Some.ensures.steps.0 in
+    omega (arith, is, count, c.loop-row.invariant.all)
+
+pub loop-row-preserved : goal.loop-row-preserved
+loop-row-preserved g c =
+    let resolvers = g.N.Naming.cells.config.resolvers in
+    let rows = c.args.rows.items in
+    let sides = c.loop-row.sides.items in
+    let done = length sides in
+    let next = c.in-Some.ensures.steps.0 in
+    let count = ap (λ (rs : List BlankRow). length rs) next in
+    let rest = into_iter_items c.next.new.self in
+    let after = c.push_reserved.new.self.items in
+    let grown = c.push_reserved.ensures.items in
+    let (at, later) = drop_next rows done c.in-Some.row rest (sym c.loop-row.invariant.left ∙ next) in
+    let side : c.named_row.result ≡ record { proxy = done; ends = resolvers } =
+    c.named_row.ensures
+    ∙ ap (λ (r : BlankRow). record { proxy = r.proxy; ends = resolvers }) (c.requires.rows.1 done c.in-Some.row at) in
+    let more : length after ≡ done + 1 = ap (λ (xs : List ProxyView). length xs) grown ∙ length-append sides (c.named_row.result ∷ []) in
+    record {
+      sides = each_grown (λ (p : ℕ). record { proxy = p; ends = resolvers }) sides after c.named_row.result c.loop-row.invariant.sides side grown;
+      left = sym later ∙ ap (λ (n : ℕ). drop n rows) (sym more);
+      rooms = omega (arith, count, c.loop-row.invariant.rooms, c.in-Some-pop.ensures.cases, c.loop-row.rooms.ok, c.pop.new.self.ok);
+      all = omega (arith, count, more, c.loop-row.invariant.all);
+      room = omega (arith, c.loop-row.invariant.room, c.push_reserved.ensures.capacity);
+      count = omega (arith, count, c.loop-row.invariant.count, c.in-Some.ensures.steps.1);
+    }

@@ -1,0 +1,36 @@
+-- The ends of inboxes, as contracts see them.
+use Rattle.std.specs.Prelude.{◌≡◌, ℕ, List, ◌++◌, length, slice_get, Some}
+use Rattle.inboxes.specs.declared.tag.Tag.{Tag}
+use Rattle.inboxes.specs.Delivers.{of_proxy}
+
+-- a proxy's sending end to the inbox of a resolver, and what was sent through it, oldest first
+pub record SenderView : Type 0 where
+  pub resolver : ℕ
+  pub proxy : ℕ
+  pub put : List Tag
+
+-- the worker's side of the inbox of a resolver, and what it took of all proxies, oldest first
+pub record TakerView : Type 0 where
+  pub resolver : ℕ
+  pub got : List Tag
+
+-- What was taken of the proxy begins what it sent: the same messages, in the same order, each once.
+abbrev pub IsBeginning : TakerView → SenderView → Type 0
+IsBeginning taker ended =
+    (rest : List Tag) × (ended.put ≡ of_proxy ended.proxy taker.got ++ rest)
+
+-- a proxy's side of all inboxes: its number, and how many sending ends there are
+pub record ProxyView : Type 0 where
+  pub proxy : ℕ
+  pub ends : ℕ
+
+-- the list has so many elements, and each is the one that belongs at its place
+abbrev pub IsEach : {X : Type 0} → (ℕ → X) → ℕ → List X → Type 0
+IsEach {X} member count xs =
+    (length xs ≡ count) × ((k : ℕ) (x : X) → slice_get xs k ≡ Some x → x ≡ member k)
+
+-- so many ends, each of the proxy and to the resolver of its place
+abbrev pub AreSenders : ℕ → ℕ → List SenderView → Type 0
+AreSenders proxy count ends =
+    (length ends ≡ count)
+    × ((k : ℕ) (e : SenderView) → slice_get ends k ≡ Some e → (e.resolver ≡ k) × (e.proxy ≡ proxy))

@@ -1,0 +1,20 @@
+-- The definitions, in reading order.
+
+-- what a worker answers
+pub mod Answers
+-- the views that a pass may have
+pub mod Views
+-- what contracts see of a message
+pub mod Tags
+-- the rule of an inbox
+pub mod Delivers
+-- which channel an end and a pass belong to
+pub mod Places
+-- the ends of inboxes
+pub mod Ends
+-- how many messages were sent and taken
+pub mod Counts
+-- inboxes without names
+pub mod Blanks
+-- the refusal's number and name
+pub mod Refusals

@@ -1,0 +1,207 @@
+//! Inboxes whose channels have no names yet.
+
+ghost use Rattle.std.specs.Prelude.{◌≡◌, ◌+◌, ◌<◌, ◌∷◌, ◌++◌, [], All, map, replicate, IfOk};
+ghost use Rattle.crossbeam_channel.specs.Claims.{IsSeatAt};
+ghost use Rattle.crossbeam_channel.specs.Ends.{receives_on, sends_on};
+ghost use Rattle.inboxes.specs.Blanks.{AreRows, BlankInboxView, BlankRow, BlankSenderView};
+ghost use Rattle.inboxes.specs.Places.{known, place_at, place_of};
+
+use crate::channels::Channels;
+use crate::ended_sender::EndedSender;
+use crate::inbox_end::FreshEnd;
+use crate::rule::{Hand, Inbox, Post, admit, make};
+use crate::taker::Taker;
+use agreed_ledger::Naming;
+use model::{ProxyNumber, ResolverNumber};
+use std::alloc::{AllocError, Global};
+use std::marker::Model;
+
+/// The channel of one inbox, with the worker's pass.
+#[derive(Drop)]
+pub(crate) struct BlankInbox<N: Naming> {
+    post: Post<N>,
+    inbox: Inbox<N>,
+    hand: Hand<N>,
+}
+
+impl<N: Naming> Model for BlankInbox<N> {
+    ghost use Rattle.std.specs.Prelude.{◌≡◌, [], true};
+    ghost use Rattle.crossbeam_channel.specs.Claims.{IsSeatAt};
+    ghost use Rattle.crossbeam_channel.specs.Ends.{receives_on, sends_on};
+    ghost use Rattle.inboxes.specs.Blanks.{BlankInboxView};
+    ghost use Rattle.inboxes.specs.Places.{known, place_of};
+
+    ghost Value = { BlankInboxView };
+
+    ghost view = { λ b. record { place = place_of (sends_on b.post); made = (known b.hand).made } };
+
+    ghost invariant = { λ b. (receives_on b.inbox ≡ sends_on b.post)
+        × IsSeatAt (sends_on b.post) b.hand
+        × ((known b.hand).gets ≡ true) × ((known b.hand).got ≡ []) };
+}
+
+impl<N: Naming> BlankInbox<N> {
+    /// A new channel, which holds up to 64 messages.
+    pub(crate) fn new(alloc: Global) -> Result<BlankInbox<N>, AllocError>
+        ensures { IfOk result (λ made. made.made ≡ 0) }
+    {
+        let (post, inbox, hand) = make(alloc)?;
+        Ok(BlankInbox { post, inbox, hand })
+    }
+
+    /// The sending end of the next proxy, which has the number `proxy`.
+    pub(crate) fn admit(&mut self, proxy: ProxyNumber) -> Result<BlankSender<N>, AllocError>
+        requires { proxy ≡ self.old.made }
+        ensures { IfOk result (λ sender. (sender ≡ record { place = self.old.place; proxy = proxy })
+            × (self.new ≡ record { place = self.old.place; made = proxy + 1 })) }
+    {
+        let post = self.post.try_clone()?;
+        let hand = admit(&self.post, &mut self.hand);
+        Ok(BlankSender { proxy, post, hand })
+    }
+
+    /// The receiving end, with a count of 0 for each proxy.
+    pub(crate) fn into_end(self, counts: Vec<u64>) -> BlankEnd<N>
+        requires { counts.items ≡ replicate N.cells.config.proxies 0 }
+        ensures { result ≡ self.place }
+    {
+        let BlankInbox {
+            post: _,
+            inbox,
+            hand,
+        } = self;
+        BlankEnd {
+            inbox,
+            hand,
+            counts,
+        }
+    }
+}
+
+/// A sending end of a proxy that has sent nothing.
+#[derive(Drop)]
+pub(crate) struct BlankSender<N: Naming> {
+    proxy: ProxyNumber,
+    post: Post<N>,
+    hand: Hand<N>,
+}
+
+impl<N: Naming> Model for BlankSender<N> {
+    ghost use Rattle.std.specs.Prelude.{◌≡◌, [], true};
+    ghost use Rattle.crossbeam_channel.specs.Claims.{IsSeatAt};
+    ghost use Rattle.crossbeam_channel.specs.Ends.{sends_on};
+    ghost use Rattle.inboxes.specs.Blanks.{BlankSenderView};
+    ghost use Rattle.inboxes.specs.Places.{known, place_of};
+
+    ghost Value = { BlankSenderView };
+
+    ghost view = { λ b. record { place = place_of (sends_on b.post); proxy = b.proxy } };
+
+    ghost invariant = { λ b. IsSeatAt (sends_on b.post) b.hand
+        × ((known b.hand).sends ≡ true) × ((known b.hand).from ≡ b.proxy)
+        × ((known b.hand).put ≡ []) };
+}
+
+impl<N: Naming> BlankSender<N> {
+    /// The end to this resolver, whose channel it is of.
+    pub(crate) fn named<M: Channels>(self, resolver: ResolverNumber) -> EndedSender<N, M>
+        requires place { self.place ≡ place_at M.places resolver }
+        requires proxy { self.proxy < N.cells.config.proxies }
+        ensures { result ≡ record { resolver = resolver; proxy = self.proxy; put = [] } }
+    {
+        EndedSender::new(resolver, self.proxy, self.post, self.hand)
+    }
+}
+
+/// The receiving end of an inbox, of which nothing was taken.
+#[derive(Drop)]
+pub(crate) struct BlankEnd<N: Naming> {
+    inbox: Inbox<N>,
+    hand: Hand<N>,
+    counts: Vec<u64>,
+}
+
+impl<N: Naming> Model for BlankEnd<N> {
+    ghost use Rattle.std.specs.Prelude.{◌≡◌, [], true, replicate};
+    ghost use Rattle.crossbeam_channel.specs.Claims.{IsSeatAt};
+    ghost use Rattle.crossbeam_channel.specs.Ends.{receives_on};
+    ghost use Rattle.inboxes.specs.Places.{Place, known, place_of};
+
+    ghost Value = { Place };
+
+    ghost view = { λ b. place_of (receives_on b.inbox) };
+
+    ghost invariant = { λ b. IsSeatAt (receives_on b.inbox) b.hand
+        × ((known b.hand).gets ≡ true) × ((known b.hand).got ≡ [])
+        × (b.counts.items ≡ replicate N.cells.config.proxies 0) };
+}
+
+impl<N: Naming> BlankEnd<N> {
+    /// The end of this resolver's inbox, whose channel it is of.
+    pub(crate) fn named<M: Channels>(self, resolver: ResolverNumber) -> FreshEnd<N, M>
+        requires { self ≡ place_at M.places resolver }
+        ensures { result ≡ resolver }
+    {
+        let BlankEnd {
+            inbox,
+            hand,
+            counts,
+        } = self;
+        FreshEnd::new(inbox, Taker::new(resolver, hand, counts))
+    }
+}
+
+/// The sending ends of one proxy, in the order of the resolvers.
+#[derive(Drop)]
+pub(crate) struct BlankSenders<N: Naming> {
+    proxy: ProxyNumber,
+    senders: Vec<BlankSender<N>>,
+}
+
+impl<N: Naming> Model for BlankSenders<N> {
+    ghost use Rattle.std.specs.Prelude.{◌≡◌, All, map};
+    ghost use Rattle.inboxes.specs.Blanks.{BlankRow};
+
+    ghost Value = { BlankRow };
+
+    ghost view = { λ b. record {
+      proxy = b.proxy;
+      places = map (λ sender. sender.place) b.senders.items;
+    } };
+
+    ghost invariant = { λ b. All (λ sender. sender.proxy ≡ b.proxy) b.senders.items };
+}
+
+impl<N: Naming> BlankSenders<N> {
+    /// No ends, with room for so many.
+    pub(crate) fn new(
+        alloc: Global,
+        proxy: ProxyNumber,
+        room: usize,
+    ) -> Result<BlankSenders<N>, AllocError>
+        ensures { IfOk result (λ row. row ≡ record { proxy = proxy; places = [] }) }
+    {
+        let senders = Vec::with_capacity(alloc, room)?;
+        Ok(BlankSenders { proxy, senders })
+    }
+
+    /// Appends the proxy's end to the next resolver.
+    pub(crate) fn push(&mut self, sender: BlankSender<N>) -> Result<(), AllocError>
+        requires { sender.proxy ≡ self.old.proxy }
+        ensures { IfOk result (λ _. self.new
+            ≡ record self.old { places = self.old.places ++ sender.place ∷ [] }) }
+    {
+        self.senders.push(sender)?;
+        Ok(())
+    }
+
+    /// The proxy's number and ends.
+    pub(crate) fn into_parts(self) -> (ProxyNumber, Vec<BlankSender<N>>)
+        ensures proxy { result.0 ≡ self.proxy }
+        ensures places { map (λ sender. sender.place) result.1.items ≡ self.places }
+        ensures mine { All (λ sender. sender.proxy ≡ self.proxy) result.1.items }
+    {
+        let BlankSenders { proxy, senders } = self;
+        (proxy, senders)
+    }
+}

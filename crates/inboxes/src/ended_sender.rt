@@ -1,0 +1,109 @@
+//! The sending end of a proxy to the inbox of one resolver.
+
+ghost use Rattle.std.specs.Prelude.{◌≡◌, ◌<◌, [], ◌∷◌, ◌++◌, true, IfErr, IfOk};
+ghost use Rattle.crossbeam_channel.specs.Claims.{IsSeatAt};
+ghost use Rattle.crossbeam_channel.specs.Ends.{sends_on};
+ghost use Rattle.inboxes.specs.Ends.{SenderView};
+ghost use Rattle.inboxes.specs.Places.{known, place_at, place_of};
+
+use crate::channels::Channels;
+use crate::message::Message;
+use crate::rule::{Hand, Post, send};
+use agreed_ledger::Naming;
+use model::{ProxyNumber, ResolverNumber};
+use std::marker::{Model, PhantomData};
+use std::sync::Wait;
+
+/// A proxy's sending end to the inbox of one resolver, with the pass that knows what was sent. When
+/// the proxy sends no more, it is what [`compare`](crate::Taker::compare) takes.
+#[derive(Drop)]
+pub struct EndedSender<N: Naming, M: Channels> {
+    pub(crate) resolver: ResolverNumber,
+    pub(crate) proxy: ProxyNumber,
+    pub(crate) post: Post<N>,
+    pub(crate) hand: Hand<N>,
+    pub(crate) sent: u64,
+    pub(crate) of: PhantomData<M>,
+}
+
+impl<N: Naming, M: Channels> Model for EndedSender<N, M> {
+    ghost use Rattle.std.specs.Prelude.{◌≡◌, ◌<◌, true};
+    ghost use Rattle.crossbeam_channel.specs.Claims.{IsSeatAt};
+    ghost use Rattle.crossbeam_channel.specs.Ends.{sends_on};
+    ghost use Rattle.inboxes.specs.Counts.{counted};
+    ghost use Rattle.inboxes.specs.Ends.{SenderView};
+    ghost use Rattle.inboxes.specs.Places.{known, place_at, place_of};
+
+    ghost Value = { SenderView };
+
+    ghost view = { λ e. record {
+      resolver = e.resolver;
+      proxy = e.proxy;
+      put = (known e.hand).put;
+    } };
+
+    ghost invariant = { λ e. (e.proxy < N.cells.config.proxies)
+        × (place_of (sends_on e.post) ≡ place_at M.places e.resolver)
+        × IsSeatAt (sends_on e.post) e.hand
+        × ((known e.hand).sends ≡ true)
+        × ((known e.hand).from ≡ e.proxy)
+        × (e.sent ≡ counted (known e.hand).put) };
+}
+
+impl<N: Naming, M: Channels> EndedSender<N, M> {
+    /// The end of the proxy to this resolver, with a pass that has sent nothing.
+    pub(crate) fn new(
+        resolver: ResolverNumber,
+        proxy: ProxyNumber,
+        post: Post<N>,
+        hand: Hand<N>,
+    ) -> EndedSender<N, M>
+        requires proxy { proxy < N.cells.config.proxies }
+        requires place { place_of (sends_on post) ≡ place_at M.places resolver }
+        requires pass { IsSeatAt (sends_on post) hand }
+        requires sender { ((known hand).sends ≡ true) × ((known hand).from ≡ proxy) }
+        requires empty { (known hand).put ≡ [] }
+        ensures { result ≡ record { resolver = resolver; proxy = proxy; put = [] } }
+    {
+        EndedSender {
+            resolver,
+            proxy,
+            post,
+            hand,
+            sent: 0,
+            of: PhantomData,
+        }
+    }
+
+    /// The number of the resolver that it is to.
+    pub fn resolver(&self) -> ResolverNumber
+        ensures { result ≡ self.now.resolver }
+    {
+        self.resolver
+    }
+
+    /// The number of the proxy that it is of.
+    pub fn proxy(&self) -> ProxyNumber
+        ensures value { result ≡ self.now.proxy }
+        ensures within { result < N.cells.config.proxies }
+    {
+        self.proxy
+    }
+
+    /// Sends a message of the proxy, and waits while the inbox is full. If the worker's end is
+    /// gone, the message comes back, and nothing was sent.
+    pub fn send<R: Wait>(&mut self, rt: &R, message: Message<N>) -> Result<(), Message<N>>
+        requires { message.proxy ≡ self.old.proxy }
+        ensures sent { IfOk result (λ _. self.new
+            ≡ record self.old { put = self.old.put ++ message ∷ [] }) }
+        ensures refused { IfErr result (λ back. (back ≡ message) × (self.new ≡ self.old)) }
+    {
+        match send(rt, &self.post, &mut self.hand, message) {
+            Ok(()) => {
+                self.sent = self.sent.saturating_add(1);
+                Ok(())
+            }
+            Err(back) => Err(back),
+        }
+    }
+}

@@ -1,0 +1,124 @@
+//! The worker's end of the inbox of one resolver.
+
+ghost use Rattle.std.specs.Prelude.{◌≡◌, ◌∷◌, ◌++◌, [], IfOk, OnErr};
+ghost use Rattle.crossbeam_channel.specs.Claims.{IsKeyed};
+ghost use Rattle.crossbeam_channel.specs.Ends.{receives_on};
+ghost use Rattle.inboxes.specs.Ends.{TakerView};
+ghost use Rattle.inboxes.specs.Places.{place_at, place_of};
+
+use crate::channels::Channels;
+use crate::message::Message;
+use crate::rule::Inbox;
+use crate::taker::Taker;
+use agreed_ledger::Naming;
+use crossbeam_channel::RecvError;
+use model::ResolverNumber;
+use std::marker::Model;
+use std::sync::Wait;
+
+/// The worker's end of the inbox of one resolver, and the messages that it took, of all proxies.
+#[derive(Drop)]
+pub struct InboxEnd<N: Naming, M: Channels> {
+    inbox: Inbox<N>,
+    taker: Taker<N, M>,
+}
+
+impl<N: Naming, M: Channels> Model for InboxEnd<N, M> {
+    ghost use Rattle.std.specs.Prelude.{◌≡◌};
+    ghost use Rattle.crossbeam_channel.specs.Claims.{IsKeyed};
+    ghost use Rattle.crossbeam_channel.specs.Ends.{receives_on};
+    ghost use Rattle.inboxes.specs.Ends.{TakerView};
+    ghost use Rattle.inboxes.specs.Places.{place_at, place_of};
+
+    ghost Value = { TakerView };
+
+    ghost view = { λ e. e.taker };
+
+    ghost invariant = { λ e. (place_of (receives_on e.inbox) ≡ place_at M.places e.taker.resolver)
+        × IsKeyed (receives_on e.inbox) };
+}
+
+impl<N: Naming, M: Channels> InboxEnd<N, M> {
+    /// The number of the resolver whose inbox it is.
+    pub fn resolver(&self) -> ResolverNumber
+        ensures { result ≡ self.now.resolver }
+    {
+        self.taker.resolver()
+    }
+
+    /// How many proxies there are, each with a sending end.
+    pub fn proxies(&self) -> usize
+        ensures { result ≡ N.cells.config.proxies }
+    {
+        self.taker.proxies()
+    }
+
+    /// Takes the message at the front of the inbox, and waits while there is none. Fails, and takes
+    /// nothing, if no sending end is left (that it then fails is tested alone).
+    pub fn take<R: Wait>(&mut self, rt: &R) -> Result<Message<N>, RecvError>
+        ensures taken { IfOk result (λ message. self.new
+            ≡ record self.old { got = self.old.got ++ message ∷ [] }) }
+        ensures none { OnErr result (self.new ≡ self.old) }
+    {
+        self.taker.take_from(rt, &self.inbox)
+    }
+
+    /// The worker's pass alone. The receiving end is let go, so that later sends are refused.
+    pub fn into_taker(self) -> Taker<N, M>
+        ensures { result ≡ self }
+    {
+        self.taker
+    }
+}
+
+/// The worker's end of the inbox of one resolver, of which nothing was taken yet. Contracts see it
+/// as the number of the resolver.
+#[derive(Drop)]
+pub struct FreshEnd<N: Naming, M: Channels> {
+    end: InboxEnd<N, M>,
+}
+
+impl<N: Naming, M: Channels> Model for FreshEnd<N, M> {
+    ghost use Rattle.std.specs.Prelude.{◌≡◌, ℕ, []};
+
+    ghost Value = { ℕ };
+
+    ghost view = { λ f. f.end.resolver };
+
+    ghost invariant = { λ f. f.end.got ≡ [] };
+}
+
+impl<N: Naming, M: Channels> FreshEnd<N, M> {
+    /// The end of this inbox, by a pass that took nothing.
+    pub(crate) fn new(inbox: Inbox<N>, taker: Taker<N, M>) -> FreshEnd<N, M>
+        requires place { place_of (receives_on inbox) ≡ place_at M.places taker.resolver }
+        requires keyed { IsKeyed (receives_on inbox) }
+        requires empty { taker.got ≡ [] }
+        ensures { result ≡ taker.resolver }
+    {
+        FreshEnd {
+            end: InboxEnd { inbox, taker },
+        }
+    }
+
+    /// The number of the resolver whose inbox it is.
+    pub fn resolver(&self) -> ResolverNumber
+        ensures { result ≡ self.now }
+    {
+        self.end.resolver()
+    }
+
+    /// How many proxies there are, each with a sending end.
+    pub fn proxies(&self) -> usize
+        ensures { result ≡ N.cells.config.proxies }
+    {
+        self.end.proxies()
+    }
+
+    /// The end that takes messages.
+    pub fn into_end(self) -> InboxEnd<N, M>
+        ensures { result ≡ record { resolver = self; got = [] } }
+    {
+        self.end
+    }
+}

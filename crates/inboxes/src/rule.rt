@@ -1,0 +1,186 @@
+//! The rule of an inbox, and the steps of its passes.
+//!
+//! A step is one call on the channel, at one moment, and changes one pass. Each is proved to keep the
+//! rule ([`InOrder`]) whatever the other threads did before.
+
+ghost use Rattle.std.specs.Prelude.{◌≡◌, ◌+◌, true, List, [], ◌∷◌, ◌++◌, None, IfErr, IfOk, OnErr};
+ghost use Rattle.crossbeam_channel.specs.Claims.{IsSeatAt};
+ghost use Rattle.crossbeam_channel.specs.Ends.{receives_on, ruled_capacity, sends_on};
+ghost use Rattle.inboxes.specs.Delivers.{inbox_limit, of_proxy};
+ghost use Rattle.inboxes.specs.Places.{known};
+ghost use Rattle.inboxes.specs.Views.{sender, worker};
+ghost use Rattle.inboxes.specs.declared.tag.Tag.{Tag};
+
+use crate::message::Message;
+use crate::tag::{Tag, View};
+use agreed_ledger::Naming;
+use crossbeam_channel::protocol::{Join, Lesson, Outcome, Protocol, Split};
+use crossbeam_channel::{Pass, RecvError, RuledReceiver, RuledSender, bounded_with};
+use std::alloc::{AllocError, Global};
+use std::sync::Wait;
+
+/// How many messages an inbox holds.
+const INBOX_LIMIT: usize = 64;
+
+/// The rule: what the worker took of a proxy, and then what is queued of it, is what it sent.
+pub struct InOrder;
+
+impl<N: Naming> Protocol<Message<N>, View> for InOrder {
+    ghost use Rattle.std.specs.Prelude.{[], None};
+    ghost use Rattle.inboxes.specs.Delivers.{Delivers};
+    ghost use Rattle.inboxes.specs.Views.{worker};
+
+    ghost holds = { Delivers };
+
+    ghost first = { worker 0 [] None };
+}
+
+/// A message goes to the back of the queue, and its proxy's pass knows that it was sent.
+pub(crate) struct Sends;
+
+impl<N: Naming> Outcome<Message<N>, View> for Sends {
+    ghost use Rattle.std.specs.Prelude.{◌≡◌, [], ◌∷◌, ◌++◌};
+    ghost use Rattle.inboxes.specs.Views.{sender};
+
+    ghost then = { λ v message w. w ≡ sender v.from (v.put ++ message ∷ []) };
+}
+
+impl<N: Naming> Lesson<Message<N>, View> for Sends {
+    ghost use Rattle.std.specs.Prelude.{⊤};
+
+    ghost fact = { λ v items. ⊤ };
+}
+
+/// The message at the front of the queue is taken, and the worker's pass knows it.
+pub(crate) struct Takes;
+
+impl<N: Naming> Outcome<Message<N>, View> for Takes {
+    ghost use Rattle.std.specs.Prelude.{◌≡◌, [], ◌∷◌, ◌++◌};
+    ghost use Rattle.inboxes.specs.Views.{worker};
+
+    ghost then = { λ v message w. w ≡ worker v.made (v.got ++ message ∷ []) v.told };
+}
+
+impl<N: Naming> Lesson<Message<N>, View> for Takes {
+    ghost use Rattle.std.specs.Prelude.{⊤};
+
+    ghost fact = { λ v items. ⊤ };
+}
+
+/// A pass is made for the next proxy, which has sent nothing.
+pub(crate) struct Admits;
+
+impl Split<View> for Admits {
+    ghost use Rattle.std.specs.Prelude.{◌+◌, [], None};
+    ghost use Rattle.inboxes.specs.Views.{sender, worker};
+
+    ghost left = { λ v. worker (v.made + 1) v.got None };
+
+    ghost right = { λ v. sender v.made [] };
+}
+
+/// The pass of a proxy is joined to the worker's, which is told what the proxy sent.
+pub(crate) struct Ends;
+
+impl Join<View> for Ends {
+    ghost use Rattle.std.specs.Prelude.{Some};
+    ghost use Rattle.inboxes.specs.Views.{spent, worker};
+
+    ghost both = { λ v w. worker v.made v.got (Some (w.from, w.put)) };
+
+    ghost spent = { spent };
+}
+
+/// What was taken of the proxy whose pass was joined last begins what it sent.
+pub(crate) struct Compares;
+
+impl<N: Naming> Lesson<Message<N>, View> for Compares {
+    ghost use Rattle.inboxes.specs.Delivers.{IsToldMore};
+
+    ghost fact = { λ v items. IsToldMore v };
+}
+
+/// A sending end of an inbox.
+pub(crate) type Post<N> = RuledSender<Message<N>, View, InOrder>;
+
+/// The receiving end of an inbox.
+pub(crate) type Inbox<N> = RuledReceiver<Message<N>, View, InOrder>;
+
+/// A pass of an inbox.
+pub(crate) type Hand<N> = Pass<Message<N>, View>;
+
+/// The two ends of a new inbox, and the worker's pass.
+pub(crate) fn make<N: Naming>(alloc: Global) -> Result<(Post<N>, Inbox<N>, Hand<N>), AllocError>
+    ensures channel { IfOk result (λ r. (receives_on r.1 ≡ sends_on r.0)
+        × (ruled_capacity (sends_on r.0) ≡ inbox_limit)) }
+    ensures pass { IfOk result (λ r. IsSeatAt (sends_on r.0) r.2 × (known r.2 ≡ worker 0 [] None)) }
+{
+    bounded_with::<Message<N>, View, InOrder, Global>(alloc, INBOX_LIMIT)
+}
+
+/// Sends a message of the proxy whose pass it is. If the receiving end is gone, the message comes
+/// back.
+pub(crate) fn send<N: Naming, R: Wait>(
+    rt: &R,
+    post: &Post<N>,
+    hand: &mut Hand<N>,
+    message: Message<N>,
+) -> Result<(), Message<N>>
+    requires place { IsSeatAt (sends_on post.now) hand.old }
+    requires sender { (known hand.old).sends ≡ true }
+    requires mine { message.proxy ≡ (known hand.old).from }
+    ensures place { IsSeatAt (sends_on post.now) hand.new }
+    ensures sent { IfOk result (λ _. known hand.new
+        ≡ sender (known hand.old).from ((known hand.old).put ++ message ∷ [])) }
+    ensures refused { IfErr result (λ back. (back ≡ message) × (known hand.new ≡ known hand.old)) }
+{
+    match post.send_as::<Sends, R>(rt, hand, message) {
+        Ok(()) => Ok(()),
+        Err(error) => Err(error.into_inner()),
+    }
+}
+
+/// Takes the message at the front, and waits while there is none. Fails if no sending end is left.
+pub(crate) fn take_one<N: Naming, R: Wait>(
+    rt: &R,
+    inbox: &Inbox<N>,
+    hand: &mut Hand<N>,
+) -> Result<Message<N>, RecvError>
+    requires place { IsSeatAt (receives_on inbox.now) hand.old }
+    requires worker { (known hand.old).gets ≡ true }
+    ensures place { IsSeatAt (receives_on inbox.now) hand.new }
+    ensures taken { IfOk result (λ message. known hand.new
+        ≡ worker (known hand.old).made ((known hand.old).got ++ message ∷ [])
+        (known hand.old).told) }
+    ensures none { OnErr result (known hand.new ≡ known hand.old) }
+{
+    inbox.recv_as::<Takes, R>(rt, hand)
+}
+
+/// Makes the pass of the next proxy.
+pub(crate) fn admit<N: Naming>(post: &Post<N>, hand: &mut Hand<N>) -> Hand<N>
+    requires place { IsSeatAt (sends_on post.now) hand.old }
+    requires worker { (known hand.old).gets ≡ true }
+    ensures place { IsSeatAt (sends_on post.now) hand.new }
+    ensures other { IsSeatAt (sends_on post.now) result }
+    ensures worker { known hand.new ≡ worker ((known hand.old).made + 1) (known hand.old).got None }
+    ensures sender { known result ≡ sender (known hand.old).made [] }
+{
+    post.another::<Admits>(hand)
+}
+
+/// Joins the pass of a proxy to the worker's. What the worker took of it begins what it sent.
+pub(crate) fn join<N: Naming>(post: &Post<N>, hand: &mut Hand<N>, ended: Hand<N>)
+    requires place { IsSeatAt (sends_on post.now) hand.old }
+    requires other { IsSeatAt (sends_on post.now) ended }
+    requires worker { (known hand.old).gets ≡ true }
+    requires sender { (known ended).sends ≡ true }
+    ensures place { IsSeatAt (sends_on post.now) hand.new }
+    ensures worker { ((known hand.new).gets ≡ true)
+        × ((known hand.new).got ≡ (known hand.old).got) }
+    ensures begins { (rest : List Tag)
+        × ((known ended).put ≡ of_proxy (known ended).from (known hand.old).got ++ rest) }
+{
+    post.absorb::<Ends>(hand, ended);
+    post.learn_as::<Compares>(hand);
+}

@@ -1,0 +1,14 @@
+-- One more closing is printed.
+use Rattle.std.proofs.Common.{ℕ, subst}
+use Rattle.std.specs.Prelude.{string_bytes}
+use Rattle.threads_run.specs.Answers.{IsClosingLine}
+use Rattle.threads_run.specs.Parts.{GrowsBy}
+use Rattle.threads_run.proofs.PartLemmas.{one_more_part}
+use Rattle.threads_run.proofs.running.RunningCommitsBatches.print_closings.Goals as goal
+
+pub loop-number-preserved : goal.loop-number-preserved
+loop-number-preserved g c =
+    let l = c.loop-number in
+    let config = g.N.Naming.cells.config in
+    one_more_part (IsClosingLine config) l.number (string_bytes c.args.text.now) (string_bytes l.text) (string_bytes c.print_closing.new.text) l.invariant
+    (subst (λ (p : ℕ). GrowsBy (IsClosingLine config p) (string_bytes l.text) (string_bytes c.print_closing.new.text)) c.committer.ensures c.in_ok-print_closing.ensures)

@@ -1,0 +1,113 @@
+//! What the threads of a run share.
+
+ghost use Rattle.std.specs.Prelude.{◌≡◌, ◌<◌, [], length, IfOk, OnOk, string_bytes};
+ghost use Rattle.threads_run.specs.Answers.{AreBatchLines, IsClosingLine};
+ghost use Rattle.threads_run.specs.Parts.{GrowsBy, IsInParts};
+
+use crate::cluster::Cluster;
+use crate::committer::Committer;
+use crate::faults::RunFault;
+use crate::serving::ServesInbox;
+use crate::threads::CommitsBatches;
+use agreed_ledger::Naming;
+use inboxes::{Channels, FreshEnd};
+use model::ProxyNumber;
+use mutation::Batch;
+use shared_cluster::SharedResolver;
+use std::alloc::Global;
+use std::sync::Wait;
+use system_keys::OutOfMemory;
+use workers::{Open, ProxyInboxes, ResolverWorker};
+
+/// The resolvers of the cluster, which workers ask for the proxies.
+#[derive(Drop)]
+pub(crate) struct Serving<'a, 'l, N: Naming> {
+    pub(crate) resolvers: &'a [SharedResolver<'l, N>],
+}
+
+impl<'a, 'l, N: Naming, M: Channels> ServesInbox<FreshEnd<N, M>> for Serving<'a, 'l, N> {
+    fn serve<R: Wait>(&self, rt: &R, alloc: Global, end: FreshEnd<N, M>) {
+        let Some(resolver) = self.resolvers.get(end.resolver()) else {
+            return;
+        };
+        if let Ok(worker) = ResolverWorker::new(alloc, resolver, end, Open) {
+            let _ended = worker.run(rt);
+        }
+    }
+}
+
+/// The cluster, and the inboxes of its resolvers as each proxy sends to them.
+#[derive(Drop)]
+pub(crate) struct Running<'a, 'l, N: Naming, M: Channels> {
+    pub(crate) cluster: &'a Cluster<'l, N>,
+    pub(crate) inboxes: Vec<ProxyInboxes<N, M>>,
+    ghost as_many: { length inboxes.items ≡ length cluster.now.proxies.items },
+}
+
+impl<'a, 'l, N: Naming, M: Channels> Running<'a, 'l, N, M> {
+    /// The proxy of this number, with what it commits by.
+    fn committer(&self, number: ProxyNumber) -> Committer<'_, 'l, N, M>
+        requires { number < length self.now.cluster.now.proxies.items }
+        ensures { result.number ≡ number }
+    {
+        Committer {
+            number,
+            proxy: self.cluster.proxy(number),
+            sequencer: &self.cluster.sequencer,
+            inboxes: &self.inboxes[number],
+        }
+    }
+}
+
+impl<'a, 'l, N: Naming, M: Channels> CommitsBatches for Running<'a, 'l, N, M> {
+    ghost are_lines = { AreBatchLines N.cells.config };
+
+    ghost are_closings = { λ proxies. IsInParts (IsClosingLine N.cells.config) proxies };
+
+    ghost proxies = { λ running. length running.cluster.now.proxies.items };
+
+    fn commit_batches<R: Wait>(
+        &self,
+        rt: &R,
+        alloc: Global,
+        number: ProxyNumber,
+        batches: &[Batch],
+    ) -> Result<String, RunFault> {
+        self.committer(number).run(rt, alloc, batches)
+    }
+
+    fn print_closings<R: Wait>(
+        &self,
+        rt: &R,
+        alloc: Global,
+        text: &mut String,
+    ) -> Result<(), RunFault> {
+        let empty = empty_batch(alloc)?;
+        for number in 0..self.cluster.proxies.len() {
+            self.committer(number).print_closing(rt, text, &empty)?;
+        }
+        Ok(())
+    }
+
+    fn close<R: Wait>(&self, rt: &R) {
+        if let Some(first) = self.inboxes.first() {
+            first.close(rt);
+        }
+    }
+
+    fn end<R: Wait>(self, rt: &R) {
+        for inboxes in self.inboxes {
+            let _ended = inboxes.end(rt);
+        }
+    }
+}
+
+/// The batch without transactions. Fails only with `OutOfMemory`, and in fact never.
+fn empty_batch(alloc: Global) -> Result<Batch, OutOfMemory>
+    ensures { IfOk result (λ batch. batch ≡ []) }
+{
+    match Batch::new(Vec::new(alloc)) {
+        Ok(batch) => Ok(batch),
+        Err(_refused) => Err(OutOfMemory),
+    }
+}

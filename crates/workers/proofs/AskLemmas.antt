@@ -1,0 +1,73 @@
+-- Requests that are asked, and what is answered to them.
+use Rattle.std.proofs.Common.{◌≡◌, refl, sym, ap, ◌∙◌, subst, ℕ, zero, suc, ◌+◌, ◌<◌, ◌≤◌, ◌⊎◌, inl, inr, List, [], ◌∷◌, ◌++◌, length, take, slice_get, Some, length-append, arith}
+use Rattle.facts.specs.Stretches.{Agree}
+use Rattle.model.specs.Configs.{Config, IsConfig}
+use Rattle.model.specs.Records.{Record}
+use Rattle.model.specs.Requests.{Request, request}
+use Rattle.model.proofs.History.Growth.{push_cases}
+use Rattle.shared_cluster.specs.Requests.{RequestView, IsRequestFor}
+use Rattle.shared_cluster.specs.NotedReplies.{NotedReplyView, IsReplyToRequest}
+use Rattle.shared_cluster.specs.Commits.{AreRepliesInOrder, IsAskAllRefusal, IsAskRefusal}
+use Rattle.shared_cluster.specs.Resolvers.{IsResolveRefusal}
+use Rattle.shared_cluster.specs.declared.refusal.Refusal.{Refusal}
+use Rattle.shared_cluster.specs.declared.refusal.Refusal.TheVariants as refusals
+use Rattle.workers.specs.Asking.{AreOwn, HasOthers, IsInboxRefusal}
+use Rattle.workers.proofs.RefusedLemmas.{closed_refuses}
+
+take_next : {X : Type 0} (xs : List X) (k : ℕ) (x : X) → slice_get xs k ≡ Some x → take (k + 1) xs ≡ take k xs ++ x ∷ []
+take_next [] k x at = absurd (cc)
+take_next (y ∷ ys) zero x at = let same : y ≡ x = cc in ap (λ z. z ∷ []) same
+take_next (y ∷ ys) (suc k) x at =
+    let more : suc k + 1 ≡ suc (k + 1) = omega arith in
+    ap (λ n. take n (y ∷ ys)) more ∙ ap (λ zs. y ∷ zs) (take_next ys k x at)
+
+pub take_all : {X : Type 0} (xs : List X) (n : ℕ) → length xs ≤ n → take n xs ≡ xs
+take_all [] zero within = refl
+take_all [] (suc n) within = refl
+take_all (x ∷ xs) zero within = absurd (omega (arith, within))
+take_all (x ∷ xs) (suc n) within = ap (λ ys. x ∷ ys) (take_all xs n (omega (arith, within)))
+
+-- one reply more, to the next request
+pub order_next : (requests : List RequestView) (k : ℕ) (q : RequestView) (replies : List NotedReplyView) (noted : NotedReplyView) → slice_get requests k ≡ Some q → AreRepliesInOrder (take k requests) replies → IsReplyToRequest q.plain noted.reply → AreRepliesInOrder (take (k + 1) requests) (replies ++ noted ∷ [])
+order_next requests k q replies noted at so_far to = subst (λ (qs : List RequestView). AreRepliesInOrder qs (replies ++ noted ∷ [])) (sym (take_next requests k q at)) longer
+  where
+    by : (place : ℕ) (p : RequestView) (n : NotedReplyView) → ((place ≡ length (take k requests)) × (q ≡ p)) ⊎ ((place < length (take k requests)) × (slice_get (take k requests) place ≡ Some p))
+        → ((place ≡ length replies) × (noted ≡ n)) ⊎ ((place < length replies) × (slice_get replies place ≡ Some n)) → IsReplyToRequest p.plain n.reply
+    by place p n (inl last_q) (inl last_n) = subst (λ (r : RequestView). IsReplyToRequest r.plain n.reply) last_q.1 (subst (λ (m : NotedReplyView). IsReplyToRequest q.plain m.reply) last_n.1 to)
+    by place p n (inl last_q) (inr sooner_n) = let count = so_far.count in absurd (omega (arith, count, last_q.0, sooner_n.0))
+    by place p n (inr sooner_q) (inl last_n) = let count = so_far.count in absurd (omega (arith, count, last_n.0, sooner_q.0))
+    by place p n (inr sooner_q) (inr sooner_n) = so_far.each place p n sooner_q.1 sooner_n.1
+
+    longer : AreRepliesInOrder (take k requests ++ q ∷ []) (replies ++ noted ∷ [])
+    longer =
+        record {
+          count = let count = so_far.count in omega (arith, count, length-append replies (noted ∷ []), length-append (take k requests) (q ∷ []));
+          each = λ place p n at_p at_n. by place p n (push_cases (take k requests) q place p at_p) (push_cases replies noted place n at_n);
+        }
+
+-- what refuses one of the requests refuses them all
+pub one_refused : (config : Config) (requests : List RequestView) (k : ℕ) (q : RequestView) (refusal : Refusal) → slice_get requests k ≡ Some q → IsAskRefusal config q refusal → IsAskAllRefusal config requests refusal
+one_refused config requests k q refusal at (inl memory) = inl memory
+one_refused config requests k q refusal at (inr refused) = inr (k, q, at, refused)
+
+-- one request more is of the proxy
+pub own_next : (p : ℕ) (requests : List RequestView) (k : ℕ) (q : RequestView) → slice_get requests k ≡ Some q → AreOwn p (take k requests) → q.plain.proxy ≡ p → AreOwn p (take (k + 1) requests)
+own_next p requests k q at own is = subst (λ (qs : List RequestView). AreOwn p qs) (sym (take_next requests k q at)) (λ place r at_r. by place r (push_cases (take k requests) q place r at_r))
+  where
+    by : (place : ℕ) (r : RequestView) → ((place ≡ length (take k requests)) × (q ≡ r)) ⊎ ((place < length (take k requests)) × (slice_get (take k requests) place ≡ Some r)) → r.plain.proxy ≡ p
+    by place r (inl last) = ap (λ (s : RequestView). s.plain.proxy) (sym last.1) ∙ is
+    by place r (inr sooner) = own place r sooner.1
+
+-- ---- a request that came back
+
+-- requests for one row to one resolver, by one version last received, with records that agree, are one
+pub one_request : (config : Config) (v w : RequestView) → IsRequestFor config v → IsRequestFor config w → Agree 0 v.records 0 w.records
+    → v.plain.row ≡ w.plain.row → v.plain.resolver ≡ w.plain.resolver → v.plain.last_received ≡ w.plain.last_received → v.plain ≡ w.plain
+one_request config v w is_v is_w agree row resolver received =
+    let same : is_v.rec ≡ is_w.rec = agree v.plain.row w.plain.row is_v.rec is_w.rec (ap (λ (k : ℕ). 0 + k) row) is_v.there is_w.there in
+    is_v.is ∙ (λ i. request config (same i) (received i) (resolver i)) ∙ sym is_w.is
+
+-- what refuses a request refuses the same request with other records
+pub same_refusal : (config : Config) (q r : RequestView) (refusal : Refusal) → q.plain ≡ r.plain → IsAskRefusal config q refusal → IsAskRefusal config r refusal
+same_refusal config q r refusal same (inl memory) = inl memory
+same_refusal config q r refusal same (inr refused) = inr (subst (λ (p : Request). IsResolveRefusal config p.resolver p refusal) same refused)

@@ -1,0 +1,169 @@
+-- What a worker keeps serving.
+use Rattle.std.proofs.Common.{◌≡◌, refl, sym, ap, ◌∙◌, subst, ℕ, zero, suc, ◌+◌, ◌-◌, ◌<◌, ◌≤◌, ◌⊎◌, inl, inr, List, [], ◌∷◌, ◌++◌, length, take, drop, slice_get, Some, true, false, ◌||◌, get_or, length-append, length-drop, arith}
+use Rattle.std.specs.Prelude.{IsFalse, remove}
+use Rattle.facts.specs.Stretches.{Stretch, end_of, extended, rest_from}
+use Rattle.model.specs.Configs.{Config}
+use Rattle.agreed_ledger.specs.Cells.{ColumnView, with_rows}
+use Rattle.shared_cluster.specs.Requests.{RequestView}
+use Rattle.shared_cluster.specs.NotedReplies.{NotedReplyView}
+use Rattle.shared_cluster.specs.Resolvers.{HasOffered, HasJudged, HasRepeated, IsLockedResolver, LockedResolverView, after_refusal}
+use Rattle.shared_cluster.specs.declared.refusal.Refusal.{Refusal}
+use Rattle.shared_cluster.specs.declared.refusal.Refusal.TheVariants as refusals
+use Rattle.workers.specs.Desks.{DeskView, HasLetGo, HasRow, IsSettled, KeepsServing, OnlyFails, Serves, has_failed}
+
+-- ---- one after another
+
+pub keeps_same : (v : DeskView) → KeepsServing v v
+keeps_same v = record { resolver = refl; first = refl; failed = λ sound. sound; served = λ sound row serves. serves }
+
+pub keeps_trans : (a b c : DeskView) → KeepsServing a b → KeepsServing b c → KeepsServing a c
+keeps_trans a b c one two =
+    record {
+      resolver = two.resolver ∙ one.resolver;
+      first = two.first ∙ one.first;
+      failed = λ sound. one.failed (two.failed sound);
+      served = λ sound row serves. two.served sound row (one.served (two.failed sound) row serves);
+    }
+
+same_serves : (a b : DeskView) → b.column ≡ a.column → b.held ≡ a.held → (row : ℕ) → Serves a row → Serves b row
+same_serves a b column held row (inl judged) = inl (subst (λ (c : ColumnView). row < end_of c.rows) (sym column) judged)
+same_serves a b column held row (inr has) = inr (subst (λ (qs : List RequestView). HasRow qs row) (sym held) has)
+
+pub fails_keeps : (a b : DeskView) → OnlyFails a b → KeepsServing a b
+fails_keeps a b only =
+    record {
+      resolver = ap (λ (c : ColumnView). c.resolver) only.column;
+      first = ap (λ (c : ColumnView). c.rows.first) only.column;
+      failed = only.failed;
+      served = λ sound row serves. same_serves a b only.column only.held row serves;
+    }
+
+pub fails_settled : (a b : DeskView) → OnlyFails a b → IsSettled a → IsSettled b
+fails_settled a b only settled sound place q at =
+    subst (λ (c : ColumnView). end_of c.rows < q.plain.row) (sym only.column) (settled (only.failed sound) place q (ap (λ (qs : List RequestView). slice_get qs place) (sym only.held) ∙ at))
+
+-- ---- a worker that is closed has failed
+
+pub closed_fails : (v : DeskView) → v.closed ≡ true → IsFalse (has_failed v) → ⊥
+closed_fails v closed sound = let fails : has_failed v ≡ true = ap (λ b. b || v.wanted) closed in cc
+
+pub let_go_keeps : (a b : DeskView) → a.closed ≡ true → HasLetGo a b → KeepsServing a b
+let_go_keeps a b closed gone =
+    record {
+      resolver = ap (λ (c : ColumnView). c.resolver) gone.column;
+      first = ap (λ (c : ColumnView). c.rows.first) gone.column;
+      failed = gone.failed;
+      served = λ sound row serves. absurd (closed_fails b (gone.closed ∙ closed) sound);
+    }
+
+pub let_go_settled : (a b : DeskView) → a.closed ≡ true → HasLetGo a b → IsSettled b
+let_go_settled a b closed gone sound place q at = absurd (closed_fails b (gone.closed ∙ closed) sound)
+
+-- ---- a request less
+
+-- each request that was held back is still, or is the one that was taken out
+row_left : (held : List RequestView) (place k : ℕ) (q r : RequestView) → slice_get held place ≡ Some q → slice_get held k ≡ Some r → (q ≡ r) ⊎ HasRow (remove held place) r.plain.row
+row_left [] place k q r at_q at_r = absurd (cc)
+row_left (x ∷ xs) zero zero q r at_q at_r = inl (same x q r at_q at_r)
+  where
+    same : (a b c : RequestView) → Some a ≡ Some b → Some a ≡ Some c → b ≡ c
+    same a b c one two = cc
+row_left (x ∷ xs) zero (suc k) q r at_q at_r = inr (k, r, at_r, refl)
+row_left (x ∷ xs) (suc i) zero q r at_q at_r = inr (0, r, at_r, refl)
+row_left (x ∷ xs) (suc i) (suc k) q r at_q at_r = go (row_left xs i k q r at_q at_r)
+  where
+    go : (q ≡ r) ⊎ HasRow (remove xs i) r.plain.row → (q ≡ r) ⊎ HasRow (remove (x ∷ xs) (suc i)) r.plain.row
+    go (inl same) = inl same
+    go (inr (j, s, at, is)) = inr (suc j, s, at, is)
+
+-- the request that was taken out is of a row that was judged since
+pub taken_out : (before mid after : DeskView) (place : ℕ) (q : RequestView) → slice_get before.held place ≡ Some q → mid ≡ record before { held = remove before.held place } → KeepsServing mid after
+    → (IsFalse (has_failed after) → q.plain.row < end_of after.column.rows) → KeepsServing before after
+taken_out before mid after place q at is keeps judged =
+    record {
+      resolver = keeps.resolver ∙ ap (λ (v : DeskView). v.column.resolver) is;
+      first = keeps.first ∙ ap (λ (v : DeskView). v.column.rows.first) is;
+      failed = λ sound. subst (λ (v : DeskView). IsFalse (has_failed v)) is (keeps.failed sound);
+      served = λ sound row serves. by sound row serves;
+    }
+  where
+    left : IsFalse (has_failed after) → (row : ℕ) (r : RequestView) → r.plain.row ≡ row → (q ≡ r) ⊎ HasRow (remove before.held place) r.plain.row → Serves after row
+    left sound row r of (inl same) = inl (subst (λ n. n < end_of after.column.rows) (ap (λ (s : RequestView). s.plain.row) same ∙ of) (judged sound))
+    left sound row r of (inr has) = keeps.served sound row (subst (λ (v : DeskView). Serves v row) (sym is) (inr (subst (HasRow (remove before.held place)) of has)))
+
+    by : IsFalse (has_failed after) → (row : ℕ) → Serves before row → Serves after row
+    by sound row (inl there) = keeps.served sound row (subst (λ (v : DeskView). Serves v row) (sym is) (inl there))
+    by sound row (inr (k, r, at_r, of)) = left sound row r of (row_left before.held place k q r at at_r)
+
+-- ---- a request more
+
+pub one_more : (before after : DeskView) (q : RequestView) → after ≡ record before { held = before.held ++ q ∷ [] } → KeepsServing before after × HasRow after.held q.plain.row
+one_more before after q is = (
+  record {
+    resolver = ap (λ (v : DeskView). v.column.resolver) is;
+    first = ap (λ (v : DeskView). v.column.rows.first) is;
+    failed = λ sound. subst (λ (v : DeskView). IsFalse (has_failed v)) is sound;
+    served = λ sound row serves. subst (λ (v : DeskView). Serves v row) (sym is) (by row serves);
+  },
+  subst (λ (v : DeskView). HasRow v.held q.plain.row) (sym is) (length before.held, q, at_end before.held q, refl),
+)
+  where
+    at_end : (qs : List RequestView) (r : RequestView) → slice_get (qs ++ r ∷ []) (length qs) ≡ Some r
+    at_end [] r = refl
+    at_end (x ∷ qs) r = at_end qs r
+
+    earlier : (qs : List RequestView) (r s : RequestView) (k : ℕ) → slice_get qs k ≡ Some s → slice_get (qs ++ r ∷ []) k ≡ Some s
+    earlier [] r s k at = absurd (cc)
+    earlier (x ∷ qs) r s zero at = at
+    earlier (x ∷ qs) r s (suc k) at = earlier qs r s k at
+
+    by : (row : ℕ) → Serves before row → Serves (record before { held = before.held ++ q ∷ [] }) row
+    by row (inl there) = inl there
+    by row (inr (k, r, at_r, of)) = inr (k, r, earlier before.held q r k at_r, of)
+
+-- ---- an offer
+
+-- the row of a request that got its reply is judged
+pub row_judged : (config : Config) (before after : LockedResolverView) (request : RequestView) (noted : NotedReplyView) → IsLockedResolver config before → HasOffered before request after noted → request.plain.row < length after.column
+row_judged config before after request noted kept offered = by offered.done
+  where
+    by : HasJudged before request after noted ⊎ HasRepeated before request after noted → request.plain.row < length after.column
+    by (inl judged) =
+        let row = judged.row in
+        let cells = kept.cells in
+        let more : length after.column ≡ length before.column + 1 = ap length judged.column ∙ length-append before.column (noted.reply.verdicts ∷ []) in
+        omega (arith, row, cells, more)
+    by (inr repeated) =
+        let row = repeated.row in
+        let cells = kept.cells in
+        let same : length after.column ≡ length before.column = ap (λ (v : LockedResolverView). length v.column) repeated.unchanged in
+        omega (arith, row, cells, same)
+
+-- its number stays
+pub number_offered : (before after : LockedResolverView) (request : RequestView) (noted : NotedReplyView) → HasOffered before request after noted → after.memory.number ≡ before.memory.number
+number_offered before after request noted offered = by offered.done
+  where
+    by : HasJudged before request after noted ⊎ HasRepeated before request after noted → after.memory.number ≡ before.memory.number
+    by (inl judged) = judged.number
+    by (inr repeated) = ap (λ (v : LockedResolverView). v.memory.number) repeated.unchanged
+
+pub number_refused : (v : LockedResolverView) (refusal : Refusal) → (after_refusal v refusal).memory.number ≡ v.memory.number
+number_refused v (refusals.Early version) = refl
+number_refused v (refusals.GivenUp acknowledged) = refl
+number_refused v refusals.NoSuchProxy = refl
+number_refused v refusals.WrongResolver = refl
+number_refused v (refusals.OutsideChain version) = refl
+number_refused v refusals.NotMine = refl
+number_refused v (refusals.OutOfOrder expected) = refl
+number_refused v (refusals.OutOfTurn expected) = refl
+number_refused v (refusals.NotReached version) = refl
+number_refused v refusals.CellTaken = refl
+number_refused v refusals.Closed = refl
+number_refused v refusals.OutOfMemory = refl
+
+-- ---- an element of a list
+
+pub got : {X : Type 0} (xs : List X) (i : ℕ) (x : X) → i < length xs → x ≡ get_or xs i x → slice_get xs i ≡ Some x
+got [] i x within is = absurd (omega (arith, within))
+got (y ∷ ys) zero x within is = ap Some (sym is)
+got (y ∷ ys) (suc i) x within is = got ys i x (omega (arith, within)) is

@@ -1,0 +1,4 @@
+mod AskLemmas
+mod DeskLemmas
+mod RefusedLemmas
+mod WorkerLemmas

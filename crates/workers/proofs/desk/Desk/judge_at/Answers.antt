@@ -1,0 +1,22 @@
+-- The request that was taken out is of a row that was judged since.
+use Rattle.std.proofs.Common.{◌≡◌, ap, subst, ◌<◌, List, length, arith}
+use Rattle.std.specs.Prelude.{IsFalse}
+use Rattle.std.proofs.lemmas.Option.{slice_get_within}
+use Rattle.facts.specs.Stretches.{end_of}
+use Rattle.shared_cluster.specs.Requests.{RequestView}
+use Rattle.workers.specs.Desks.{DeskView, KeepsServing, has_failed}
+use Rattle.workers.proofs.DeskLemmas.{got, taken_out}
+use Rattle.workers.proofs.desk.Desk.judge_at.Goals as goal
+
+pub returns-clause-keeps : goal.returns-clause-keeps
+returns-clause-keeps g c =
+    let desk : List RequestView → DeskView = λ held. record { column = c.self.inside.column; held = held; closed = c.self.inside.closed; wanted = c.self.inside.wanted } in
+    let q = c.remove.result in
+    let place = c.args.place in
+    let due = c.requires.due in
+    let same = ap (λ (v : DeskView). length v.held) c.self.view_is in
+    let within : place < length c.self.inside.held.items = omega (arith, same, slice_get_within c.args.self.now.held place due.0 due.1) in
+    let judged : IsFalse (has_failed c.offer.new.self) → q.plain.row < end_of c.offer.new.self.column.rows =
+    λ sound. subst (λ (r : RequestView). r.plain.row < end_of c.offer.new.self.column.rows) c.into_parts-request.ensures (c.offer.ensures.served sound) in
+    subst (λ (v : DeskView). KeepsServing v c.offer.new.self) c.self.view_is
+    (taken_out (desk c.self.inside.held.items) (desk c.remove.new.self.items) c.offer.new.self place q (got c.self.inside.held.items place q within c.remove.ensures.value) (ap desk c.remove.ensures.items) c.offer.ensures.keeps judged)

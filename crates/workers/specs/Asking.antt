@@ -1,0 +1,25 @@
+-- What a proxy's inboxes refuse. *Profile*: all of it.
+use Rattle.std.specs.Prelude.{◌≡◌, ◌≢◌, ◌⊎◌, ℕ, List, slice_get, Some}
+use Rattle.model.specs.Numbers.{ProxyNumber}
+use Rattle.model.specs.Configs.{Config}
+use Rattle.shared_cluster.specs.Requests.{RequestView}
+use Rattle.shared_cluster.specs.Commits.{IsAskAllRefusal}
+use Rattle.shared_cluster.specs.declared.refusal.Refusal.{Refusal}
+use Rattle.shared_cluster.specs.declared.refusal.Refusal.TheVariants as refusals
+
+-- each request is of the proxy
+abbrev pub AreOwn : ProxyNumber → List RequestView → Type 0
+AreOwn p requests =
+    (place : ℕ) (q : RequestView) → slice_get requests place ≡ Some q → q.plain.proxy ≡ p
+
+-- one of the requests is of another proxy
+abbrev pub HasOthers : ProxyNumber → List RequestView → Type 0
+HasOthers p requests =
+    (place : ℕ) × (q : RequestView) × (slice_get requests place ≡ Some q) × (q.plain.proxy ≢ p)
+
+-- One of the requests is of another proxy, and is refused as such. Or each is of the proxy, and an
+-- allocation failed, or the resolver that one of them names refused it so.
+abbrev pub IsInboxRefusal : Config → ProxyNumber → List RequestView → Refusal → Type 0
+IsInboxRefusal config p requests refusal =
+    (HasOthers p requests × (refusal ≡ refusals.NotMine))
+    ⊎ (AreOwn p requests × IsAskAllRefusal config requests refusal)

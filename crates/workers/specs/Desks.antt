@@ -1,0 +1,71 @@
+-- What a resolver's worker keeps of the requests that it took. *Profile*: all of it.
+use Rattle.std.specs.Prelude.{◌≡◌, ◌⊎◌, ℕ, ◌<◌, ◌≤◌, List, [], slice_get, Some, Bool, false, ◌||◌, IsFalse}
+use Rattle.facts.specs.Stretches.{end_of}
+use Rattle.model.specs.Numbers.{ResolverNumber, RowNumber}
+use Rattle.agreed_ledger.specs.Cells.{ColumnView}
+use Rattle.shared_cluster.specs.Requests.{RequestView}
+
+-- The verdict cells of the rows that the resolver judged, as far as the worker knows them; the
+-- requests that it holds back; whether it is closed; and whether it was refused memory.
+pub record DeskView : Type 0 where
+  pub column : ColumnView
+  pub held : List RequestView
+  pub closed : Bool
+  pub wanted : Bool
+
+-- before any request
+abbrev pub new_desk : ResolverNumber → DeskView
+new_desk r =
+    record {
+      column = record { resolver = r; rows = record { first = 0; known = [] } };
+      held = [];
+      closed = false;
+      wanted = false;
+    }
+
+-- the worker is closed, or was refused memory
+abbrev pub has_failed : DeskView → Bool
+has_failed v = v.closed || v.wanted
+
+-- one of the requests is of the row
+abbrev pub HasRow : List RequestView → RowNumber → Type 0
+HasRow requests row =
+    (place : ℕ) × (q : RequestView) × (slice_get requests place ≡ Some q) × (q.plain.row ≡ row)
+
+-- the row was judged, or a request of the row is held back
+abbrev pub Serves : DeskView → RowNumber → Type 0
+Serves v row = (row < end_of v.column.rows) ⊎ HasRow v.held row
+
+-- Whatever row was served is served afterwards, unless the worker has failed. The column stays that
+-- of its resolver, from its first row.
+pub record KeepsServing (before after : DeskView) : Type 0 where
+  pub resolver : after.column.resolver ≡ before.column.resolver
+  pub first : after.column.rows.first ≡ before.column.rows.first
+  pub failed : IsFalse (has_failed after) → IsFalse (has_failed before)
+  pub served :
+      IsFalse (has_failed after) → (row : RowNumber) → Serves before row → Serves after row
+
+-- no request is held back whose turn has come, unless the worker has failed
+abbrev pub IsSettled : DeskView → Type 0
+IsSettled v =
+    IsFalse (has_failed v)
+    → (place : ℕ) (q : RequestView) → slice_get v.held place ≡ Some q
+    → end_of v.column.rows < q.plain.row
+
+-- the turn of the request at this place has come
+abbrev pub IsDueAt : DeskView → (place : ℕ) → Type 0
+IsDueAt v place =
+    (q : RequestView) × (slice_get v.held place ≡ Some q) × (q.plain.row ≤ end_of v.column.rows)
+
+-- nothing changes, but that the worker may have failed
+pub record OnlyFails (before after : DeskView) : Type 0 where
+  pub column : after.column ≡ before.column
+  pub held : after.held ≡ before.held
+  pub failed : IsFalse (has_failed after) → IsFalse (has_failed before)
+
+-- nothing is held back any more; otherwise nothing changes, but that the worker may have failed
+pub record HasLetGo (before after : DeskView) : Type 0 where
+  pub column : after.column ≡ before.column
+  pub held : after.held ≡ []
+  pub closed : after.closed ≡ before.closed
+  pub failed : IsFalse (has_failed after) → IsFalse (has_failed before)

@@ -1,0 +1,10 @@
+-- The definitions, in reading order.
+
+-- what a resolver refuses of the requests that its worker offers
+pub mod Refusing
+-- what a worker keeps of the requests that it took
+pub mod Desks
+-- what a worker serves of the messages that it took
+pub mod Workers
+-- what a proxy's inboxes refuse
+pub mod Asking

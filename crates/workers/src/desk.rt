@@ -1,0 +1,318 @@
+//! The requests that a worker took, and how it serves them.
+
+ghost use Rattle.std.specs.Prelude.{◌≡◌, ◌≢◌, ◌<◌, ◌≤◌, ℕ, length, slice_get, Some, IsFalse, MatchOption};
+ghost use Rattle.std.specs.Prelude.{[], true};
+ghost use Rattle.facts.specs.Stretches.{end_of};
+ghost use Rattle.workers.specs.Desks.{HasLetGo, HasRow, IsDueAt, IsSettled, KeepsServing};
+ghost use Rattle.workers.specs.Desks.{OnlyFails, Serves, has_failed, new_desk};
+
+use crate::gate::{Gate, Place};
+use crate::refusing::{refused_as_closed, refused_by_offer};
+use agreed_ledger::{Column, Naming};
+use crossbeam_channel::{SendError, Sender};
+use inboxes::{Answer, RefusedRequest};
+use model::{ResolverNumber, RowNumber};
+use shared_cluster::{Refusal, Request, ResolverGuard, SharedResolver};
+use std::alloc::Global;
+use std::marker::Model;
+use std::sync::Wait;
+
+/// A request, and where its answer goes.
+#[derive(Drop)]
+pub(crate) struct Held<N: Naming> {
+    request: Request<N>,
+    reply: Sender<Answer<N>>,
+}
+
+impl<N: Naming> Model for Held<N> {
+    ghost use Rattle.shared_cluster.specs.Requests.{RequestView};
+
+    ghost Value = { RequestView };
+
+    ghost view = { λ h. h.request };
+}
+
+impl<N: Naming> Held<N> {
+    /// The request, whose answer goes there.
+    pub(crate) fn new(request: Request<N>, reply: Sender<Answer<N>>) -> Held<N>
+        ensures { result ≡ request }
+    {
+        Held { request, reply }
+    }
+
+    /// The row of the request.
+    fn row(&self) -> RowNumber
+        ensures { result ≡ self.now.plain.row }
+    {
+        self.request.row()
+    }
+
+    /// The request, and where its answer goes.
+    fn into_parts(self) -> (Request<N>, Sender<Answer<N>>)
+        ensures { result.0 ≡ self }
+    {
+        let Held { request, reply } = self;
+        (request, reply)
+    }
+}
+
+/// What a worker keeps of the requests that it took: the verdict cells of the rows that its resolver
+/// judged, the requests that it holds back until their turn, whether it is closed, and whether it was
+/// refused memory.
+#[derive(Drop)]
+pub(crate) struct Desk<N: Naming> {
+    column: Column<N>,
+    held: Vec<Held<N>>,
+    closed: bool,
+    wanted: bool,
+}
+
+impl<N: Naming> Model for Desk<N> {
+    ghost use Rattle.workers.specs.Desks.{DeskView};
+
+    ghost Value = { DeskView };
+
+    ghost view = { λ d. record {
+      column = d.column;
+      held = d.held.items;
+      closed = d.closed;
+      wanted = d.wanted;
+    } };
+}
+
+impl<N: Naming> Desk<N> {
+    /// Before any request. Allocates nothing.
+    pub(crate) fn new(alloc: Global, resolver: ResolverNumber) -> Desk<N>
+        ensures { result ≡ new_desk resolver }
+    {
+        Desk {
+            column: Column::new(alloc, resolver),
+            held: Vec::new(alloc),
+            closed: false,
+            wanted: false,
+        }
+    }
+
+    /// Serves a request: holds it back, and offers each request whose turn has come.
+    ///
+    /// A request to another resolver is not served: whoever asked sees that no answer will come.
+    pub(crate) fn take<R: Wait, G: Gate>(
+        &mut self,
+        rt: &R,
+        shared: &SharedResolver<'_, N>,
+        gate: &G,
+        held: Held<N>,
+    )
+        requires own { self.old.column.resolver ≡ shared.now }
+        requires settled { IsSettled self.old }
+        ensures keeps { KeepsServing self.old self.new }
+        ensures settled { IsSettled self.new }
+        ensures served { held.plain.resolver ≡ self.old.column.resolver → IsFalse (has_failed self.new)
+            → Serves self.new held.plain.row }
+        ensures other { held.plain.resolver ≢ self.old.column.resolver → self.new ≡ self.old }
+    {
+        if held.request.resolver() != self.column.resolver() {
+            return;
+        }
+        if self.closed {
+            self.refuse(rt, &shared.lock(rt), held);
+            return;
+        }
+        self.hold(rt, held);
+        self.settle(rt, shared, gate);
+    }
+
+    /// Closes the resolver, and answers all requests that are held back, and those that come later,
+    /// that it is closed.
+    pub(crate) fn close<R: Wait>(&mut self, rt: &R, shared: &SharedResolver<'_, N>)
+        ensures column { self.new.column ≡ self.old.column }
+        ensures closed { self.new.closed ≡ true }
+    {
+        let mut guard = shared.lock(rt);
+        guard.close();
+        self.closed = true;
+        self.let_go(rt, &guard);
+    }
+
+    /// Answers all requests that are held back that the resolver is closed.
+    pub(crate) fn let_go<R: Wait>(&mut self, rt: &R, guard: &ResolverGuard<'_, N>)
+        ensures { HasLetGo self.old self.new }
+    {
+        while let Some(held) = self.held.pop() {
+            self.refuse(rt, guard, held);
+        }
+    }
+
+    /// The column, whether it is closed, and whether it was refused memory.
+    pub(crate) fn into_parts(self) -> (Column<N>, bool, bool)
+        ensures column { result.0 ≡ self.column }
+        ensures closed { result.1 ≡ self.closed }
+        ensures wanted { result.2 ≡ self.wanted }
+    {
+        let Desk {
+            column,
+            held: _,
+            closed,
+            wanted,
+        } = self;
+        (column, closed, wanted)
+    }
+
+    /// Sends the answer. If whoever asked has gone, the answer is dropped.
+    fn tell<R: Wait>(&mut self, rt: &R, reply: &Sender<Answer<N>>, answer: Answer<N>)
+        ensures fails { OnlyFails self.old self.new }
+        ensures closed { self.new.closed ≡ self.old.closed }
+    {
+        if let Err(SendError::OutOfMemory(_answer)) = reply.send(rt, answer) {
+            self.wanted = true;
+        }
+    }
+
+    /// Answers that the resolver is closed.
+    fn refuse<R: Wait>(&mut self, rt: &R, guard: &ResolverGuard<'_, N>, held: Held<N>)
+        ensures fails { OnlyFails self.old self.new }
+        ensures closed { self.new.closed ≡ self.old.closed }
+    {
+        let (request, reply) = held.into_parts();
+        self.tell(
+            rt,
+            &reply,
+            Answer::Refused(refused_as_closed(guard, request)),
+        );
+    }
+
+    /// Holds the request back. Where there is no memory to hold it, answers so.
+    fn hold<R: Wait>(&mut self, rt: &R, held: Held<N>)
+        ensures keeps { KeepsServing self.old self.new }
+        ensures held { IsFalse (has_failed self.new) → HasRow self.new.held held.plain.row }
+    {
+        let Err(failed) = self.held.push(held) else {
+            return;
+        };
+        self.wanted = true;
+        let (request, reply) = failed.value.into_parts();
+        self.tell(
+            rt,
+            &reply,
+            Answer::Refused(RefusedRequest::out_of_memory(request)),
+        );
+    }
+
+    /// Offers each request whose turn has come, until there is none.
+    fn settle<R: Wait, G: Gate>(&mut self, rt: &R, shared: &SharedResolver<'_, N>, gate: &G)
+        requires { self.old.column.resolver ≡ shared.now }
+        ensures keeps { KeepsServing self.old self.new }
+        ensures settled { IsSettled self.new }
+    {
+        let mut guard = shared.lock(rt);
+        self.catch_up(guard.column());
+        while let Some(place) = self.due() {
+            self.judge_at(rt, &mut guard, gate, place);
+        }
+        self.let_go_if_closed(rt, &guard);
+    }
+
+    /// The place of the first request whose turn has come: whose row is not after the next one.
+    fn due(&self) -> Option<usize>
+        ensures { MatchOption result (IsSettled self.now) (IsDueAt self.now) }
+    {
+        let next = self.column.end();
+        for (place, held) in self.held.iter().enumerate() {
+            if held.row() <= next {
+                return Some(place);
+            }
+        }
+        None
+    }
+
+    /// Offers the request at this place to the resolver, and answers it.
+    fn judge_at<R: Wait, G: Gate>(
+        &mut self,
+        rt: &R,
+        guard: &mut ResolverGuard<'_, N>,
+        gate: &G,
+        place: usize,
+    )
+        requires due { IsDueAt self.old place }
+        requires own { self.old.column.resolver ≡ guard.old.memory.number }
+        ensures keeps { KeepsServing self.old self.new }
+        ensures fewer { length self.new.held < length self.old.held }
+        ensures own { guard.new.memory.number ≡ guard.old.memory.number }
+    {
+        let (request, reply) = self.held.remove(place).into_parts();
+        gate.enter(Place {
+            resolver: guard.number(),
+            row: request.row(),
+        });
+        self.offer(rt, guard, request, &reply);
+    }
+
+    /// Offers the request to the resolver, and answers it.
+    fn offer<R: Wait>(
+        &mut self,
+        rt: &R,
+        guard: &mut ResolverGuard<'_, N>,
+        request: Request<N>,
+        reply: &Sender<Answer<N>>,
+    )
+        requires { self.old.column.resolver ≡ guard.old.memory.number }
+        ensures keeps { KeepsServing self.old self.new }
+        ensures held { self.new.held ≡ self.old.held }
+        ensures served { IsFalse (has_failed self.new)
+            → request.plain.row < end_of self.new.column.rows }
+        ensures own { guard.new.memory.number ≡ guard.old.memory.number }
+    {
+        // (its contract says what the type keeps)
+        let _number = guard.number();
+        match guard.offer(request) {
+            Ok(noted) => {
+                self.catch_up(guard.column());
+                self.tell(rt, reply, Answer::Replied(noted));
+            }
+            Err(refused) => {
+                self.catch_up(guard.column());
+                self.fail(refused.refusal, refused.request.row());
+                self.tell(rt, reply, Answer::Refused(refused_by_offer(guard, refused)));
+            }
+        }
+    }
+
+    /// Appends what the resolver's column has from this one's end on.
+    fn catch_up(&mut self, other: &Column<N>)
+        requires own { self.old.column.resolver ≡ other.now.resolver }
+        requires first { other.now.rows.first ≡ 0 }
+        ensures keeps { KeepsServing self.old self.new }
+        ensures held { self.new.held ≡ self.old.held }
+        ensures reached { IsFalse (has_failed self.new)
+            → end_of other.now.rows ≤ end_of self.new.column.rows }
+    {
+        let Err(_out_of_memory) = self.column.extend_from(other) else {
+            return;
+        };
+        self.wanted = true;
+    }
+
+    /// Notes that the offer of a request of this row was refused. A refusal other than these does not
+    /// come; the worker would then be closed.
+    fn fail(&mut self, refusal: Refusal, row: RowNumber)
+        ensures fails { OnlyFails self.old self.new }
+        ensures served { IsFalse (has_failed self.new) → row < end_of self.new.column.rows }
+    {
+        match refusal {
+            Refusal::OutOfMemory => self.wanted = true,
+            Refusal::GivenUp { .. } if row < self.column.end() => {}
+            _ => self.closed = true,
+        }
+    }
+
+    /// If the worker is closed, answers so to all requests that are held back.
+    fn let_go_if_closed<R: Wait>(&mut self, rt: &R, guard: &ResolverGuard<'_, N>)
+        ensures keeps { KeepsServing self.old self.new }
+        ensures settled { IsSettled self.old → IsSettled self.new }
+    {
+        if !self.closed {
+            return;
+        }
+        self.let_go(rt, guard);
+    }
+}

@@ -1,0 +1,27 @@
+//! What a worker calls before its resolver judges.
+
+use model::{ResolverNumber, RowNumber};
+
+/// A resolver and a row.
+#[derive(Clone, Copy, Debug, PartialEq, Eq)]
+pub struct Place {
+    /// The number of the resolver.
+    pub resolver: ResolverNumber,
+    /// The row.
+    pub row: RowNumber,
+}
+
+/// What a worker enters before it offers a request to its resolver.
+pub trait Gate {
+    /// Called once for each request whose turn it is, under the resolver's lock, before the request
+    /// is judged. It must not wait for that lock.
+    fn enter(&self, place: Place);
+}
+
+/// A gate that does nothing.
+#[derive(Clone, Copy, Debug)]
+pub struct Open;
+
+impl Gate for Open {
+    fn enter(&self, _place: Place) {}
+}

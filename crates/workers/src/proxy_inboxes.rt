@@ -1,0 +1,179 @@
+//! How a proxy asks the workers of all resolvers.
+
+ghost use Rattle.std.specs.Prelude.{◌≡◌, ◌<◌, ◌≤◌, [], length, IfErr, IfOk};
+ghost use Rattle.model.specs.Configs.{IsConfig};
+ghost use Rattle.model.specs.Numbers.{ProxyNumber};
+ghost use Rattle.inboxes.specs.Ends.{AreSenders};
+ghost use Rattle.shared_cluster.specs.Commits.{AreOfOneRecord, AreRepliesInOrder, IsAskAllRefusal};
+ghost use Rattle.workers.specs.Asking.{AreOwn, IsInboxRefusal};
+
+use crate::waiting::{Prepared, collect, prepare, refuse_others};
+use agreed_ledger::{Ledger, Naming};
+use crossbeam_channel::Sender;
+use inboxes::{Answer, Channels, EndedSender, Message, ProxySenders};
+use model::ProxyNumber;
+use shared_cluster::{Asking, NotedReply, Refusal, Request};
+use std::alloc::Global;
+use std::marker::Model;
+use std::sync::{Mutex, Wait};
+
+/// A proxy's sending ends of all inboxes, under a lock. The proxy asks through them, and closes the
+/// resolvers. Contracts see it as the number of the proxy.
+#[derive(Drop)]
+pub struct ProxyInboxes<N: Naming, M: Channels> {
+    proxy: ProxyNumber,
+    lock: Mutex<ProxySenders<N, M>>,
+}
+
+impl<N: Naming, M: Channels> Model for ProxyInboxes<N, M> {
+    ghost use Rattle.model.specs.Configs.{IsConfig};
+    ghost use Rattle.model.specs.Numbers.{ProxyNumber};
+
+    ghost Value = { ProxyNumber };
+
+    ghost view = { λ p. p.proxy };
+
+    ghost invariant = { λ p. IsConfig N.cells.config };
+}
+
+impl<N: Naming, M: Channels> ProxyInboxes<N, M> {
+    /// The proxy that has these sending ends, in the cluster that the ledger is of.
+    pub fn new(ledger: &Ledger<N>, senders: ProxySenders<N, M>) -> ProxyInboxes<N, M>
+        ensures { result ≡ senders.proxy }
+    {
+        // (its contract says that the numbers of the cluster are within their limits)
+        let _config = ledger.config();
+        ProxyInboxes {
+            proxy: senders.proxy(),
+            lock: Mutex::new(senders),
+        }
+    }
+
+    /// The number of the proxy.
+    pub fn proxy(&self) -> ProxyNumber
+        ensures { result ≡ self.now }
+    {
+        self.proxy
+    }
+
+    /// Asks each resolver its request, and returns the replies in the order of the requests. All
+    /// requests are sent before any answer is awaited, and nothing is allocated once one is sent. No
+    /// call is promised to stop waiting.
+    ///
+    /// Fails with `NotMine` before anything is sent if one of the requests is of another proxy.
+    /// Otherwise fails as the resolver that one of the requests names does, or with `OutOfMemory`.
+    /// Then some resolvers may have been asked: asked again, they give the same replies.
+    pub fn ask<R: Wait>(
+        &self,
+        rt: &R,
+        alloc: Global,
+        requests: &[Request<N>],
+    ) -> Result<Vec<NotedReply<N>>, Refusal>
+        ensures own { IfOk result (λ replies. AreOwn self.now requests.now) }
+        ensures replied { IfOk result (λ replies. AreRepliesInOrder requests.now replies.items) }
+        ensures refused { IfErr result (IsInboxRefusal N.cells.config self.now requests.now) }
+    {
+        if let Err(refusal) = refuse_others(self.proxy, requests) {
+            return Err(refusal);
+        }
+        self.ask_own(rt, alloc, requests)
+    }
+
+    /// Sends the last message of the proxy to each resolver's inbox. Returns the sending ends, in the
+    /// order of the resolvers. Allocates nothing.
+    pub fn end<R: Wait>(self, rt: &R) -> Vec<EndedSender<N, M>>
+        ensures { (p : ProxyNumber) × AreSenders p N.cells.config.resolvers result.items }
+    {
+        let mut senders = self.lock.into_inner();
+        send_ends(rt, &mut senders);
+        senders.into_ends()
+    }
+
+    /// Tells the worker of each resolver to close it.
+    pub fn close<R: Wait>(&self, rt: &R) {
+        send_closes(rt, &mut self.lock.lock(rt));
+    }
+
+    /// Asks each resolver its request.
+    fn ask_own<R: Wait>(
+        &self,
+        rt: &R,
+        alloc: Global,
+        requests: &[Request<N>],
+    ) -> Result<Vec<NotedReply<N>>, Refusal>
+        ensures replied { IfOk result (λ replies. AreRepliesInOrder requests.now replies.items) }
+        ensures refused { IfErr result (IsAskAllRefusal N.cells.config requests.now) }
+    {
+        // (reading it tells what the type keeps)
+        let _proxy = self.proxy;
+        let Ok(prepared) = prepare(alloc, requests) else {
+            return Err(Refusal::OutOfMemory);
+        };
+        let Prepared {
+            messages,
+            waiting,
+            replies,
+        } = prepared;
+        self.send_all(rt, messages);
+        collect(rt, requests, &waiting, replies)
+    }
+
+    /// Sends the requests. One whose worker has gone is dropped, and nobody answers it.
+    fn send_all<R: Wait>(&self, rt: &R, messages: Vec<(Request<N>, Sender<Answer<N>>)>) {
+        let mut senders = self.lock.lock(rt);
+        for (request, answers) in messages {
+            send_request(rt, &mut senders, request, answers);
+        }
+    }
+}
+
+impl<N: Naming, M: Channels> Asking<N> for ProxyInboxes<N, M> {
+    // (no refusal of all ways to ask says that a request is another proxy's: here it counts as refused
+    // by a closed resolver, before anything is sent)
+    fn ask_all<R: Wait>(
+        &self,
+        rt: &R,
+        alloc: Global,
+        requests: &[Request<N>],
+    ) -> Result<Vec<NotedReply<N>>, Refusal> {
+        if let Err(_not_mine) = refuse_others(self.proxy, requests) {
+            return Err(Refusal::Closed);
+        }
+        self.ask_own(rt, alloc, requests)
+    }
+}
+
+/// Sends a request to the inbox of its resolver.
+fn send_request<N: Naming, M: Channels, R: Wait>(
+    rt: &R,
+    senders: &mut ProxySenders<N, M>,
+    request: Request<N>,
+    answers: Sender<Answer<N>>,
+)
+    ensures { senders.new ≡ senders.old }
+{
+    // (their contracts say that there is an end to the resolver)
+    let _plain = request.plain();
+    let _ends = senders.ends();
+    let resolver = request.resolver();
+    let message = Message::request(senders.proxy(), request, answers);
+    let _sent = senders.send(rt, resolver, message);
+}
+
+/// Sends the last message of the proxy to each inbox.
+fn send_ends<N: Naming, M: Channels, R: Wait>(rt: &R, senders: &mut ProxySenders<N, M>)
+    ensures { senders.new ≡ senders.old }
+{
+    for resolver in 0..senders.ends() {
+        let message = Message::end(senders.proxy());
+        let _sent = senders.send(rt, resolver, message);
+    }
+}
+
+/// Tells each worker to close its resolver.
+fn send_closes<N: Naming, M: Channels, R: Wait>(rt: &R, senders: &mut ProxySenders<N, M>) {
+    for resolver in 0..senders.ends() {
+        let message = Message::close(senders.proxy());
+        let _sent = senders.send(rt, resolver, message);
+    }
+}

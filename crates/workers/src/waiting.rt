@@ -1,0 +1,162 @@
+//! Waiting for the answers to requests.
+
+ghost use Rattle.std.specs.Prelude.{◌≡◌, ◌≤◌, [], length, IfErr, IfOk, IfSome, IsTrue, MatchResult};
+ghost use Rattle.std.specs.Prelude.{vec_capacity};
+ghost use Rattle.model.specs.Configs.{IsConfig};
+ghost use Rattle.shared_cluster.specs.Commits.{AreRepliesInOrder, IsAskAllRefusal, IsAskRefusal};
+ghost use Rattle.shared_cluster.specs.NotedReplies.{IsReplyToRequest};
+ghost use Rattle.workers.specs.Asking.{AreOwn, HasOthers};
+ghost use Rattle.shared_cluster.specs.declared.refusal.Refusal.TheVariants as refusals;
+
+use agreed_ledger::Naming;
+use crossbeam_channel::{Receiver, Sender, bounded};
+use inboxes::{Answer, RefusedRequest};
+use model::ProxyNumber;
+use shared_cluster::{NotedReply, Refusal, Request};
+use std::alloc::Global;
+use std::sync::Wait;
+use system_keys::OutOfMemory;
+
+/// Fails with `NotMine` if one of the requests is of another proxy.
+pub(crate) fn refuse_others<N: Naming>(
+    proxy: ProxyNumber,
+    requests: &[Request<N>],
+) -> Result<(), Refusal>
+    ensures own { MatchResult result (λ _. AreOwn proxy requests.now)
+        (λ refusal. HasOthers proxy requests.now × (refusal ≡ refusals.NotMine)) }
+    ensures closed { IsConfig N.cells.config → IfErr result (λ refusal.
+        IsAskAllRefusal N.cells.config requests.now refusals.Closed) }
+{
+    for request in requests {
+        if request.proxy() != proxy {
+            // (its contract says that the cluster has the resolver)
+            let _plain = request.plain();
+            return Err(Refusal::NotMine);
+        }
+    }
+    Ok(())
+}
+
+/// Requests with the ends that their answers go to, the ends that these come from, and room for the
+/// replies.
+#[derive(Drop)]
+pub(crate) struct Prepared<N: Naming> {
+    pub(crate) messages: Vec<(Request<N>, Sender<Answer<N>>)>,
+    pub(crate) waiting: Vec<Receiver<Answer<N>>>,
+    pub(crate) replies: Vec<NotedReply<N>>,
+}
+
+/// Makes all that asking needs: a copy of each request, a channel for its answer, and room for the
+/// replies. Fails only with `OutOfMemory`.
+pub(crate) fn prepare<N: Naming>(
+    alloc: Global,
+    requests: &[Request<N>],
+) -> Result<Prepared<N>, OutOfMemory>
+    ensures count { IfOk result (λ made. length made.waiting.items ≡ length requests.now) }
+    ensures room { IfOk result (λ made. length requests.now ≤ vec_capacity made.replies) }
+    ensures none { IfOk result (λ made. made.replies.items ≡ []) }
+{
+    let replies = Vec::with_capacity(alloc, requests.len())?;
+    let mut messages = Vec::with_capacity(alloc, requests.len())?;
+    let mut waiting = Vec::with_capacity(alloc, requests.len())?;
+    for request in requests {
+        let (answers, answered) = bounded(alloc, 1)?;
+        messages.push((request.copy()?, answers))?;
+        waiting.push(answered)?;
+    }
+    Ok(Prepared {
+        messages,
+        waiting,
+        replies,
+    })
+}
+
+/// Waits for the answer to each request, and returns the replies in the order of the requests, or the
+/// first refusal. `replies` is the room for the replies.
+pub(crate) fn collect<N: Naming, R: Wait>(
+    rt: &R,
+    requests: &[Request<N>],
+    waiting: &Vec<Receiver<Answer<N>>>,
+    replies: Vec<NotedReply<N>>,
+) -> Result<Vec<NotedReply<N>>, Refusal>
+    requires limits { IsConfig N.cells.config }
+    requires count { length waiting.now.items ≡ length requests.now }
+    requires room { length requests.now ≤ vec_capacity replies }
+    requires none { replies.items ≡ [] }
+    ensures replied { IfOk result (λ replies. AreRepliesInOrder requests.now replies.items) }
+    ensures refused { IfErr result (IsAskAllRefusal N.cells.config requests.now) }
+{
+    let mut replies = replies;
+    for place in 0..requests.len() {
+        replies.push_reserved(await_reply(rt, &waiting[place], &requests[place])?);
+    }
+    Ok(replies)
+}
+
+/// Waits for the answer to a request. If none can come any more, since the worker that had the
+/// request has ended, fails with `Closed`.
+fn await_reply<N: Naming, R: Wait>(
+    rt: &R,
+    answers: &Receiver<Answer<N>>,
+    request: &Request<N>,
+) -> Result<NotedReply<N>, Refusal>
+    requires limits { IsConfig N.cells.config }
+    ensures replied { IfOk result (λ noted. IsReplyToRequest request.now.plain noted.reply) }
+    ensures refused { IfErr result (IsAskRefusal N.cells.config request.now) }
+{
+    // (its contract says that the cluster has the resolver)
+    let _plain = request.plain();
+    for _ in rt.forever() {
+        match answers.recv(rt) {
+            Ok(Answer::Replied(noted)) => {
+                if is_reply_to(&noted, request) {
+                    return Ok(noted);
+                }
+            }
+            Ok(Answer::Refused(refused)) => {
+                if let Some(refusal) = refusal_of(&refused, request) {
+                    return Err(refusal);
+                }
+            }
+            Err(_ended) => return Err(Refusal::Closed),
+        }
+    }
+    unreachable!()
+}
+
+/// Whether the reply is to this request.
+fn is_reply_to<N: Naming>(noted: &NotedReply<N>, request: &Request<N>) -> bool
+    ensures { IsTrue result → IsReplyToRequest request.now.plain noted.now.reply }
+{
+    let reply = noted.value();
+    reply.resolver == request.resolver()
+        && reply.proxy == request.proxy()
+        && reply.row == request.row()
+        && reply.version == request.version()
+}
+
+/// Why the request was refused, if it is the one that was.
+fn refusal_of<N: Naming>(refused: &RefusedRequest<N>, request: &Request<N>) -> Option<Refusal>
+    ensures { IfSome result (IsAskRefusal N.cells.config request.now) }
+{
+    if is_same(refused.request(), request) {
+        Some(refused.refusal())
+    } else {
+        None
+    }
+}
+
+/// Whether the two requests are the same, but for their records, which agree.
+fn is_same<N: Naming>(one: &Request<N>, other: &Request<N>) -> bool
+    ensures { IsTrue result → one.now.plain ≡ other.now.plain }
+{
+    one.records().agree(other.records());
+    let (one, other) = (one.plain(), other.plain());
+    if one.resolver() != other.resolver() {
+        return false;
+    }
+    if one.row() != other.row() {
+        return false;
+    }
+    one.last_received() == other.last_received()
+}
