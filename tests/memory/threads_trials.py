@@ -66,7 +66,7 @@ def refuse_shaken(trial, example):
 
 
 def refuse_threads(trial):
-    """The start of each thread in turn, while those before it run or have ended: want of memory, and all threads end."""
+    """The start of each thread in turn, a resolver's or a proxy's, while those before it run or have ended: all threads end."""
     def is_want_of_memory(_, ended):
         return (ended.returncode, ended.stdout) == (OUT_OF_MEMORY, b"")
 
@@ -74,7 +74,8 @@ def refuse_threads(trial):
         tried = example("%d proxies" % proxies, *[[[transaction(0, [], [one_key("a")])]] * 5] * proxies)
         for more in ({}, {"REFUSE_ON": 1}, {"SHAKE": 1}):
             count = refuse_each(trial, tried, "REFUSE_THREAD", is_want_of_memory, **more)
-            trial.expect(count == proxies, "%d proxies: %d threads are started" % (proxies, count))
+            # (one for each proxy, and one for each of two resolvers)
+            trial.expect(count == proxies + 2, "%d proxies: %d threads are started" % (proxies, count))
 
 
 def shake_random(trial):

@@ -1,11 +1,4 @@
-pub mod FlagLaws
-pub mod KeyStarts
-pub mod PutStarts
-pub mod SomeStarts
-pub mod LaterOwnerLaws
-pub mod JoinedStarts
-pub mod AddedOwners
+pub mod Askers
 pub mod MadeMaps
-pub mod CountedPieces
-pub mod WalkedOwners
-pub mod AskedStarts
+pub mod FlagLaws
+pub mod WalkedMoves

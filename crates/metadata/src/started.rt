@@ -4,7 +4,6 @@ ghost use Rattle.std.specs.Prelude.{◌≡◌};
 
 use crate::entry_map::Undo;
 use crate::key_set::KeySet;
-use crate::tag_map::TagRow;
 use std::marker::Model;
 
 /// Rows of a journal that were started: the metadata has what they put, and still what they remove.
@@ -13,15 +12,8 @@ use std::marker::Model;
 #[derive(Drop)]
 pub struct StartedRows {
     pub(crate) removed: KeySet,
-    pub(crate) put: Put,
-    pub(crate) locked: bool,
-}
-
-/// What takes back what was put: the entries, and the tags.
-#[derive(Drop)]
-pub(crate) struct Put {
     pub(crate) undo: Undo,
-    pub(crate) tags: Vec<TagRow>,
+    pub(crate) locked: bool,
 }
 
 impl Model for StartedRows {
@@ -31,9 +23,8 @@ impl Model for StartedRows {
 
     ghost view = { λ s. record {
       removed = s.removed;
-      missing = s.put.undo.0;
-      displaced = s.put.undo.1;
-      tags = s.put.tags.items;
+      missing = s.undo.0;
+      displaced = s.undo.1;
       locked = s.locked;
     } };
 }

@@ -153,18 +153,6 @@ fn what_is_forgotten_does_not_come_back(rt: HostRuntime) -> Result<(), Fail> {
     Ok(())
 }
 
-#[test]
-fn pieces_are_the_greatest_ranges_with_one_list_of_owners(rt: HostRuntime) -> Result<(), Fail> {
-    let mut map = moved_twice(rt.alloc())?;
-    assert!(rt; map.pieces() == 5);
-    moved(&mut map, rt.alloc(), (b"", b"\xff\xff"), 61, 0)?;
-    assert!(rt; map.pieces() == 5);
-    map.forget(70);
-    assert!(rt; map.pieces() == 1);
-    assert!(rt; asks_resolver_0(&map, rt.alloc())?);
-    Ok(())
-}
-
 /// What a move of `[a, b)` gets, and who is asked for writes of it then.
 fn move_gets(
     map: &mut OwnerMap,
@@ -368,25 +356,6 @@ fn is_written_as_listed(
     Ok(are_noted(writes.as_slice(), asked))
 }
 
-/// How many greatest ranges have one list of owners: the letters, and the keys before and after them,
-/// which have the first owner alone.
-fn pieces_listed(letters: &[Owners]) -> usize {
-    let first: &[(u64, usize)] = &[(0, 0)];
-    let mut pieces = 1usize;
-    let mut last = first;
-    for owners in letters {
-        if owners.as_slice() != last {
-            pieces = pieces.saturating_add(1);
-        }
-        last = owners.as_slice();
-    }
-    if last == first {
-        pieces
-    } else {
-        pieces.saturating_add(1)
-    }
-}
-
 /// Whether reads and writes of the letters between the two ask whom their owners say.
 fn is_as_listed(
     map: &OwnerMap,
@@ -452,10 +421,7 @@ fn agree(
         dates = change(random, map, alloc, letters, dates)?;
         trim_all(letters, dates.1);
         let snapshot = random.below(dates.0.saturating_add(8));
-        let ends = letters_at_random(random);
-        if map.pieces() != pieces_listed(letters)
-            || !is_as_listed(map, alloc, letters, ends, snapshot)?
-        {
+        if !is_as_listed(map, alloc, letters, letters_at_random(random), snapshot)? {
             return Ok(false);
         }
     }

@@ -1,12 +1,11 @@
 //! Tests of request_builder, by hand and against owners that are kept key by key.
 
 mod random_batches;
-mod shared_moves;
 
 use dated_owners::OwnerMap;
 use mutation::Batch;
 use request_builder::{
-    Move, Moves, Part, Record, Request, RequestHeader, Requests, Share, StateMark, build,
+    Move, Part, Record, Request, RequestHeader, Requests, Share, StateMark, build,
 };
 use std::alloc::{AllocError, Global};
 use std::test::Fail;
@@ -28,12 +27,11 @@ const AT_ZERO_STAMPED: &[u8] = b"\x00\x00\x00\x00\x00\x00\x00\x28\x00\x01z";
 
 // ---- what the tests are made of
 
-/// A map of resolvers, its moves one by one, and the version back to which it is asked.
+/// A map of resolvers, and its moves one by one.
 #[derive(Drop)]
 pub(crate) struct Moved {
     pub(crate) owners: OwnerMap,
-    pub(crate) oldest: u64,
-    moves: Moves,
+    moves: Vec<Move>,
 }
 
 /// The owners before any move. Each test has 2 or 3 resolvers.
@@ -42,11 +40,9 @@ fn first_owners(alloc: Global, resolvers: usize) -> Result<OwnerMap, OutOfMemory
 }
 
 pub(crate) fn unmoved(alloc: Global, resolvers: usize) -> Result<Moved, Fail> {
-    Ok(Moved {
-        owners: first_owners(alloc, resolvers)?,
-        oldest: 0,
-        moves: Moves::new(alloc),
-    })
+    let owners = first_owners(alloc, resolvers)?;
+    let moves = room(alloc, MOVES)?;
+    Ok(Moved { owners, moves })
 }
 
 impl Moved {
@@ -75,8 +71,7 @@ fn moved_twice(alloc: Global) -> Result<Moved, Fail> {
 }
 
 pub(crate) fn built(alloc: Global, moved: &Moved, record: &Record) -> Result<Requests, Fail> {
-    let (owners, oldest) = (&moved.owners, moved.oldest);
-    Ok(twice!(build(alloc, record, owners, oldest, 10), OutOfMemory)?)
+    Ok(twice!(build(alloc, record, &moved.owners, 10), OutOfMemory)?)
 }
 
 /// The requests for the record of the batch.
@@ -101,7 +96,7 @@ fn are_asked(requests: &Requests, lists: &[&[usize]]) -> bool {
     asked.len() == lists.len()
 }
 
-pub(crate) fn is_range(range: &KeyRange, ends: &Ends<'_>) -> bool {
+fn is_range(range: &KeyRange, ends: &Ends<'_>) -> bool {
     range.begin() == ends.0 && range.end() == ends.1
 }
 
@@ -228,8 +223,14 @@ fn ranges_are_whole(rt: HostRuntime) -> Result<(), Fail> {
 /// Whom the four transactions ask where the first owner of `[m, t)` is forgotten.
 const ASKED_WITHOUT: &[&[usize]] = &[&[1, 2], &[1, 2], &[0, 1, 2], &[1, 2]];
 
-/// Tells whether without the forgotten owners the rest alone are asked.
-fn asks_the_rest(alloc: Global, moved: &Moved, record: &Record) -> Result<bool, Fail> {
+/// Forgets the owners up to `oldest`, and tells whether the rest alone are asked.
+fn asks_the_rest(
+    alloc: Global,
+    moved: &mut Moved,
+    record: &Record,
+    oldest: u64,
+) -> Result<bool, Fail> {
+    moved.owners.forget(oldest);
     let requests = built(alloc, moved, record)?;
     Ok(are_asked(&requests, ASKED_WITHOUT) && has_parts(&requests, 0, &[2]))
 }
@@ -239,23 +240,8 @@ fn owners_that_are_forgotten_are_not_asked(rt: HostRuntime) -> Result<(), Fail> 
     let alloc = rt.alloc();
     let mut moved = moved_twice(alloc)?;
     let record = record_of_four(alloc, &moved)?;
-    moved.owners.forget(30);
-    assert!(rt; asks_the_rest(alloc, &moved, &record)?);
-    moved.owners.forget(10);
-    assert!(rt; asks_the_rest(alloc, &moved, &record)?);
-    Ok(())
-}
-
-#[test]
-fn owners_before_the_oldest_version_are_not_asked(rt: HostRuntime) -> Result<(), Fail> {
-    let alloc = rt.alloc();
-    let mut moved = moved_twice(alloc)?;
-    let record = record_of_four(alloc, &moved)?;
-    moved.oldest = 30;
-    assert!(rt; asks_the_rest(alloc, &moved, &record)?);
-    moved.owners.forget(30);
-    moved.oldest = 10;
-    assert!(rt; asks_the_rest(alloc, &moved, &record)?);
+    assert!(rt; asks_the_rest(alloc, &mut moved, &record, 30)?);
+    assert!(rt; asks_the_rest(alloc, &mut moved, &record, 10)?);
     Ok(())
 }
 

@@ -206,49 +206,6 @@ fn an_empty_share_counts_as_judged(rt: HostRuntime) -> Result<(), Fail> {
     Ok(())
 }
 
-/// A part that writes `[a, z)`, and one that writes `[m, n)`.
-const WIDE: &[PartLine<'static>] = &[(0, &[], &[(b"a", b"z")])];
-
-const NARROW: &[PartLine<'static>] = &[(0, &[], &[(b"m", b"n")])];
-
-/// A read of `m` at snapshot 20.
-const READ_AT_TWENTY: &[PartLine<'static>] = &[(20, &[(b"m", b"m\0")], &[])];
-
-/// Whether `[a, z)` can be written at 5, and `[m, n)` at 10.
-fn writes_nested(alloc: Global, history: &mut WriteHistory) -> Result<bool, Fail> {
-    Ok(
-        gives_on(alloc, history, 5, WIDE, &[Verdict::Committed])?
-            && gives_on(alloc, history, 10, NARROW, &[Verdict::Committed])?,
-    )
-}
-
-/// How many steps there are after forgetting up to the version.
-fn steps_after_forgetting(history: &mut WriteHistory, oldest: u64) -> usize {
-    history.forget(oldest);
-    history.steps()
-}
-
-#[test]
-fn forgotten_steps_become_none(rt: HostRuntime) -> Result<(), Fail> {
-    let alloc = rt.alloc();
-    let mut history = twice!(WriteHistory::new(alloc, 10), OutOfMemory)?;
-    assert!(rt; writes_nested(alloc, &mut history)?);
-    assert!(rt; history.steps() == 5);
-    assert!(rt; gives_on(alloc, &mut history, 20, &[], &[])?);
-    assert!(rt; steps_after_forgetting(&mut history, 5) == 3);
-    assert!(rt; steps_after_forgetting(&mut history, 50) == 1);
-    assert!(rt;
-        gives_on(
-            alloc,
-            &mut history,
-            30,
-            READ_AT_TWENTY,
-            &[Verdict::Committed]
-        )?
-    );
-    Ok(())
-}
-
 /// A read of `b` at snapshot 9.
 const READ_AT_NINE: [PartLine<'static>; 1] = [(9, &[B], &[])];
 

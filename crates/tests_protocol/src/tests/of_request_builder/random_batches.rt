@@ -326,8 +326,7 @@ fn are_drawn(requests: &Requests, batch: &[Drawn], all: &[Owners], oldest: u64) 
     sent.len() == RESOLVERS && are_drawn_lists(requests.asked.as_slice(), batch, all, oldest)
 }
 
-/// Forgets some owners, or asks no further back than they go, builds the requests of a random batch,
-/// and tells whether they are right.
+/// Forgets some owners, builds the requests of a random batch, and tells whether they are right.
 fn agrees_on_a_batch(
     alloc: Global,
     random: &mut Random,
@@ -336,11 +335,7 @@ fn agrees_on_a_batch(
     last: u64,
 ) -> Result<bool, Fail> {
     let oldest = random.below(last.saturating_add(1));
-    if random.below(2) == 0 {
-        moved.owners.forget(oldest);
-    } else {
-        moved.oldest = oldest;
-    }
+    moved.owners.forget(oldest);
     let (drawn, batch) = batch_at_random(alloc, random, last)?;
     let requests = requests_for(alloc, moved, &batch)?;
     Ok(are_drawn(&requests, &drawn, all, oldest))
