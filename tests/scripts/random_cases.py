@@ -50,8 +50,19 @@ def clear(rng):
             return begin, end
 
 
+def tag_change(rng):
+    """A change of the tags under the rows: the tag of a server is set or cleared, or those of some servers are cleared."""
+    first, last = sorted(rng.sample(SERVERS, 2))
+    prefix, kind = b"\xff/serverTag/", rng.randrange(3)
+    if kind == 0:
+        return {"set": [text(prefix + first), text(rng.choice(TAGS))]}
+    return {"clear": [text(prefix + first), text(prefix + (first + b"\0" if kind == 1 else last))]}
+
+
 def change(rng):
-    kind = rng.randrange(10)
+    kind = rng.randrange(12)
+    if kind >= 10:
+        return tag_change(rng)
     if kind < 7:
         return {"set": [text(part) for part in kept_row(rng)]}
     if kind < 9:

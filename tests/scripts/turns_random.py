@@ -13,6 +13,7 @@ from turns_content_cases import MUTATION_FAULTS, RANGE_FAULTS
 from turns_words import finish, move, offer, sequence, transaction, turns
 
 POINTS = [b"a", b"b", b"c", b"d", b"e", b"m", b"n", b"\xff", b"\xff/dbLocked", b"\xff\xff"]
+EDGES = sorted([b"", *POINTS, *(point + b"\0" for point in POINTS[:-1])])
 
 
 class Drawn:
@@ -24,6 +25,7 @@ class Drawn:
         self.step = rng.choice([1, 10, 10, 10, 140, GREATEST // 4])
         self.window = min(10**9, rng.choice([1, 2, 5, 30]) * self.step)
         self.owners, self.judged, self.finished = [], [0] * self.resolvers, [0] * self.proxies
+        self.moved = [(0, len(EDGES) - 1)]
 
     def last_version(self):
         return min(len(self.owners) * self.step, GREATEST)
@@ -62,8 +64,22 @@ class Drawn:
             self.owners.append(proxy)
         return event
 
+    def moved_range(self):
+        """The places in EDGES of a range that repeats, nests in or touches one that moved before, or of any."""
+        begin, end = self.rng.choice(self.moved[-3:])
+        kind = self.rng.randrange(4)
+        if kind == 0:
+            return begin, end
+        if kind == 1:
+            return tuple(sorted(self.rng.sample(range(begin, end + 1), 2)))
+        if kind == 2 and end + 1 < len(EDGES):
+            return end, self.rng.randrange(end + 1, len(EDGES))
+        return tuple(sorted(self.rng.sample(range(len(EDGES)), 2)))
+
     def move(self):
-        return move(*self.span(), self.rng.randrange(self.resolvers))
+        self.moved.append(self.moved_range())
+        begin, end = self.moved[-1]
+        return move(text(EDGES[begin]), text(EDGES[end]), self.rng.randrange(self.resolvers))
 
     def offer(self):
         """The next row to a resolver that has one, or else any."""
@@ -111,12 +127,55 @@ class Drawn:
 
     def script(self):
         events = [self.first_batch()] if self.rng.random() < 0.7 else []
-        draws = [self.sequence] * 5 + [self.move] * 2 + [self.offer] * 12 + [self.any_offer] * 2 + [self.finish] * 5 + [self.stranger]
+        draws = [self.sequence] * 5 + [self.move] * self.rng.choice([2, 2, 2, 12]) + [self.offer] * 12 + [self.any_offer] * 2 + [self.finish] * 5 + [self.stranger]
         events += [self.rng.choice(draws)() for _ in range(self.rng.choice([5, 5, 15, 15, 30, 30, 45, 45, 120]))]
         if self.rng.random() < 0.5:
             events += [self.offer() for _ in range(self.resolvers * len(self.owners))] + [self.finish() for _ in self.owners]
         ask = [text(self.rng.choice([*POINTS, *KEYS])) for _ in range(self.rng.choice([0, 1, 3]))]
         return turns(*events, ask=ask, proxies=self.proxies, resolvers=self.resolvers, window=self.window, step=self.step)
+
+
+class Nested(Drawn):
+    """A script of many ranges that touch, nest and repeat, in batches that are judged one after another."""
+
+    EDGES = [b"", b"a", b"a\0", b"b", b"c", b"d", b"e", b"\xff", b"\xff\xff"]
+
+    def __init__(self, rng):
+        super().__init__(rng)
+        self.step, self.proxies, self.resolvers = 10, rng.choice([1, 2]), rng.choice([1, 1, 2])
+        self.window = rng.choice([1, 3, 10]) * self.step
+        self.drawn = []
+
+    def places(self):
+        """Where a range begins and ends: mostly beside, inside or at one that was drawn before."""
+        rng, last = self.rng, len(self.EDGES) - 1
+        begin = rng.randrange(last)
+        fresh = begin, rng.randrange(begin + 1, last + 1)
+        if not self.drawn or rng.random() < 0.2:
+            return fresh
+        low, high = rng.choice(self.drawn[-20:])
+        inside = rng.randrange(low, high)
+        beside = [(rng.randrange(low), low)] if low else []
+        beside += [(high, rng.randrange(high + 1, last + 1))] if high < last else []
+        return rng.choice([(low, high), (inside, rng.randrange(inside + 1, high + 1)), *beside])
+
+    def span(self):
+        self.drawn.append(self.places())
+        return [text(self.EDGES[place]) for place in self.drawn[-1]]
+
+    def transaction(self):
+        rng, last = self.rng, self.last_version()
+        snapshot = max(0, last - rng.choice([-5, 0, 0, 5, 10, 20, 20, 50, self.window]))
+        reads, writes = ([self.span() for _ in range(rng.choice([0, 1, 2, 4]))] for _ in range(2))
+        return transaction(snapshot, reads, writes, [self.mutation()], True)
+
+    def script(self):
+        events = []
+        for row in range(self.rng.choice([5, 15, 30])):
+            events.append(self.sequence(row % self.proxies))
+            events += [offer(row, resolver) for resolver in range(self.resolvers)] + [finish(row % self.proxies)]
+            events += [self.move()] if self.rng.random() < 0.05 else []
+        return turns(*events, proxies=self.proxies, resolvers=self.resolvers, window=self.window, step=self.step)
 
 
 def right_script(rng):
@@ -197,6 +256,13 @@ def random_turns(seeds):
         yield "turns", "random_right", "seed %d" % seed, spell(rng, right_script(rng)).encode(), None
         script, answer = wrong_script(rng)
         yield "turns", "random_wrong", "seed %d" % seed, script.encode(), answer
+
+
+def nested_turns(seeds):
+    """Each case of ranges that touch, nest and repeat, as `random_turns` gives them."""
+    for seed in seeds:
+        rng = random.Random("nested %d" % seed)
+        yield "turns", "random_nested", "seed %d" % seed, spell(rng, Nested(rng).script()).encode(), None
 
 
 # ---- what the scripts meet

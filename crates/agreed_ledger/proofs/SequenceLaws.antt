@@ -18,10 +18,10 @@ use Rattle.model.proofs.Resolvers.Growth.{set_found}
 use Rattle.model.specs.World.{record_after}
 use Rattle.agreed_ledger.specs.Sequencing.{KeepsVersions}
 
-pub move_made : (config : Config) (records : List Record) (moves reserved after : List Move) (move : Move) → after ≡ reserved ++ move ∷ [] → reserved ≡ moves
+pub move_made : (config : Config) (records : List Record) (moves after : List Move) (move : Move) → after ≡ moves ++ move ∷ []
     → move.date ≡ last_version records + 1 → move.dest < config.resolvers → MovesFollow config records moves → MovesFollow config records after
-move_made config records moves reserved after move pushed same date destination follow =
-    subst (λ (ms : List Move). MovesFollow config records ms) (sym (pushed ∙ ap (λ (ms : List Move). ms ++ move ∷ []) same))
+move_made config records moves after move pushed date destination follow =
+    subst (λ (ms : List Move). MovesFollow config records ms) (sym pushed)
     (moves_follow_move config records moves move follow (record { date = date; destination = destination }))
 
 -- ---- after a record

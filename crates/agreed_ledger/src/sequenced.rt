@@ -18,7 +18,7 @@ use crate::refusal::Refusal;
 use crate::ticket::Ticket;
 use model::{Move, VERSION_LIMIT};
 use mutation::Batch;
-use request_builder::Record;
+use request_builder::{Moves, Record};
 use std::alloc::Global;
 use std::marker::Model;
 use system_keys::{KeyRange, OutOfMemory};
@@ -30,7 +30,7 @@ pub struct Sequenced<N: Naming> {
     records: Records<N>,
     version: u64,
     own_versions: Vec<u64>,
-    moves: Vec<Move>,
+    moves: Moves,
 }
 
 impl<N: Naming> Model for Sequenced<N> {
@@ -40,10 +40,10 @@ impl<N: Naming> Model for Sequenced<N> {
 
     ghost Value = { SequencedView };
 
-    ghost view = { λ s. record { records = s.records.known; moves = s.moves.items } };
+    ghost view = { λ s. record { records = s.records.known; moves = s.moves } };
 
     ghost invariant = { λ s. (s.records.first ≡ 0)
-        × MovesFollow N.cells.config s.records.known s.moves.items
+        × MovesFollow N.cells.config s.records.known s.moves
         × KeepsVersions N.cells.config s.records.known s.version s.own_versions.items };
 }
 
@@ -56,7 +56,7 @@ impl<N: Naming> Sequenced<N> {
             records: Records::new(alloc),
             version: 0,
             own_versions: Vec::from_elem(alloc, 0, ledger.config().proxies())?,
-            moves: Vec::new(alloc),
+            moves: Moves::new(alloc),
         })
     }
 
@@ -122,7 +122,7 @@ impl<N: Naming> Sequenced<N> {
         ensures { IfOk result (λ rec. rec
             ≡ record_after N.cells.config self.now.records self.now.moves proxy batch.now) }
     {
-        let alloc: Global = *self.moves.allocator();
+        let alloc: Global = *self.own_versions.allocator();
         Record::new(
             alloc,
             self.records.end(),
@@ -157,10 +157,7 @@ impl<N: Naming> Sequenced<N> {
         }
         let date = self.version + 1;
         let range = range.copy()?;
-        let Ok(()) = self.moves.reserve(1) else {
-            return Err(Refusal::OutOfMemory);
-        };
-        self.moves.push_reserved(Move { range, date, dest });
+        self.moves.push(Move { range, date, dest })?;
         Ok(date)
     }
 }

@@ -1,4 +1,11 @@
-pub mod Askers
-pub mod MadeMaps
 pub mod FlagLaws
-pub mod WalkedMoves
+pub mod KeyStarts
+pub mod PutStarts
+pub mod SomeStarts
+pub mod LaterOwnerLaws
+pub mod JoinedStarts
+pub mod AddedOwners
+pub mod MadeMaps
+pub mod CountedPieces
+pub mod WalkedOwners
+pub mod AskedStarts

@@ -1,8 +1,9 @@
 -- What a map of owners promises, whichever moves it stands for.
 use Rattle.std.specs.Prelude.{◌≡◌, ℕ, List, [], ◌∷◌, ◌++◌, max}
-use Rattle.system_keys.specs.Keys.{Range}
+use Rattle.system_keys.specs.Keys.{Key, Range}
 use Rattle.model.specs.declared.moves.Move.{Move}
 use Rattle.model.specs.OwnerMaps.{OwnerMapView, StandsForMoves, readers, writers}
+use Rattle.model.specs.OwnerMaps.{owners_left, left_after_move}
 
 -- the map stands for one more move than before
 abbrev pub GainsMove : (before : OwnerMapView) (m : Move) (after : OwnerMapView) → Type 0
@@ -25,3 +26,7 @@ AreReaders map range snapshot list =
 abbrev pub AreWriters : (map : OwnerMapView) (range : Range) (list : List ℕ) → Type 0
 AreWriters map range list =
     (moves : List Move) → StandsForMoves map moves → list ≡ writers map.resolvers moves range
+
+-- at each key the owners that are left are those before and the owner of the move
+abbrev pub AddsOwner : (before : OwnerMapView) (m : Move) (after : OwnerMapView) → Type 0
+AddsOwner before m after = (key : Key) → owners_left after key ≡ left_after_move before m key

@@ -8,3 +8,9 @@ pub mod Walks
 pub mod Flags
 -- which moves are refused; numbers and names
 pub mod Refusals
+-- the greatest ranges of keys with one list of owners left
+pub mod Pieces
+-- the owners of a key after the first one
+pub mod LaterOwners
+-- what is kept: the keys at which the owners change
+pub mod Starts

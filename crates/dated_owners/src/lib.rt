@@ -9,7 +9,9 @@
 #![tactic(auto)]
 
 mod flags;
+mod later_owners;
 mod owner_map;
+mod pieces;
 mod refusal;
 mod walks;
 

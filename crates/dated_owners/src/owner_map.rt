@@ -1,32 +1,47 @@
 //! The map of owners.
 
-ghost use Rattle.std.specs.Prelude.{◌≡◌, ◌≤◌, ◌++◌, ◌∷◌, [], max, None, IfOk, OnOk, IfErr, OnErr};
+ghost use Rattle.std.specs.Prelude.{◌≡◌, ◌≤◌, [], max, None, IfOk, OnOk, IfErr, OnErr};
 ghost use Rattle.model.specs.declared.moves.Move.{Move};
 ghost use Rattle.model.specs.OwnerMaps.{StandsForMoves};
-ghost use Rattle.dated_owners.specs.Answers.{GainsMove, KeepsMoves, AreReaders, AreWriters};
+ghost use Rattle.dated_owners.specs.Pieces.{CountsPieces};
+ghost use Rattle.dated_owners.specs.Answers.{AddsOwner, GainsMove, KeepsMoves, AreReaders, AreWriters};
 ghost use Rattle.dated_owners.specs.Walks.{askers};
 ghost use Rattle.dated_owners.specs.Refusals.{move_fault, refusal_fault};
 
+use crate::later_owners::{LaterOwner, LaterOwners};
+use crate::pieces::{Pieces, add_owner, count_pieces, sweep};
 use crate::refusal::Refusal;
 use crate::walks::{Walk, askers};
-use model::{Move, ResolverNumber, Version};
-use std::alloc::Global;
+use model::{ResolverNumber, Version};
+use std::alloc::{AllocError, Global};
+use std::collections::BTreeMap;
 use std::marker::Model;
 use system_keys::{Items, KeyRange, OutOfMemory};
+
+/// How many pieces are paid for by a move: each of its two ends makes one, which is swept a few
+/// times.
+const PAID_BY_MOVE: usize = 8;
 
 /// The owners of every key, with the date from which each owned it.
 ///
 /// Contracts say which lists of moves the map stands for, and not how it keeps them.
-#[derive(Clone, Debug, Drop)]
+#[derive(Debug, Drop)]
 pub struct OwnerMap {
     resolvers: usize,
     last_date: Version,
     oldest: Version,
-    moves: Vec<Move>,
+    pieces: Pieces,
+    /// Room for the longest list of owners.
+    spare: LaterOwners,
+    /// No sweep is tried before `oldest` is above this date.
+    due: Version,
+    /// How many pieces the moves and the calls of `forget` since the last sweep have paid for.
+    paid: usize,
 }
 
 impl Model for OwnerMap {
     ghost use Rattle.model.specs.OwnerMaps.{OwnerMapView};
+    ghost use Rattle.dated_owners.specs.Starts.{starts_of, moves_of, AreKept};
 
     ghost Value = { OwnerMapView };
 
@@ -34,8 +49,10 @@ impl Model for OwnerMap {
       resolvers = map.resolvers;
       last_date = map.last_date;
       oldest = map.oldest;
-      moves = map.moves.items;
+      moves = moves_of (starts_of map.pieces.entries);
     } };
+
+    ghost invariant = { λ map. AreKept (starts_of map.pieces.entries) };
 }
 
 impl OwnerMap {
@@ -51,7 +68,10 @@ impl OwnerMap {
             resolvers,
             last_date: 0,
             oldest: 0,
-            moves: Vec::new(alloc),
+            pieces: BTreeMap::new(alloc),
+            spare: LaterOwners::new(alloc),
+            due: Version::MAX,
+            paid: 0,
         })
     }
 
@@ -99,7 +119,7 @@ impl OwnerMap {
         Ok(())
     }
 
-    /// Adds the move after the others.
+    /// Adds an owner at each key of the range.
     fn add_move(
         &mut self,
         range: &KeyRange,
@@ -107,15 +127,23 @@ impl OwnerMap {
         dest: ResolverNumber,
     ) -> Result<(), OutOfMemory>
         ensures ok { let m : Move = record { range = range.now; date = date; dest = dest } in
-            OnOk result (self.new.moves ≡ self.old.moves ++ m ∷ []) }
+            OnOk result (AddsOwner self.old m self.new) }
         ensures date { OnOk result (self.new.last_date ≡ date) }
         ensures resolvers { self.new.resolvers ≡ self.old.resolvers }
         ensures oldest { self.new.oldest ≡ self.old.oldest }
         ensures err { OnErr result (self.new ≡ self.old) }
     {
-        let range = range.copy()?;
-        self.moves.push(Move { range, date, dest })?;
+        let alloc = self.spare.alloc();
+        let first = Vec::from_slice(alloc, range.begin())?;
+        let end = Vec::from_slice(alloc, range.end())?;
+        let owner = LaterOwner {
+            date,
+            resolver: dest,
+        };
+        add_owner(&mut self.pieces, &mut self.spare, &first, &end, owner)?;
         self.last_date = date;
+        self.due = self.due.min(date);
+        self.paid = self.paid.saturating_add(PAID_BY_MOVE);
         Ok(())
     }
 
@@ -148,8 +176,10 @@ impl OwnerMap {
         ensures { let map = self.now in
             IfOk result (λ list. list ≡ askers map.resolvers map.moves walk range.now) }
     {
-        let alloc: Global = *self.moves.allocator();
-        askers(alloc, self.resolvers, &self.moves, walk, range)
+        let alloc = self.spare.alloc();
+        let begin = Vec::from_slice(alloc, range.begin())?;
+        let end = Vec::from_slice(alloc, range.end())?;
+        askers(alloc, self.resolvers, &self.pieces, walk, &begin, &end)
     }
 
     /// Raises the oldest version remembered to `oldest`; a lower value changes nothing. Allocates
@@ -162,6 +192,21 @@ impl OwnerMap {
         ensures stands { KeepsMoves self.old self.new }
     {
         self.oldest = self.oldest.max(oldest);
+        self.paid = self.paid.saturating_add(1);
+        let pieces = self.pieces.len();
+        if is_due(self.due, self.oldest, pieces, self.paid) {
+            self.paid = self.paid.saturating_sub(pieces);
+            self.due = next_due(self.last_date, self.oldest);
+            sweep(&mut self.pieces, &mut self.spare, self.oldest);
+        }
+    }
+
+    /// Returns the number of greatest ranges of keys, from the empty key to `\xff\xff`, with one
+    /// list of owners left. Allocates nothing.
+    pub fn pieces(&self) -> usize
+        ensures { CountsPieces self.now result }
+    {
+        count_pieces(&self.pieces, self.oldest)
     }
 
     /// Returns a deep copy. Fails only with `OutOfMemory`.
@@ -169,5 +214,37 @@ impl OwnerMap {
         ensures { IfOk result (λ copy. copy ≡ self.now) }
     {
         Ok(self.clone()?)
+    }
+}
+
+impl Clone for OwnerMap {
+    ghost is_clone = { λ map copy. copy ≡ map };
+
+    fn clone(&self) -> Result<OwnerMap, AllocError> {
+        let mut spare = LaterOwners::new(self.spare.alloc());
+        spare.make_room(self.spare.room())?;
+        Ok(OwnerMap {
+            resolvers: self.resolvers,
+            last_date: self.last_date,
+            oldest: self.oldest,
+            pieces: self.pieces.clone()?,
+            spare,
+            due: self.due,
+            paid: self.paid,
+        })
+    }
+}
+
+/// Whether a sweep may find something, and is paid for.
+fn is_due(due: Version, oldest: Version, pieces: usize, paid: usize) -> bool {
+    due < oldest && pieces <= paid
+}
+
+/// The date above which `oldest` has to be before the next sweep: that of the last move.
+fn next_due(last_date: Version, oldest: Version) -> Version {
+    if last_date < oldest {
+        Version::MAX
+    } else {
+        last_date
     }
 }

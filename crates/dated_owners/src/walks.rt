@@ -1,14 +1,21 @@
-//! Which resolvers are asked about a key or a range, by a list of moves.
+//! Which resolvers are asked about a range.
 
-ghost use Rattle.std.specs.Prelude.{◌≡◌, ℕ, nat_eq, IfOk};
-ghost use Rattle.model.specs.Owners.{owners, is_last, walk_visits, some_key};
-ghost use Rattle.dated_owners.specs.Walks.{takes, is_asked_at, askers};
+ghost use Rattle.std.specs.Prelude.{◌≡◌, ℕ, [], true, nat_eq, filter, IfOk};
+ghost use Rattle.system_keys.specs.Keys.{Range, is_key_below};
+ghost use Rattle.model.specs.Owners.{is_last, walk_visits};
+ghost use Rattle.model.specs.Shares.{each_below};
+ghost use Rattle.dated_owners.specs.LaterOwners.{with_first};
+ghost use Rattle.dated_owners.specs.Starts.{starts_of, some_start};
+ghost use Rattle.dated_owners.specs.Walks.{takes, takes_later};
 ghost use Rattle.dated_owners.specs.Flags.{Flags};
 
 use crate::flags::{flag, flagged};
-use model::{Move, ResolverNumber, Version};
+use crate::later_owners::LaterOwner;
+use crate::pieces::{Pieces, owners_at};
+use model::{ResolverNumber, Version};
 use std::alloc::Global;
-use system_keys::{Items, KeyRange, OutOfMemory};
+use std::ops::Bound;
+use system_keys::{Items, OutOfMemory};
 
 /// Which owners of a key are asked.
 #[derive(Clone, Copy)]
@@ -19,78 +26,68 @@ pub(crate) enum Walk {
     BackTo(Version),
 }
 
-/// The resolvers that are asked about some key of the range, in rising order.
+/// The resolvers that are asked about some key from `begin` up to `end`, in rising order.
 pub(crate) fn askers(
     alloc: Global,
     resolvers: usize,
-    moves: &[Move],
+    pieces: &Pieces,
     walk: Walk,
-    range: &KeyRange,
+    begin: &Vec<u8>,
+    end: &Vec<u8>,
 ) -> Result<Items<ResolverNumber>, OutOfMemory>
-    ensures { IfOk result (λ list. list ≡ askers resolvers moves.now walk range.now) }
+    requires { is_key_below begin.now.items end.now.items ≡ true }
+    ensures { let range : Range = record { begin = begin.now.items; end = end.now.items } in
+        let starts = starts_of pieces.now.entries in IfOk result (λ list. list
+        ≡ filter (λ r. some_start [] starts (takes_later walk r) range) (each_below resolvers)) }
 {
     let mut flags = vec![in alloc; false; resolvers]?;
-    flag_askers(moves, walk, range, &mut flags);
+    flag_askers(pieces, walk, begin, end, &mut flags);
     flagged(alloc, &flags)
 }
 
-/// Flags the resolvers that are asked about some key of the range.
-///
-/// Tries the begin of the range and both ends of each move that lie in it: the owners change at no
-/// other key. Each key that it tries takes one pass over the moves.
-fn flag_askers(moves: &[Move], walk: Walk, range: &KeyRange, flags: &mut [bool])
-    ensures { Flags flags.old (λ r. some_key moves.now (takes walk r) range.now) flags.new }
+/// Flags the resolvers that are asked about some key from `begin` up to `end`: the owners are those
+/// at `begin`, and at each key inside at which they change.
+fn flag_askers(pieces: &Pieces, walk: Walk, begin: &Vec<u8>, end: &Vec<u8>, flags: &mut [bool])
+    requires { is_key_below begin.now.items end.now.items ≡ true }
+    ensures { let range : Range = record { begin = begin.now.items; end = end.now.items } in
+        let starts = starts_of pieces.now.entries in
+        Flags flags.old (λ r. some_start [] starts (takes_later walk r) range) flags.new }
 {
-    flag_inside(moves, walk, range, range.begin(), flags);
-    for m in moves {
-        flag_inside(moves, walk, range, m.range.begin(), flags);
-        flag_inside(moves, walk, range, m.range.end(), flags);
+    flag_owners(owners_at(pieces, begin), walk, flags);
+    for (_, owners) in pieces.range((Bound::Excluded(begin), Bound::Excluded(end))) {
+        flag_owners(owners.as_slice(), walk, flags);
     }
 }
 
-/// Flags the resolvers that are asked about the key, if the range contains it.
-fn flag_inside(moves: &[Move], walk: Walk, range: &KeyRange, key: &[u8], flags: &mut [bool])
-    ensures { Flags flags.old (is_asked_at moves.now walk range.now key.now) flags.new }
-{
-    if range.contains(key) {
-        flag_owners(moves, walk, key, flags);
-    }
-}
-
-/// Flags the resolvers that are asked about the key.
-fn flag_owners(moves: &[Move], walk: Walk, key: &[u8], flags: &mut [bool])
-    ensures { Flags flags.old (λ r. takes walk r (owners moves.now key.now)) flags.new }
+/// Flags the resolvers that are asked about a key with these owners after the first one.
+fn flag_owners(owners: &[LaterOwner], walk: Walk, flags: &mut [bool])
+    ensures { Flags flags.old (λ r. takes walk r (with_first owners.now)) flags.new }
 {
     match walk {
-        Walk::LastOwner => flag(flags, last_owner(moves, key)),
-        Walk::BackTo(bound) => flag_visited(moves, bound, key, flags),
+        Walk::LastOwner => flag(flags, last_owner(owners)),
+        Walk::BackTo(bound) => flag_visited(owners, bound, flags),
     }
 }
 
-/// The last owner of the key.
-fn last_owner(moves: &[Move], key: &[u8]) -> ResolverNumber
-    ensures { (r : ℕ) → is_last r (owners moves.now key.now) ≡ nat_eq result r }
+/// The last owner.
+fn last_owner(owners: &[LaterOwner]) -> ResolverNumber
+    ensures { (r : ℕ) → is_last r (with_first owners.now) ≡ nat_eq result r }
 {
-    for i in (0..moves.len()).rev() {
-        let m = &moves[i];
-        if m.range.contains(key) {
-            return m.dest;
-        }
+    match owners {
+        [.., owner] => owner.resolver,
+        [] => 0,
     }
-    0
 }
 
-/// Flags the resolvers that the walk over the owners of the key visits, back to the bound.
-fn flag_visited(moves: &[Move], bound: Version, key: &[u8], flags: &mut [bool])
-    ensures { Flags flags.old (λ r. walk_visits bound r (owners moves.now key.now)) flags.new }
+/// Flags the resolvers that the walk visits, back to the bound.
+fn flag_visited(owners: &[LaterOwner], bound: Version, flags: &mut [bool])
+    ensures { Flags flags.old (λ r. walk_visits bound r (with_first owners.now)) flags.new }
 {
-    for i in (0..moves.len()).rev() {
-        let m = &moves[i];
-        if m.range.contains(key) {
-            flag(flags, m.dest);
-            if m.date < bound {
-                return;
-            }
+    for i in (0..owners.len()).rev() {
+        let owner = &owners[i];
+        flag(flags, owner.resolver);
+        if owner.date < bound {
+            return;
         }
     }
     flag(flags, 0);

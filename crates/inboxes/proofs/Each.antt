@@ -1,7 +1,8 @@
 -- Lists whose elements are those that belong at their places.
 use Rattle.std.proofs.Common.{◌≡◌, ◌≢◌, ℕ, zero, suc, ◌+◌, ◌<◌, ◌⊎◌, inl, inr, ⊎_elim, List, [], ◌∷◌, ◌++◌, length, set, drop, slice_get, Some, sym, refl, ap, ◌∙◌, subst, arith, length-append, length-set}
 use Rattle.std.proofs.lemmas.Option.{none-some, same_Some, slice_get_within}
-use Rattle.inboxes.specs.Ends.{IsEach, AreSenders, SenderView}
+use Rattle.inboxes.specs.Blanks.{AreSides, IsFreshSide}
+use Rattle.inboxes.specs.Ends.{IsEach, AreSenders, ProxyView, SenderView}
 
 -- an element of a list with one more
 pub get_more : {X : Type 0} (xs : List X) (x y : X) (k : ℕ) → slice_get (xs ++ x ∷ []) k ≡ Some y
@@ -56,19 +57,6 @@ each_as f g n xs each same = (
   λ j y at. each.1 j y at ∙ same j (let within = slice_get_within xs j y at in omega (arith, within, each.0)),
 )
 
-pub senders_none : (proxy : ℕ) → AreSenders proxy 0 []
-senders_none proxy = (refl, λ k e at. absurd (none-some e at))
-
-pub senders_more : (proxy n : ℕ) (ends : List SenderView) (e : SenderView) → AreSenders proxy n ends
-    → e.resolver ≡ n → e.proxy ≡ proxy → AreSenders proxy (n + 1) (ends ++ e ∷ [])
-senders_more proxy n ends e are to of = (
-  length-append ends (e ∷ []) ∙ ap (λ (m : ℕ). m + 1) are.0,
-  λ k y at. ⊎_elim
-      (λ h. (ap (λ (s : SenderView). s.resolver) (sym h.1) ∙ to ∙ sym (h.0 ∙ are.0), ap (λ (s : SenderView). s.proxy) (sym h.1) ∙ of))
-      (λ h. are.1 k y h)
-      (get_more ends e y k at),
-)
-
 -- one end sent something, and is still the proxy's, to its resolver
 pub senders_set : (proxy n k : ℕ) (ends : List SenderView) (before after : SenderView)
     → AreSenders proxy n ends → slice_get ends k ≡ Some before
@@ -91,7 +79,14 @@ pub each_grown : {X : Type 0} (f : ℕ → X) (xs ys : List X) (x : X) → IsEac
 each_grown {X} f xs ys x each is grown =
     subst (λ (zs : List X). IsEach f (length zs) zs) (sym grown) (refl, (each_more f (length xs) xs x each is).1)
 
-pub senders_grown : (proxy : ℕ) (xs ys : List SenderView) (e : SenderView) → AreSenders proxy (length xs) xs
-    → e.resolver ≡ length xs → e.proxy ≡ proxy → ys ≡ xs ++ e ∷ [] → AreSenders proxy (length ys) ys
-senders_grown proxy xs ys e are to of grown =
-    subst (λ (zs : List SenderView). AreSenders proxy (length zs) zs) (sym grown) (refl, (senders_more proxy (length xs) xs e are to of).1)
+-- one side more
+pub sides_grown : (resolvers : ℕ) (xs ys : List ProxyView) (x : ProxyView) → AreSides (length xs) resolvers xs
+    → IsFreshSide (length xs) resolvers x → ys ≡ xs ++ x ∷ [] → AreSides (length ys) resolvers ys
+sides_grown resolvers xs ys x are is grown =
+    subst (λ (zs : List ProxyView). AreSides (length zs) resolvers zs) (sym grown) (
+      refl,
+      λ p side at. ⊎_elim
+          (λ h. subst (λ (q : ℕ). IsFreshSide q resolvers side) (sym h.0) (subst (λ (s : ProxyView). IsFreshSide (length xs) resolvers s) h.1 is))
+          (λ h. are.1 p side h)
+          (get_more xs x side p at),
+    )

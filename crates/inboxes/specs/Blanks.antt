@@ -1,7 +1,8 @@
 -- Inboxes without names.
-use Rattle.std.specs.Prelude.{ℕ, List, ◌++◌, ◌∷◌, [], nat_lt, if◌then◌else◌}
+use Rattle.std.specs.Prelude.{◌≡◌, ℕ, List, ◌++◌, ◌∷◌, [], length, slice_get, Some, nat_lt}
+use Rattle.std.specs.Prelude.{if◌then◌else◌}
 use Rattle.inboxes.specs.Places.{Place}
-use Rattle.inboxes.specs.Ends.{IsEach, ProxyView}
+use Rattle.inboxes.specs.Ends.{IsEach, ProxyView, fresh_sender}
 
 -- a channel, and for how many proxies it has given a sending end: for those from 0 on
 pub record BlankInboxView : Type 0 where
@@ -30,6 +31,13 @@ AreRowsTo done proxies places place =
       places = (if nat_lt p done then places ++ place ∷ [] else places);
     }) proxies
 
--- the sides of so many proxies, in order, each with so many ends
+-- the side of the proxy: an end to each of so many resolvers, in order, through which nothing was sent
+abbrev pub IsFreshSide : (proxy resolvers : ℕ) → ProxyView → Type 0
+IsFreshSide proxy resolvers side =
+    (side.proxy ≡ proxy) × IsEach (fresh_sender proxy) resolvers side.ends
+
+-- the sides of so many proxies, in order, each with so many ends, through which nothing was sent
 abbrev pub AreSides : (proxies resolvers : ℕ) → List ProxyView → Type 0
-AreSides proxies resolvers = IsEach (λ p. record { proxy = p; ends = resolvers }) proxies
+AreSides proxies resolvers sides =
+    (length sides ≡ proxies)
+    × ((p : ℕ) (side : ProxyView) → slice_get sides p ≡ Some side → IsFreshSide p resolvers side)

@@ -1,13 +1,24 @@
 -- The ends of inboxes, as contracts see them.
-use Rattle.std.specs.Prelude.{◌≡◌, ℕ, List, ◌++◌, length, slice_get, Some}
+use Rattle.std.specs.Prelude.{◌≡◌, ℕ, List, [], ◌++◌, length, slice_get, Some, Bool, false}
 use Rattle.inboxes.specs.declared.tag.Tag.{Tag}
 use Rattle.inboxes.specs.Delivers.{of_proxy}
 
--- a proxy's sending end to the inbox of a resolver, and what was sent through it, oldest first
+-- A proxy's sending end to the inbox of a resolver, what was sent through it, oldest first, and
+-- whether a send was refused: the worker's end of the inbox is gone.
 pub record SenderView : Type 0 where
   pub resolver : ℕ
   pub proxy : ℕ
   pub put : List Tag
+  pub gone : Bool
+
+-- the end of the proxy to this resolver, before the first message
+abbrev pub fresh_sender : (proxy resolver : ℕ) → SenderView
+fresh_sender proxy resolver = record {
+  resolver = resolver;
+  proxy = proxy;
+  put = [];
+  gone = false;
+}
 
 -- the worker's side of the inbox of a resolver, and what it took of all proxies, oldest first
 pub record TakerView : Type 0 where
@@ -19,10 +30,10 @@ abbrev pub IsBeginning : TakerView → SenderView → Type 0
 IsBeginning taker ended =
     (rest : List Tag) × (ended.put ≡ of_proxy ended.proxy taker.got ++ rest)
 
--- a proxy's side of all inboxes: its number, and how many sending ends there are
+-- a proxy's side of all inboxes: its number, and its sending ends
 pub record ProxyView : Type 0 where
   pub proxy : ℕ
-  pub ends : ℕ
+  pub ends : List SenderView
 
 -- the list has so many elements, and each is the one that belongs at its place
 abbrev pub IsEach : {X : Type 0} → (ℕ → X) → ℕ → List X → Type 0

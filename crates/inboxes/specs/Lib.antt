@@ -12,6 +12,8 @@ pub mod Delivers
 pub mod Places
 -- the ends of inboxes
 pub mod Ends
+-- what a proxy sends through its ends
+pub mod Sending
 -- how many messages were sent and taken
 pub mod Counts
 -- inboxes without names

@@ -47,7 +47,7 @@ impl<N: Naming> RefusedRequest<N> {
         RefusedRequest { refusal, request }
     }
 
-    /// The request was refused for want of memory.
+    /// The request was refused with `OutOfMemory`: an allocation failed.
     pub fn out_of_memory(request: Request<N>) -> RefusedRequest<N>
         ensures { result ≡ record { refusal = refusals.OutOfMemory; request = request } }
     {
@@ -57,7 +57,7 @@ impl<N: Naming> RefusedRequest<N> {
         }
     }
 
-    /// Why.
+    /// Returns the refusal.
     pub fn refusal(&self) -> Refusal
         ensures value { result ≡ self.now.refusal }
         ensures kept { IsAskRefusal N.cells.config self.now.request self.now.refusal }
@@ -65,7 +65,7 @@ impl<N: Naming> RefusedRequest<N> {
         self.refusal
     }
 
-    /// The request.
+    /// Returns the request that was refused.
     pub fn request(&self) -> &Request<N>
         ensures { result.now ≡ self.now.request }
     {

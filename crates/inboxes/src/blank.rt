@@ -4,6 +4,7 @@ ghost use Rattle.std.specs.Prelude.{◌≡◌, ◌+◌, ◌<◌, ◌∷◌, ◌+
 ghost use Rattle.crossbeam_channel.specs.Claims.{IsSeatAt};
 ghost use Rattle.crossbeam_channel.specs.Ends.{receives_on, sends_on};
 ghost use Rattle.inboxes.specs.Blanks.{AreRows, BlankInboxView, BlankRow, BlankSenderView};
+ghost use Rattle.inboxes.specs.Ends.{fresh_sender};
 ghost use Rattle.inboxes.specs.Places.{known, place_at, place_of};
 
 use crate::channels::Channels;
@@ -107,7 +108,7 @@ impl<N: Naming> BlankSender<N> {
     pub(crate) fn named<M: Channels>(self, resolver: ResolverNumber) -> EndedSender<N, M>
         requires place { self.place ≡ place_at M.places resolver }
         requires proxy { self.proxy < N.cells.config.proxies }
-        ensures { result ≡ record { resolver = resolver; proxy = self.proxy; put = [] } }
+        ensures { result ≡ fresh_sender self.proxy resolver }
     {
         EndedSender::new(resolver, self.proxy, self.post, self.hand)
     }

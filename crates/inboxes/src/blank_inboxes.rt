@@ -2,7 +2,7 @@
 
 ghost use Rattle.std.specs.Prelude.{◌≡◌, ◌+◌, ◌<◌, ◌≤◌, [], length, IfOk, OnOk};
 ghost use Rattle.std.specs.Vec.{vec_capacity};
-ghost use Rattle.inboxes.specs.Blanks.{AreRows, AreSides};
+ghost use Rattle.inboxes.specs.Blanks.{AreRows, AreSides, IsFreshSide};
 ghost use Rattle.inboxes.specs.Ends.{IsEach};
 
 use crate::blank::{BlankEnd, BlankInbox, BlankSenders};
@@ -51,8 +51,8 @@ impl<N: Naming> BlankInboxes<N> {
     }
 
     /// Names the channels. Called in a function that is generic in `M`, which stands for them.
-    /// Returns for each proxy its sending ends, and for each resolver the worker's end, in order. It
-    /// needs no memory, since the room was made before.
+    /// Returns for each proxy its sending ends, through which nothing was sent, and for each resolver
+    /// the worker's end, in order. It allocates nothing, since the room was made before.
     pub fn named<M: Channels>(
         self,
         room: InboxRoom<N, M>,
@@ -136,7 +136,7 @@ fn named_row<N: Naming, M: Channels>(
     requires places { row.places ≡ M.places }
     requires all { length M.places ≡ N.cells.config.resolvers }
     requires proxy { row.proxy < N.cells.config.proxies }
-    ensures { result ≡ record { proxy = row.proxy; ends = N.cells.config.resolvers } }
+    ensures { IsFreshSide row.proxy N.cells.config.resolvers result }
 {
     let (proxy, senders) = row.into_parts();
     let mut ends = room.ends;

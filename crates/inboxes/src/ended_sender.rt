@@ -1,10 +1,11 @@
 //! The sending end of a proxy to the inbox of one resolver.
 
-ghost use Rattle.std.specs.Prelude.{◌≡◌, ◌<◌, [], ◌∷◌, ◌++◌, true, IfErr, IfOk};
+ghost use Rattle.std.specs.Prelude.{◌≡◌, ◌<◌, [], true, IfErr, IfOk};
 ghost use Rattle.crossbeam_channel.specs.Claims.{IsSeatAt};
 ghost use Rattle.crossbeam_channel.specs.Ends.{sends_on};
-ghost use Rattle.inboxes.specs.Ends.{SenderView};
+ghost use Rattle.inboxes.specs.Ends.{SenderView, fresh_sender};
 ghost use Rattle.inboxes.specs.Places.{known, place_at, place_of};
+ghost use Rattle.inboxes.specs.Sending.{with_gone, with_sent};
 
 use crate::channels::Channels;
 use crate::message::Message;
@@ -23,6 +24,7 @@ pub struct EndedSender<N: Naming, M: Channels> {
     pub(crate) post: Post<N>,
     pub(crate) hand: Hand<N>,
     pub(crate) sent: u64,
+    pub(crate) gone: bool,
     pub(crate) of: PhantomData<M>,
 }
 
@@ -40,6 +42,7 @@ impl<N: Naming, M: Channels> Model for EndedSender<N, M> {
       resolver = e.resolver;
       proxy = e.proxy;
       put = (known e.hand).put;
+      gone = e.gone;
     } };
 
     ghost invariant = { λ e. (e.proxy < N.cells.config.proxies)
@@ -63,7 +66,7 @@ impl<N: Naming, M: Channels> EndedSender<N, M> {
         requires pass { IsSeatAt (sends_on post) hand }
         requires sender { ((known hand).sends ≡ true) × ((known hand).from ≡ proxy) }
         requires empty { (known hand).put ≡ [] }
-        ensures { result ≡ record { resolver = resolver; proxy = proxy; put = [] } }
+        ensures { result ≡ fresh_sender proxy resolver }
     {
         EndedSender {
             resolver,
@@ -71,6 +74,7 @@ impl<N: Naming, M: Channels> EndedSender<N, M> {
             post,
             hand,
             sent: 0,
+            gone: false,
             of: PhantomData,
         }
     }
@@ -90,20 +94,30 @@ impl<N: Naming, M: Channels> EndedSender<N, M> {
         self.proxy
     }
 
+    /// Whether a send was refused, since the worker's end was gone.
+    pub fn gone(&self) -> bool
+        ensures { result ≡ self.now.gone }
+    {
+        self.gone
+    }
+
     /// Sends a message of the proxy, and waits while the inbox is full. If the worker's end is
     /// gone, the message comes back, and nothing was sent.
-    pub fn send<R: Wait>(&mut self, rt: &R, message: Message<N>) -> Result<(), Message<N>>
+    pub(crate) fn send<R: Wait>(&mut self, rt: &R, message: Message<N>) -> Result<(), Message<N>>
         requires { message.proxy ≡ self.old.proxy }
-        ensures sent { IfOk result (λ _. self.new
-            ≡ record self.old { put = self.old.put ++ message ∷ [] }) }
-        ensures refused { IfErr result (λ back. (back ≡ message) × (self.new ≡ self.old)) }
+        ensures sent { IfOk result (λ _. self.new ≡ with_sent message self.old) }
+        ensures refused { IfErr result (λ back.
+            (back ≡ message) × (self.new ≡ with_gone self.old)) }
     {
         match send(rt, &self.post, &mut self.hand, message) {
             Ok(()) => {
                 self.sent = self.sent.saturating_add(1);
                 Ok(())
             }
-            Err(back) => Err(back),
+            Err(back) => {
+                self.gone = true;
+                Err(back)
+            }
         }
     }
 }

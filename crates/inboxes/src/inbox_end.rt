@@ -54,7 +54,7 @@ impl<N: Naming, M: Channels> InboxEnd<N, M> {
     }
 
     /// Takes the message at the front of the inbox, and waits while there is none. Fails, and takes
-    /// nothing, if no sending end is left (that it then fails is tested alone).
+    /// nothing, if no sending end is left (no clause says when it fails).
     pub fn take<R: Wait>(&mut self, rt: &R) -> Result<Message<N>, RecvError>
         ensures taken { IfOk result (λ message. self.new
             ≡ record self.old { got = self.old.got ++ message ∷ [] }) }

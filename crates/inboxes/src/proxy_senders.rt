@@ -1,7 +1,10 @@
 //! The sending ends of one proxy.
 
-ghost use Rattle.std.specs.Prelude.{◌≡◌, ◌<◌, IfErr};
+ghost use Rattle.std.specs.Prelude.{◌≡◌, ◌<◌, length, IfErr, IfOk};
 ghost use Rattle.inboxes.specs.Ends.{AreSenders, ProxyView};
+ghost use Rattle.inboxes.specs.Sending.{AreEndedSenders, AreOpen, AreSent, ChangesEnd, IsFor};
+ghost use Rattle.inboxes.specs.Sending.{with_gone, with_sent};
+ghost use Rattle.inboxes.specs.Tags.{end_tag};
 
 use crate::channels::Channels;
 use crate::ended_sender::EndedSender;
@@ -11,7 +14,8 @@ use model::{ProxyNumber, ResolverNumber};
 use std::marker::Model;
 use std::sync::Wait;
 
-/// The sending ends of one proxy: one for each resolver, in order.
+/// The sending ends of one proxy: one for each resolver, in order. Its last message was sent through
+/// none of them.
 #[derive(Drop)]
 pub struct ProxySenders<N: Naming, M: Channels> {
     proxy: ProxyNumber,
@@ -19,21 +23,23 @@ pub struct ProxySenders<N: Naming, M: Channels> {
 }
 
 impl<N: Naming, M: Channels> Model for ProxySenders<N, M> {
-    ghost use Rattle.std.specs.Prelude.{length};
     ghost use Rattle.inboxes.specs.Ends.{AreSenders, ProxyView};
+    ghost use Rattle.inboxes.specs.Sending.{AreOpen};
 
     ghost Value = { ProxyView };
 
-    ghost view = { λ s. record { proxy = s.proxy; ends = length s.ends.items } };
+    ghost view = { λ s. record { proxy = s.proxy; ends = s.ends.items } };
 
-    ghost invariant = { λ s. AreSenders s.proxy N.cells.config.resolvers s.ends.items };
+    ghost invariant = { λ s. AreSenders s.proxy N.cells.config.resolvers s.ends.items
+        × AreOpen s.ends.items };
 }
 
 impl<N: Naming, M: Channels> ProxySenders<N, M> {
     /// The proxy's ends, one for each resolver.
     pub(crate) fn new(proxy: ProxyNumber, ends: Vec<EndedSender<N, M>>) -> ProxySenders<N, M>
-        requires { AreSenders proxy N.cells.config.resolvers ends.items }
-        ensures { result ≡ record { proxy = proxy; ends = N.cells.config.resolvers } }
+        requires senders { AreSenders proxy N.cells.config.resolvers ends.items }
+        requires not_ended { AreOpen ends.items }
+        ensures { result ≡ record { proxy = proxy; ends = ends.items } }
     {
         ProxySenders { proxy, ends }
     }
@@ -47,33 +53,57 @@ impl<N: Naming, M: Channels> ProxySenders<N, M> {
 
     /// How many ends there are: as many as resolvers.
     pub fn ends(&self) -> usize
-        ensures value { result ≡ self.now.ends }
+        ensures value { result ≡ length self.now.ends }
         ensures all { result ≡ N.cells.config.resolvers }
     {
         self.ends.len()
     }
 
-    /// Sends a message of the proxy to a resolver, and waits while its inbox is full. If the
-    /// worker's end is gone, the message comes back, and nothing was sent. (By the type that a lock
-    /// keeps, no contract says what was sent; the counts of the ends do.)
+    /// Sends a message of the proxy to a resolver, and waits while its inbox is full: a request to
+    /// that resolver, or a Close. If the worker's end is gone, the message comes back, and nothing
+    /// was sent.
     pub fn send<R: Wait>(
         &mut self,
         rt: &R,
         resolver: ResolverNumber,
         message: Message<N>,
     ) -> Result<(), Message<N>>
-        requires resolver { resolver < self.old.ends }
+        requires resolver { resolver < length self.old.ends }
         requires mine { message.proxy ≡ self.old.proxy }
-        ensures same { self.new ≡ self.old }
-        ensures refused { IfErr result (λ back. back ≡ message) }
+        requires to_it { IsFor resolver message }
+        ensures sent { IfOk result (λ _.
+            ChangesEnd resolver (with_sent message) self.old self.new) }
+        ensures refused { IfErr result (λ back. (back ≡ message)
+            × ChangesEnd resolver with_gone self.old self.new) }
     {
         self.ends[resolver].send(rt, message)
     }
 
-    /// The ends, one for each resolver, in order.
-    pub fn into_ends(self) -> Vec<EndedSender<N, M>>
-        ensures { AreSenders self.proxy N.cells.config.resolvers result.items }
+    /// Sends the last message of the proxy to each resolver, and waits while an inbox is full.
+    /// Returns the ends, in the order of the resolvers, through which nothing more can be sent.
+    /// Allocates nothing.
+    pub fn into_ended<R: Wait>(self, rt: &R) -> Vec<EndedSender<N, M>>
+        ensures senders { AreSenders self.proxy N.cells.config.resolvers result.items }
+        ensures sent { AreSent (end_tag self.proxy) self.ends result.items }
+        ensures ended { AreEndedSenders self.proxy result.items }
     {
-        self.ends
+        let ProxySenders { proxy, ends } = self;
+        let mut ends = ends;
+        send_ends(rt, proxy, &mut ends);
+        ends
+    }
+}
+
+/// Sends the last message of the proxy through each of its ends.
+fn send_ends<N: Naming, M: Channels, R: Wait>(
+    rt: &R,
+    proxy: ProxyNumber,
+    ends: &mut Vec<EndedSender<N, M>>,
+)
+    requires { AreSenders proxy (length ends.old.items) ends.old.items }
+    ensures { AreSent (end_tag proxy) ends.old.items ends.new.items }
+{
+    for resolver in 0..ends.len() {
+        let _sent = ends[resolver].send(rt, Message::end(proxy));
     }
 }

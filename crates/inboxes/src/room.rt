@@ -29,8 +29,8 @@ impl<N: Naming, M: Channels> Model for SenderRoom<N, M> {
         × (N.cells.config.resolvers ≤ vec_capacity r.ends) };
 }
 
-/// Room for what [`named`](crate::BlankInboxes::named) returns: made before it, so that it needs no
-/// memory.
+/// Room for what [`named`](crate::BlankInboxes::named) returns: made before it, so that it
+/// allocates nothing.
 #[derive(Drop)]
 pub struct InboxRoom<N: Naming, M: Channels> {
     pub(crate) rooms: Vec<SenderRoom<N, M>>,

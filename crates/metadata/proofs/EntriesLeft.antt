@@ -72,7 +72,7 @@ without_kept_in_order keys old new fine is =
     left : Entry → Bool
     left row = not (is_listed keys row.0)
 
-value_kept : (rows : Entries) (key : Key) → ((row : Entry) → Has rows row → is_kept row.0 ≡ true) → has_entry rows key ≡ true → is_kept key ≡ true
+pub value_kept : (rows : Entries) (key : Key) → ((row : Entry) → Has rows row → is_kept row.0 ≡ true) → has_entry rows key ≡ true → is_kept key ≡ true
 value_kept [] key all has = absurd (cc)
 value_kept (row ∷ rows) key all has = by (is_same_key key row.0) refl has (value_kept rows key (λ r there. all r (inr there)))
   where

@@ -57,7 +57,7 @@ turned a b h = nat_list_cmp_total.antisymm b a ∙ ap ordering_reverse h
 
 -- ---- entries with the same value at each key
 
-first_value : (row : Entry) (rows : Entries) → entry_value (row ∷ rows) row.0 ≡ Some row.1
+pub first_value : (row : Entry) (rows : Entries) → entry_value (row ∷ rows) row.0 ≡ Some row.1
 first_value row rows = rw (same_itself row.0) refl
 
 -- an entry before all others is not among them

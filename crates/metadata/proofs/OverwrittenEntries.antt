@@ -98,7 +98,7 @@ are_clearing changes key = list_any (λ (change : Change). clears change key) ch
 abbrev pub IsOver : (key : Key) (cleared : Bool) (puts old now : Entries) → Type 0
 IsOver key cleared puts old now = entry_value now key ≡ option_or (entry_value puts key) (if cleared then None else entry_value old key)
 
-over_change : (change : Change) (key : Key) (cleared : Bool) (puts old now : Entries) → IsOver key cleared puts old now → IsOver key (cleared || clears change key) (after_change puts change) old (after_change now change)
+pub over_change : (change : Change) (key : Key) (cleared : Bool) (puts old now : Entries) → IsOver key cleared puts old now → IsOver key (cleared || clears change key) (after_change puts change) old (after_change now change)
 over_change (Set k value) key cleared puts old now is = by (is_kept k) cleared is
   where
     set : (s : Bool) (put was before : Option (List ℕ)) → was ≡ option_or put before → (if s then Some value else was) ≡ option_or (if s then Some value else put) before
@@ -152,7 +152,7 @@ listed_cleared old (change ∷ changes) key =
     join true false false = refl
     join false b h = refl
 
-cleared_or_none : (t : Bool) (was : Option (List ℕ)) → (if t && is_some was then None else was) ≡ (if t then None else was)
+pub cleared_or_none : (t : Bool) (was : Option (List ℕ)) → (if t && is_some was then None else was) ≡ (if t then None else was)
 cleared_or_none true None = refl
 cleared_or_none true (Some value) = refl
 cleared_or_none false was = refl

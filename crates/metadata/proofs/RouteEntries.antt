@@ -1,5 +1,5 @@
 -- The route of a keyServers entry by its own value is its route, since the entry itself is the greatest at or before its key.
-use Rattle.std.proofs.Common.{◌≡◌, refl, sym, ap, ◌∙◌, List, [], ◌∷◌, ◌++◌, append-nil, map, flat_map, Bool, true, false, cond, Option, Some, option_to_list, filter, not, inl, inr}
+use Rattle.std.proofs.Common.{◌≡◌, refl, sym, ap, ◌∙◌, List, [], ◌∷◌, ◌++◌, append-nil, append_assoc, map, flat_map, Bool, true, false, cond, Option, Some, option_to_list, filter, not, inl, inr}
 use Rattle.system_keys.specs.declared.tag.Tag.{Tag}
 use Rattle.model.specs.declared.routing.Route.{Route}
 use Rattle.model.specs.Metadata.{Entry, Entries, IsInOrder, key_servers_entries, is_key_servers, behind_prefix, serving_entry, entry_tags, sorted_tags, tags, route_of}
@@ -14,7 +14,7 @@ serves_itself : (rows : Entries) (row : Entry) → IsInOrder rows → Has rows r
 serves_itself rows row s has =
     from_serves rows row.0 row s (record { there = Contains-from_Has rows row has; up_to = up_to_is row.0 row.0 ∙ ap not (not_below_itself row.0); greatest = λ other there up. up })
 
-same_route : (rows : Entries) (row : Entry) → IsInOrder rows → Has (key_servers_entries rows) row → own_route rows row ≡ route_of rows row
+pub same_route : (rows : Entries) (row : Entry) → IsInOrder rows → Has (key_servers_entries rows) row → own_route rows row ≡ route_of rows row
 unfolding tags
 same_route rows row s has =
     let served : serving_entry (key_servers_entries rows) row.0 ≡ Some row = serves_itself (key_servers_entries rows) row (key_servers_in_order rows s) has in
@@ -40,3 +40,11 @@ next_route all row rows = by (is_key_servers row)
     by : (t : Bool) → map (own_route all) (map behind_prefix (cond t (row ∷ []) [])) ++ own_routes all rows ≡ map (own_route all) (map behind_prefix (cond t (row ∷ filter is_key_servers rows) (filter is_key_servers rows)))
     by true = refl
     by false = refl
+
+-- a loop over entries, which adds the route of each
+pub routes_next : (all : Entries) (row : Entry) (rest : Entries) (before after total : List Route) → after ≡ before ++ own_routes all (row ∷ []) → before ++ own_routes all (row ∷ rest) ≡ total → after ++ own_routes all rest ≡ total
+routes_next all row rest before after total added so_far =
+    ap (λ (routes : List Route). routes ++ own_routes all rest) added
+    ∙ append_assoc before (own_routes all (row ∷ [])) (own_routes all rest)
+    ∙ ap (λ (routes : List Route). before ++ routes) (next_route all row rest)
+    ∙ so_far

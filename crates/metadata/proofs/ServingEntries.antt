@@ -201,7 +201,7 @@ tags_left all rows hidden es range is are =
     ∙ ap (λ (entries : Entries). flat_map (entry_tags all) (filter (is_entry_inside range) (key_servers_entries entries))) are
 
 -- one entry more of those that are not hidden
-pub tags_shown : (all rest : Entries) (hidden : List Key) (entry : Entry) (before now total : List Tag) → is_listed hidden entry.0 ≡ false → now ≡ added before (flat_map (server_tags all) (servers_of entry.1))
+pub tags_shown : (all rest : Entries) (hidden : List Key) (entry : Entry) (before now total : List Tag) → is_listed hidden entry.0 ≡ false → now ≡ added before (entry_tags all entry)
     → added before (flat_map (entry_tags all) (filter (is_left hidden) (entry ∷ rest))) ≡ total → added now (flat_map (entry_tags all) (filter (is_left hidden) rest)) ≡ total
 unfolding entry_tags
 tags_shown all rest hidden entry before now total shows is so_far =
@@ -216,6 +216,15 @@ pub tags_hidden : (all rest : Entries) (hidden : List Key) (entry : Entry) (tags
 tags_hidden all rest hidden entry tags total hides so_far =
     let here : filter (is_left hidden) (entry ∷ rest) ≡ filter (is_left hidden) rest = rw hides refl in
     ap (λ (rows : Entries). added tags (flat_map (entry_tags all) rows)) (sym here) ∙ so_far
+
+-- one entry more, hidden or not
+pub inside_next : (all rest : Entries) (hidden : List Key) (entry : Entry) (before now total : List Tag) → (is_listed hidden entry.0 ≡ true → now ≡ before) → (is_listed hidden entry.0 ≡ false → now ≡ added before (entry_tags all entry))
+    → added before (flat_map (entry_tags all) (filter (is_left hidden) (entry ∷ rest))) ≡ total → added now (flat_map (entry_tags all) (filter (is_left hidden) rest)) ≡ total
+inside_next all rest hidden entry before now total hides shows so_far = by (is_listed hidden entry.0) refl
+  where
+    by : (t : Bool) → is_listed hidden entry.0 ≡ t → added now (flat_map (entry_tags all) (filter (is_left hidden) rest)) ≡ total
+    by true e = ap (λ (tags : List Tag). added tags (flat_map (entry_tags all) (filter (is_left hidden) rest))) (hides e) ∙ tags_hidden all rest hidden entry before total e so_far
+    by false e = tags_shown all rest hidden entry before now total e (shows e) so_far
 
 -- the keys of the keyServers entries at the ends of a range without a fault are in order
 pub ends_forward : (begin end : Vec ℕ) (range : Range) → begin.items ≡ key_servers_family.prefix ++ range.begin → end.items ≡ key_servers_family.prefix ++ range.end → range_fault range.begin range.end ≡ None → vec_cmp begin end ≡ Less

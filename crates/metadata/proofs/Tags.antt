@@ -1,5 +1,6 @@
 -- Tags that are added one list after another.
-use Rattle.std.proofs.Common.{◌≡◌, refl, sym, ap, ◌∙◌, ℕ, List, [], ◌∷◌, ◌++◌, fold, flat_map, get_or, drop, add-one, ◌<◌, ◌+◌, length, append_assoc}
+use Rattle.std.proofs.Common.{◌≡◌, refl, sym, ap, ◌∙◌, ℕ, List, [], ◌∷◌, ◌++◌, fold, flat_map, get_or, drop, add-one, ◌<◌, ◌+◌, length, append_assoc, Bool, ◌||◌}
+use Rattle.std.specs.List.{list_any}
 use Rattle.std.specs.BTreeSet.{insert_key}
 use Rattle.std.proofs.lemmas.List.Sums.{fold-append}
 use Rattle.std.proofs.Math.Seq.{drop-cons}
@@ -41,3 +42,15 @@ rising_both f first more made between now none then is =
     ∙ ap (λ (tags : List Tag). added tags (flat_map f more)) (rising_from made between (flat_map f first) none then)
     ∙ added_both [] (flat_map f first) (flat_map f more)
     ∙ ap sorted_tags (both_lists f first more)
+
+-- a loop over tags, which adds each
+pub next_tag : (xs : List Tag) (d : Tag) (i : ℕ) (before now all : List Tag) → i < length xs → now ≡ insert_key tag_cmp before (get_or xs i d) → added before (drop i xs) ≡ all → added now (drop (i + 1) xs) ≡ all
+next_tag xs d i before now all within is so_far =
+    let split : drop i xs ≡ get_or xs i d ∷ drop (i + 1) xs = rw (add-one, drop-cons xs i d) in
+    ap (λ (tags : List Tag). added tags (drop (i + 1) xs)) is ∙ ap (added before) (sym split) ∙ so_far
+
+-- a loop over a list, which looks for an element that passes
+pub any_next : {X : Type 0} (f : X → Bool) (xs : List X) (d : X) (i : ℕ) (total : Bool) → i < length xs → list_any f (drop i xs) ≡ total → (f (get_or xs i d) || list_any f (drop (i + 1) xs)) ≡ total
+any_next {X = X} f xs d i total within is =
+    let split : drop i xs ≡ get_or xs i d ∷ drop (i + 1) xs = rw (add-one, drop-cons xs i d) in
+    ap (list_any f) (sym split) ∙ is

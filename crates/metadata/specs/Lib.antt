@@ -6,5 +6,9 @@ pub mod MapEntries
 pub mod Overwrites
 -- the routes of entries, by the servers that they name themselves
 pub mod OwnRoutes
+-- the tags that are kept beside the entries
+pub mod CachedTags
+-- the entries of a map to tags, as the tags at each key
+pub mod TagEntries
 -- rows that are being applied, and can be taken back
 pub mod Started

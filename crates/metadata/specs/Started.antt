@@ -1,30 +1,36 @@
 -- Rows of a journal that are being applied to a metadata, and can be taken back until all is done.
-use Rattle.std.specs.Prelude.{◌≡◌, List, Bool, fold}
+use Rattle.std.specs.Prelude.{◌≡◌, List, Bool, false, fold}
 use Rattle.system_keys.specs.Keys.{Key}
 use Rattle.model.specs.declared.journal.JournalRow.{JournalRow}
-use Rattle.model.specs.Metadata.{Entries, IsInOrder, AreKept, after_journal_row}
+use Rattle.model.specs.Metadata.{Entries, IsInOrder, AreKept, entry_value}
+use Rattle.model.specs.Metadata.{after_journal_row}
 use Rattle.metadata.specs.Overwrites.{TakesBack, entries_without}
+use Rattle.metadata.specs.CachedTags.{KeyTags, TagsTakeBack, may_tag_some}
 
 -- the metadata after some rows of the journal, one after another
 abbrev pub after_rows : Entries → List JournalRow → Entries
 after_rows entries rows = fold after_journal_row entries rows
 
 -- What contracts see of rows that were started: the keys whose entries are still to be removed; the
--- keys at which an entry was put and there was none; the entries that were displaced by others; and
--- the lock before the last row.
+-- keys at which an entry was put and there was none; the entries that were displaced by others; the
+-- tags that were displaced; and the lock before the last row.
 pub record Started : Type 0 where
   pub removed : List Key
   pub missing : List Key
   pub displaced : Entries
+  pub tags : List KeyTags
   pub locked : Bool
 
 -- The metadata is `now` because rows were started. It was `before`, and what takes back the entries
--- that were put gives that again; without those that are still to be removed it is `after`.
+-- that were put gives that again; without those that are still to be removed it is `after`. None of
+-- these gives a server a tag, so the tags kept for the rows are already those after.
 pub record IsStarted (started : Started) (before after now : Entries) : Type 0 where
   pub left : entries_without started.removed now ≡ after
   pub takes : TakesBack started.missing started.displaced before now
   pub order : IsInOrder before
   pub kept : AreKept before
+  pub tags : TagsTakeBack started.tags (entry_value before) (entry_value now)
+  pub blank : may_tag_some now started.removed ≡ false
 
 -- the metadata is as it is because these rows were started, whatever it was before
 pub record HasStarted (started : Started) (now : Entries) : Type 0 where

@@ -15,6 +15,7 @@ ghost use Rattle.metadata.specs.MapEntries.{is_serving_up_to, is_serving_inside}
 ghost use Rattle.metadata.specs.Overwrites.{is_same_key, is_listed, has_entry, missing_keys};
 ghost use Rattle.metadata.specs.Overwrites.{IsOverwritten, IsPutOver, TakesBack, AreDisplaced};
 ghost use Rattle.metadata.specs.Overwrites.{entries_without};
+ghost use Rattle.metadata.specs.CachedTags.{may_tag, may_tag_some};
 
 use crate::key_set::KeySet;
 use std::alloc::Global;
@@ -22,7 +23,7 @@ use std::collections::BTreeMap;
 use std::collections::btree_map::{Iter, Range};
 use std::marker::Model;
 use std::ops::Bound;
-use system_keys::{Bytes, KEY_SERVERS_PREFIX, KeyRange, OutOfMemory};
+use system_keys::{Bytes, KEY_SERVERS_PREFIX, KeyRange, OutOfMemory, SERVER_TAG_PREFIX};
 
 /// An ordered map from keys to values. Contracts see the list of its entries, in the order of
 /// their keys.
@@ -139,6 +140,31 @@ impl EntryMap {
     {
         if kept.get(key).is_none() {
             self.remove_key(key);
+        }
+    }
+
+    /// Whether the entry at one of the keys may give a server a tag: it is a serverTag entry, and
+    /// its value is not empty. Does not allocate.
+    pub(crate) fn may_tag_some(&self, keys: &KeySet) -> bool
+        ensures { result ≡ may_tag_some self.now keys.now }
+    {
+        for key in keys.iter() {
+            if self.may_tag(key.as_slice()) {
+                return true;
+            }
+        }
+        false
+    }
+
+    fn may_tag(&self, key: &[u8]) -> bool
+        ensures { result ≡ may_tag self.now key.now }
+    {
+        if !key.starts_with(SERVER_TAG_PREFIX) {
+            return false;
+        }
+        match self.get(key) {
+            Some(value) => !value.is_empty(),
+            None => false,
         }
     }
 
@@ -310,8 +336,9 @@ impl EntryMap {
         &'a self,
         key: &[u8],
     ) -> Result<Range<'a, Vec<u8>, Bytes>, OutOfMemory>
-        ensures { IfOk result (λ found. entries_of found
+        ensures found { IfOk result (λ found. entries_of found
             ≡ filter (is_serving_up_to key.now) self.now) }
+        ensures order { IsInOrder self.now }
     {
         let least = key_servers_key(self.alloc, b"")?;
         let greatest = key_servers_key(self.alloc, key)?;
@@ -325,8 +352,9 @@ impl EntryMap {
         &'a self,
         range: &KeyRange,
     ) -> Result<Range<'a, Vec<u8>, Bytes>, OutOfMemory>
-        ensures { IfOk result (λ found. entries_of found
+        ensures found { IfOk result (λ found. entries_of found
             ≡ filter (is_serving_inside range.now) self.now) }
+        ensures order { IsInOrder self.now }
     {
         let begin = key_servers_key(self.alloc, range.begin())?;
         let end = key_servers_key(self.alloc, range.end())?;

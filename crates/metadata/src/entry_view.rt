@@ -1,39 +1,51 @@
-//! The entries of a map without those at some keys, as they are looked up.
+//! The entries of a metadata without those at some keys, as they are looked up.
 
-ghost use Rattle.std.specs.Prelude.{◌≡◌, [], IfOk, option_map};
+ghost use Rattle.std.specs.Prelude.{◌≡◌, IfOk, option_map};
 ghost use Rattle.model.specs.Metadata.{entry_value, serving_entry, key_servers_entries};
+ghost use Rattle.metadata.specs.CachedTags.{AreTags, tags_at, tags_by};
 ghost use Rattle.metadata.specs.Overwrites.{entries_without};
 
 use crate::entry_map::EntryMap;
 use crate::key_set::KeySet;
+use crate::tag_map::TagMap;
 use std::alloc::Global;
 use std::marker::Model;
-use system_keys::OutOfMemory;
+use system_keys::{OutOfMemory, Tag};
 
-/// The entries of a metadata, except for those at hidden keys. Contracts see the list of the entries
-/// that are not hidden, in the order of their keys.
+/// The entries of a metadata, except for those at hidden keys. Contracts see the list of the
+/// entries that are not hidden, in the order of their keys.
 #[derive(Drop)]
 pub struct EntryView<'a> {
     pub(crate) entries: &'a EntryMap,
+    pub(crate) tags: &'a TagMap,
     pub(crate) hidden: &'a KeySet,
 }
 
 impl<'a> Model for EntryView<'a> {
-    ghost use Rattle.model.specs.Metadata.{Entries};
+    ghost use Rattle.model.specs.Metadata.{Entries, entry_value};
+    ghost use Rattle.metadata.specs.CachedTags.{AreTags, tags_at};
     ghost use Rattle.metadata.specs.Overwrites.{entries_without};
 
     ghost Value = { Entries };
 
     ghost view = { λ v. entries_without v.hidden.now v.entries.now };
+
+    ghost invariant = { λ v. AreTags (tags_at v.tags.now) (entry_value (entries_without v.hidden.now v.entries.now)) };
 }
 
 impl<'a> EntryView<'a> {
-    /// The entries of the map, except for those at hidden keys. Does not allocate.
-    pub(crate) fn new(entries: &'a EntryMap, hidden: &'a KeySet) -> EntryView<'a>
-        ensures left { result ≡ entries_without hidden.now entries.now }
-        ensures whole { hidden.now ≡ [] → result ≡ entries.now }
+    /// The entries of the map, except for those at hidden keys, with the tags kept for them. Does
+    /// not allocate.
+    pub(crate) fn new(entries: &'a EntryMap, tags: &'a TagMap, hidden: &'a KeySet) -> EntryView<'a>
+        requires { AreTags (tags_at tags.now)
+            (entry_value (entries_without hidden.now entries.now)) }
+        ensures { result ≡ entries_without hidden.now entries.now }
     {
-        EntryView { entries, hidden }
+        EntryView {
+            entries,
+            tags,
+            hidden,
+        }
     }
 
     /// The allocator of the map.
@@ -41,27 +53,18 @@ impl<'a> EntryView<'a> {
         self.entries.alloc()
     }
 
-    /// The value at a key. Does not allocate.
-    pub(crate) fn get(&self, key: &[u8]) -> Option<&'a [u8]>
-        ensures { option_map (λ value. value.now) result ≡ entry_value self.now key.now }
-    {
-        if self.hidden.contains(key) {
-            return None;
-        }
-        self.entries.get(key)
-    }
-
-    /// The value of the keyServers entry that serves a key: the greatest one at or before it
+    /// The tags kept for the keyServers entry that serves a key: the greatest one at or before it
     /// (release 7.1). Takes a step for each hidden entry between that one and the key. Fails only
     /// with `OutOfMemory`.
-    pub(crate) fn serving_value(&self, key: &[u8]) -> Result<Option<&'a [u8]>, OutOfMemory>
-        ensures { IfOk result (λ value. option_map (λ value. value.now) value
-            ≡ option_map (λ entry. entry.1) (serving_entry (key_servers_entries self.now) key.now)) }
+    pub(crate) fn serving_tags(&self, key: &[u8]) -> Result<Option<&'a [Tag]>, OutOfMemory>
+        ensures { IfOk result (λ tags. option_map (λ tags. tags.now) tags
+            ≡ option_map (λ entry. tags_by (entry_value self.now) entry.1)
+            (serving_entry (key_servers_entries self.now) key.now)) }
     {
         let mut up_to = self.entries.serving_up_to(key)?;
-        while let Some((found, value)) = up_to.next_back() {
+        while let Some((found, _)) = up_to.next_back() {
             if !self.hidden.contains(found.as_slice()) {
-                return Ok(Some(value.as_slice()));
+                return Ok(self.tags.get(found.as_slice()));
             }
         }
         Ok(None)

@@ -7,13 +7,17 @@
 #![tactic(auto)]
 
 mod applying;
+mod changing;
 mod entry_map;
 mod entry_view;
+mod kept_entries;
 mod key_set;
 mod metadata;
 mod routes;
+mod server_tags;
 mod staged;
 mod started;
+mod tag_map;
 mod tagging;
 
 pub use entry_view::EntryView;

@@ -1,50 +1,56 @@
 //! The metadata that every commit proxy keeps the same.
 
-ghost use Rattle.std.specs.Prelude.{◌≡◌, ◌&&◌, [], false, IsOk, IfOk, OnOk, OnErr, None};
-ghost use Rattle.std.specs.Prelude.{option_map, fold, not, if◌then◌else◌};
+ghost use Rattle.std.specs.Prelude.{◌≡◌, ◌++◌, [], false, IsOk, IfOk, OnOk, OnErr};
+ghost use Rattle.std.specs.Prelude.{option_map, fold, slice_get};
 ghost use Rattle.std.specs.List.{list_any};
-ghost use Rattle.std.specs.Option.{option_or};
 ghost use Rattle.system_keys.specs.declared.change.Change.TheVariants.{Set, Clear};
 ghost use Rattle.system_keys.specs.Keys.{Key};
-ghost use Rattle.system_keys.specs.Families.{is_kept, metadata_version_family};
+ghost use Rattle.system_keys.specs.Families.{is_kept};
 ghost use Rattle.model.specs.Metadata.{IsInOrder, AreKept, entry_value, is_locked, after_change};
-ghost use Rattle.model.specs.Metadata.{after_changes, is_applied, after_state, after_journal_row};
-ghost use Rattle.model.specs.Metadata.{Entries, is_filled, routing, tags, tags_of_key};
-ghost use Rattle.model.specs.Transactions.{locked_key};
-ghost use Rattle.metadata.specs.Overwrites.{IsOverwritten, IsPutOver, MayTakeBack, TakesBack};
-ghost use Rattle.metadata.specs.Overwrites.{entries_without, has_entry, is_listed};
+ghost use Rattle.model.specs.Metadata.{is_applied, after_journal_row, key_servers_entries};
+ghost use Rattle.model.specs.Metadata.{Entries, routing, tags, tags_of_key};
+ghost use Rattle.metadata.specs.CachedTags.{TagsTakeBack, may_tag_some};
+ghost use Rattle.metadata.specs.Overwrites.{IsOverwritten, IsPutOver, TakesBack};
+ghost use Rattle.metadata.specs.Overwrites.{entries_without};
 ghost use Rattle.metadata.specs.Started.{after_rows, IsStarted, HasStarted};
 
-use crate::applying::{any_applied, cleared_keys, is_applied, only_change};
-use crate::entry_map::{EntryMap, Undo};
+use crate::applying::{any_applied, only_change};
+use crate::changing::changed_tags;
+use crate::entry_map::EntryMap;
 use crate::entry_view::EntryView;
+use crate::kept_entries::KeptEntries;
 use crate::key_set::KeySet;
 use crate::routes::routes;
 use crate::staged::Staged;
-use crate::started::StartedRows;
+use crate::started::{Put, StartedRows};
+use crate::tag_map::TagMap;
 use crate::tagging::{tags_of, tags_of_key};
-use model::{JournalRow, Routing, StateTxn, Version};
+use model::{JournalRow, Routing, Version};
 use std::alloc::Global;
 use std::marker::Model;
-use system_keys::{
-    Bytes, Change, Items, KeyRange, LOCKED_KEY, METADATA_VERSION_KEY, OutOfMemory, Tag, is_kept,
-};
+use system_keys::{Bytes, Change, Items, KEY_SERVERS_PREFIX, KeyRange, OutOfMemory, Tag, is_kept};
 
 /// The kept entries in the order of their keys: which storage servers have which keys, their tags,
-/// the lock, and the version of the metadata (release 7.1).
+/// the lock, and the version of the metadata (release 7.1); and the tags of each keyServers entry.
 #[derive(Drop)]
 pub struct Metadata {
-    entries: EntryMap,
+    entries: KeptEntries,
+    /// The tags of each keyServers entry at its key, and at other keys any.
+    tags: TagMap,
+    /// The empty set of hidden keys.
+    none: KeySet,
 }
 
 impl Model for Metadata {
-    ghost use Rattle.model.specs.Metadata.{Entries, IsInOrder, AreKept};
+    ghost use Rattle.std.specs.Prelude.{◌≡◌, []};
+    ghost use Rattle.model.specs.Metadata.{Entries, entry_value};
+    ghost use Rattle.metadata.specs.CachedTags.{AreTags, tags_at};
 
     ghost Value = { Entries };
 
     ghost view = { λ m. m.entries };
 
-    ghost invariant = { λ m. IsInOrder m.entries × AreKept m.entries };
+    ghost invariant = { λ m. AreTags (tags_at m.tags) (entry_value m.entries) × (m.none ≡ []) };
 }
 
 impl Metadata {
@@ -53,8 +59,26 @@ impl Metadata {
         ensures { result ≡ [] }
     {
         Metadata {
-            entries: EntryMap::new(alloc),
+            entries: KeptEntries::new(alloc),
+            tags: TagMap::new(alloc),
+            none: KeySet::new(alloc),
         }
+    }
+
+    /// The entries, with the tags of each. Fails only with `OutOfMemory`.
+    fn of(entries: KeptEntries) -> Result<Metadata, OutOfMemory>
+        ensures { IfOk result (λ made. made ≡ entries) }
+    {
+        let alloc = entries.map().alloc();
+        let rows = changed_tags(entries.map(), &EntryMap::new(alloc))?;
+        let mut tags = TagMap::new(alloc);
+        tags.reserve(&rows)?;
+        tags.write(rows);
+        Ok(Metadata {
+            entries,
+            tags,
+            none: KeySet::new(alloc),
+        })
     }
 
     /// Applies a change: a Set puts its entry if the key is kept, a Clear removes the entries of
@@ -80,9 +104,12 @@ impl Metadata {
         ensures no_allocation { is_kept key.now ≡ false → IsOk result }
         ensures err { OnErr result (self.new ≡ self.old) }
     {
-        if is_kept(key) {
-            self.entries.put(key, value)?;
+        if !is_kept(key) {
+            return Ok(());
         }
+        let staged = self.entries.stage_set(key, value)?;
+        let started = self.start(staged, false)?;
+        self.finish_rows(started);
         Ok(())
     }
 
@@ -91,7 +118,9 @@ impl Metadata {
         ensures ok { OnOk result (self.new ≡ after_change self.old (Clear range.now)) }
         ensures err { OnErr result (self.new ≡ self.old) }
     {
-        self.entries.remove(range)?;
+        let staged = self.entries.stage_clear(range)?;
+        let started = self.start(staged, false)?;
+        self.finish_rows(started);
         Ok(())
     }
 
@@ -117,16 +146,14 @@ impl Metadata {
             self.apply(change)?;
             return Ok(());
         }
-        let mut puts = Metadata::new(self.entries.alloc());
-        puts.apply_states(locked, states)?;
-        let removed = cleared_keys(&self.entries, locked, states)?;
-        self.entries.overwrite(&removed, puts.entries)?;
+        let started = self.start_rows(&[], row)?;
+        self.finish_rows(started);
         Ok(())
     }
 
     /// Starts to apply the rows, in order, and then the last one: puts what they put. What they
     /// remove stays until [`Metadata::finish_rows`], and [`Metadata::entries_after`] hides it.
-    /// Instead [`Metadata::take_back_rows`] makes the metadata what it was; both cannot fail.
+    /// [`Metadata::take_back_rows`] undoes what was put; both cannot fail.
     ///
     /// Fails only with `OutOfMemory`; the metadata is then unchanged.
     pub fn start_rows(
@@ -140,16 +167,52 @@ impl Metadata {
             started.locked ≡ is_locked (after_rows self.old rows.now)) }
         ensures err { OnErr result (self.new ≡ self.old) }
     {
-        let mut staged = self.stage_rows(rows)?;
-        let locked = self.is_locked_after(&staged);
-        self.stage_row(last, &mut staged)?;
+        let mut staged = self.entries.stage_rows(rows)?;
+        let locked = self.entries.is_locked_after(&staged);
+        self.entries.stage_row(last, &mut staged)?;
+        self.start(staged, locked)
+    }
+
+    /// Starts to change what is staged: puts what is put, and over the serverTag entries that are
+    /// to be removed an empty value, which gives no tag. Fails only with `OutOfMemory`; the metadata
+    /// is then unchanged.
+    fn start(&mut self, staged: Staged, locked: bool) -> Result<StartedRows, OutOfMemory>
+        ensures ok { IfOk result (λ started. (after : Entries) → IsInOrder after
+            → IsOverwritten staged.cleared staged.puts self.old after
+            → IsStarted started self.old after self.new) }
+        ensures locked { IfOk result (λ started. started.locked ≡ locked) }
+        ensures err { OnErr result (self.new ≡ self.old) }
+    {
         let removed = staged.removed()?;
-        let undo = self.put_over(staged.puts)?;
+        let mut puts = staged.puts;
+        puts.blank(&removed)?;
+        let put = self.put_over(puts)?;
         Ok(StartedRows {
             removed,
-            undo,
+            put,
             locked,
         })
+    }
+
+    /// Puts the entries over those of the metadata, and the tags that change. Fails only with
+    /// `OutOfMemory`; the metadata is then unchanged.
+    fn put_over(&mut self, puts: KeptEntries) -> Result<Put, OutOfMemory>
+        ensures ok { OnOk result (IsPutOver puts self.old self.new) }
+        ensures undo { IfOk result (λ put. TakesBack put.undo.0 put.undo.1 self.old self.new) }
+        ensures tags { IfOk result (λ put.
+            TagsTakeBack put.tags.items (entry_value self.old) (entry_value self.new)) }
+        ensures was_in_order { OnOk result (IsInOrder self.old) }
+        ensures was_kept { OnOk result (AreKept self.old) }
+        ensures order { OnOk result (IsInOrder self.new) }
+        ensures kept { OnOk result (AreKept self.new) }
+        ensures err { OnErr result (self.new ≡ self.old) }
+    {
+        let changed = changed_tags(puts.map(), self.entries.map())?;
+        let tags = self.tags.displaced_by(&changed)?;
+        self.tags.reserve(&changed)?;
+        let undo = self.entries.put_over(puts)?;
+        self.tags.write(changed);
+        Ok(Put { undo, tags })
     }
 
     /// The entries of the metadata after the rows that were started. Does not allocate.
@@ -157,7 +220,10 @@ impl Metadata {
         ensures { (before after : Entries)
             → IsStarted started.now before after self.now → result ≡ after }
     {
-        self.without(&started.removed)
+        if self.entries.map().may_tag_some(&started.removed) {
+            return self.whole();
+        }
+        EntryView::new(self.entries.map(), &self.tags, &started.removed)
     }
 
     /// Removes what the rows that were started remove: the metadata is then that after them. Does
@@ -166,6 +232,9 @@ impl Metadata {
         ensures { (before after : Entries)
             → IsStarted started before after self.old → self.new ≡ after }
     {
+        if self.entries.map().may_tag_some(&started.removed) {
+            return;
+        }
         self.remove_all(&started.removed);
     }
 
@@ -176,131 +245,34 @@ impl Metadata {
         ensures { (before after : Entries)
             → IsStarted started before after self.old → self.new ≡ before }
     {
-        self.take_back(started.undo);
+        self.entries.take_back(started.put.undo);
+        self.tags.write(started.put.tags);
     }
 
-    /// What the rows change, applied in order. Fails only with `OutOfMemory`.
-    fn stage_rows(&self, rows: &[JournalRow]) -> Result<Staged, OutOfMemory>
-        ensures { IfOk result (λ staged.
-            IsOverwritten staged.cleared staged.puts self.now (after_rows self.now rows.now)) }
-    {
-        let mut staged = Staged::new(self.entries.alloc());
-        for row in rows {
-            self.stage_row(row, &mut staged)?;
-        }
-        Ok(staged)
-    }
-
-    /// Adds what the row changes after the changes so far. Fails only with `OutOfMemory`.
-    fn stage_row(&self, row: &JournalRow, staged: &mut Staged) -> Result<(), OutOfMemory>
-        ensures { OnOk result ((now : Entries)
-            → IsOverwritten staged.old.cleared staged.old.puts self.now now
-            → IsOverwritten staged.new.cleared staged.new.puts self.now
-            (after_journal_row now row.now)) }
-    {
-        let states = row.states.as_slice();
-        let locked = self.is_locked_after(staged);
-        let cleared = cleared_keys(&self.entries, locked, states)?;
-        staged.cleared.insert_all(&cleared)?;
-        staged.puts.apply_states(locked, states)?;
-        Ok(())
-    }
-
-    /// Whether the database is locked after these changes of the metadata. Does not allocate.
-    fn is_locked_after(&self, staged: &Staged) -> bool
-        ensures value { result ≡ is_filled (option_or (entry_value staged.now.puts locked_key)
-            (if is_listed staged.now.cleared locked_key
-            then None else entry_value self.now locked_key)) }
-        ensures order { IsInOrder self.now }
-        ensures kept { AreKept self.now }
-    {
-        let own = self.row(LOCKED_KEY);
-        match staged.puts.row(LOCKED_KEY) {
-            Some(value) => !value.is_empty(),
-            None if staged.cleared.contains(LOCKED_KEY) => false,
-            None => match own {
-                Some(value) => !value.is_empty(),
-                None => false,
-            },
-        }
-    }
-
-    /// The keys of the set at which the metadata has no entry. Fails only with `OutOfMemory`.
-    pub(crate) fn keys_lacked(&self, keys: &KeySet) -> Result<KeySet, OutOfMemory>
-        ensures { IfOk result (λ lacked. (key : Key) → is_listed lacked key
-            ≡ (not (has_entry self.now key) && is_listed keys.now key)) }
-    {
-        self.entries.keys_lacked(keys)
-    }
-
-    /// Puts the entries over those of the metadata, and returns what takes them back. Fails only
-    /// with `OutOfMemory`; the metadata is then unchanged.
-    fn put_over(&mut self, puts: Metadata) -> Result<Undo, OutOfMemory>
-        ensures ok { OnOk result (IsPutOver puts self.old self.new) }
-        ensures undo { IfOk result (λ undo. TakesBack undo.0 undo.1 self.old self.new) }
-        ensures order { IsInOrder self.new }
-        ensures err { OnErr result (self.new ≡ self.old) }
-    {
-        let undo = self.entries.put_all(puts.entries)?;
-        Ok(undo)
-    }
-
-    /// Takes back entries that were put. Does not allocate.
-    fn take_back(&mut self, undo: Undo)
-        requires { MayTakeBack undo.0 undo.1 self.old }
-        ensures { (old : Entries) → IsInOrder old → TakesBack undo.0 undo.1 old self.old
-            → self.new ≡ old }
-    {
-        self.entries.take_back(undo);
-    }
-
-    /// Removes the entries at the keys of the set. Does not allocate.
+    /// Removes the entries at the keys of the set, if none of them gives a server a tag. Does not
+    /// allocate.
     fn remove_all(&mut self, keys: &KeySet)
+        requires { may_tag_some self.old keys.now ≡ false }
         ensures { self.new ≡ entries_without keys.now self.old }
     {
         self.entries.remove_all(keys);
+        self.tags.remove_all(keys);
     }
 
-    /// The entries, except for those at the keys of the set. Does not allocate.
-    fn without<'a>(&'a self, keys: &'a KeySet) -> EntryView<'a>
-        ensures left { result ≡ entries_without keys.now self.now }
-        ensures whole { keys.now ≡ [] → result ≡ self.now }
+    /// All entries. Does not allocate.
+    fn whole(&self) -> EntryView<'_>
+        ensures { result ≡ self.now }
     {
-        EntryView::new(&self.entries, keys)
+        EntryView::new(self.entries.map(), &self.tags, &self.none)
     }
 
     /// The metadata after the rows of the journal, applied in order without copying the metadata.
     ///
     /// Fails only with `OutOfMemory`; the metadata is then dropped.
-    pub fn fold_rows(mut self, rows: &[JournalRow]) -> Result<Metadata, OutOfMemory>
+    pub fn fold_rows(self, rows: &[JournalRow]) -> Result<Metadata, OutOfMemory>
         ensures { IfOk result (λ folded. folded ≡ fold after_journal_row self rows.now) }
     {
-        for row in rows {
-            self.apply_states(self.is_locked(), row.states.as_slice())?;
-        }
-        Ok(self)
-    }
-
-    /// Applies the transactions, if the lock permits them. Fails only with `OutOfMemory`; some of
-    /// their changes are then applied.
-    fn apply_states(&mut self, locked: bool, states: &[StateTxn]) -> Result<(), OutOfMemory>
-        ensures { OnOk result (self.new ≡ fold (after_state locked) self.old states.now) }
-    {
-        for transaction in states {
-            if is_applied(locked, transaction) {
-                self.apply_changes(transaction.mutations.as_slice())?;
-            }
-        }
-        Ok(())
-    }
-
-    fn apply_changes(&mut self, changes: &[Change]) -> Result<(), OutOfMemory>
-        ensures { OnOk result (self.new ≡ after_changes self.old changes.now) }
-    {
-        for change in changes {
-            self.apply(change)?;
-        }
-        Ok(())
+        Metadata::of(self.entries.fold_rows(rows)?)
     }
 
     /// The value of the entry at this key, if there is one. The entries are strictly increasing by
@@ -310,7 +282,7 @@ impl Metadata {
         ensures order { IsInOrder self.now }
         ensures kept { AreKept self.now }
     {
-        self.entries.get(key)
+        self.entries.row(key)
     }
 
     /// Whether the database is locked: the entry `\xff/dbLocked` is there, and its value is not
@@ -318,10 +290,7 @@ impl Metadata {
     pub fn is_locked(&self) -> bool
         ensures { result ≡ is_locked self.now }
     {
-        match self.row(LOCKED_KEY) {
-            Some(value) => !value.is_empty(),
-            None => false,
-        }
+        self.entries.is_locked()
     }
 
     /// The tags of a change: those of the servers in the keyServers entries that it touches,
@@ -333,8 +302,7 @@ impl Metadata {
     pub fn tags_of(&self, change: &Change) -> Result<Items<Tag>, OutOfMemory>
         ensures { IfOk result (λ found. found ≡ tags self.now change.now) }
     {
-        let none = KeySet::new(self.entries.alloc());
-        tags_of(&self.without(&none), change)
+        tags_of(&self.whole(), change)
     }
 
     /// The tags of a key, which may be any bytes: those of a Set of it.
@@ -343,8 +311,7 @@ impl Metadata {
     pub fn tags_of_key(&self, key: &[u8]) -> Result<Items<Tag>, OutOfMemory>
         ensures { IfOk result (λ found. found ≡ tags_of_key self.now key.now) }
     {
-        let none = KeySet::new(self.entries.alloc());
-        tags_of_key(&self.without(&none), key)
+        tags_of_key(&self.whole(), key)
     }
 
     /// The routing of the whole key space at this version: the lock, the version of the metadata,
@@ -357,30 +324,35 @@ impl Metadata {
         Ok(Routing {
             version,
             locked: self.is_locked(),
-            metadata_version: self.metadata_version()?,
-            routes: routes(&self.entries)?,
+            metadata_version: self.entries.metadata_version()?,
+            routes: routes(self.entries.map(), &self.tags)?,
         })
     }
 
-    fn metadata_version(&self) -> Result<Option<Bytes>, OutOfMemory>
-        ensures { IfOk result (λ value. value
-            ≡ entry_value self.now metadata_version_family.prefix) }
+    /// The tags kept for the keyServers entry at this place, in the order of keys and counted from
+    /// 0: those of a Set of the key that follows the prefix of its key. None exactly if there are
+    /// no more than `place` keyServers entries. Does not allocate; takes a step for each entry before.
+    pub fn cached(&self, place: usize) -> Option<&[Tag]>
+        ensures { option_map (λ tags. tags.now) result
+            ≡ option_map (λ entry. tags_of_key self.now entry.0)
+            (slice_get (key_servers_entries self.now) place) }
     {
-        match self.row(METADATA_VERSION_KEY) {
-            Some(value) => {
-                let value = Vec::from_slice(self.entries.alloc(), value)?;
-                Ok(Some(Bytes::from(value)))
+        let mut before = place;
+        for (key, _) in self.entries.map().iter() {
+            if key.as_slice().starts_with(KEY_SERVERS_PREFIX) {
+                if before == 0 {
+                    return self.tags.get(key.as_slice());
+                }
+                before -= 1;
             }
-            None => Ok(None),
         }
+        None
     }
 
     /// Returns a deep copy. Fails only with `OutOfMemory`.
     pub fn copy(&self) -> Result<Metadata, OutOfMemory>
         ensures { IfOk result (λ copy. copy ≡ self.now) }
     {
-        Ok(Metadata {
-            entries: self.entries.copy()?,
-        })
+        Metadata::of(self.entries.copy()?)
     }
 }

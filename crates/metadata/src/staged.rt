@@ -4,8 +4,8 @@ ghost use Rattle.std.specs.Prelude.{◌≡◌, ◌&&◌, [], IfOk, not};
 ghost use Rattle.system_keys.specs.Keys.{Key};
 ghost use Rattle.metadata.specs.Overwrites.{is_listed, has_entry};
 
+use crate::kept_entries::KeptEntries;
 use crate::key_set::KeySet;
-use crate::metadata::Metadata;
 use std::alloc::Global;
 use system_keys::OutOfMemory;
 
@@ -14,7 +14,7 @@ use system_keys::OutOfMemory;
 pub(crate) struct Staged {
     /// A key that is cleared and put afterwards may be among these too.
     pub(crate) cleared: KeySet,
-    pub(crate) puts: Metadata,
+    pub(crate) puts: KeptEntries,
 }
 
 impl Staged {
@@ -25,7 +25,7 @@ impl Staged {
     {
         Staged {
             cleared: KeySet::new(alloc),
-            puts: Metadata::new(alloc),
+            puts: KeptEntries::new(alloc),
         }
     }
 

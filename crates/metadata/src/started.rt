@@ -4,6 +4,7 @@ ghost use Rattle.std.specs.Prelude.{◌≡◌};
 
 use crate::entry_map::Undo;
 use crate::key_set::KeySet;
+use crate::tag_map::TagRow;
 use std::marker::Model;
 
 /// Rows of a journal that were started: the metadata has what they put, and still what they remove.
@@ -12,8 +13,15 @@ use std::marker::Model;
 #[derive(Drop)]
 pub struct StartedRows {
     pub(crate) removed: KeySet,
-    pub(crate) undo: Undo,
+    pub(crate) put: Put,
     pub(crate) locked: bool,
+}
+
+/// What takes back what was put: the entries, and the tags.
+#[derive(Drop)]
+pub(crate) struct Put {
+    pub(crate) undo: Undo,
+    pub(crate) tags: Vec<TagRow>,
 }
 
 impl Model for StartedRows {
@@ -23,8 +31,9 @@ impl Model for StartedRows {
 
     ghost view = { λ s. record {
       removed = s.removed;
-      missing = s.undo.0;
-      displaced = s.undo.1;
+      missing = s.put.undo.0;
+      displaced = s.put.undo.1;
+      tags = s.put.tags.items;
       locked = s.locked;
     } };
 }

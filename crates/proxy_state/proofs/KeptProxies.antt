@@ -1,19 +1,19 @@
 -- What the type of a proxy keeps, from the start and from one record to the next.
-use Rattle.std.proofs.Common.{◌≡◌, refl, sym, ap, ◌∙◌, subst, ℕ, ◌+◌, ◌-◌, ◌≤◌, max, List, [], ◌∷◌, ◌++◌, map, length, take, drop, take-append-drop, arith}
-use Rattle.std.proofs.lemmas.List.{length-take}
+use Rattle.std.proofs.Common.{◌≡◌, refl, sym, ap, ◌∙◌, subst, ℕ, ◌+◌, ◌-◌, ◌≤◌, max, List, [], ◌∷◌, ◌++◌, map, length, drop, take-append-drop, arith, nat_eq, eq-eqb, true, None}
 use Rattle.std.specs.List.{AllZip}
 use Rattle.model.specs.Configs.{Config}
 use Rattle.model.specs.declared.moves.Move.{Move}
 use Rattle.model.specs.declared.journal.JournalRow.{JournalRow}
-use Rattle.model.specs.Records.{Record}
-use Rattle.model.specs.Shares.{asked, asked_back_to}
+use Rattle.model.specs.Records.{Record, oldest}
+use Rattle.model.specs.Shares.{asked}
 use Rattle.model.specs.Metadata.{Entries, metadata}
 use Rattle.model.specs.OwnerMaps.{OwnerMapView, StandsForMoves}
 use Rattle.model.specs.Finishing.{ProxyView, MayBegin, MayBeMade}
 use Rattle.dated_owners.specs.Answers.{KeepsMoves}
 use Rattle.proxy_state.specs.declared.begun.BegunRecord.{BegunRecord}
 use Rattle.proxy_state.specs.Begun.{FollowsOwn, AreBegun, IsKept}
-use Rattle.proxy_state.specs.Beginning.{MayGain, HasGained, IsMapFor}
+use Rattle.proxy_state.specs.Beginning.{begin_fault, MayGain, HasGained, HasMapFor, IsMapFor}
+use Rattle.proxy_state.proofs.MadeMoves.{gained_none, drop_past}
 
 -- ---- at the start, and in a copy
 
@@ -56,12 +56,11 @@ kept_begin config owned after version last begun next journal entries kept follo
 
 pub kept_begun : (config : Config) (owned after : OwnerMapView) (version last new_version : ℕ) (begun grown : List BegunRecord) (next : BegunRecord) (rec : Record) (lists : List (List ℕ)) (journal : List JournalRow) (entries : Entries)
     → IsKept config owned version last begun journal entries → rec.own_previous ≡ last → rec.own_previous ≤ rec.previous → rec.version ≡ rec.previous + config.step → next.rec ≡ rec → next.asked ≡ lists
-    → (StandsForMoves after rec.moves → lists ≡ map (asked_back_to after.oldest after.resolvers rec) rec.batch) → IsMapFor config rec after → grown ≡ begun ++ next ∷ [] → new_version ≡ rec.version
+    → lists ≡ map (asked config rec) rec.batch → IsMapFor config rec after → grown ≡ begun ++ next ∷ [] → new_version ≡ rec.version
     → IsKept config after version new_version grown journal entries
 kept_begun config owned after version last new_version begun grown next rec lists journal entries kept own below step same asking asked_is is pushed dated =
-    let asked_here : lists ≡ map (asked config rec) rec.batch = asked_is is.stands ∙ (λ i. map (asked_back_to (is.oldest i) (is.resolvers i) rec) rec.batch) in
     let follows : FollowsOwn config last rec = record { own_previous = own; previous = omega (arith, own, below); step = step } in
-    let next_asked : next.asked ≡ map (asked config next.rec) next.rec.batch = asking ∙ asked_here ∙ ap (λ (r : Record). map (asked config r) r.batch) (sym same) in
+    let next_asked : next.asked ≡ map (asked config next.rec) next.rec.batch = asking ∙ asked_is ∙ ap (λ (r : Record). map (asked config r) r.batch) (sym same) in
     subst (λ (v : ℕ). IsKept config after version v grown journal entries) (ap (λ (r : Record). r.version) same ∙ sym dated)
     (subst (λ (list : List BegunRecord). IsKept config after version next.rec.version list journal entries) (sym pushed)
     (kept_begin config owned after version last begun next journal entries kept (subst (FollowsOwn config last) (sym same) follows) next_asked (subst (λ (r : Record). IsMapFor config r after) (sym same) is)))
@@ -82,19 +81,39 @@ all_moves v rec after may gained =
     ap (λ (n : ℕ). may.moves ++ drop n rec.moves) may.holds.count ∙ ap (λ (ms : List Move). ms ++ drop (length may.moves) rec.moves) (sym may.kept_moves) ∙ take-append-drop (length may.moves) rec.moves in
     subst (StandsForMoves after) moves (gained.stands may.moves may.holds.stands)
 
-pub moves_within : (v : ProxyView) (rec : Record) → MayBegin v rec → v.moved ≤ length rec.moves
-moves_within v rec may =
-    let kept : length (take (length may.moves) rec.moves) ≡ length may.moves = ap (λ (ms : List Move). length ms) may.kept_moves in
-    let size = length-take (length may.moves) rec.moves in
-    omega (arith, kept, size, may.holds.count)
-
-pub map_for : (v : ProxyView) (rec : Record) (between after : OwnerMapView) → v.owned.resolvers ≡ v.config.resolvers → v.owned.oldest ≤ v.last_begun - v.config.window → rec.own_previous ≡ v.last_begun → MayBegin v rec → HasGained v.owned (drop v.moved rec.moves) between
-    → KeepsMoves between after → after.resolvers ≡ between.resolvers → after.oldest ≡ max between.oldest (rec.previous - v.config.window) → IsMapFor v.config rec after
-map_for v rec between after resolvers remembered own may gained keeps same forgotten =
-    let before : between.oldest ≡ v.owned.oldest = gained.oldest in
+-- the map that gained the further moves is one for the record; if there are none, so is the old one
+pub has_map : (v : ProxyView) (rec : Record) (after : OwnerMapView) → v.owned.resolvers ≡ v.config.resolvers → v.owned.oldest ≤ v.last_begun - v.config.window → rec.own_previous ≡ v.last_begun → MayBegin v rec → HasGained v.owned (drop v.moved rec.moves) after → HasMapFor v.config rec after
+has_map v rec after resolvers remembered own may gained =
+    let before : after.oldest ≡ v.owned.oldest = gained.oldest in
     let below : rec.own_previous ≤ rec.previous = may.own in
     record {
-      stands = keeps rec.moves (all_moves v rec between may gained);
-      resolvers = same ∙ gained.resolvers ∙ resolvers;
-      oldest = forgotten ∙ omega (arith, before, below, own, remembered);
+      stands = all_moves v rec after may gained;
+      resolvers = gained.resolvers ∙ resolvers;
+      remembered = omega (arith, before, below, own, remembered);
     }
+
+pub has_map_now : (v : ProxyView) (rec : Record) → v.owned.resolvers ≡ v.config.resolvers → v.owned.oldest ≤ v.last_begun - v.config.window → rec.own_previous ≡ v.last_begun → MayBegin v rec → length rec.moves ≤ v.moved → HasMapFor v.config rec v.owned
+has_map_now v rec resolvers remembered own may none =
+    has_map v rec v.owned resolvers remembered own may (subst (λ (ms : List Move). HasGained v.owned ms v.owned) (sym (drop_past rec.moves v.moved none)) (gained_none v.owned))
+
+-- the map forgets what the record does not ask about
+pub forgotten : (config : Config) (rec : Record) (before after : OwnerMapView) → HasMapFor config rec before → KeepsMoves before after → after.resolvers ≡ before.resolvers → after.oldest ≡ max before.oldest (oldest config rec) → IsMapFor config rec after
+forgotten config rec before after has keeps same raised =
+    let remembered = has.remembered in
+    record {
+      stands = keeps rec.moves has.stands;
+      resolvers = same ∙ has.resolvers;
+      oldest = omega (arith, raised, remembered);
+    }
+
+-- ---- the requests by a map that remembers further back
+
+pub greatest : (config : Config) (rec : Record) (map_of : OwnerMapView) → HasMapFor config rec map_of → max map_of.oldest (oldest config rec) ≡ oldest config rec
+greatest config rec map_of has = let remembered = has.remembered in omega (arith, remembered)
+
+-- a record of the proxy whose own previous version is that of the record begun last has no fault
+pub no_fault : (v : ProxyView) (rec : Record) → rec.proxy ≡ v.number → rec.own_previous ≡ v.last_begun → begin_fault v rec ≡ None
+no_fault v rec same own =
+    let mine : nat_eq rec.proxy v.number ≡ true = eq-eqb rec.proxy v.number same in
+    let order : nat_eq rec.own_previous v.last_begun ≡ true = eq-eqb rec.own_previous v.last_begun own in
+    rw (mine, order) refl

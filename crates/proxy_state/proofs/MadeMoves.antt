@@ -1,6 +1,7 @@
 -- Moves that are made in a map of owners one after another.
-use Rattle.std.proofs.Common.{◌≡◌, refl, sym, ap, ◌∙◌, subst, ℕ, zero, suc, length, take, drop, get_or, ◌<◌, List, [], ◌∷◌, ◌++◌, append_assoc, append-nil, None, false, nat_le, nat_lt, arith}
+use Rattle.std.proofs.Common.{◌≡◌, refl, sym, ap, ◌∙◌, subst, ℕ, zero, suc, length, drop, ◌≤◌, List, [], ◌∷◌, ◌++◌, append_assoc, append-nil, slice_get, Some, None, false, nat_le, nat_lt, arith}
 use Rattle.std.proofs.lemmas.Bool.{lt-leb, le-ltb}
+use Rattle.std.proofs.lemmas.Option.{none-some, same_Some}
 use Rattle.model.specs.declared.moves.Move.{Move}
 use Rattle.model.specs.OwnerMaps.{OwnerMapView, StandsForMoves}
 use Rattle.model.specs.Finishing.{MayBeMade}
@@ -18,12 +19,12 @@ may_move map m moves gain =
 pub gained_none : (map : OwnerMapView) → HasGained map [] map
 gained_none map = record { stands = λ held stands. subst (StandsForMoves map) (sym (append-nil held)) stands; resolvers = refl; oldest = refl }
 
-pub gained_more : (before between after : OwnerMapView) (moves : List Move) (m : Move) → HasGained before moves between → HasGained between (m ∷ []) after → HasGained before (moves ++ m ∷ []) after
-gained_more before between after moves m first next =
+pub gained_first : (before between after : OwnerMapView) (m : Move) (moves : List Move) → HasGained before (m ∷ []) between → HasGained between moves after → HasGained before (m ∷ moves) after
+gained_first before between after m moves first others =
     record {
-      stands = λ held stands. subst (StandsForMoves after) (append_assoc held moves (m ∷ [])) (next.stands (held ++ moves) (first.stands held stands));
-      resolvers = next.resolvers ∙ first.resolvers;
-      oldest = next.oldest ∙ first.oldest;
+      stands = λ held stands. subst (StandsForMoves after) (append_assoc held (m ∷ []) moves) (others.stands (held ++ m ∷ []) (first.stands held stands));
+      resolvers = others.resolvers ∙ first.resolvers;
+      oldest = others.oldest ∙ first.oldest;
     }
 
 pub may_next : (map after : OwnerMapView) (m : Move) (moves : List Move) → MayGain map (m ∷ moves) → HasGained map (m ∷ []) after → MayGain after moves
@@ -36,20 +37,18 @@ may_next map after m moves gain gained =
       may = subst (λ (r : ℕ). MayBeMade r after.last_date moves) (sym gained.resolvers) (subst (λ (d : ℕ). MayBeMade map.resolvers d moves) (sym date) gain.may.2);
     }
 
--- ---- the moves so far, and the next one
+-- ---- the next move, and the others
 
-take_suc : (moves : List Move) (i : ℕ) (m : Move) → i < length moves → m ≡ get_or moves i m → take (suc i) moves ≡ take i moves ++ m ∷ []
-take_suc [] i m within is = absurd (omega arith)
-take_suc (x ∷ moves) zero m within is = λ j. sym is j ∷ []
-take_suc (x ∷ moves) (suc i) m within is = ap (λ (ms : List Move). x ∷ ms) (take_suc moves i m (omega arith) is)
+drop_next : (moves : List Move) (i : ℕ) (m : Move) → slice_get moves i ≡ Some m → drop i moves ≡ m ∷ drop (suc i) moves
+drop_next [] i m found = absurd (none-some m found)
+drop_next (x ∷ moves) zero m found = λ j. same_Some x m found j ∷ moves
+drop_next (x ∷ moves) (suc i) m found = drop_next moves i m found
 
-drop_suc : (moves : List Move) (i : ℕ) (m : Move) → i < length moves → m ≡ get_or moves i m → drop i moves ≡ m ∷ drop (suc i) moves
-drop_suc [] i m within is = absurd (omega arith)
-drop_suc (x ∷ moves) zero m within is = λ j. sym is j ∷ moves
-drop_suc (x ∷ moves) (suc i) m within is = drop_suc moves i m (omega arith) is
+pub drop_found : (moves : List Move) (i k : ℕ) (m : Move) → k ≡ suc i → slice_get moves i ≡ Some m → drop i moves ≡ m ∷ drop k moves
+drop_found moves i k m next found = drop_next moves i m found ∙ ap (λ (n : ℕ). m ∷ drop n moves) (sym next)
 
-pub take_at : (moves : List Move) (i k : ℕ) (m : Move) → k ≡ suc i → i < length moves → m ≡ get_or moves i m → take k moves ≡ take i moves ++ m ∷ []
-take_at moves i k m next within is = ap (λ (n : ℕ). take n moves) next ∙ take_suc moves i m within is
-
-pub drop_at : (moves : List Move) (i k : ℕ) (m : Move) → k ≡ suc i → i < length moves → m ≡ get_or moves i m → drop i moves ≡ m ∷ drop k moves
-drop_at moves i k m next within is = drop_suc moves i m within is ∙ ap (λ (n : ℕ). m ∷ drop n moves) (sym next)
+pub drop_past : (moves : List Move) (n : ℕ) → length moves ≤ n → drop n moves ≡ []
+drop_past [] zero past = refl
+drop_past [] (suc n) past = refl
+drop_past (m ∷ moves) zero past = absurd (omega (arith, past))
+drop_past (m ∷ moves) (suc n) past = drop_past moves n (omega (arith, past))

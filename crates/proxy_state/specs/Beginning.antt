@@ -1,6 +1,6 @@
 -- Which records a proxy refuses to begin, and what becomes of its map of owners.
 use Rattle.std.specs.Prelude.{◌≡◌, ℕ, List, ◌∷◌, ◌++◌, Option, Some, None, not, nat_eq, nat_le}
-use Rattle.std.specs.Prelude.{if◌then◌else◌, filter, map}
+use Rattle.std.specs.Prelude.{if◌then◌else◌, filter, map, ◌≤◌}
 use Rattle.model.specs.Configs.{Config}
 use Rattle.model.specs.declared.moves.Move.{Move}
 use Rattle.model.specs.declared.journal.JournalRow.{JournalRow}
@@ -52,7 +52,14 @@ pub record HasGained (before : OwnerMapView) (moves : List Move) (after : OwnerM
   pub resolvers : after.resolvers ≡ before.resolvers
   pub oldest : after.oldest ≡ before.oldest
 
--- the map stands for the moves of the record, and remembers owners as far back as the record asks
+-- the map stands for the moves of the record, and remembers owners at least as far back as the record
+-- asks
+pub record HasMapFor (config : Config) (rec : Record) (map : OwnerMapView) : Type 0 where
+  pub stands : StandsForMoves map rec.moves
+  pub resolvers : map.resolvers ≡ config.resolvers
+  pub remembered : map.oldest ≤ oldest config rec
+
+-- and it remembers them no further
 pub record IsMapFor (config : Config) (rec : Record) (map : OwnerMapView) : Type 0 where
   pub stands : StandsForMoves map rec.moves
   pub resolvers : map.resolvers ≡ config.resolvers

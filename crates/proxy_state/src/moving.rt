@@ -1,20 +1,27 @@
-//! The moves of a record, made in a proxy's map of owners.
+//! A proxy's map of owners: the moves of a record are made in it, and it forgets.
 
-ghost use Rattle.std.specs.Prelude.{◌≡◌, [], ◌∷◌, None, OnOk};
+ghost use Rattle.std.specs.Prelude.{◌≡◌, [], ◌∷◌, drop, unwrap_or, None, OnOk};
 ghost use Rattle.dated_owners.specs.Refusals.{move_fault};
-ghost use Rattle.proxy_state.specs.Beginning.{MayGain, HasGained};
+ghost use Rattle.proxy_state.specs.Beginning.{MayGain, HasGained, HasMapFor, IsMapFor};
 
 use dated_owners::OwnerMap;
-use model::Move;
+use model::{Config, Move};
+use request_builder::{Moves, Record};
 use system_keys::OutOfMemory;
 
-/// Makes the moves in the map, one after another.
-#[tactic(auto, using(crate::proofs::MadeMoves::may_move, crate::proofs::MadeMoves::gained_more, crate::proofs::MadeMoves::may_next, crate::proofs::MadeMoves::gained_none))]
-pub(crate) fn make_moves(owners: &mut OwnerMap, moves: &[Move]) -> Result<(), OutOfMemory>
-    requires { MayGain owners.old moves.now }
-    ensures { OnOk result (HasGained owners.old moves.now owners.new) }
+/// Makes the moves in the map, one after another, from this place on.
+pub(crate) fn make_moves(
+    owners: &mut OwnerMap,
+    moves: &Moves,
+    from: usize,
+) -> Result<(), OutOfMemory>
+    requires { MayGain owners.old (drop from moves.now) }
+    ensures { OnOk result (HasGained owners.old (drop from moves.now) owners.new) }
 {
-    for one in moves {
+    for place in from..moves.len() {
+        let Some(one) = moves.get(place) else {
+            unreachable!();
+        };
         make_move(owners, one)?;
     }
     Ok(())
@@ -29,4 +36,31 @@ fn make_move(owners: &mut OwnerMap, one: &Move) -> Result<(), OutOfMemory>
         Ok(()) => Ok(()),
         Err(_) => Err(OutOfMemory),
     }
+}
+
+/// The map with the moves of a record: the moved one, if the record has further moves.
+pub(crate) fn newest_map<'a>(owners: &'a OwnerMap, moved: &'a Option<OwnerMap>) -> &'a OwnerMap
+    ensures { result.now ≡ unwrap_or moved.now owners.now }
+{
+    match moved {
+        Some(moved) => moved,
+        None => owners,
+    }
+}
+
+/// Takes the moved map, if there is one, and forgets the owners that the record does not ask about.
+#[tactic(auto, using(crate::proofs::KeptProxies::forgotten))]
+pub(crate) fn keep_map(
+    owners: &mut OwnerMap,
+    moved: Option<OwnerMap>,
+    config: &Config,
+    rec: &Record,
+)
+    requires { HasMapFor config.now rec.now (unwrap_or moved owners.old) }
+    ensures { IsMapFor config.now rec.now owners.new }
+{
+    if let Some(moved) = moved {
+        *owners = moved;
+    }
+    owners.forget(rec.previous().saturating_sub(config.window()));
 }

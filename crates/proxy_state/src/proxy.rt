@@ -3,20 +3,20 @@
 //! Release 7.1, `CommitProxyServer.actor.cpp`, commitBatch; what differs is marked *profile*.
 
 ghost use Rattle.std.specs.Prelude.{◌≡◌, ◌≤◌, ◌<◌, [], map, None, Some, IfOk, IfErr, OnOk, OnErr};
-ghost use Rattle.std.specs.Prelude.{IfSome, MatchResult, MatchOption};
+ghost use Rattle.std.specs.Prelude.{IfSome, MatchResult, MatchOption, unwrap_or};
 ghost use Rattle.model.specs.Metadata.{metadata as metadata_of};
 ghost use Rattle.model.specs.Shares.{asked};
 ghost use Rattle.model.specs.Finishing.{HoldsMoves, MayBegin, HasBegun, HasFinished};
 ghost use Rattle.proxy_state.specs.declared.refusal.Refusal.TheVariants as refusals;
 ghost use Rattle.proxy_state.specs.Beginning.{refusal_fault, begin_fault, requests_for, rows_up_to};
-ghost use Rattle.proxy_state.specs.Beginning.{IsMapFor, IsFirst};
+ghost use Rattle.proxy_state.specs.Beginning.{HasMapFor, IsFirst};
 ghost use Rattle.proxy_state.specs.Finishing.{finish_fault, IsReplied, IsLearned};
 
 use crate::begun::BegunRecord;
 use crate::finishing::finish_batch;
 use crate::learned::Learned;
 use crate::learning::{first_disagreement, first_unreplied};
-use crate::moving::make_moves;
+use crate::moving::{keep_map, make_moves, newest_map};
 use crate::refusal::Refusal;
 use crate::replies::Replies;
 use dated_owners::OwnerMap;
@@ -175,31 +175,46 @@ impl Proxy {
                 expected: self.last_begun,
             });
         }
-        let alloc: Global = *self.journal.allocator();
-        let owners = self.owners_for(rec)?;
-        let requests = build(alloc, rec, &owners, self.version)?;
+        let moved = self.moved_map(rec)?;
+        let requests = self.requests_by(newest_map(&self.owners, &moved), rec)?;
         let begun = BegunRecord::of_requests(rec, &requests)?;
         let Ok(()) = self.begun.reserve(1) else {
             return Err(Refusal::OutOfMemory);
         };
         self.begun.push_reserved(begun);
-        self.owners = owners;
+        keep_map(&mut self.owners, moved, &self.config, rec);
         self.moved = rec.moves().len();
         self.last_begun = rec.version();
         Ok(requests)
     }
 
-    /// The map of owners after the moves of the record, which remembers owners as far back as the
-    /// record asks.
-    fn owners_for(&self, rec: &Record) -> Result<OwnerMap, OutOfMemory>
+    /// A copy of the map of owners with the further moves of the record, or None if it has none.
+    #[tactic(auto, using(crate::proofs::KeptProxies::may_gain, crate::proofs::KeptProxies::has_map, crate::proofs::KeptProxies::has_map_now))]
+    fn moved_map(&self, rec: &Record) -> Result<Option<OwnerMap>, OutOfMemory>
         requires may { MayBegin self.now rec.now }
         requires own { begin_fault self.now rec.now ≡ None }
-        ensures { IfOk result (λ owners. IsMapFor self.now.config rec.now owners) }
+        ensures { IfOk result (λ moved.
+            HasMapFor self.now.config rec.now (unwrap_or moved self.now.owned)) }
     {
+        if rec.moves().len() <= self.moved {
+            return Ok(None);
+        }
         let mut owners = self.owners.copy()?;
-        make_moves(&mut owners, &rec.moves()[self.moved..])?;
-        owners.forget(rec.previous().saturating_sub(self.config.window()));
-        Ok(owners)
+        make_moves(&mut owners, rec.moves(), self.moved)?;
+        Ok(Some(owners))
+    }
+
+    /// The requests for the record by this map of owners.
+    #[tactic(auto, using(crate::proofs::KeptProxies::greatest))]
+    fn requests_by(&self, owners: &OwnerMap, rec: &Record) -> Result<Requests, OutOfMemory>
+        requires { HasMapFor self.now.config rec.now owners.now }
+        ensures requests { IfOk result (λ built. built.requests ≡ requests_for self.now rec.now) }
+        ensures asked { IfOk result (λ built.
+            built.asked ≡ map (asked self.now.config rec.now) rec.now.batch) }
+    {
+        let alloc: Global = *self.journal.allocator();
+        let oldest = rec.previous().saturating_sub(self.config.window());
+        build(alloc, rec, owners, oldest, self.version)
     }
 
     /// Finishes the earliest record that is begun and not finished, by the replies to it. The journal

@@ -38,11 +38,23 @@ asked_resolvers_of map_of moves t =
       writes = writer_lists map_of moves t.writes;
     }
 
--- whichever moves the map stands for, these are its lists of those that read the ranges
-abbrev pub AreReaderLists : OwnerMapView → (snapshot : ℕ) → List Range → List (List ℕ) → Type 0
-AreReaderLists map_of snapshot ranges lists =
+-- the map, in which owners count back to this version or to its own oldest one, whichever is later
+abbrev pub back_to : (oldest : ℕ) → OwnerMapView → OwnerMapView
+back_to oldest map_of = record map_of { oldest = max map_of.oldest oldest }
+
+-- whichever moves the map stands for, these read the range
+abbrev pub AreReadersBackTo :
+    (oldest : ℕ) → OwnerMapView → Range → (snapshot : ℕ) → List ℕ → Type 0
+AreReadersBackTo oldest map_of range snapshot list =
     (moves : List Move) → StandsForMoves map_of moves
-    → lists ≡ reader_lists map_of moves snapshot ranges
+    → list ≡ readers map_of.resolvers moves (max snapshot (max map_of.oldest oldest)) range
+
+-- and these are the lists of those that read the ranges
+abbrev pub AreReaderLists :
+    (oldest : ℕ) → OwnerMapView → (snapshot : ℕ) → List Range → List (List ℕ) → Type 0
+AreReaderLists oldest map_of snapshot ranges lists =
+    (moves : List Move) → StandsForMoves map_of moves
+    → lists ≡ reader_lists (back_to oldest map_of) moves snapshot ranges
 
 -- and of those that write them
 abbrev pub AreWriterLists : OwnerMapView → List Range → List (List ℕ) → Type 0
@@ -50,14 +62,18 @@ AreWriterLists map_of ranges lists =
     (moves : List Move) → StandsForMoves map_of moves → lists ≡ writer_lists map_of moves ranges
 
 -- these are whom it asks about a transaction
-abbrev pub AreAskedResolvers : OwnerMapView → Transaction → AskedResolvers → Type 0
-AreAskedResolvers map_of t asking =
-    (moves : List Move) → StandsForMoves map_of moves → asking ≡ asked_resolvers_of map_of moves t
+abbrev pub AreAskedResolvers :
+    (oldest : ℕ) → OwnerMapView → Transaction → AskedResolvers → Type 0
+AreAskedResolvers oldest map_of t asking =
+    (moves : List Move) → StandsForMoves map_of moves
+    → asking ≡ asked_resolvers_of (back_to oldest map_of) moves t
 
 -- and about each transaction of a batch
-abbrev pub AreAllAskedResolvers : OwnerMapView → List Transaction → List AskedResolvers → Type 0
-AreAllAskedResolvers map_of batch askings =
-    (moves : List Move) → StandsForMoves map_of moves → askings ≡ map (asked_resolvers_of map_of moves) batch
+abbrev pub AreAllAskedResolvers :
+    (oldest : ℕ) → OwnerMapView → List Transaction → List AskedResolvers → Type 0
+AreAllAskedResolvers oldest map_of batch askings =
+    (moves : List Move) → StandsForMoves map_of moves
+    → askings ≡ map (asked_resolvers_of (back_to oldest map_of) moves) batch
 
 -- ---- what a resolver gets by such lists
 

@@ -4,6 +4,7 @@ ghost use Rattle.std.specs.Prelude.{◌≡◌, ◌∷◌, [], ◌&&◌, not, len
 ghost use Rattle.system_keys.specs.Keys.{only};
 ghost use Rattle.model.specs.Transactions.{locked_key, lock_read};
 ghost use Rattle.dated_owners.specs.Flags.{Flags};
+ghost use Rattle.request_builder.specs.AskedResolvers.{AreReadersBackTo};
 ghost use Rattle.request_builder.specs.AskedResolvers.{AreReaderLists, AreWriterLists};
 ghost use Rattle.request_builder.specs.AskedResolvers.{AreAskedResolvers, AreAllAskedResolvers};
 ghost use Rattle.request_builder.specs.AskedResolvers.{is_in, is_in_some, is_asked_about, asked_by};
@@ -42,20 +43,23 @@ pub(crate) fn lock_row(alloc: Global) -> Result<Vec<KeyRange>, OutOfMemory>
     Ok(row)
 }
 
-/// Whom the map asks about each transaction of the batch. Each range is asked about once.
+/// Whom the map asks about each transaction of the batch, by owners back to `oldest`. Each range is
+/// asked about once.
 pub(crate) fn all_asked_resolvers(
     alloc: Global,
     owners: &OwnerMap,
+    oldest: Version,
     batch: &[Stamped],
     lock_row: &[KeyRange],
 ) -> Result<Vec<AskedResolvers>, OutOfMemory>
     requires { lock_row.now ≡ only locked_key ∷ [] }
     ensures length { IfOk result (λ askings. length askings.items ≡ length batch.now) }
-    ensures asked { IfOk result (λ askings. AreAllAskedResolvers owners.now batch.now askings.items) }
+    ensures asked { IfOk result (λ askings.
+        AreAllAskedResolvers oldest owners.now batch.now askings.items) }
 {
     let mut askings = Vec::with_capacity(alloc, batch.len())?;
     for transaction in batch {
-        askings.push(ask_about(alloc, owners, transaction, lock_row)?)?;
+        askings.push(ask_about(alloc, owners, oldest, transaction, lock_row)?)?;
     }
     Ok(askings)
 }
@@ -64,19 +68,20 @@ pub(crate) fn all_asked_resolvers(
 fn ask_about(
     alloc: Global,
     owners: &OwnerMap,
+    oldest: Version,
     transaction: &Stamped,
     lock_row: &[KeyRange],
 ) -> Result<AskedResolvers, OutOfMemory>
     requires { lock_row.now ≡ only locked_key ∷ [] }
-    ensures { IfOk result (λ asking. AreAskedResolvers owners.now transaction.now asking) }
+    ensures { IfOk result (λ asking. AreAskedResolvers oldest owners.now transaction.now asking) }
 {
     let is_state = transaction.is_state();
     let snapshot = transaction.snapshot();
     let lock = added_read(is_state && !transaction.lock_aware(), lock_row);
     Ok(AskedResolvers {
         is_state,
-        reads: reader_lists(alloc, owners, transaction.reads(), snapshot)?,
-        lock: reader_lists(alloc, owners, lock, snapshot)?,
+        reads: reader_lists(alloc, owners, oldest, transaction.reads(), snapshot)?,
+        lock: reader_lists(alloc, owners, oldest, lock, snapshot)?,
         writes: writer_lists(alloc, owners, transaction.writes())?,
     })
 }
@@ -89,20 +94,34 @@ fn added_read(is_added: bool, lock_row: &[KeyRange]) -> &[KeyRange]
     if is_added { lock_row } else { &[] }
 }
 
-/// The resolvers that are asked to read each range, back to the snapshot.
+/// The resolvers that are asked to read each range, back to the snapshot or to `oldest`, whichever is
+/// later.
 fn reader_lists(
     alloc: Global,
     owners: &OwnerMap,
+    oldest: Version,
     ranges: &[KeyRange],
     snapshot: Version,
 ) -> Result<Items<Items<ResolverNumber>>, OutOfMemory>
-    ensures { IfOk result (λ lists. AreReaderLists owners.now snapshot ranges.now lists) }
+    ensures { IfOk result (λ lists. AreReaderLists oldest owners.now snapshot ranges.now lists) }
 {
     let mut lists = Vec::with_capacity(alloc, ranges.len())?;
     for range in ranges {
-        lists.push(owners.read_owners(range, snapshot)?)?;
+        lists.push(readers_back_to(owners, oldest, range, snapshot)?)?;
     }
     Ok(Items::from(lists))
+}
+
+/// The resolvers that are asked to read the range, back to the snapshot or to `oldest`.
+fn readers_back_to(
+    owners: &OwnerMap,
+    oldest: Version,
+    range: &KeyRange,
+    snapshot: Version,
+) -> Result<Items<ResolverNumber>, OutOfMemory>
+    ensures { IfOk result (λ list. AreReadersBackTo oldest owners.now range.now snapshot list) }
+{
+    owners.read_owners(range, snapshot.max(oldest))
 }
 
 /// The resolvers that are asked to write each range.

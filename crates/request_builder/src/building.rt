@@ -3,7 +3,7 @@
 //! Release 7.1, `CommitProxyServer.actor.cpp`, ResolutionRequestBuilder; what differs is marked
 //! *profile*.
 
-ghost use Rattle.std.specs.Prelude.{◌≡◌, ◌∷◌, [], length, map, IfOk};
+ghost use Rattle.std.specs.Prelude.{◌≡◌, ◌∷◌, [], length, map, max, IfOk};
 ghost use Rattle.system_keys.specs.Keys.{only};
 ghost use Rattle.model.specs.Transactions.{locked_key};
 ghost use Rattle.model.specs.Shares.{each_below, asked_back_to};
@@ -28,25 +28,27 @@ use system_keys::{Items, KeyRange, OutOfMemory};
 /// a part of each transaction.
 ///
 /// The map must stand for the record's moves; otherwise nothing is promised but the rules of the
-/// types. Owners are remembered back to the map's oldest version (*profile*). `last_received` is the
-/// version of the last record that the proxy had finished when it began this one, or 0. Each range is
-/// looked up in the map once, and copied only for the resolvers that get it. Fails only with
-/// `OutOfMemory`.
+/// types. Owners count back to `oldest` or to the map's oldest version, whichever is later
+/// (*profile*). `last_received` is the version of the last record that the proxy had finished when
+/// it began this one, or 0. Each range is looked up in the map once, and copied only for the
+/// resolvers that get it. Fails only with `OutOfMemory`.
 pub fn build(
     alloc: Global,
     rec: &Record,
     owners: &OwnerMap,
+    oldest: Version,
     last_received: Version,
 ) -> Result<Requests, OutOfMemory>
-    ensures requests { StandsForMoves owners.now rec.now.moves → IfOk result (λ built.
-        built.requests ≡ map (request_back_to owners.now.oldest rec.now last_received)
+    ensures requests { let oldest = max owners.now.oldest oldest in
+        StandsForMoves owners.now rec.now.moves → IfOk result (λ built.
+        built.requests ≡ map (request_back_to oldest rec.now last_received)
         (each_below owners.now.resolvers)) }
-    ensures asked { StandsForMoves owners.now rec.now.moves → IfOk result (λ built.
-        built.asked
-        ≡ map (asked_back_to owners.now.oldest owners.now.resolvers rec.now) rec.now.batch) }
+    ensures asked { let oldest = max owners.now.oldest oldest in
+        StandsForMoves owners.now rec.now.moves → IfOk result (λ built.
+        built.asked ≡ map (asked_back_to oldest owners.now.resolvers rec.now) rec.now.batch) }
 {
     let lock_row = lock_row(alloc)?;
-    let askings = all_asked_resolvers(alloc, owners, rec.batch(), &lock_row)?;
+    let askings = all_asked_resolvers(alloc, owners, oldest, rec.batch(), &lock_row)?;
     let requests = requests_by(
         alloc,
         owners.resolvers(),

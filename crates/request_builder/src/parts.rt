@@ -113,15 +113,11 @@ fn push_if(copies: &mut Vec<KeyRange>, is_asked: bool, range: &KeyRange) -> Resu
     Ok(())
 }
 
-/// Whether the list of this number has the resolver.
-fn is_listed(
-    resolver: ResolverNumber,
-    lists: &[Items<ResolverNumber>],
-    number: TransactionNumber,
-) -> bool
-    ensures { result ≡ is_in resolver (list_at lists.now number) }
+/// Whether the list at this place has the resolver.
+fn is_listed(resolver: ResolverNumber, lists: &[Items<ResolverNumber>], place: usize) -> bool
+    ensures { result ≡ is_in resolver (list_at lists.now place) }
 {
-    match lists.get(number) {
+    match lists.get(place) {
         Some(list) => list.as_slice().contains(&resolver),
         None => false,
     }

@@ -5,7 +5,8 @@
 ghost use Rattle.std.specs.Prelude.{◌≡◌, ◌<◌, IfOk};
 ghost use Rattle.model.specs.Stamps.{stamped_from};
 
-use model::{Move, ProxyNumber, RowNumber, Version};
+use crate::moves::Moves;
+use model::{ProxyNumber, RowNumber, Version};
 use mutation::{Admitted, Batch, Stamped};
 use std::alloc::Global;
 use std::marker::Model;
@@ -20,7 +21,7 @@ pub struct Record {
     version: Version,
     own_previous: Version,
     proxy: ProxyNumber,
-    moves: Items<Move>,
+    moves: Moves,
     batch: Items<Stamped>,
 }
 
@@ -48,7 +49,7 @@ impl Record {
     ///
     /// `row` is its place in the order of all batches, from 0. `previous` is the version before
     /// `version`, and `own_previous` the version of this proxy's record before, or 0. `moves` are
-    /// all moves so far. Fails only with `OutOfMemory`.
+    /// all moves so far, which the record shares. Fails only with `OutOfMemory`.
     pub fn new(
         alloc: Global,
         row: RowNumber,
@@ -56,7 +57,7 @@ impl Record {
         version: Version,
         own_previous: Version,
         proxy: ProxyNumber,
-        moves: &[Move],
+        moves: &Moves,
         batch: &Batch,
     ) -> Result<Record, OutOfMemory>
         requires { previous < version }
@@ -70,7 +71,7 @@ impl Record {
           batch = stamped_from version 0 batch.now;
         }) }
     {
-        let moves = copied_moves(alloc, moves)?;
+        let moves = moves.copy()?;
         let batch = stamped_batch(alloc, version, batch.transactions())?;
         Ok(Record {
             row,
@@ -121,10 +122,10 @@ impl Record {
     }
 
     /// All moves so far, in the order in which they were made.
-    pub fn moves(&self) -> &[Move]
+    pub fn moves(&self) -> &Moves
         ensures { result.now ≡ self.now.moves }
     {
-        self.moves.as_slice()
+        &self.moves
     }
 
     /// The transactions in the order of their numbers, from 0, with their stamps in.
@@ -134,23 +135,12 @@ impl Record {
         self.batch.as_slice()
     }
 
-    /// Returns a deep copy. Fails only with `OutOfMemory`.
+    /// Returns a copy, which shares the moves and copies the rest. Fails only with `OutOfMemory`.
     pub fn copy(&self) -> Result<Record, OutOfMemory>
         ensures { IfOk result (λ copy. copy ≡ self.now) }
     {
         Ok(self.clone()?)
     }
-}
-
-/// Copies of the moves.
-fn copied_moves(alloc: Global, moves: &[Move]) -> Result<Items<Move>, OutOfMemory>
-    ensures { IfOk result (λ copied. copied ≡ moves.now) }
-{
-    let mut copied = Vec::with_capacity(alloc, moves.len())?;
-    for one in moves {
-        copied.push(one.copy()?)?;
-    }
-    Ok(Items::from(copied))
 }
 
 /// The transactions of the batch of `version`, numbered from 0, with their stamps in.

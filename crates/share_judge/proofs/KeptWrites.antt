@@ -1,174 +1,107 @@
--- Writes in the order of their versions: what the walk back stops at, what is forgotten, and what is added.
-use Rattle.std.proofs.Common.{◌≡◌, ℕ, zero, suc, ◌<◌, ◌≤◌, max, refl, sym, ap, ap₂, ◌∙◌, Bool, true, false, ◌&&◌, ◌||◌, cond, nat_lt, nat_le, nat_eq, if◌then◌else◌, List, [], ◌∷◌, ◌++◌, length, drop, get_or, arith}
-use Rattle.std.specs.List.{list_any}
-use Rattle.std.proofs.lemmas.Bool.{ltb-true, ltb-false, leb-true, leb-false, lt-ltb, le-ltb, eq-eqb, ne_eqb, or_left, or_right, and_left}
-use Rattle.std.proofs.lemmas.List.Folds.{list_any-append}
-use Rattle.std.proofs.Math.Seq.{drop-cons}
-use Rattle.system_keys.specs.Keys.{Key, Range, holds, overlaps}
-use Rattle.model.specs.Verdicts.{JudgedPart}
-use Rattle.model.specs.WriteHistories.{Write, last_at, unless_forgotten, counts_against, is_overwritten}
-use Rattle.share_judge.specs.Kept.{NeverDecrease, last_written, AreAt, overwrites, writes_above, is_first_up_to}
+-- The starts that a history keeps, as writes: what they give each key, and what changes it.
+use Rattle.std.proofs.Common.{◌≡◌, refl, sym, ap, ◌∙◌, subst, ℕ, ◌<◌, ◌≤◌, max, List, [], ◌∷◌, Bool, true, false, cond, not, ◌&&◌, nat_le, if◌then◌else◌, arith}
+use Rattle.system_keys.specs.Keys.{Key, is_key_below}
+use Rattle.system_keys.proofs.KeyOrder.{below_trans}
+use Rattle.model.specs.WriteHistories.{last_at, unless_forgotten}
+use Rattle.share_judge.specs.Steps.{Start, last_from, last_of_all, settled, writes_from, writes_of_starts, kept_writes, IsBefore, AreRising, TellTheSame, AreOver}
+use Rattle.share_judge.specs.Kept.{AreKept}
+use Rattle.share_judge.proofs.Settled.{settled_last, settled_past, settled_rising, settled_twice, same_last, same_past}
 
--- ---- order
+pub none_is : (dropped : ℕ) → unless_forgotten dropped 0 ≡ 0
+none_is dropped = by (nat_le 0 dropped)
+  where
+    by : (t : Bool) → ◌≡◌ {A = ℕ} (cond t 0 0) 0
+    by true = refl
+    by false = refl
 
-pub last_least : (from : ℕ) (ws : List Write) → NeverDecrease from ws → from ≤ last_written from ws
-last_least from [] order = omega arith
-last_least from (w ∷ ws) order = let later = last_least w.version ws order.1 in let first = order.0 in omega (arith, first, later)
+from_writes : (begin : Key) (version : ℕ) (ss : List Start) (key : Key) → IsBefore begin ss → AreRising ss → last_of_all version ss ≡ 0 → last_at (writes_from begin version ss) key ≡ cond (is_key_below key begin) 0 (last_from version ss key)
+from_writes begin version [] key all rising none = by (is_key_below key begin)
+  where
+    by : (t : Bool) → 0 ≡ cond t 0 version
+    by true = refl
+    by false = sym none
+from_writes begin version (s ∷ ss) key all rising none = by (is_key_below key begin) refl (is_key_below key s.0) refl (from_writes s.0 s.1 ss key rising.0 rising.1 none)
+  where
+    later : ℕ
+    later = last_at (writes_from s.0 s.1 ss) key
 
-later_from : (from to : ℕ) (ws : List Write) → from ≤ to → NeverDecrease to ws → NeverDecrease from ws
-later_from from to [] h order = tt
-later_from from to (w ∷ ws) h order = let first = order.0 in (omega (arith, first, h), order.1)
+    by : (t : Bool) → is_key_below key begin ≡ t → (u : Bool) → is_key_below key s.0 ≡ u → later ≡ cond (is_key_below key s.0) 0 (last_from s.1 ss key) →
+        (if not (is_key_below key begin) && is_key_below key s.0 then max version later else later) ≡ cond (is_key_below key begin) 0 (cond (is_key_below key s.0) version (last_from s.1 ss key))
+    by true below u is rest =
+        let too : is_key_below key s.0 ≡ true = below_trans key begin s.0 below all.0 in
+        rw (below) (rest ∙ ap (λ (b : Bool). cond b 0 (last_from s.1 ss key)) too)
+    by false from true is rest =
+        let none_later : later ≡ 0 = rest ∙ ap (λ (b : Bool). cond b 0 (last_from s.1 ss key)) is in
+        rw (from, is) (omega (arith, none_later))
+    by false from false is rest = rw (from, is) (rest ∙ ap (λ (b : Bool). cond b 0 (last_from s.1 ss key)) is)
 
-from_at : (from : ℕ) (ws : List Write) (i : ℕ) (w : Write) → NeverDecrease from ws → i < length ws → w ≡ get_or ws i w → from ≤ w.version
-from_at from [] i w order there is = absurd (omega arith)
-from_at from (u ∷ ws) zero w order there is = let same = ap (λ (x : Write). x.version) is in let first = order.0 in omega (arith, first, same)
-from_at from (u ∷ ws) (suc i) w order there is = let first = order.0 in omega (arith, first, from_at u.version ws i w order.1 (omega arith) is)
+of_writes : (ss : List Start) (key : Key) → AreRising ss → last_of_all 0 ss ≡ 0 → last_at (writes_of_starts ss) key ≡ last_from 0 ss key
+of_writes [] key rising none = refl
+of_writes (s ∷ ss) key rising none = from_writes s.0 s.1 ss key rising.0 rising.1 none
 
--- ---- the walk back
+-- at each key they have the version of the steps, unless it was dropped
+pub last_kept : (dropped : ℕ) (ss : List Start) (key : Key) → AreRising ss → last_of_all 0 ss ≡ 0 → last_at (kept_writes dropped ss) key ≡ unless_forgotten dropped (last_from 0 ss key)
+last_kept dropped ss key rising none =
+    of_writes (settled dropped 0 ss) key (settled_rising dropped 0 ss rising)
+    (sym (ap (λ n. last_of_all n (settled dropped 0 ss)) (none_is dropped)) ∙ settled_past dropped 0 ss ∙ ap (unless_forgotten dropped) none ∙ none_is dropped)
+    ∙ sym (ap (λ n. last_from n (settled dropped 0 ss) key) (none_is dropped))
+    ∙ settled_last dropped 0 ss key rising
 
-fails_at : (snapshot : ℕ) (read : Range) (w : Write) → w.version ≤ snapshot → overwrites snapshot read w ≡ false
-fails_at snapshot read w old = and_left (nat_lt snapshot w.version) (overlaps read w.range) (le-ltb snapshot w.version old)
+-- ---- what is kept stays so
 
--- nothing lies past the end
-pub walk_starts : (test : Write → Bool) (ws : List Write) (i : ℕ) → length ws ≤ i → list_any test (drop i ws) ≡ false
-walk_starts test [] zero past = refl
-walk_starts test [] (suc i) past = refl
-walk_starts test (w ∷ ws) zero past = absurd (omega arith)
-walk_starts test (w ∷ ws) (suc i) past = walk_starts test ws i (omega arith)
+pub none_kept : (ss : List Start) → ss ≡ [] → AreKept 0 0 ss
+none_kept ss is = subst (AreKept 0 0) (sym is) (record { rising = tt; past = refl; up_to = λ key. omega arith; dropped_up_to = omega arith })
 
--- the walk goes past a write that fails the test
-pub walk_goes_on : (test : Write → Bool) (ws : List Write) (i j : ℕ) (w : Write) → j ≡ suc i → i < length ws → w ≡ get_or ws i w → test w ≡ false → list_any test (drop j ws) ≡ false → list_any test (drop i ws) ≡ false
-walk_goes_on test ws i j w next there is fails later =
-    ap (list_any test) (drop-cons ws i w there)
-    ∙ ap₂ (λ a b. a || b) (ap test (sym is) ∙ fails) (ap (λ k. list_any test (drop k ws)) (sym next) ∙ later)
-
-pub walk_finds : (test : Write → Bool) (ws : List Write) (i : ℕ) (w : Write) → i < length ws → w ≡ get_or ws i w → test w ≡ true → list_any test ws ≡ true
-walk_finds test [] i w there is passes = absurd (omega arith)
-walk_finds test (u ∷ ws) zero w there is passes = or_left (test u) (list_any test ws) (ap test (sym is) ∙ passes)
-walk_finds test (u ∷ ws) (suc i) w there is passes = or_right (test u) (list_any test ws) (walk_finds test ws i w (omega arith) is passes)
-
-stops : (snapshot : ℕ) (read : Range) (from : ℕ) (ws : List Write) (i : ℕ) (w : Write) → NeverDecrease from ws → i < length ws → w ≡ get_or ws i w → w.version ≤ snapshot → list_any (overwrites snapshot read) (drop (suc i) ws) ≡ false → list_any (overwrites snapshot read) ws ≡ false
-stops snapshot read from [] i w order there is old later = absurd (omega arith)
-stops snapshot read from (u ∷ ws) zero w order there is old later =
-    let same : w.version ≡ u.version = ap (λ (x : Write). x.version) is in
-    ap₂ (λ a b. a || b) (fails_at snapshot read u (omega (arith, same, old))) later
-stops snapshot read from (u ∷ ws) (suc i) w order there is old later =
-    ap₂ (λ a b. a || b) (fails_at snapshot read u (omega (arith, old, from_at u.version ws i w order.1 (omega arith) is)))
-    (stops snapshot read u.version ws i w order.1 (omega arith) is old later)
-
--- at a write that is not above the snapshot the walk may stop
-pub walk_stops : (snapshot : ℕ) (read : Range) (ws : List Write) (i j : ℕ) (w : Write) → j ≡ suc i → NeverDecrease 0 ws → i < length ws → w ≡ get_or ws i w → w.version ≤ snapshot → list_any (overwrites snapshot read) (drop j ws) ≡ false → list_any (overwrites snapshot read) ws ≡ false
-walk_stops snapshot read ws i j w next order there is old later =
-    stops snapshot read 0 ws i w order there is old (ap (λ k. list_any (overwrites snapshot read) (drop k ws)) (sym next) ∙ later)
-
--- ---- kept writes, and those of the share
-
-kept_alike : (from : ℕ) (ws : List Write) (t : JudgedPart) (read : Range) → NeverDecrease from ws → last_written from ws < t.version → is_overwritten ws t read ≡ list_any (overwrites t.part.snapshot read) ws
-kept_alike from [] t read order below = refl
-kept_alike from (w ∷ ws) t read order below =
-    let earlier = last_least w.version ws order.1 in
-    ap₂ (λ a b. (a || nat_lt t.part.snapshot w.version) && overlaps read w.range || b) (ne_eqb w.version t.version (λ same. omega (arith, same, earlier, below))) (kept_alike w.version ws t read order.1 below)
-
-own_alike : (ws : List Write) (t : JudgedPart) (read : Range) → AreAt t.version ws → is_overwritten ws t read ≡ list_any (λ (w : Write). overlaps read w.range) ws
-own_alike [] t read own = refl
-own_alike (w ∷ ws) t read own =
-    ap₂ (λ a b. a && overlaps read w.range || b) (or_left (nat_eq w.version t.version) (nat_lt t.part.snapshot w.version) (eq-eqb w.version t.version own.0)) (own_alike ws t read own.1)
-
--- kept writes count above the snapshot, and those of the share always
-pub overwritten_by_either : (kept written : List Write) (t : JudgedPart) (read : Range) → NeverDecrease 0 kept → last_written 0 kept < t.version → AreAt t.version written → is_overwritten (kept ++ written) t read ≡ (list_any (overwrites t.part.snapshot read) kept || list_any (λ (w : Write). overlaps read w.range) written)
-overwritten_by_either kept written t read order below own =
-    list_any-append (λ (w : Write). counts_against t w.version && overlaps read w.range) kept written
-    ∙ ap₂ (λ a b. a || b) (kept_alike 0 kept t read order below) (own_alike written t read own)
-
--- ---- writes added at the end
-
-pub order_added : (from version : ℕ) (ws own : List Write) → NeverDecrease from ws → last_written from ws ≤ version → AreAt version own → NeverDecrease from (ws ++ own) × (last_written from (ws ++ own) ≤ version)
-order_added from version [] [] order up_to at = (tt, up_to)
-order_added from version [] (w ∷ own) order up_to at =
-    let same = at.0 in
-    let rest = order_added w.version version [] own tt (omega (arith, same)) at.1 in
-    ((omega (arith, same, up_to), rest.0), rest.1)
-order_added from version (w ∷ ws) own order up_to at = let rest = order_added w.version version ws own order.1 up_to at in ((order.0, rest.0), rest.1)
-
--- ---- writes forgotten at the front
-
--- what is left once the first write is dropped
-pub record Dropped (bound : ℕ) (ws rest : List Write) : Type 0 where
-  pub order : NeverDecrease 0 rest
-  pub same : writes_above bound rest ≡ writes_above bound ws
-  pub shorter : length rest < length ws
-
-pub first_dropped : (bound : ℕ) (ws : List Write) → NeverDecrease 0 ws → is_first_up_to bound ws ≡ true → Dropped bound ws (drop 1 ws)
-first_dropped bound [] order first = absurd (cc)
-first_dropped bound (w ∷ ws) order first =
+pub same_kept : (last dropped : ℕ) (old new : List Start) → AreKept last dropped old → AreRising new → TellTheSame old new → AreKept last dropped new
+same_kept last dropped old new kept rising same =
     record {
-      order = later_from 0 w.version ws (omega arith) order.1;
-      same = sym (ap (λ b. cond b (w ∷ writes_above bound ws) (writes_above bound ws)) (le-ltb bound w.version (leb-true w.version bound first)));
-      shorter = omega arith;
+      rising = rising;
+      past = same_past old new same ∙ kept.past;
+      up_to = λ key. let is = same_last old new kept.rising rising same key in let low = kept.up_to key in omega (arith, is, low);
+      dropped_up_to = kept.dropped_up_to;
     }
 
-all_above : (bound from : ℕ) (ws : List Write) → bound < from → NeverDecrease from ws → writes_above bound ws ≡ ws
-all_above bound from [] above order = refl
-all_above bound from (w ∷ ws) above order =
-    let more = order.0 in
-    let is_above : bound < w.version = omega (arith, above, more) in
-    ap₂ (λ b (rest : List Write). cond b (w ∷ rest) rest) (lt-ltb bound w.version is_above) (all_above bound w.version ws is_above order.1)
-
-pub none_to_drop : (bound : ℕ) (ws : List Write) → NeverDecrease 0 ws → is_first_up_to bound ws ≡ false → writes_above bound ws ≡ ws
-none_to_drop bound [] order first = refl
-none_to_drop bound (w ∷ ws) order first =
-    let is_above = leb-false w.version bound first in
-    ap₂ (λ b (rest : List Write). cond b (w ∷ rest) rest) (lt-ltb bound w.version is_above) (all_above bound w.version ws is_above order.1)
-
--- the order is kept
-pub order_kept : (bound from : ℕ) (ws : List Write) → NeverDecrease from ws → NeverDecrease from (writes_above bound ws) × (last_written from (writes_above bound ws) ≤ last_written from ws)
-order_kept bound from [] order = (tt, omega arith)
-order_kept bound from (w ∷ ws) order = by (nat_lt bound w.version) (order_kept bound w.version ws order.1)
+pub over_kept : (last dropped version : ℕ) (test : Key → Bool) (old new : List Start) → AreKept last dropped old → last < version → AreRising new → AreOver test version old new → AreKept version dropped new
+over_kept last dropped version test old new kept above rising over =
+    record {
+      rising = rising;
+      past = over.past kept.past;
+      up_to = λ key. by (test key) (last_from 0 old key) (last_from 0 new key) (over.at key) (kept.up_to key);
+      dropped_up_to = let low = kept.dropped_up_to in omega (arith, low, above);
+    }
   where
-    lower : (rest : List Write) → NeverDecrease w.version rest × (last_written w.version rest ≤ last_written w.version ws) → NeverDecrease from rest × (last_written from rest ≤ last_written w.version ws)
-    lower [] rest = let first = order.0 in (tt, let least = last_least w.version ws order.1 in omega (arith, first, least))
-    lower (u ∷ us) rest = let first = order.0 in let next = rest.0.0 in ((omega (arith, first, next), rest.0.1), rest.1)
+    by : (t : Bool) (n m : ℕ) → m ≡ cond t version n → n ≤ last → m ≤ version
+    by true n m is low = omega (arith, is)
+    by false n m is low = omega (arith, is, low, above)
 
-    by : (b : Bool) → NeverDecrease w.version (writes_above bound ws) × (last_written w.version (writes_above bound ws) ≤ last_written w.version ws) →
-        NeverDecrease from (cond b (w ∷ writes_above bound ws) (writes_above bound ws)) × (last_written from (cond b (w ∷ writes_above bound ws) (writes_above bound ws)) ≤ last_written w.version ws)
-    by true rest = ((order.0, rest.0), rest.1)
-    by false rest = lower (writes_above bound ws) rest
+pub dropped_kept : (last dropped bound : ℕ) (ss : List Start) → AreKept last dropped ss → bound ≤ last → AreKept last (max dropped bound) ss
+dropped_kept last dropped bound ss kept low =
+    record {
+      rising = kept.rising;
+      past = kept.past;
+      up_to = kept.up_to;
+      dropped_up_to = let old = kept.dropped_up_to in omega (arith, old, low);
+    }
 
-max_kept : (bound version rest : ℕ) → bound < version → max version (unless_forgotten bound rest) ≡ unless_forgotten bound (max version rest)
-max_kept bound version rest above = by (nat_le rest bound) refl (nat_le (max version rest) bound) refl
+-- a sweep
+pub swept_writes : (dropped : ℕ) (old new : List Start) → new ≡ settled dropped 0 old → kept_writes dropped new ≡ kept_writes dropped old
+swept_writes dropped old new is =
+    ap (kept_writes dropped) is
+    ∙ ap writes_of_starts (sym (ap (λ n. settled dropped n (settled dropped 0 old)) (none_is dropped)) ∙ settled_twice dropped 0 old)
+
+pub swept_kept : (last dropped : ℕ) (old new : List Start) → AreKept last dropped old → new ≡ settled dropped 0 old → AreKept last dropped new
+swept_kept last dropped old new kept is = subst (AreKept last dropped) (sym is) (record {
+  rising = settled_rising dropped 0 old kept.rising;
+  past = sym (ap (λ n. last_of_all n (settled dropped 0 old)) (none_is dropped)) ∙ settled_past dropped 0 old ∙ ap (unless_forgotten dropped) kept.past ∙ none_is dropped;
+  up_to = λ key.
+      let is = sym (ap (λ n. last_from n (settled dropped 0 old) key) (none_is dropped)) ∙ settled_last dropped 0 old key kept.rising in
+      less (last_from 0 old key) (last_from 0 (settled dropped 0 old) key) is (kept.up_to key);
+  dropped_up_to = kept.dropped_up_to;
+})
   where
-    by : (a : Bool) → nat_le rest bound ≡ a → (b : Bool) → nat_le (max version rest) bound ≡ b → max version (if a then 0 else rest) ≡ (if b then 0 else max version rest)
-    by a low true is = absurd (let up_to = leb-true (max version rest) bound is in omega (arith, up_to, above))
-    by true low false is = let up_to = leb-true rest bound low in omega (arith, up_to, above)
-    by false low false is = refl
-
-max_lost : (bound version rest : ℕ) → version ≤ bound → unless_forgotten bound rest ≡ unless_forgotten bound (max version rest)
-max_lost bound version rest below = by (nat_le rest bound) refl (nat_le (max version rest) bound) refl
-  where
-    by : (a : Bool) → nat_le rest bound ≡ a → (b : Bool) → nat_le (max version rest) bound ≡ b → (if a then 0 else rest) ≡ (if b then 0 else max version rest)
-    by true low true is = refl
-    by true low false is = absurd (let up_to = leb-true rest bound low in let not_up_to = leb-false (max version rest) bound is in omega (arith, up_to, not_up_to, below))
-    by false low true is = absurd (let above = leb-false rest bound low in let up_to = leb-true (max version rest) bound is in omega (arith, above, up_to))
-    by false low false is = let above = leb-false rest bound low in omega (arith, above, below)
-
-either : (b : Bool) (n : ℕ) → n ≡ (if b then n else n)
-either true n = refl
-either false n = refl
-
--- at each key the versions up to the bound are forgotten
-pub last_above : (bound : ℕ) (ws : List Write) (key : Key) → last_at (writes_above bound ws) key ≡ unless_forgotten bound (last_at ws key)
-last_above bound [] key = either (nat_le 0 bound) 0
-last_above bound (w ∷ ws) key = by (nat_lt bound w.version) refl (holds w.range key) refl (last_above bound ws key)
-  where
-    rest : ℕ
-    rest = last_at ws key
-
-    left : ℕ
-    left = last_at (writes_above bound ws) key
-
-    by : (a : Bool) → nat_lt bound w.version ≡ a → (h : Bool) → holds w.range key ≡ h → left ≡ unless_forgotten bound rest →
-        last_at (cond a (w ∷ writes_above bound ws) (writes_above bound ws)) key ≡ unless_forgotten bound (if h then max w.version rest else rest)
-    by true above true held e = ap (λ b. if b then max w.version left else left) held ∙ ap (λ n. max w.version n) e ∙ max_kept bound w.version rest (ltb-true bound w.version above)
-    by true above false held e = ap (λ b. if b then max w.version left else left) held ∙ e
-    by false old true held e = e ∙ max_lost bound w.version rest (ltb-false bound w.version old)
-    by false old false held e = e
+    less : (n m : ℕ) → m ≡ unless_forgotten dropped n → n ≤ last → m ≤ last
+    less n m is low = by (nat_le n dropped) is
+      where
+        by : (t : Bool) → m ≡ cond t 0 n → m ≤ last
+        by true e = omega (arith, e)
+        by false e = omega (arith, e, low)

@@ -1,3 +1,11 @@
+pub mod Counted
 pub mod JudgedParts
 pub mod KeptWrites
+pub mod Listed
+pub mod MapCalls
+pub mod MapStarts
+pub mod Overwritten
+pub mod Reached
+pub mod Settled
+pub mod Starts
 pub mod StoodFor

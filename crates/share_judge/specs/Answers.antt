@@ -1,6 +1,8 @@
 -- What a history of writes answers, over every list of shares that it stands for, and why nothing
 -- was judged.
-use Rattle.std.specs.Prelude.{◌≡◌, ◌-◌, max, min, List, [], ◌∷◌, ◌++◌}
+use Rattle.std.specs.Prelude.{◌≡◌, ℕ, suc, ◌-◌, max, min, List, [], ◌∷◌, ◌++◌, length, IsTrue}
+use Rattle.system_keys.specs.Keys.{Key, holds, is_key_below}
+use Rattle.system_keys.specs.Limits.{key_space_end}
 use Rattle.model.specs.Numbers.{Version}
 use Rattle.model.specs.declared.verdict.Verdict.{Verdict}
 use Rattle.model.specs.Verdicts.{judged_at, verdicts_after}
@@ -36,3 +38,30 @@ Forgets history oldest next =
 abbrev pub IfNotKept : {E : Type 0} → NotJudged E → (E → Type 0) → Type 0
 IfNotKept OutOfMemory property = Unit {0}
 IfNotKept (NotKept reason) property = property reason
+
+-- ---- steps
+
+-- all keys from `begin` up to `end` have one last version
+abbrev pub HaveOneLast : (last : Key → Version) (begin end : Key) → Type 0
+HaveOneLast last begin end =
+    (key : Key) → IsTrue (holds (record { begin = begin; end = end }) key) → last key ≡ last begin
+
+-- the keys from `begin` up to `next` have one last version, and `next` has another
+pub record IsStep (last : Key → Version) (begin next : Key) : Type 0 where
+  pub begins_below : IsTrue (is_key_below begin next)
+  pub in_space : IsTrue (is_key_below next key_space_end)
+  pub one : HaveOneLast last begin next
+  pub differs : last next ≡ last begin → ⊥
+
+-- the keys from `begin` up to `\xff\xff` are in one step after another: the first begins at
+-- `begin`, and the others at the keys `nexts`
+abbrev pub AreSteps : (last : Key → Version) (begin : Key) (nexts : List Key) → Type 0
+AreSteps last begin [] = HaveOneLast last begin key_space_end
+AreSteps last begin (next ∷ nexts) = IsStep last begin next × AreSteps last next nexts
+
+-- from the empty key up to `\xff\xff` there are so many greatest ranges of keys with one last
+-- version
+pub record IsCount (last : Key → Version) (count : ℕ) : Type 0 where
+  pub nexts : List Key
+  pub steps : AreSteps last [] nexts
+  pub counted : count ≡ suc (length nexts)

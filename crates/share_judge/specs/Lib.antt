@@ -2,5 +2,9 @@
 
 -- what the calls promise, over every list of shares that the history stands for
 pub mod Answers
--- the order of the writes that are kept
+-- steps over all keys, each with its version
+pub mod Steps
+-- what a history keeps of them
 pub mod Kept
+-- a share that is judged by them
+pub mod Judged

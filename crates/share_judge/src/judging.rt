@@ -1,103 +1,91 @@
 //! Verdicts on parts, by the writes of what was committed before them.
 
-ghost use Rattle.std.specs.Prelude.{◌≡◌, ◌<◌, ◌≤◌, ◌+◌, ◌++◌, IfOk, OnOk, if◌then◌else◌};
+ghost use Rattle.std.specs.Prelude.{◌≡◌, ◌<◌, IfOk, OnOk, max};
 ghost use Rattle.std.specs.List.{list_any};
-ghost use Rattle.std.specs.VecDeque.{deque_len, deque_capacity};
-ghost use Rattle.system_keys.specs.Keys.{overlaps};
-ghost use Rattle.model.specs.Verdicts.{JudgedPart, is_committed, is_too_old, judged_at};
-ghost use Rattle.model.specs.WriteHistories.{Write, writes_at, is_overwritten};
-ghost use Rattle.model.specs.WriteHistories.{has_overwritten_read, verdict_by_writes};
-ghost use Rattle.model.specs.WriteHistories.{verdicts_by_writes, writes_after};
-ghost use Rattle.share_judge.specs.Kept.{NeverDecrease, last_written, AreAt, overwrites};
-ghost use Rattle.share_judge.specs.Kept.{writes_above, is_first_up_to};
+ghost use Rattle.system_keys.specs.Keys.{Key};
+ghost use Rattle.model.specs.Verdicts.{JudgedPart, is_too_old};
+ghost use Rattle.share_judge.specs.Steps.{AreRising, TellTheSame, AreOver, last_from};
+ghost use Rattle.share_judge.specs.Steps.{last_of_all, bytes_of_keys};
+ghost use Rattle.share_judge.specs.Judged.{is_read_overwritten, verdict_by_steps, is_in_some};
+ghost use Rattle.share_judge.specs.Judged.{is_written_by, IsJudged, IsPlanned};
 
-use crate::write::Write;
+use crate::step_map::StepMap;
 use model::{Part, Verdict, Version};
-use std::alloc::Global;
-use std::collections::VecDeque;
 use system_keys::{KeyRange, OutOfMemory};
 
-/// Judges the parts of a share as `judge_parts` does, and makes room for their writes beside the
-/// `kept` ones, which stay as they are.
-pub(crate) fn judge_with_room(
-    window: u64,
-    kept: &mut VecDeque<Write>,
-    version: Version,
-    parts: &[Part],
-) -> Result<(Vec<Verdict>, VecDeque<Write>), OutOfMemory>
-    requires order { NeverDecrease 0 kept.old.items }
-    requires below { last_written 0 kept.old.items < version }
-    ensures same { kept.new.items ≡ kept.old.items }
-    ensures verdicts { let judged = judged_at version parts.now in IfOk result
-        (λ made. made.0.items ≡ verdicts_by_writes window kept.old.items judged) }
-    ensures writes { let judged = judged_at version parts.now in IfOk result
-        (λ made. kept.old.items ++ made.1.items ≡ writes_after window kept.old.items judged) }
-    ensures own { IfOk result (λ made. AreAt version made.1.items) }
-    ensures room { IfOk result
-        (λ made. deque_len kept.new + deque_len made.1 ≤ deque_capacity kept.new) }
-{
-    let alloc: Global = *kept.allocator();
-    let (verdicts, writes) = judge_parts(alloc, window, kept, version, parts)?;
-    kept.reserve(writes.len())?;
-    Ok((verdicts, writes))
+/// How a share is judged: its version, and what is known of the versions before it.
+#[derive(Clone, Copy)]
+pub(crate) struct Judging {
+    /// How far, in versions, a snapshot may lie before the version.
+    pub(crate) window: u64,
+    /// Kept versions up to this one count as none.
+    pub(crate) dropped: Version,
+    /// The version of the share, above those that are kept.
+    pub(crate) version: Version,
 }
 
-/// Puts the writes after the `kept` ones, beside which there must be room. Allocates nothing.
-pub(crate) fn put_in_place(kept: &mut VecDeque<Write>, mut writes: VecDeque<Write>)
-    requires { deque_len kept.old + deque_len writes ≤ deque_capacity kept.old }
-    ensures { kept.new.items ≡ kept.old.items ++ writes.items }
+/// Judges the parts of a share, and makes room for their writes among the `kept` ones, of which none
+/// is changed. Returns the verdicts, and the keys of the starts that the writes overwrite.
+pub(crate) fn judge_with_room(
+    kept: &mut StepMap,
+    judging: Judging,
+    parts: &[Part],
+) -> Result<(Vec<Verdict>, Vec<Vec<u8>>), OutOfMemory>
+    requires rising { AreRising kept.old }
+    requires past { last_of_all 0 kept.old ≡ 0 }
+    requires below { (key : Key) → last_from 0 kept.old key < judging.version }
+    ensures same { TellTheSame kept.old kept.new }
+    ensures rising { AreRising kept.new }
+    ensures planned { IfOk result (λ made. IsPlanned judging.window judging.dropped judging.version
+        kept.old kept.new parts.now made.0.items (bytes_of_keys made.1.items)) }
 {
-    kept.append(&mut writes).unwrap();
+    let (verdicts, own) = judge_parts(kept, judging, parts)?;
+    let keys = kept.make_room(&own)?;
+    Ok((verdicts, keys))
 }
 
 /// Judges the parts of a share, one after another, and returns their verdicts and the writes of
 /// those that are committed. `kept` are the writes of the shares before.
 fn judge_parts(
-    alloc: Global,
-    window: u64,
-    kept: &VecDeque<Write>,
-    version: Version,
+    kept: &StepMap,
+    judging: Judging,
     parts: &[Part],
-) -> Result<(Vec<Verdict>, VecDeque<Write>), OutOfMemory>
-    requires order { NeverDecrease 0 kept.now.items }
-    requires below { last_written 0 kept.now.items < version }
-    ensures verdicts { let judged = judged_at version parts.now in IfOk result
-        (λ made. made.0.items ≡ verdicts_by_writes window kept.now.items judged) }
-    ensures writes { let judged = judged_at version parts.now in IfOk result
-        (λ made. kept.now.items ++ made.1.items ≡ writes_after window kept.now.items judged) }
-    ensures own { IfOk result (λ made. AreAt version made.1.items) }
+) -> Result<(Vec<Verdict>, StepMap), OutOfMemory>
+    requires rising { AreRising kept.now }
+    requires past { last_of_all 0 kept.now ≡ 0 }
+    requires below { (key : Key) → last_from 0 kept.now key < judging.version }
+    ensures { IfOk result (λ made. IsJudged judging.window judging.dropped judging.version kept.now
+        parts.now made.0.items made.1) }
 {
+    let alloc = kept.alloc();
     let mut verdicts = Vec::with_capacity(alloc, parts.len())?;
-    let mut written = VecDeque::new(alloc);
+    let mut own = StepMap::new(alloc);
     for part in parts {
-        let verdict = verdict_on(window, kept, &written, version, part);
-        push_writes_if_committed(&mut written, verdict, version, part)?;
+        let verdict = verdict_on(kept, &own, judging, part)?;
+        write_if_committed(&mut own, verdict, judging.version, part)?;
         verdicts.push(verdict)?;
     }
-    Ok((verdicts, written))
+    Ok((verdicts, own))
 }
 
-/// The verdict on a part, where `kept` are the writes of the shares before, and `written` those of
-/// the parts before it in its share.
+/// The verdict on a part, where `kept` are the writes of the shares before, and `own` those of the
+/// parts before it in its share.
 fn verdict_on(
-    window: u64,
-    kept: &VecDeque<Write>,
-    written: &VecDeque<Write>,
-    version: Version,
+    kept: &StepMap,
+    own: &StepMap,
+    judging: Judging,
     part: &Part,
-) -> Verdict
-    requires order { NeverDecrease 0 kept.now.items }
-    requires below { last_written 0 kept.now.items < version }
-    requires own { AreAt version written.now.items }
-    ensures { let t : JudgedPart = record { version = version; part = part.now } in
-        result ≡ verdict_by_writes window (kept.now.items ++ written.now.items) t }
+) -> Result<Verdict, OutOfMemory>
+    ensures { let t : JudgedPart = record { version = judging.version; part = part.now } in
+        IfOk result (λ verdict. verdict
+        ≡ verdict_by_steps judging.window judging.dropped kept.now own.now t) }
 {
-    if is_too_old(window, version, part) {
-        Verdict::TooOld
-    } else if has_overwritten_read(kept, written, version, part) {
-        Verdict::Conflict
+    if is_too_old(judging.window, judging.version, part) {
+        Ok(Verdict::TooOld)
+    } else if has_overwritten_read(kept, own, judging.dropped, part)? {
+        Ok(Verdict::Conflict)
     } else {
-        Verdict::Committed
+        Ok(Verdict::Committed)
     }
 }
 
@@ -110,121 +98,69 @@ fn is_too_old(window: u64, version: Version, part: &Part) -> bool
     !part.reads.as_slice().is_empty() && part.snapshot < version.saturating_sub(window)
 }
 
-/// Whether some read of the part overlaps a write that is later than its snapshot or earlier in its
+/// Whether some read of the part has a key that was written after its snapshot or earlier in its
 /// share.
 fn has_overwritten_read(
-    kept: &VecDeque<Write>,
-    written: &VecDeque<Write>,
-    version: Version,
+    kept: &StepMap,
+    own: &StepMap,
+    dropped: Version,
     part: &Part,
-) -> bool
-    requires order { NeverDecrease 0 kept.now.items }
-    requires below { last_written 0 kept.now.items < version }
-    requires own { AreAt version written.now.items }
-    ensures { let t : JudgedPart = record { version = version; part = part.now } in
-        result ≡ has_overwritten_read (kept.now.items ++ written.now.items) t }
+) -> Result<bool, OutOfMemory>
+    ensures { let bound = max dropped part.now.snapshot in IfOk result
+        (λ answer. answer ≡ list_any (is_read_overwritten bound kept.now own.now) part.now.reads) }
 {
+    let bound = dropped.max(part.snapshot);
     let reads = part.reads.as_slice();
     for read in reads {
-        if is_overwritten(kept, written, version, part, read) {
-            return true;
+        if is_overwritten(kept, own, bound, read)? {
+            return Ok(true);
         }
     }
-    false
+    Ok(false)
 }
 
-/// Whether the read of the part overlaps a write that is later than its snapshot or earlier in its
-/// share.
+/// Whether some key of the read has a kept version above the bound, or was written in the share.
 fn is_overwritten(
-    kept: &VecDeque<Write>,
-    written: &VecDeque<Write>,
-    version: Version,
-    part: &Part,
+    kept: &StepMap,
+    own: &StepMap,
+    bound: Version,
     read: &KeyRange,
-) -> bool
-    requires order { NeverDecrease 0 kept.now.items }
-    requires below { last_written 0 kept.now.items < version }
-    requires own { AreAt version written.now.items }
-    ensures { let t : JudgedPart = record { version = version; part = part.now } in
-        result ≡ is_overwritten (kept.now.items ++ written.now.items) t read.now }
+) -> Result<bool, OutOfMemory>
+    ensures { IfOk result
+        (λ answer. answer ≡ is_read_overwritten bound kept.now own.now read.now) }
 {
-    is_overwritten_since(kept, part.snapshot, read) || is_written(written, read)
-}
-
-/// Whether the read overlaps a write above the snapshot.
-///
-/// Goes from the newest write back to the first one that is not above the snapshot.
-fn is_overwritten_since(kept: &VecDeque<Write>, snapshot: Version, read: &KeyRange) -> bool
-    requires { NeverDecrease 0 kept.now.items }
-    ensures { result ≡ list_any (overwrites snapshot read.now) kept.now.items }
-{
-    for i in (0..kept.len()).rev() {
-        let write = &kept[i];
-        if write.version <= snapshot {
-            return false;
-        }
-        if read.overlaps(&write.range) {
-            return true;
-        }
-    }
-    false
-}
-
-/// Whether the read overlaps one of the writes.
-fn is_written(written: &VecDeque<Write>, read: &KeyRange) -> bool
-    ensures { result ≡ list_any (λ (w : Write). overlaps read.now w.range) written.now.items }
-{
-    written.iter().any(|write| read.overlaps(&write.range))
+    let begin = Vec::from_slice(kept.alloc(), read.begin())?;
+    let end = Vec::from_slice(kept.alloc(), read.end())?;
+    Ok(kept.reaches(&begin, &end, bound) || own.reaches(&begin, &end, 0))
 }
 
 /// Adds the writes of a part, if its verdict is Committed.
-fn push_writes_if_committed(
-    written: &mut VecDeque<Write>,
+fn write_if_committed(
+    own: &mut StepMap,
     verdict: Verdict,
     version: Version,
     part: &Part,
 ) -> Result<(), OutOfMemory>
-    ensures { OnOk result (written.new.items ≡ (if is_committed verdict
-        then written.old.items ++ writes_at version part.now.writes
-        else written.old.items)) }
+    requires above { 0 < version }
+    requires rising { AreRising own.old }
+    ensures over { OnOk result (AreOver (is_written_by verdict part.now) version own.old own.new) }
+    ensures rising { AreRising own.new }
 {
     match verdict {
-        Verdict::Committed => push_writes(written, version, part.writes.as_slice()),
+        Verdict::Committed => write_ranges(own, version, part.writes.as_slice()),
         Verdict::TooOld | Verdict::Conflict => Ok(()),
     }
 }
 
-/// Adds the ranges as writes of the version.
-fn push_writes(
-    written: &mut VecDeque<Write>,
-    version: Version,
-    ranges: &[KeyRange],
-) -> Result<(), OutOfMemory>
-    ensures { OnOk result (written.new.items ≡ written.old.items ++ writes_at version ranges.now) }
+/// Gives each key of the ranges the version.
+fn write_ranges(own: &mut StepMap, version: Version, ranges: &[KeyRange]) -> Result<(), OutOfMemory>
+    requires above { 0 < version }
+    requires rising { AreRising own.old }
+    ensures over { OnOk result (AreOver (is_in_some ranges.now) version own.old own.new) }
+    ensures rising { AreRising own.new }
 {
     for range in ranges {
-        let range = range.copy()?;
-        written.push_back(Write { range, version })?;
+        own.overwrite(range, version)?;
     }
     Ok(())
-}
-
-/// Drops the writes at or below the bound, from the front.
-pub(crate) fn forget_up_to(kept: &mut VecDeque<Write>, bound: Version)
-    requires { NeverDecrease 0 kept.old.items }
-    ensures { kept.new.items ≡ writes_above bound kept.old.items }
-{
-    while is_first_up_to(kept, bound) {
-        kept.pop_front();
-    }
-}
-
-/// Whether the first write is at or below the bound.
-fn is_first_up_to(kept: &VecDeque<Write>, bound: Version) -> bool
-    ensures { result ≡ is_first_up_to bound kept.now.items }
-{
-    match kept.front() {
-        Some(write) => write.version <= bound,
-        None => false,
-    }
 }

@@ -10,8 +10,8 @@
 
 mod judging;
 mod not_judged;
+mod step_map;
 mod verdicts;
-mod write;
 mod write_history;
 
 pub use model::Verdict;

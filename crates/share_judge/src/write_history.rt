@@ -1,19 +1,21 @@
 //! The history of writes.
 
 ghost use Rattle.std.specs.Prelude.{◌≡◌, ◌<◌, [], Ok, Err, IfOk, IfErr, OnOk, OnErr};
-ghost use Rattle.model.specs.WriteHistories.{ShareAt, StandsForShares};
-ghost use Rattle.share_judge.specs.Answers.{AreVerdicts, GainsShare, Forgets, IfNotKept};
+ghost use Rattle.model.specs.WriteHistories.{ShareAt, StandsForShares, last_at};
+ghost use Rattle.share_judge.specs.Answers.{AreVerdicts, GainsShare, Forgets, IsCount, IfNotKept};
 
-use crate::judging::{forget_up_to, judge_with_room, put_in_place};
+use crate::judging::{Judging, judge_with_room};
 use crate::not_judged::NotJudged;
+use crate::step_map::StepMap;
 use crate::verdicts::{Verdicts, copy_verdicts};
-use crate::write::Write;
 use model::Version;
 use request_builder::Share;
 use std::alloc::Global;
-use std::collections::VecDeque;
 use std::marker::Model;
 use system_keys::{Items, OutOfMemory};
+
+/// A sweep needs at least twice so many starts.
+const SWEPT_AT_LEAST: usize = 8;
 
 /// The committed writes of one resolver, with their versions.
 ///
@@ -22,22 +24,27 @@ use system_keys::{Items, OutOfMemory};
 pub struct WriteHistory {
     window: u64,
     last: Version,
-    writes: VecDeque<Write>,
+    /// Versions up to this one count as none.
+    dropped: Version,
+    /// How many starts there were after the last sweep.
+    swept: usize,
+    steps: StepMap,
 }
 
 impl Model for WriteHistory {
     ghost use Rattle.model.specs.WriteHistories.{WriteHistoryView};
-    ghost use Rattle.share_judge.specs.Kept.{AreInOrder};
+    ghost use Rattle.share_judge.specs.Steps.{kept_writes};
+    ghost use Rattle.share_judge.specs.Kept.{AreKept};
 
     ghost Value = { WriteHistoryView };
 
     ghost view = { λ history. record {
       window = history.window;
       last = history.last;
-      writes = history.writes.items;
+      writes = kept_writes history.dropped history.steps;
     } };
 
-    ghost invariant = { λ history. AreInOrder history.last history.writes.items };
+    ghost invariant = { λ history. AreKept history.last history.dropped history.steps };
 }
 
 impl WriteHistory {
@@ -51,7 +58,9 @@ impl WriteHistory {
         Ok(WriteHistory {
             window,
             last: 0,
-            writes: VecDeque::new(alloc),
+            dropped: 0,
+            swept: 0,
+            steps: StepMap::new(alloc),
         })
     }
 
@@ -80,9 +89,13 @@ impl WriteHistory {
         ensures last { OnOk result (self.new.last ≡ version) }
         ensures err { OnErr result (self.new ≡ self.old) }
     {
-        let parts = share.parts();
-        let (verdicts, writes) = judge_with_room(self.window, &mut self.writes, version, parts)?;
-        put_in_place(&mut self.writes, writes);
+        let judging = Judging {
+            window: self.window,
+            dropped: self.dropped,
+            version,
+        };
+        let (verdicts, keys) = judge_with_room(&mut self.steps, judging, share.parts())?;
+        self.steps.fill(&keys, version);
         self.last = version;
         Ok(Items::from(verdicts))
     }
@@ -91,8 +104,8 @@ impl WriteHistory {
     /// verdicts. If `keep` returns a value, remembers the writes of the committed parts, and
     /// returns the verdicts and that value.
     ///
-    /// Everything is allocated before `keep` is called, and nothing fails after it, so `keep` may
-    /// do what cannot be undone. Fails with `NotKept` if `keep` returns an error, and otherwise
+    /// Everything is allocated before `keep` is called, and nothing fails after it (no clause says
+    /// so), so `keep` may do what cannot be undone. Fails with `NotKept` if `keep` returns an error, and otherwise
     /// only with `OutOfMemory`. Each failure leaves the history unchanged.
     pub fn judge_with<K, E, F: FnOnce(Verdicts) -> Result<K, E>>(
         &mut self,
@@ -114,13 +127,17 @@ impl WriteHistory {
             IfErr result (λ error. IfNotKept error (λ reason.
             (verdicts : _) × AreVerdicts self.old s verdicts × F.post keep verdicts (Err reason))) }
     {
-        let parts = share.parts();
-        let (verdicts, writes) = judge_with_room(self.window, &mut self.writes, version, parts)?;
+        let judging = Judging {
+            window: self.window,
+            dropped: self.dropped,
+            version,
+        };
+        let (verdicts, keys) = judge_with_room(&mut self.steps, judging, share.parts())?;
         let verdicts = Items::from(verdicts);
         let copy = copy_verdicts(&verdicts)?;
         match keep(copy) {
             Ok(kept) => {
-                put_in_place(&mut self.writes, writes);
+                self.steps.fill(&keys, version);
                 self.last = version;
                 Ok((verdicts, kept))
             }
@@ -136,7 +153,16 @@ impl WriteHistory {
         ensures stands { Forgets self.old oldest self.new }
     {
         let bound = oldest.min(self.last.saturating_sub(self.window));
-        forget_up_to(&mut self.writes, bound);
+        self.dropped = self.dropped.max(bound);
+        self.sweep_if_grown();
+    }
+
+    /// Returns how many greatest ranges of keys there are with one last version, from the empty key
+    /// up to `\xff\xff`. Versions that were forgotten count as none. Allocates nothing.
+    pub fn steps(&self) -> usize
+        ensures { IsCount (last_at self.now.writes) result }
+    {
+        self.steps.count(self.dropped)
     }
 
     /// Returns a deep copy. Fails only with `OutOfMemory`.
@@ -144,5 +170,16 @@ impl WriteHistory {
         ensures { IfOk result (λ copy. copy ≡ self.now) }
     {
         Ok(self.clone()?)
+    }
+
+    /// Takes out the starts at which the version does not change, if there are twice as many starts as
+    /// after the last time.
+    fn sweep_if_grown(&mut self)
+        ensures { self.new ≡ self.old }
+    {
+        if self.steps.len() / 2 >= self.swept.max(SWEPT_AT_LEAST) {
+            self.steps.sweep(self.dropped);
+            self.swept = self.steps.len();
+        }
     }
 }

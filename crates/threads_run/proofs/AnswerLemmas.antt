@@ -11,11 +11,11 @@ use Rattle.threads_run.specs.Lines.{Answer}
 use Rattle.threads_run.specs.Parts.{GrowsBy}
 
 -- the line of a finished batch
-pub finished_line : (config : Config) (p : ℕ) (line : Answer → List ℕ) (batch : List Given) (noted : NotedFinishedView) (finished : Finished) (old new : List ℕ)
-    → FinishesBatch config p batch noted → finished ≡ noted.finished → new ≡ old ++ line (Ok finished) → GrowsBy (IsLineOf config p line batch) old new
-finished_line config p line batch noted finished old new finishes same is = (line (Ok finished), (Ok finished, (noted, finishes, same), refl), is)
+pub finished_line : (config : Config) (rows p : ℕ) (line : Answer → List ℕ) (batch : List Given) (noted : NotedFinishedView) (finished : Finished) (old new : List ℕ)
+    → FinishesBatch config p batch noted → finished ≡ noted.finished → new ≡ old ++ line (Ok finished) → GrowsBy (IsLineOf config rows p line batch) old new
+finished_line config rows p line batch noted finished old new finishes same is = (line (Ok finished), (Ok finished, (noted, finishes, same), refl), is)
 
 -- the line of a batch without record
-pub refused_line : (config : Config) (p : ℕ) (line : Answer → List ℕ) (batch : List Given) (refusal : Refusal) (old new : List ℕ)
-    → IsEnd refusal → new ≡ old ++ line (Err refusal) → GrowsBy (IsLineOf config p line batch) old new
-refused_line config p line batch refusal old new ends is = (line (Err refusal), (Err refusal, ends, refl), is)
+pub refused_line : (config : Config) (rows p : ℕ) (line : Answer → List ℕ) (batch : List Given) (refusal : Refusal) (old new : List ℕ)
+    → IsEnd config rows refusal → new ≡ old ++ line (Err refusal) → GrowsBy (IsLineOf config rows p line batch) old new
+refused_line config rows p line batch refusal old new ends is = (line (Err refusal), (Err refusal, ends, refl), is)

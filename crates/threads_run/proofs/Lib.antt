@@ -1,7 +1,7 @@
 pub mod AnswerLemmas
+pub mod EndLemmas
 pub mod LimitLemmas
 pub mod MeetingLemmas
 pub mod PartLemmas
 pub mod RunLemmas
-pub mod TextLemmas
 pub mod ThreadLemmas

@@ -17,18 +17,18 @@ pub one_more_part : (IsPart : ℕ → List ℕ → Type 0) (count : ℕ) (old be
     → GrowsBy (IsInParts IsPart count) old between → GrowsBy (IsPart count) between new
     → GrowsBy (IsInParts IsPart (count + 1)) old new
 one_more_part IsPart count old between new earlier later =
-    let (told, parts, first) = earlier in
+    let (before, parts, first) = earlier in
     let (part, is, last) = later in
-    (told ++ part, rw add-one (told, part, parts, is, refl), last ∙ ap (λ text. text ++ part) first ∙ append_assoc old told part)
+    (before ++ part, rw add-one (before, part, parts, is, refl), last ∙ ap (λ text. text ++ part) first ∙ append_assoc old before part)
 
 -- one more batch was answered
-pub one_more_batch : (config : Config) (p : ℕ) (batches : List (List Given)) (count : ℕ) (batch : List Given) (old between new : List ℕ)
+pub one_more_batch : (config : Config) (rows p : ℕ) (batches : List (List Given)) (count : ℕ) (batch : List Given) (old between new : List ℕ)
     → slice_get batches count ≡ Some batch
-    → GrowsBy (IsInParts (IsBatchLine config p batches) count) old between → GrowsBy (IsLineOf config p (batch_line p count) batch) between new
-    → GrowsBy (IsInParts (IsBatchLine config p batches) (count + 1)) old new
-one_more_batch config p batches count batch old between new there earlier later =
+    → GrowsBy (IsInParts (IsBatchLine config rows p batches) count) old between → GrowsBy (IsLineOf config rows p (batch_line p count) batch) between new
+    → GrowsBy (IsInParts (IsBatchLine config rows p batches) (count + 1)) old new
+one_more_batch config rows p batches count batch old between new there earlier later =
     let (part, is, last) = later in
-    one_more_part (IsBatchLine config p batches) count old between new earlier (part, (batch, there, is), last)
+    one_more_part (IsBatchLine config rows p batches) count old between new earlier (part, (batch, there, is), last)
 
 -- parts that are as one predicate says, and so as another says
 pub parts_weaker : (IsPart Is : ℕ → List ℕ → Type 0) (count : ℕ) (text : List ℕ) → ((n : ℕ) (part : List ℕ) → n < count → IsPart n part → Is n part)

@@ -1,7 +1,10 @@
 -- Threads that are started and joined, one for each proxy.
-use Rattle.std.proofs.Common.{◌≡◌, ◌++◌, ◌+◌, ◌∙◌, [], ◌∷◌, ℕ, zero, suc, List, sym, ap, subst, length, drop, arith, inl, inr, add-one, String, Global}
+use Rattle.std.proofs.Common.{◌≡◌, ◌++◌, ◌+◌, ◌<◌, ◌∙◌, get_or, [], ◌∷◌, ℕ, zero, suc, List, sym, ap, subst, length, drop, arith, inl, inr, add-one, String, Global}
 use Rattle.std.specs.Prelude.{◌⊎◌, ⊤, slice_get, Some, Result, Ok, Err, IfOk, IsOk, OnOk, MatchResult, string_bytes}
+use Rattle.std.specs.List.{All}
+use Rattle.std.proofs.lemmas.Option.{slice_get-get_or}
 use Rattle.model.specs.Stamps.{Given}
+use Rattle.inboxes.specs.Ends.{IsEach}
 use Rattle.threads_run.specs.Answers.{AreLinesOfProxy}
 use Rattle.threads_run.specs.Faults.{join_results}
 use Rattle.threads_run.specs.Parts.{GrowsBy, IsInParts}
@@ -42,8 +45,8 @@ pub lines_of_proxies : {X : Type 0} (threads : List X) (number : X → ℕ) (bat
 lines_of_proxies threads number batches AreLines work text ordered count lines =
     subst (λ (n : ℕ). IsInParts (AreLinesOfProxy AreLines work) n text) count
     (parts_weaker (AreLinesOfThread AreLines threads number batches) (AreLinesOfProxy AreLines work) (length threads) text
-    (λ p part below told.
-    let (thread, at, is) = told in
+    (λ p part below of_thread.
+    let (thread, at, is) = of_thread in
     let (same, there) = ordered p thread at in
     (batches thread, there, subst (λ (n : ℕ). AreLines n (batches thread) part) same is)) lines)
 
@@ -65,14 +68,14 @@ both_ok (Err fault) (Ok _) ok = absurd (cc)
 both_ok (Err fault) (Err second) ok = absurd (cc)
 
 -- a thread that did not fail returned the lines that it promised
-pub told_lines : (AreLines : List ℕ → Type 0) (returned : Result (String Global) RunFault) (appended : Result ⊤ RunFault) (old new : List ℕ)
+pub returned_lines : (AreLines : List ℕ → Type 0) (returned : Result (String Global) RunFault) (appended : Result ⊤ RunFault) (old new : List ℕ)
     → IfOk returned (λ text. AreLines (string_bytes text))
-    → MatchResult returned (λ told. OnOk appended (new ≡ old ++ string_bytes told)) (λ fault. appended ≡ Err fault)
+    → MatchResult returned (λ lines. OnOk appended (new ≡ old ++ string_bytes lines)) (λ fault. appended ≡ Err fault)
     → IsOk appended → GrowsBy AreLines old new
-told_lines AreLines (Ok told) (Ok _) old new kept is ok = (string_bytes told, kept, is)
-told_lines AreLines (Ok told) (Err fault) old new kept is ok = absurd (cc)
-told_lines AreLines (Err fault) (Ok x) old new kept is ok = absurd (cc)
-told_lines AreLines (Err fault) (Err second) old new kept is ok = absurd (cc)
+returned_lines AreLines (Ok lines) (Ok _) old new kept is ok = (string_bytes lines, kept, is)
+returned_lines AreLines (Ok lines) (Err fault) old new kept is ok = absurd (cc)
+returned_lines AreLines (Err fault) (Ok x) old new kept is ok = absurd (cc)
+returned_lines AreLines (Err fault) (Err second) old new kept is ok = absurd (cc)
 
 -- one more thread was joined
 pub one_more_joined : {X : Type 0} (AreLines : ℕ → List (List Given) → List ℕ → Type 0) (threads : List X) (number : X → ℕ) (batches : X → List (List Given)) (k : ℕ) (thread : X) (old new : List ℕ)
@@ -82,3 +85,9 @@ pub one_more_joined : {X : Type 0} (AreLines : ℕ → List (List Given) → Lis
 one_more_joined AreLines threads number batches k thread old new at before later =
     let (part, is, last) = later in
     rw add-one (old, part, before, (thread, at, is), last)
+
+-- each end of an inbox is of a resolver that is there
+pub ends_below : (count resolvers : ℕ) (ends : List ℕ) → IsEach (λ (resolver : ℕ). resolver) count ends → resolvers ≡ count → All (λ (end : ℕ). end < resolvers) ends
+ends_below count resolvers ends each same k d below =
+    let is : get_or ends k d ≡ k = each.1 k (get_or ends k d) (slice_get-get_or ends k d below) in
+    omega (arith, is, below, same, each.0)

@@ -1,6 +1,7 @@
 -- How a run fails by the faults of its commits, and which refusals are printed (this project's
 -- profile).
-use Rattle.std.specs.Prelude.{⊤, Result, Ok, Err}
+use Rattle.std.specs.Prelude.{⊤, Bool, true, false, List, Result, Ok, Err}
+use Rattle.std.specs.List.{list_any}
 use Rattle.agreed_ledger.specs.declared.refusal.Refusal.{Refusal as LedgerRefusal}
 use Rattle.agreed_ledger.specs.declared.refusal.Refusal.TheVariants as ledger
 use Rattle.scripts.specs.declared.status.RunStatus.{RunStatus}
@@ -9,13 +10,32 @@ use Rattle.shared_cluster.specs.declared.commits.commit_fault.CommitFault.{Commi
 use Rattle.shared_cluster.specs.declared.commits.commit_fault.CommitFault.TheVariants as phases
 use Rattle.shared_cluster.specs.declared.refusal.Refusal.{Refusal}
 use Rattle.shared_cluster.specs.declared.refusal.Refusal.TheVariants as refusals
+use Rattle.workers.specs.Workers.{EndedView}
 use Rattle.threads_run.specs.declared.faults.RunFault.{RunFault}
 use Rattle.threads_run.specs.declared.faults.RunFault.TheVariants as faults
 
--- want of memory, if either fault is that
+-- `OutOfMemory`, if either fault is that
 abbrev pub graver : RunFault → RunFault → RunFault
 graver faults.OutOfMemory other = faults.OutOfMemory
 graver faults.Refused other = other
+
+-- the fault of a run whose proxies came to this one, and one of whose workers was refused memory, or
+-- none was
+abbrev pub fault_beside : RunFault → (refused_memory : Bool) → RunFault
+fault_beside fault true = faults.OutOfMemory
+fault_beside fault false = fault
+
+-- what is left of a worker says that it was refused memory
+abbrev pub was_refused_memory : EndedView → Bool
+was_refused_memory ended = ended.wanted
+
+-- The lines of the proxies, if each was answered. Otherwise the fault of the run, with `OutOfMemory`
+-- if a proxy or a worker was refused memory.
+abbrev pub lines_beside :
+    {X : Type 0} → Result X RunFault → (workers : List EndedView) → Result X RunFault
+lines_beside (Ok text) workers = Ok text
+lines_beside (Err fault) workers =
+    Err (fault_beside fault (list_any was_refused_memory workers))
 
 -- `Ok` if both are, and otherwise the graver fault
 abbrev pub join_results : Result ⊤ RunFault → Result ⊤ RunFault → Result ⊤ RunFault
@@ -24,21 +44,22 @@ join_results (Err fault) (Ok _) = Err fault
 join_results (Err fault) (Err second) = Err (graver fault second)
 
 -- how a run fails that the sequencer refused so
-abbrev pub of_ledger : LedgerRefusal → RunFault
-of_ledger ledger.OutOfMemory = faults.OutOfMemory
-of_ledger refusal = faults.Refused
+abbrev pub ledger_fault : LedgerRefusal → RunFault
+ledger_fault ledger.OutOfMemory = faults.OutOfMemory
+ledger_fault refusal = faults.Refused
 
 -- how a run fails that a proxy or a resolver refused so
-abbrev pub of_cluster : Refusal → RunFault
-of_cluster refusals.OutOfMemory = faults.OutOfMemory
-of_cluster refusal = faults.Refused
+abbrev pub cluster_fault : Refusal → RunFault
+cluster_fault refusals.OutOfMemory = faults.OutOfMemory
+cluster_fault refusal = faults.Refused
 
--- how a run fails in which a commit has this fault: want of memory is want of memory in each phase
-abbrev pub fault_of : {N : Type 0} → CommitFault N → RunFault
-fault_of (phases.Sequencing refusal batch) = of_ledger refusal
-fault_of (phases.Beginning refusal ticket) = of_cluster refusal
-fault_of (phases.Resolving refusal begun) = of_cluster refusal
-fault_of (phases.Finishing refusal ready) = of_cluster refusal
+-- how a run fails in which a commit has this fault: with `OutOfMemory` in whatever phase an allocation
+-- failed
+abbrev pub commit_fault : {N : Type 0} → CommitFault N → RunFault
+commit_fault (phases.Sequencing refusal batch) = ledger_fault refusal
+commit_fault (phases.Beginning refusal ticket) = cluster_fault refusal
+commit_fault (phases.Resolving refusal begun) = cluster_fault refusal
+commit_fault (phases.Finishing refusal ready) = cluster_fault refusal
 
 -- how a run ends that fails so
 abbrev pub fault_status : RunFault → RunStatus
@@ -47,18 +68,18 @@ fault_status faults.Refused = statuses.ClusterRefused
 
 -- how a run ends in which a commit has this fault
 abbrev pub status_of : {N : Type 0} → CommitFault N → RunStatus
-status_of fault = fault_status (fault_of fault)
+status_of fault = fault_status (commit_fault fault)
 
 -- the refusal of a batch that gets no record is printed where the ledger or the versions end; any
 -- other ends the run
 abbrev pub printed_of_ledger : LedgerRefusal → Result LedgerRefusal RunFault
 printed_of_ledger (ledger.LedgerFull rows) = Ok (ledger.LedgerFull rows)
 printed_of_ledger ledger.VersionsEnd = Ok ledger.VersionsEnd
-printed_of_ledger refusal = Err (of_ledger refusal)
+printed_of_ledger refusal = Err (ledger_fault refusal)
 
 -- the refusal that is printed of a commit that has this fault, or how the run fails
 abbrev pub printed_refusal : {N : Type 0} → CommitFault N → Result LedgerRefusal RunFault
 printed_refusal (phases.Sequencing refusal batch) = printed_of_ledger refusal
-printed_refusal (phases.Beginning refusal ticket) = Err (of_cluster refusal)
-printed_refusal (phases.Resolving refusal begun) = Err (of_cluster refusal)
-printed_refusal (phases.Finishing refusal ready) = Err (of_cluster refusal)
+printed_refusal (phases.Beginning refusal ticket) = Err (cluster_fault refusal)
+printed_refusal (phases.Resolving refusal begun) = Err (cluster_fault refusal)
+printed_refusal (phases.Finishing refusal ready) = Err (cluster_fault refusal)

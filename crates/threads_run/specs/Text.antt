@@ -32,9 +32,10 @@ pub record IsThreadsText (script : ThreadsScript) (text : List ℕ) : Type 0 whe
   pub meetings : List ℕ
   pub audits : List ℕ
   pub answered :
-      IsInParts (AreLinesOfProxy (AreBatchLines script.config) script.work) (length script.work)
-      batches
-  pub closed : IsInParts (IsClosingLine script.config) script.config.proxies closings
+      IsInParts (AreLinesOfProxy (AreBatchLines script.config script.rows) script.work)
+      (length script.work) batches
+  pub closed :
+      IsInParts (IsClosingLine script.config script.rows) script.config.proxies closings
   pub shown : IsInParts (IsProxyText script.config script.ask) script.config.proxies proxies
   pub met : AreMeetingsOf script.config script.config.proxies meetings
   pub audited : IsInParts (IsAuditLine script.config) script.config.proxies audits

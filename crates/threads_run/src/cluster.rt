@@ -3,7 +3,7 @@
 ghost use Rattle.std.specs.Prelude.{◌≡◌, ◌<◌, length, IfOk};
 ghost use Rattle.threads_run.specs.Threads.{AreInPlace};
 
-use crate::faults::{RunFault, of_ledger};
+use crate::faults::{RunFault, ledger_fault};
 use crate::script::UndatedMove;
 use agreed_ledger::{Ledger, Naming, Sequencer};
 use model::ProxyNumber;
@@ -19,6 +19,7 @@ pub(crate) struct Cluster<'l, N: Naming> {
     pub(crate) resolvers: Vec<SharedResolver<'l, N>>,
     pub(crate) proxies: Vec<SharedProxy<'l, N>>,
     ghost in_place: { AreInPlace proxies.items },
+    pub(crate) ghost resolvers_in_place: { AreInPlace resolvers.items },
 }
 
 impl<'l, N: Naming> Cluster<'l, N> {
@@ -53,7 +54,7 @@ impl<'l, N: Naming> Cluster<'l, N> {
         let mut guard = self.sequencer.lock(rt);
         for one in moves {
             if let Err(refusal) = guard.move_range(&one.range, one.dest) {
-                return Err(of_ledger(refusal));
+                return Err(ledger_fault(refusal));
             }
         }
         Ok(())
@@ -65,7 +66,9 @@ fn shared_resolvers<'l, N: Naming>(
     alloc: Global,
     ledger: &'l Ledger<N>,
 ) -> Result<Vec<SharedResolver<'l, N>>, OutOfMemory>
-    ensures { IfOk result (λ resolvers. length resolvers.items ≡ N.cells.config.resolvers) }
+    ensures count { IfOk result (λ resolvers.
+        length resolvers.items ≡ N.cells.config.resolvers) }
+    ensures in_place { IfOk result (λ resolvers. AreInPlace resolvers.items) }
 {
     let count = ledger.config().resolvers();
     let mut resolvers = Vec::with_capacity(alloc, count)?;

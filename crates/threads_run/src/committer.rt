@@ -1,6 +1,6 @@
 //! A proxy that commits batches, and prints their answers.
 
-ghost use Rattle.std.specs.Prelude.{◌≡◌, [], IfOk, OnOk, string_bytes};
+ghost use Rattle.std.specs.Prelude.{◌≡◌, [], length, IfOk, OnOk, string_bytes};
 ghost use Rattle.threads_run.specs.Answers.{AreBatchLines, IsClosingLine, IsCommitOf, IsLineOf};
 ghost use Rattle.threads_run.specs.Lines.{batch_line};
 ghost use Rattle.threads_run.specs.Parts.{GrowsBy};
@@ -47,7 +47,8 @@ impl<'a, 'l, N: Naming, M: Channels> Committer<'a, 'l, N, M> {
         batches: &[Batch],
     ) -> Result<String, RunFault>
         ensures { IfOk result (λ text.
-            AreBatchLines N.cells.config self.now.number batches.now (string_bytes text)) }
+            AreBatchLines N.cells.config (length N.cells.records) self.now.number
+            batches.now (string_bytes text)) }
     {
         let mut text = String::new(alloc);
         match self.print_batches(rt, &mut text, batches) {
@@ -66,7 +67,8 @@ impl<'a, 'l, N: Naming, M: Channels> Committer<'a, 'l, N, M> {
         batches: &[Batch],
     ) -> Result<(), RunFault>
         ensures { OnOk result
-            (GrowsBy (AreBatchLines N.cells.config self.now.number batches.now)
+            (GrowsBy
+            (AreBatchLines N.cells.config (length N.cells.records) self.now.number batches.now)
             (string_bytes text.old) (string_bytes text.new)) }
     {
         for (place, batch) in batches.iter().enumerate() {
@@ -84,7 +86,7 @@ impl<'a, 'l, N: Naming, M: Channels> Committer<'a, 'l, N, M> {
         batch: &Batch,
     ) -> Result<(), RunFault>
         ensures { OnOk result
-            (GrowsBy (IsLineOf N.cells.config self.now.number
+            (GrowsBy (IsLineOf N.cells.config (length N.cells.records) self.now.number
             (batch_line self.now.number place) batch.now)
             (string_bytes text.old) (string_bytes text.new)) }
     {
@@ -114,7 +116,7 @@ impl<'a, 'l, N: Naming, M: Channels> Committer<'a, 'l, N, M> {
     ) -> Result<(), RunFault>
         requires { empty.now ≡ [] }
         ensures { OnOk result
-            (GrowsBy (IsClosingLine N.cells.config self.now.number)
+            (GrowsBy (IsClosingLine N.cells.config (length N.cells.records) self.now.number)
             (string_bytes text.old) (string_bytes text.new)) }
     {
         match self.commit(rt, empty)? {
@@ -126,7 +128,8 @@ impl<'a, 'l, N: Naming, M: Channels> Committer<'a, 'l, N, M> {
 
     /// Commits a copy of the batch.
     fn commit<R: Wait>(&self, rt: &R, batch: &Batch) -> Result<Committed<N>, RunFault>
-        ensures { IfOk result (IsCommitOf N.cells.config self.now.number batch.now) }
+        ensures { IfOk result
+            (IsCommitOf N.cells.config (length N.cells.records) self.now.number batch.now) }
     {
         let copy = batch.copy()?;
         match self.proxy.commit(rt, self.sequencer, self.inboxes, copy) {

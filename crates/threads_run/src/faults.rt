@@ -1,7 +1,7 @@
 //! Why a run has no text, and which refusals of a commit are printed.
 
 ghost use Rattle.std.specs.Prelude.{◌≡◌};
-ghost use Rattle.threads_run.specs.Faults.{fault_of, of_cluster, of_ledger, printed_refusal};
+ghost use Rattle.threads_run.specs.Faults.{commit_fault, cluster_fault, ledger_fault, printed_refusal};
 ghost use Rattle.threads_run.specs.Faults.{status_of};
 ghost use Rattle.threads_run.specs.declared.faults.RunFault.TheVariants as faults;
 
@@ -15,14 +15,14 @@ use system_keys::OutOfMemory;
 pub(crate) enum RunFault {
     /// An allocation failed, or a thread could not be started.
     OutOfMemory,
-    /// The cluster refused a call, and not for want of memory.
+    /// The cluster refused a call, and not because an allocation failed.
     Refused,
 }
 
 impl RunFault {
-    ghost use Rattle.threads_run.specs.Faults.{fault_status, graver};
+    ghost use Rattle.threads_run.specs.Faults.{fault_beside, fault_status, graver};
 
-    /// How the run ends: with 4 for want of memory, and otherwise with 5.
+    /// How the run ends: with 4 for `OutOfMemory`, and with 5 for `Refused`.
     pub(crate) fn status(self) -> RunStatus
         ensures { result ≡ fault_status self }
     {
@@ -32,13 +32,25 @@ impl RunFault {
         }
     }
 
-    /// Of two faults the one that the run ends with: want of memory, if either is that.
+    /// Of two faults the one that the run ends with: `OutOfMemory`, if either is that.
     pub(crate) fn or(self, other: RunFault) -> RunFault
         ensures { result ≡ graver self other }
     {
         match self {
             RunFault::OutOfMemory => self,
             RunFault::Refused => other,
+        }
+    }
+
+    /// The fault of a run whose proxies came to this one: `OutOfMemory` also if a worker was refused
+    /// memory, of which a proxy may have seen only that a resolver was closed.
+    pub(crate) fn beside(self, refused_memory: bool) -> RunFault
+        ensures { result ≡ fault_beside self refused_memory }
+    {
+        if refused_memory {
+            RunFault::OutOfMemory
+        } else {
+            self
         }
     }
 }
@@ -51,30 +63,30 @@ impl From<OutOfMemory> for RunFault {
     }
 }
 
-/// How a run ends in which a commit has this fault: for want of memory, whatever the phase, or by any
-/// other refusal. A ledger that is full and versions that end are printed, and not told here (this
-/// project's profile).
+/// How a run ends in which a commit has this fault, whatever its phase: with `OutOfMemory` if an
+/// allocation failed, and otherwise with `ClusterRefused`. The refusals of a full ledger and of the
+/// end of the versions are printed, and not passed to this function (this project's profile).
 pub fn status_of<N: Naming>(fault: &CommitFault<N>) -> RunStatus
     ensures { result ≡ status_of fault.now }
 {
-    fault_of(fault).status()
+    commit_fault(fault).status()
 }
 
 /// How a run fails in which a commit has this fault.
-fn fault_of<N: Naming>(fault: &CommitFault<N>) -> RunFault
-    ensures { result ≡ fault_of fault.now }
+fn commit_fault<N: Naming>(fault: &CommitFault<N>) -> RunFault
+    ensures { result ≡ commit_fault fault.now }
 {
     match fault {
-        CommitFault::Sequencing { refusal, batch: _ } => of_ledger(*refusal),
-        CommitFault::Beginning { refusal, ticket: _ } => of_cluster(*refusal),
-        CommitFault::Resolving { refusal, begun: _ } => of_cluster(*refusal),
-        CommitFault::Finishing { refusal, ready: _ } => of_cluster(*refusal),
+        CommitFault::Sequencing { refusal, batch: _ } => ledger_fault(*refusal),
+        CommitFault::Beginning { refusal, ticket: _ } => cluster_fault(*refusal),
+        CommitFault::Resolving { refusal, begun: _ } => cluster_fault(*refusal),
+        CommitFault::Finishing { refusal, ready: _ } => cluster_fault(*refusal),
     }
 }
 
 /// How a run fails that the sequencer refused so.
-pub(crate) fn of_ledger(refusal: LedgerRefusal) -> RunFault
-    ensures { result ≡ of_ledger refusal }
+pub(crate) fn ledger_fault(refusal: LedgerRefusal) -> RunFault
+    ensures { result ≡ ledger_fault refusal }
 {
     match refusal {
         LedgerRefusal::OutOfMemory => RunFault::OutOfMemory,
@@ -83,8 +95,8 @@ pub(crate) fn of_ledger(refusal: LedgerRefusal) -> RunFault
 }
 
 /// How a run fails that a proxy or a resolver refused so.
-pub(crate) fn of_cluster(refusal: Refusal) -> RunFault
-    ensures { result ≡ of_cluster refusal }
+pub(crate) fn cluster_fault(refusal: Refusal) -> RunFault
+    ensures { result ≡ cluster_fault refusal }
 {
     match refusal {
         Refusal::OutOfMemory => RunFault::OutOfMemory,
@@ -106,6 +118,6 @@ pub(crate) fn printed_refusal<N: Naming>(fault: &CommitFault<N>) -> Result<Ledge
             refusal: LedgerRefusal::VersionsEnd,
             batch: _,
         } => Ok(LedgerRefusal::VersionsEnd),
-        _ => Err(fault_of(fault)),
+        _ => Err(commit_fault(fault)),
     }
 }

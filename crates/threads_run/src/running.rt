@@ -1,39 +1,81 @@
 //! What the threads of a run share.
 
 ghost use Rattle.std.specs.Prelude.{◌≡◌, ◌<◌, [], length, IfOk, OnOk, string_bytes};
+ghost use Rattle.std.specs.List.{list_any};
 ghost use Rattle.threads_run.specs.Answers.{AreBatchLines, IsClosingLine};
+ghost use Rattle.threads_run.specs.Faults.{lines_beside, was_refused_memory};
 ghost use Rattle.threads_run.specs.Parts.{GrowsBy, IsInParts};
+ghost use Rattle.threads_run.specs.Threads.{AreInPlace};
 
 use crate::cluster::Cluster;
 use crate::committer::Committer;
 use crate::faults::RunFault;
-use crate::serving::ServesInbox;
+use crate::serving::{RunOutcome, ServesInbox};
 use crate::threads::CommitsBatches;
 use agreed_ledger::Naming;
 use inboxes::{Channels, FreshEnd};
-use model::ProxyNumber;
+use model::{ProxyNumber, ResolverNumber};
 use mutation::Batch;
 use shared_cluster::SharedResolver;
 use std::alloc::Global;
 use std::sync::Wait;
 use system_keys::OutOfMemory;
-use workers::{Open, ProxyInboxes, ResolverWorker};
+use workers::{EndedWorker, Open, ProxyInboxes, ResolverWorker};
 
 /// The resolvers of the cluster, which workers ask for the proxies.
 #[derive(Drop)]
 pub(crate) struct Serving<'a, 'l, N: Naming> {
     pub(crate) resolvers: &'a [SharedResolver<'l, N>],
+    ghost in_place: { AreInPlace resolvers.now },
 }
 
-impl<'a, 'l, N: Naming, M: Channels> ServesInbox<FreshEnd<N, M>> for Serving<'a, 'l, N> {
-    fn serve<R: Wait>(&self, rt: &R, alloc: Global, end: FreshEnd<N, M>) {
-        let Some(resolver) = self.resolvers.get(end.resolver()) else {
-            return;
-        };
-        if let Ok(worker) = ResolverWorker::new(alloc, resolver, end, Open) {
-            let _ended = worker.run(rt);
-        }
+impl<'a, 'l, N: Naming> Serving<'a, 'l, N> {
+    /// The resolver of this number.
+    fn resolver(&self, number: ResolverNumber) -> &'a SharedResolver<'l, N>
+        requires { number < length self.now.resolvers.now }
+        ensures { result.now ≡ number }
+    {
+        &self.resolvers[number]
     }
+}
+
+/// What is left of the worker of an inbox.
+pub(crate) type Ended<N, M> = EndedWorker<N, M, Open>;
+
+impl<'a, 'l, N: Naming, M: Channels> ServesInbox<FreshEnd<N, M>, Ended<N, M>>
+    for Serving<'a, 'l, N> {
+    ghost can_serve = { λ serving end. end < length serving.resolvers.now };
+
+    fn serve<R: Wait>(&self, rt: &R, alloc: Global, end: FreshEnd<N, M>) -> Ended<N, M> {
+        let resolver = self.resolver(end.resolver());
+        let Ok(worker) = ResolverWorker::new(alloc, resolver, end, Open) else {
+            unreachable!();
+        };
+        worker.run(rt)
+    }
+}
+
+/// The lines of the run, or why it has none. A worker that was refused memory may show to a proxy
+/// only as a resolver that is closed, so the workers are asked too. If each proxy was answered, the
+/// lines are right whatever the workers were refused.
+pub(crate) fn lines_of<N: Naming, M: Channels>(
+    outcome: RunOutcome<Ended<N, M>>,
+) -> Result<String, RunFault>
+    ensures { result ≡ lines_beside outcome.lines outcome.workers.items }
+{
+    let RunOutcome { lines, workers } = outcome;
+    let refused_memory = were_refused_memory(workers.as_slice());
+    match lines {
+        Ok(text) => Ok(text),
+        Err(fault) => Err(fault.beside(refused_memory)),
+    }
+}
+
+/// Whether one of the workers was refused memory.
+fn were_refused_memory<N: Naming, M: Channels>(workers: &[Ended<N, M>]) -> bool
+    ensures { result ≡ list_any was_refused_memory workers.now }
+{
+    workers.iter().any(|ended| ended.wanted_memory())
 }
 
 /// The cluster, and the inboxes of its resolvers as each proxy sends to them.
@@ -60,9 +102,10 @@ impl<'a, 'l, N: Naming, M: Channels> Running<'a, 'l, N, M> {
 }
 
 impl<'a, 'l, N: Naming, M: Channels> CommitsBatches for Running<'a, 'l, N, M> {
-    ghost are_lines = { AreBatchLines N.cells.config };
+    ghost are_lines = { AreBatchLines N.cells.config (length N.cells.records) };
 
-    ghost are_closings = { λ proxies. IsInParts (IsClosingLine N.cells.config) proxies };
+    ghost are_closings = { λ proxies.
+        IsInParts (IsClosingLine N.cells.config (length N.cells.records)) proxies };
 
     ghost proxies = { λ running. length running.cluster.now.proxies.items };
 

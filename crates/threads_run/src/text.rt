@@ -3,13 +3,14 @@
 ghost use Rattle.std.specs.Prelude.{◌≡◌, length, IfOk, OnOk, string_bytes};
 ghost use Rattle.threads_run.specs.Answers.{AreBatchLines, IsClosingLine};
 ghost use Rattle.threads_run.specs.Parts.{GrowsBy, IsInParts};
+ghost use Rattle.threads_run.specs.Runnable.{IsRunnable};
 ghost use Rattle.threads_run.specs.Threads.{AreAnswerLines};
 ghost use Rattle.threads_run.specs.Text.{IsProxyText, IsThreadsText};
 
 use crate::cluster::Cluster;
-use crate::faults::{RunFault, of_ledger};
+use crate::faults::{RunFault, ledger_fault};
 use crate::meetings::{print_audits, print_meetings};
-use crate::running::{Running, Serving};
+use crate::running::{Running, Serving, lines_of};
 use crate::script::ThreadsScript;
 use crate::serving::commit_over_workers;
 use agreed_ledger::{BlankLedger, Ledger, Naming};
@@ -30,21 +31,19 @@ use workers::ProxyInboxes;
 /// of the audits. Returns only when all threads have ended.
 ///
 /// Fails with `OutOfMemory` if an allocation failed or a thread could not be started, and with
-/// `Refused` if the script has not one list of batches for each proxy, or if the cluster refuses a
-/// call in any other way than by the end of the ledger or of the versions.
+/// `Refused` if the cluster refuses a call in any other way than by the end of the ledger or of the
+/// versions.
 pub(crate) fn threads_text<R: Threads + Wait + Sync>(
     rt: &R,
     alloc: Global,
     script: &ThreadsScript,
 ) -> Result<String, RunFault>
+    requires { IsRunnable script.now }
     ensures { IfOk result (λ text. IsThreadsText script.now (string_bytes text)) }
 {
-    if script.work.as_slice().len() != script.config.proxies() {
-        return Err(RunFault::Refused);
-    }
     match Ledger::new(alloc, script.rows, script.config) {
         Ok(blank) => threads_text_in::<Brand, R>(rt, alloc, blank, script),
-        Err(refusal) => Err(of_ledger(refusal)),
+        Err(refusal) => Err(ledger_fault(refusal)),
     }
 }
 
@@ -57,6 +56,7 @@ fn threads_text_in<N: Naming + Send + Sync, R: Threads + Wait + Sync>(
 ) -> Result<String, RunFault>
     requires ledger { blank ≡ N.cells }
     requires config { script.now.config ≡ N.cells.config }
+    requires rows { script.now.rows ≡ length N.cells.records }
     requires work { length script.now.work ≡ script.now.config.proxies }
     ensures { IfOk result (λ text. IsThreadsText script.now (string_bytes text)) }
 {
@@ -83,10 +83,12 @@ fn answers_over<N: Naming + Send + Sync, M: Channels + Send + Sync, R: Threads +
 ) -> Result<String, RunFault>
     requires places { blank ≡ M.places }
     requires proxies { length cluster.now.proxies.items ≡ N.cells.config.proxies }
+    requires resolvers { length cluster.now.resolvers.items ≡ N.cells.config.resolvers }
     requires work { length work.now ≡ N.cells.config.proxies }
-    ensures { let closings = IsInParts (IsClosingLine N.cells.config) N.cells.config.proxies in
-        IfOk result (λ text.
-        AreAnswerLines (AreBatchLines N.cells.config) closings work.now (string_bytes text)) }
+    ensures { let rows = length N.cells.records in
+        let closings = IsInParts (IsClosingLine N.cells.config rows) N.cells.config.proxies in
+        IfOk result (λ text. AreAnswerLines (AreBatchLines N.cells.config rows) closings
+        work.now (string_bytes text)) }
 {
     let room = InboxRoom::<N, M>::new(alloc, ledger)?;
     let (senders, ends) = blank.named::<M>(room);
@@ -97,7 +99,7 @@ fn answers_over<N: Naming + Send + Sync, M: Channels + Send + Sync, R: Threads +
         cluster,
         inboxes: inboxes_of(alloc, ledger, senders)?,
     };
-    commit_over_workers(rt, alloc, &serving, ends, running, work)
+    lines_of(commit_over_workers(rt, alloc, &serving, ends, running, work)?)
 }
 
 /// The inboxes as each proxy sends to them, in the order of the proxies.

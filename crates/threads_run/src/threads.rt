@@ -192,11 +192,11 @@ fn join_proxy_threads<C: CommitsBatches, R: Threads>(
         (string_bytes text)) }
 {
     let mut text = String::new(alloc);
-    let mut joined = Ok(());
+    let mut outcome = Ok(());
     for handle in handles {
-        joined = join_results(joined, append_returned_lines(&mut text, handle.join(rt)));
+        outcome = join_results(outcome, append_returned_lines(&mut text, handle.join(rt)));
     }
-    joined?;
+    outcome?;
     Ok(text)
 }
 
@@ -206,11 +206,11 @@ fn append_returned_lines(
     returned: Result<String, RunFault>,
 ) -> Result<(), RunFault>
     ensures { MatchResult returned
-        (λ told. OnOk result (string_bytes text.new ≡ string_bytes text.old ++ string_bytes told))
+        (λ lines. OnOk result (string_bytes text.new ≡ string_bytes text.old ++ string_bytes lines))
         (λ fault. result ≡ Err fault) }
 {
-    let told = returned?;
-    let Ok(()) = text.push_str(told.as_str()) else {
+    let lines = returned?;
+    let Ok(()) = text.push_str(lines.as_str()) else {
         return Err(RunFault::OutOfMemory);
     };
     Ok(())

@@ -1,10 +1,13 @@
 //! The answer to an event that is not refused.
 
+ghost use Rattle.std.specs.Prelude.{◌≡◌, IfOk};
+
 use model::{Finished, RowNumber, Version};
 use state_memory::Answer as OfferAnswer;
+use system_keys::OutOfMemory;
 
 /// The answer to an event that is not refused.
-#[derive(Debug, Drop)]
+#[derive(Clone, Debug, Drop)]
 pub enum Answer {
     /// The batch has the record at this row, of this version.
     Sequenced { row: RowNumber, version: Version },
@@ -14,4 +17,13 @@ pub enum Answer {
     Offered(OfferAnswer),
     /// The proxy finished the record.
     Finished(Finished),
+}
+
+impl Answer {
+    /// Returns a deep copy. Fails only with `OutOfMemory`.
+    pub fn copy(&self) -> Result<Answer, OutOfMemory>
+        ensures { IfOk result (λ copy. copy ≡ self.now) }
+    {
+        Ok(self.clone()?)
+    }
 }

@@ -1,11 +1,13 @@
 //! What can happen in a cluster without threads.
 
+ghost use Rattle.std.specs.Prelude.{◌≡◌, IfOk};
+
 use model::{ProxyNumber, ResolverNumber, RowNumber};
 use mutation::Batch;
-use system_keys::KeyRange;
+use system_keys::{KeyRange, OutOfMemory};
 
 /// An event of a cluster without threads.
-#[derive(Debug, Drop)]
+#[derive(Clone, Debug, Drop)]
 pub enum Event {
     /// A batch of the proxy gets the next record, and its proxy begins it.
     Sequence {
@@ -26,4 +28,13 @@ pub enum Event {
     Finish {
         proxy: ProxyNumber,
     },
+}
+
+impl Event {
+    /// Returns a deep copy. Fails only with `OutOfMemory`.
+    pub fn copy(&self) -> Result<Event, OutOfMemory>
+        ensures { IfOk result (λ copy. copy ≡ self.now) }
+    {
+        Ok(self.clone()?)
+    }
 }

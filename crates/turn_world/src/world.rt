@@ -3,11 +3,11 @@
 ghost use Rattle.std.specs.Prelude.{◌≡◌, [], ◌∷◌, ◌++◌, ◌+◌, ◌<◌, ◌≤◌, map, vec_len};
 ghost use Rattle.std.specs.Vec.{vec_capacity};
 ghost use Rattle.std.specs.Prelude.{Result, IsOk, IfOk, OnOk, OnErr, MatchOption, MatchResult};
-ghost use Rattle.model.specs.Configs.{version_limit};
+ghost use Rattle.model.specs.Configs.{IsConfig, version_limit};
 ghost use Rattle.model.specs.Records.{last_version};
 ghost use Rattle.model.specs.World.{Sequence, MoveRange, Offer as OfferOf, Finish};
 ghost use Rattle.model.specs.World.{initial_world};
-ghost use Rattle.model.specs.World.{next_record};
+ghost use Rattle.model.specs.World.{IsSound, next_record};
 ghost use Rattle.model.specs.Serial.{IsSerial};
 ghost use Rattle.model.specs.Turns.{after_event, answer_to_event, IsResolverOf, IsProxyOf};
 ghost use Rattle.turn_world.specs.Events.{event_of};
@@ -27,7 +27,7 @@ use crate::stopped::Stopped;
 use model::{Config, Move, ProxyNumber, ResolverNumber, RowNumber, VERSION_LIMIT, Version};
 use mutation::Batch;
 use proxy_state::Proxy;
-use request_builder::Record;
+use request_builder::{Moves, Record};
 use state_memory::{Answer as OfferAnswer, Resolver};
 use std::alloc::Global;
 use std::marker::Model;
@@ -38,7 +38,7 @@ use system_keys::{KeyRange, OutOfMemory};
 pub struct TurnWorld {
     config: Config,
     rows: Vec<KeptRecord>,
-    moves: Vec<Move>,
+    moves: Moves,
     judged_counts: Vec<usize>,
     finished: Vec<usize>,
     resolvers: Vec<Resolver>,
@@ -54,11 +54,11 @@ impl Model for TurnWorld {
 
     ghost view = { λ t. record {
       config = t.config;
-      world = world_of t.rows.items t.moves.items t.judged_counts.items t.finished.items;
+      world = world_of t.rows.items t.moves t.judged_counts.items t.finished.items;
     } };
 
     ghost invariant = { λ t. IsKept t.config
-        (world_of t.rows.items t.moves.items t.judged_counts.items t.finished.items)
+        (world_of t.rows.items t.moves t.judged_counts.items t.finished.items)
         t.resolvers.items t.proxies.items (requests_of t.rows.items) t.last };
 }
 
@@ -71,13 +71,24 @@ impl TurnWorld {
         Ok(TurnWorld {
             config: *config,
             rows: Vec::new(alloc),
-            moves: Vec::new(alloc),
+            moves: Moves::new(alloc),
             judged_counts: zeros(alloc, config.resolvers())?,
             finished: zeros(alloc, config.proxies())?,
             resolvers: new_resolvers(alloc, config)?,
             proxies: new_proxies(alloc, config)?,
             last: 0,
         })
+    }
+
+    /// The numbers of the cluster, which are within their limits. Its world is sound, and its records
+    /// obey the rule of commit.
+    pub fn config(&self) -> &Config
+        ensures value { result.now ≡ self.now.config }
+        ensures limits { IsConfig self.now.config }
+        ensures sound { IsSound self.now.config self.now.world }
+        ensures serial { IsSerial self.now.config self.now.world.history }
+    {
+        &self.config
     }
 
     /// The proxy of this number, or None if the cluster has none.
@@ -266,10 +277,7 @@ impl TurnWorld {
         }
         let date = self.last + 1;
         let range = range.copy()?;
-        let Ok(()) = self.moves.reserve(1) else {
-            return Err(Refusal::OutOfMemory);
-        };
-        self.moves.push_reserved(Move { range, date, dest });
+        self.moves.push(Move { range, date, dest })?;
         Ok(Answer::Moved { date })
     }
 

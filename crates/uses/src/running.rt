@@ -1,12 +1,16 @@
 //! A cluster without threads carries out events, and its proxies are read.
 
-ghost use Rattle.std.specs.Prelude.{◌≡◌, ◌+◌, ◌≤◌, ◌++◌, map};
+ghost use Rattle.std.specs.Prelude.{◌≡◌, ◌+◌, ◌*◌, ◌≤◌, ◌++◌, map, slice_get, Some};
 ghost use Rattle.std.specs.Prelude.{vec_capacity, vec_len, IfOk, IfSome, MatchResult};
+ghost use Rattle.model.specs.Numbers.{RowNumber};
+ghost use Rattle.model.specs.Configs.{IsConfig};
+ghost use Rattle.model.specs.Records.{Record};
+ghost use Rattle.model.specs.Serial.{IsSerial};
 ghost use Rattle.model.specs.World.{initial_world, world_after, proxy_metadata};
 ghost use Rattle.turn_world.specs.Events.{event_of};
 ghost use Rattle.turn_world.specs.Steps.{HasCarriedOut, HasStopped};
 
-use model::laws::events_law;
+use model::laws::{chain_law, events_law};
 use proxy_state::Metadata;
 use std::alloc::Global;
 use system_keys::OutOfMemory;
@@ -51,6 +55,26 @@ pub fn at_one_version(
         return None;
     }
     Some((first.metadata(), second.metadata()))
+}
+
+/// The numbers of a cluster, which are within their limits.
+pub fn numbers_of(cluster: &TurnWorld) -> Config
+    ensures value { result ≡ cluster.now.config }
+    ensures limits { IsConfig result }
+{
+    *cluster.config()
+}
+
+/// The versions of a cluster are the multiples of this number: that of a row's record is the row's
+/// number plus one, times it. The records obey the rule of commit.
+pub fn step_of(cluster: &TurnWorld) -> u64
+    ensures versions { (row : RowNumber) (rec : Record)
+        → slice_get cluster.now.world.history row ≡ Some rec → rec.version ≡ (row + 1) * result }
+    ensures serial { IsSerial cluster.now.config cluster.now.world.history }
+{
+    // (its contract is the law that the row gives the version)
+    chain_law();
+    cluster.config().step()
 }
 
 /// Carries out the events, and goes on once from where the run stopped, if it stopped. The results

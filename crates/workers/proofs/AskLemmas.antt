@@ -1,8 +1,9 @@
 -- Requests that are asked, and what is answered to them.
-use Rattle.std.proofs.Common.{◌≡◌, refl, sym, ap, ◌∙◌, subst, ℕ, zero, suc, ◌+◌, ◌<◌, ◌≤◌, ◌⊎◌, inl, inr, List, [], ◌∷◌, ◌++◌, length, take, slice_get, Some, length-append, arith}
+use Rattle.std.proofs.Common.{◌≡◌, refl, sym, ap, ◌∙◌, subst, ℕ, zero, suc, ◌+◌, ◌<◌, ◌≤◌, ◌⊎◌, inl, inr, List, [], ◌∷◌, ◌++◌, length, take, slice_get, Some, length-append, Bool, eqb, eq-eqb, ne_eqb, arith}
+use Rattle.std.specs.Prelude.{MatchBool}
+use Rattle.std.proofs.lemmas.Bool.{cases_eq}
 use Rattle.facts.specs.Stretches.{Agree}
 use Rattle.model.specs.Configs.{Config, IsConfig}
-use Rattle.model.specs.Records.{Record}
 use Rattle.model.specs.Requests.{Request, request}
 use Rattle.model.proofs.History.Growth.{push_cases}
 use Rattle.shared_cluster.specs.Requests.{RequestView, IsRequestFor}
@@ -11,10 +12,9 @@ use Rattle.shared_cluster.specs.Commits.{AreRepliesInOrder, IsAskAllRefusal, IsA
 use Rattle.shared_cluster.specs.Resolvers.{IsResolveRefusal}
 use Rattle.shared_cluster.specs.declared.refusal.Refusal.{Refusal}
 use Rattle.shared_cluster.specs.declared.refusal.Refusal.TheVariants as refusals
-use Rattle.workers.specs.Asking.{AreOwn, HasOthers, IsInboxRefusal}
 use Rattle.workers.proofs.RefusedLemmas.{closed_refuses}
 
-take_next : {X : Type 0} (xs : List X) (k : ℕ) (x : X) → slice_get xs k ≡ Some x → take (k + 1) xs ≡ take k xs ++ x ∷ []
+pub take_next : {X : Type 0} (xs : List X) (k : ℕ) (x : X) → slice_get xs k ≡ Some x → take (k + 1) xs ≡ take k xs ++ x ∷ []
 take_next [] k x at = absurd (cc)
 take_next (y ∷ ys) zero x at = let same : y ≡ x = cc in ap (λ z. z ∷ []) same
 take_next (y ∷ ys) (suc k) x at =
@@ -45,20 +45,25 @@ order_next requests k q replies noted at so_far to = subst (λ (qs : List Reques
           each = λ place p n at_p at_n. by place p n (push_cases (take k requests) q place p at_p) (push_cases replies noted place n at_n);
         }
 
+-- some resolver of the cluster that is closed refuses one of the requests
+pub one_closed : (config : Config) (requests : List RequestView) (k : ℕ) (q : RequestView) → slice_get requests k ≡ Some q → IsConfig config → q.plain.resolver < config.resolvers
+    → IsAskAllRefusal config requests refusals.Closed
+one_closed config requests k q at limits there = inr (k, q, at, closed_refuses config q.plain limits there)
+
 -- what refuses one of the requests refuses them all
 pub one_refused : (config : Config) (requests : List RequestView) (k : ℕ) (q : RequestView) (refusal : Refusal) → slice_get requests k ≡ Some q → IsAskRefusal config q refusal → IsAskAllRefusal config requests refusal
 one_refused config requests k q refusal at (inl memory) = inl memory
 one_refused config requests k q refusal at (inr refused) = inr (k, q, at, refused)
 
--- one request more is of the proxy
-pub own_next : (p : ℕ) (requests : List RequestView) (k : ℕ) (q : RequestView) → slice_get requests k ≡ Some q → AreOwn p (take k requests) → q.plain.proxy ≡ p → AreOwn p (take (k + 1) requests)
-own_next p requests k q at own is = subst (λ (qs : List RequestView). AreOwn p qs) (sym (take_next requests k q at)) (λ place r at_r. by place r (push_cases (take k requests) q place r at_r))
-  where
-    by : (place : ℕ) (r : RequestView) → ((place ≡ length (take k requests)) × (q ≡ r)) ⊎ ((place < length (take k requests)) × (slice_get (take k requests) place ≡ Some r)) → r.plain.proxy ≡ p
-    by place r (inl last) = ap (λ (s : RequestView). s.plain.proxy) (sym last.1) ∙ is
-    by place r (inr sooner) = own place r sooner.1
-
 -- ---- a request that came back
+
+-- a test of two numbers decides what holds if they are the same, and what holds if they are not
+pub match_eq : (a b : ℕ) (P Q : Type 0) → (a ≡ b → P) → ((a ≡ b → ⊥) → Q) → MatchBool (eqb a b) P Q
+match_eq a b P Q holds fails = by (cases_eq a b)
+  where
+    by : (a ≡ b) ⊎ (a ≡ b → ⊥) → MatchBool (eqb a b) P Q
+    by (inl same) = subst (λ (t : Bool). MatchBool t P Q) (sym (eq-eqb a b same)) (holds same)
+    by (inr apart) = subst (λ (t : Bool). MatchBool t P Q) (sym (ne_eqb a b apart)) (fails apart)
 
 -- requests for one row to one resolver, by one version last received, with records that agree, are one
 pub one_request : (config : Config) (v w : RequestView) → IsRequestFor config v → IsRequestFor config w → Agree 0 v.records 0 w.records

@@ -1,26 +1,27 @@
 -- What a worker keeps serving.
-use Rattle.std.proofs.Common.{◌≡◌, refl, sym, ap, ◌∙◌, subst, ℕ, zero, suc, ◌+◌, ◌-◌, ◌<◌, ◌≤◌, ◌⊎◌, inl, inr, List, [], ◌∷◌, ◌++◌, length, take, drop, slice_get, Some, true, false, ◌||◌, get_or, length-append, length-drop, arith}
+use Rattle.std.proofs.Common.{◌≡◌, refl, sym, ap, ◌∙◌, subst, ℕ, zero, suc, ◌+◌, ◌<◌, ◌⊎◌, inl, inr, List, [], ◌∷◌, ◌++◌, length, slice_get, Some, true, ◌||◌, get_or, length-append, arith}
 use Rattle.std.specs.Prelude.{IsFalse, remove}
-use Rattle.facts.specs.Stretches.{Stretch, end_of, extended, rest_from}
+use Rattle.facts.specs.Stretches.{end_of}
 use Rattle.model.specs.Configs.{Config}
-use Rattle.agreed_ledger.specs.Cells.{ColumnView, with_rows}
+use Rattle.agreed_ledger.specs.Cells.{ColumnView}
 use Rattle.shared_cluster.specs.Requests.{RequestView}
 use Rattle.shared_cluster.specs.NotedReplies.{NotedReplyView}
 use Rattle.shared_cluster.specs.Resolvers.{HasOffered, HasJudged, HasRepeated, IsLockedResolver, LockedResolverView, after_refusal}
 use Rattle.shared_cluster.specs.declared.refusal.Refusal.{Refusal}
 use Rattle.shared_cluster.specs.declared.refusal.Refusal.TheVariants as refusals
-use Rattle.workers.specs.Desks.{DeskView, HasLetGo, HasRow, IsSettled, KeepsServing, OnlyFails, Serves, has_failed}
+use Rattle.workers.specs.Desks.{DeskView, HasLetGo, HasRow, IsNoneDue, IsSettled, KeepsServing, OnlyFails, Serves, has_failed, next_row}
 
 -- ---- one after another
 
 pub keeps_same : (v : DeskView) → KeepsServing v v
-keeps_same v = record { resolver = refl; first = refl; failed = λ sound. sound; served = λ sound row serves. serves }
+keeps_same v = record { resolver = refl; first = refl; stays_closed = λ closed. closed; failed = λ sound. sound; served = λ sound row serves. serves }
 
 pub keeps_trans : (a b c : DeskView) → KeepsServing a b → KeepsServing b c → KeepsServing a c
 keeps_trans a b c one two =
     record {
       resolver = two.resolver ∙ one.resolver;
       first = two.first ∙ one.first;
+      stays_closed = λ closed. two.stays_closed (one.stays_closed closed);
       failed = λ sound. one.failed (two.failed sound);
       served = λ sound row serves. two.served sound row (one.served (two.failed sound) row serves);
     }
@@ -34,6 +35,7 @@ fails_keeps a b only =
     record {
       resolver = ap (λ (c : ColumnView). c.resolver) only.column;
       first = ap (λ (c : ColumnView). c.rows.first) only.column;
+      stays_closed = only.stays_closed;
       failed = only.failed;
       served = λ sound row serves. same_serves a b only.column only.held row serves;
     }
@@ -52,12 +54,21 @@ let_go_keeps a b closed gone =
     record {
       resolver = ap (λ (c : ColumnView). c.resolver) gone.column;
       first = ap (λ (c : ColumnView). c.rows.first) gone.column;
+      stays_closed = λ was. gone.closed ∙ was;
       failed = gone.failed;
       served = λ sound row serves. absurd (closed_fails b (gone.closed ∙ closed) sound);
     }
 
 pub let_go_settled : (a b : DeskView) → a.closed ≡ true → HasLetGo a b → IsSettled b
 let_go_settled a b closed gone sound place q at = absurd (closed_fails b (gone.closed ∙ closed) sound)
+
+-- ---- no request is due
+
+pub let_go_none_due : (a b : DeskView) (next : ℕ) → HasLetGo a b → IsNoneDue b next
+let_go_none_due a b next gone place q at = let none : slice_get [] place ≡ Some q = ap (λ (qs : List RequestView). slice_get qs place) (sym gone.held) ∙ at in absurd (cc)
+
+pub none_due_settled : (v : DeskView) (resolver : LockedResolverView) → IsNoneDue v (next_row v resolver) → IsSettled v
+none_due_settled v resolver none sound place q at = let later = none place q at in omega (arith, later)
 
 -- ---- a request less
 
@@ -83,6 +94,7 @@ taken_out before mid after place q at is keeps judged =
     record {
       resolver = keeps.resolver ∙ ap (λ (v : DeskView). v.column.resolver) is;
       first = keeps.first ∙ ap (λ (v : DeskView). v.column.rows.first) is;
+      stays_closed = λ was. keeps.stays_closed (ap (λ (v : DeskView). v.closed) is ∙ was);
       failed = λ sound. subst (λ (v : DeskView). IsFalse (has_failed v)) is (keeps.failed sound);
       served = λ sound row serves. by sound row serves;
     }
@@ -102,6 +114,7 @@ one_more before after q is = (
   record {
     resolver = ap (λ (v : DeskView). v.column.resolver) is;
     first = ap (λ (v : DeskView). v.column.rows.first) is;
+    stays_closed = λ was. ap (λ (v : DeskView). v.closed) is ∙ was;
     failed = λ sound. subst (λ (v : DeskView). IsFalse (has_failed v)) is sound;
     served = λ sound row serves. subst (λ (v : DeskView). Serves v row) (sym is) (by row serves);
   },

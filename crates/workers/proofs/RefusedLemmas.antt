@@ -1,14 +1,13 @@
 -- A resolver of the cluster that is closed, and what it refuses.
-use Rattle.std.proofs.Common.{◌≡◌, refl, sym, ap, ◌∙◌, subst, ℕ, zero, suc, ◌<◌, inl, inr, List, [], ◌∷◌, length, map, slice_get, Some, true, arith}
+use Rattle.std.proofs.Common.{◌≡◌, refl, ap, ◌∙◌, ℕ, zero, suc, ◌<◌, inr, List, [], ◌∷◌, length, slice_get, Some, true, arith}
 use Rattle.model.specs.Configs.{Config, IsConfig}
-use Rattle.model.specs.Records.{Record, IsHistory}
+use Rattle.model.specs.Records.{Record}
 use Rattle.model.specs.Requests.{Request}
 use Rattle.model.specs.ResolverMemory.{ProxyMemory, ResolverView, StandsForRequests}
-use Rattle.model.specs.WriteHistories.{WriteHistoryView, StandsForShares}
-use Rattle.model.specs.Laws.Resolvers.{IsNewMemory}
+use Rattle.model.specs.WriteHistories.{StandsForShares}
 use Rattle.model.proofs.Resolvers.Growth.{new_stands}
 use Rattle.shared_cluster.specs.Requests.{RequestView}
-use Rattle.shared_cluster.specs.Resolvers.{LockedResolverView, IsLockedResolver, IsOfferRefusal, IsNotEarly, IsResolveRefusal}
+use Rattle.shared_cluster.specs.Resolvers.{LockedResolverView, IsLockedResolver, IsNotEarly, IsResolveRefusal}
 use Rattle.shared_cluster.specs.Commits.{IsAskRefusal}
 use Rattle.shared_cluster.specs.declared.refusal.Refusal.{Refusal}
 use Rattle.shared_cluster.specs.declared.refusal.Refusal.TheVariants as refusals

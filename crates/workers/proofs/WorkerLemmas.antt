@@ -1,14 +1,15 @@
 -- What a worker serves of the messages that it took.
-use Rattle.std.proofs.Common.{◌≡◌, refl, sym, ap, ◌∙◌, subst, ℕ, zero, suc, ◌<◌, ◌≤◌, ◌⊎◌, inl, inr, List, [], ◌∷◌, ◌++◌, length, slice_get, Some, true, ◌||◌, arith}
-use Rattle.std.specs.Prelude.{IsFalse}
+use Rattle.std.proofs.Common.{◌≡◌, refl, sym, ap, ◌∙◌, subst, ℕ, zero, suc, ◌+◌, ◌<◌, ◌≤◌, ◌⊎◌, inl, inr, List, [], ◌∷◌, ◌++◌, length, slice_get, Some, true, true≢false, append-nil, append_assoc, ◌||◌, arith}
+use Rattle.std.specs.Prelude.{IsFalse, IsTrue}
 use Rattle.facts.specs.Stretches.{end_of}
 use Rattle.model.proofs.History.Growth.{push_cases}
 use Rattle.agreed_ledger.specs.Cells.{ColumnView}
-use Rattle.shared_cluster.specs.Requests.{RequestView}
 use Rattle.inboxes.specs.Ends.{TakerView}
 use Rattle.inboxes.specs.declared.tag.Tag.{Tag}
-use Rattle.workers.specs.Desks.{DeskView, HasRow, IsSettled, KeepsServing, Serves, has_failed, new_desk}
-use Rattle.workers.specs.Workers.{EndedView, HasServed, IsAsked, IsEnded, IsRequestOf, IsWorkerOf, ServesAsked, WorkerView}
+use Rattle.inboxes.specs.declared.tag.Kind.TheVariants as kinds
+use Rattle.inboxes.specs.Sending.{ends_in}
+use Rattle.workers.specs.Desks.{DeskView, IsSettled, KeepsServing, Serves, has_failed, new_desk}
+use Rattle.workers.specs.Workers.{EndedView, HasClose, HasTakenMore, IsAsked, IsEnded, IsRequestOf, IsWorkerOf, ServesAsked, TakesOne, WorkerView}
 use Rattle.workers.proofs.DeskLemmas.{closed_fails}
 
 -- ---- before any message
@@ -16,14 +17,19 @@ use Rattle.workers.proofs.DeskLemmas.{closed_fails}
 none_asked : (r row : ℕ) → IsAsked r [] row → ⊥
 none_asked r row (place, tag, at, is) = absurd (cc)
 
-pub new_worker : (r : ℕ) (v : WorkerView) → v.taken ≡ record { resolver = r; got = [] } → v.desk ≡ new_desk r → IsWorkerOf r v
-new_worker r v taken desk =
+none_closes : HasClose [] → ⊥
+none_closes (place, tag, at, is) = absurd (cc)
+
+pub starts : (r proxies : ℕ) (v : WorkerView) → v.taken ≡ record { resolver = r; got = [] } → v.desk ≡ new_desk r → v.proxies_left ≡ proxies → IsWorkerOf r proxies v
+starts r proxies v taken desk left =
     record {
       taken = ap (λ (t : TakerView). t.resolver) taken;
       resolver = ap (λ (d : DeskView). d.column.resolver) desk;
       first = ap (λ (d : DeskView). d.column.rows.first) desk;
       served = λ sound row asked. absurd (none_asked r row (subst (λ (t : TakerView). IsAsked r t.got row) taken asked));
       settled = subst IsSettled (sym desk) (λ sound place q at. absurd (cc));
+      closed = λ closes. absurd (none_closes (subst (λ (t : TakerView). HasClose t.got) taken closes));
+      ends = let none : ends_in v.taken.got ≡ 0 = ap (λ (t : TakerView). ends_in t.got) taken in omega (arith, left, none);
     }
 
 -- ---- a message more
@@ -35,21 +41,63 @@ asked_before r row messages tag (place, found, at, is) = by (push_cases messages
     by (inl last) = inl (subst (IsRequestOf r row) (sym last.1) is)
     by (inr sooner) = inr (place, found, sooner.1, is)
 
-pub worker_next : (r : ℕ) (before after : WorkerView) (tag : Tag) → IsWorkerOf r before → after.taken ≡ record before.taken { got = before.taken.got ++ tag ∷ [] }
+closes_before : (messages : List Tag) (tag : Tag) → HasClose (messages ++ tag ∷ []) → (tag.kind ≡ kinds.Close) ⊎ HasClose messages
+closes_before messages tag (place, found, at, is) = by (push_cases messages tag place found at)
+  where
+    by : ((place ≡ length messages) × (tag ≡ found)) ⊎ ((place < length messages) × (slice_get messages place ≡ Some found)) → (tag.kind ≡ kinds.Close) ⊎ HasClose messages
+    by (inl last) = inl (ap (λ (t : Tag). t.kind) last.1 ∙ is)
+    by (inr sooner) = inr (place, found, sooner.1, is)
+
+pub worker_next : (r proxies : ℕ) (before after : WorkerView) (tag : Tag) → IsWorkerOf r proxies before → after.taken ≡ record before.taken { got = before.taken.got ++ tag ∷ [] }
     → KeepsServing before.desk after.desk → IsSettled after.desk
-    → ((row : ℕ) → IsRequestOf r row tag → IsFalse (has_failed after.desk) → Serves after.desk row) → IsWorkerOf r after
-worker_next r before after tag is taken keeps settled served =
+    → ((row : ℕ) → IsRequestOf r row tag → IsFalse (has_failed after.desk) → Serves after.desk row)
+    → (tag.kind ≡ kinds.Close → IsTrue after.desk.closed)
+    → (after.proxies_left + ends_in (before.taken.got ++ tag ∷ []) ≡ before.proxies_left + ends_in before.taken.got) → IsWorkerOf r proxies after
+worker_next r proxies before after tag is taken keeps settled served closed left =
     record {
       taken = ap (λ (t : TakerView). t.resolver) taken ∙ is.taken;
       resolver = keeps.resolver ∙ is.resolver;
       first = keeps.first ∙ is.first;
       served = λ sound row asked. by sound row (asked_before r row before.taken.got tag (subst (λ (t : TakerView). IsAsked r t.got row) taken asked));
       settled = settled;
+      closed = λ closes. close_by (closes_before before.taken.got tag (subst (λ (t : TakerView). HasClose t.got) taken closes));
+      ends = ap (λ (t : TakerView). after.proxies_left + ends_in t.got) taken ∙ left ∙ is.ends;
     }
   where
+    close_by : (tag.kind ≡ kinds.Close) ⊎ HasClose before.taken.got → IsTrue after.desk.closed
+    close_by (inl now) = closed now
+    close_by (inr earlier) = keeps.stays_closed (is.closed earlier)
+
     by : IsFalse (has_failed after.desk) → (row : ℕ) → IsRequestOf r row tag ⊎ IsAsked r before.taken.got row → Serves after.desk row
     by sound row (inl now) = served row now sound
     by sound row (inr earlier) = keeps.served sound row (is.served (keeps.failed sound) row earlier)
+
+-- no message more
+pub worker_same : (r proxies : ℕ) (before after : WorkerView) → IsWorkerOf r proxies before → after.taken ≡ before.taken → after.desk ≡ before.desk
+    → after.proxies_left ≡ before.proxies_left → IsWorkerOf r proxies after
+worker_same r proxies before after is taken desk left =
+    record {
+      taken = ap (λ (t : TakerView). t.resolver) taken ∙ is.taken;
+      resolver = ap (λ (d : DeskView). d.column.resolver) desk ∙ is.resolver;
+      first = ap (λ (d : DeskView). d.column.rows.first) desk ∙ is.first;
+      served = subst (λ (d : DeskView). ServesAsked r after.taken.got d) (sym desk) (subst (λ (t : TakerView). ServesAsked r t.got before.desk) (sym taken) is.served);
+      settled = subst IsSettled (sym desk) is.settled;
+      closed = λ closes. ap (λ (d : DeskView). d.closed) desk ∙ is.closed (subst (λ (t : TakerView). HasClose t.got) taken closes);
+      ends = let same = ap (λ (t : TakerView). ends_in t.got) taken in let all = is.ends in omega (arith, left, same, all);
+    }
+
+-- what was taken before, and one message more or none
+pub taken_same : (t : TakerView) → HasTakenMore t t
+taken_same t = record { resolver = refl; more = []; got = sym (append-nil t.got) }
+
+pub taken_next : (first : TakerView) (before after : WorkerView) → HasTakenMore first before.taken → TakesOne before after → HasTakenMore first after.taken
+taken_next first before after more (inl (tag, one, same)) =
+    record {
+      resolver = ap (λ (t : TakerView). t.resolver) one ∙ more.resolver;
+      more = more.more ++ tag ∷ [];
+      got = ap (λ (t : TakerView). t.got) one ∙ ap (λ (l : List Tag). l ++ tag ∷ []) more.got ∙ append_assoc first.got more.more (tag ∷ []);
+    }
+taken_next first before after more (inr (none, cut)) = subst (λ (t : TakerView). HasTakenMore first t) (sym none) more
 
 -- a desk that was closed
 pub closed_keeps : (a b : DeskView) → b.column ≡ a.column → b.closed ≡ true → KeepsServing a b
@@ -57,6 +105,7 @@ closed_keeps a b column closed =
     record {
       resolver = ap (λ (c : ColumnView). c.resolver) column;
       first = ap (λ (c : ColumnView). c.rows.first) column;
+      stays_closed = λ was. closed;
       failed = λ sound. absurd (closed_fails b closed sound);
       served = λ sound row serves. absurd (closed_fails b closed sound);
     }
@@ -76,9 +125,9 @@ order (suc a) (suc b) = go (order a b)
     go (inr above) = inr (omega (arith, above))
 
 -- a row after all that were judged was not asked with all rows before it
-not_all : (r : ℕ) (v : WorkerView) → IsWorkerOf r v → IsFalse (has_failed v.desk) → (row : ℕ) → end_of v.desk.column.rows ≤ row
+not_all : (r proxies : ℕ) (v : WorkerView) → IsWorkerOf r proxies v → IsFalse (has_failed v.desk) → (row : ℕ) → end_of v.desk.column.rows ≤ row
     → ((asked : ℕ) → asked ≤ row → IsAsked r v.taken.got asked) → ⊥
-not_all r v is sound row above all = by (is.served sound next (all next above))
+not_all r proxies v is sound row above all = by (is.served sound next (all next above))
   where
     next : ℕ
     next = end_of v.desk.column.rows
@@ -87,18 +136,25 @@ not_all r v is sound row above all = by (is.served sound next (all next above))
     by (inl below) = omega (arith, below)
     by (inr (place, q, at, of)) = let late = is.settled sound place q at in omega (arith, late, of)
 
-pub worker_ended : (r : ℕ) (v : WorkerView) (ended : EndedView) → IsWorkerOf r v → ended.taken ≡ v.taken → ended.column ≡ v.desk.column
-    → (IsFalse (ended.closed || ended.wanted) → IsFalse (has_failed v.desk)) → IsEnded ended
-worker_ended r v ended is taken column failed =
+pub worker_ended : (r proxies : ℕ) (v : WorkerView) (ended : EndedView) → IsWorkerOf r proxies v → ended.taken ≡ v.taken → ended.column ≡ v.desk.column
+    → (IsFalse (ended.closed || ended.wanted) → IsFalse (has_failed v.desk)) → ended.closed ≡ v.desk.closed → ended.cut_off ≡ v.cut_off
+    → (v.proxies_left ≡ 0) ⊎ IsTrue v.cut_off → IsEnded proxies ended
+worker_ended r proxies v ended is taken column failed closed cut why =
     record {
       resolver = ap (λ (c : ColumnView). c.resolver) column ∙ is.resolver ∙ sym is.taken ∙ sym (ap (λ (t : TakerView). t.resolver) taken);
       first = ap (λ (c : ColumnView). c.rows.first) column ∙ is.first;
       served = λ sound row all. by sound row (λ asked within. own asked (all asked within)) (order row (end_of v.desk.column.rows));
+      told = λ closes. closed ∙ is.closed (subst (λ (t : TakerView). HasClose t.got) taken closes);
+      ends = λ whole. all_ended (sym cut ∙ whole) why;
     }
   where
+    all_ended : IsFalse v.cut_off → (v.proxies_left ≡ 0) ⊎ IsTrue v.cut_off → ends_in ended.taken.got ≡ proxies
+    all_ended whole (inl none) = let same = ap (λ (t : TakerView). ends_in t.got) taken in let all = is.ends in omega (arith, none, same, all)
+    all_ended whole (inr cut_off) = absurd (true≢false (sym cut_off ∙ whole))
+
     own : (asked : ℕ) → IsAsked ended.taken.resolver ended.taken.got asked → IsAsked r v.taken.got asked
     own asked found = subst (λ (n : ℕ). IsAsked n v.taken.got asked) is.taken (subst (λ (t : TakerView). IsAsked t.resolver t.got asked) taken found)
 
     by : IsFalse (ended.closed || ended.wanted) → (row : ℕ) → ((asked : ℕ) → asked ≤ row → IsAsked r v.taken.got asked) → (row < end_of v.desk.column.rows) ⊎ (end_of v.desk.column.rows ≤ row) → row < end_of ended.column.rows
     by sound row all (inl below) = subst (λ (c : ColumnView). row < end_of c.rows) (sym column) below
-    by sound row all (inr above) = absurd (not_all r v is (failed sound) row above all)
+    by sound row all (inr above) = absurd (not_all r proxies v is (failed sound) row above all)

@@ -12,10 +12,14 @@ abbrev pub AreOwn : ProxyNumber → List RequestView → Type 0
 AreOwn p requests =
     (place : ℕ) (q : RequestView) → slice_get requests place ≡ Some q → q.plain.proxy ≡ p
 
+-- the request at this place is of another proxy
+abbrev pub IsOtherAt : ProxyNumber → List RequestView → (place : ℕ) → Type 0
+IsOtherAt p requests place =
+    (q : RequestView) × (slice_get requests place ≡ Some q) × (q.plain.proxy ≢ p)
+
 -- one of the requests is of another proxy
 abbrev pub HasOthers : ProxyNumber → List RequestView → Type 0
-HasOthers p requests =
-    (place : ℕ) × (q : RequestView) × (slice_get requests place ≡ Some q) × (q.plain.proxy ≢ p)
+HasOthers p requests = (place : ℕ) × IsOtherAt p requests place
 
 -- One of the requests is of another proxy, and is refused as such. Or each is of the proxy, and an
 -- allocation failed, or the resolver that one of them names refused it so.

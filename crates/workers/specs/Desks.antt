@@ -1,9 +1,11 @@
 -- What a resolver's worker keeps of the requests that it took. *Profile*: all of it.
-use Rattle.std.specs.Prelude.{◌≡◌, ◌⊎◌, ℕ, ◌<◌, ◌≤◌, List, [], slice_get, Some, Bool, false, ◌||◌, IsFalse}
+use Rattle.std.specs.Prelude.{◌≡◌, ◌⊎◌, ℕ, ◌<◌, ◌≤◌, max, List, [], length, slice_get, Some}
+use Rattle.std.specs.Prelude.{Bool, false, ◌||◌, IsFalse, IsTrue}
 use Rattle.facts.specs.Stretches.{end_of}
 use Rattle.model.specs.Numbers.{ResolverNumber, RowNumber}
 use Rattle.agreed_ledger.specs.Cells.{ColumnView}
 use Rattle.shared_cluster.specs.Requests.{RequestView}
+use Rattle.shared_cluster.specs.Resolvers.{LockedResolverView}
 
 -- The verdict cells of the rows that the resolver judged, as far as the worker knows them; the
 -- requests that it holds back; whether it is closed; and whether it was refused memory.
@@ -36,31 +38,39 @@ HasRow requests row =
 abbrev pub Serves : DeskView → RowNumber → Type 0
 Serves v row = (row < end_of v.column.rows) ⊎ HasRow v.held row
 
--- Whatever row was served is served afterwards, unless the worker has failed. The column stays that
--- of its resolver, from its first row.
+-- Whatever row was served is served afterwards, unless the worker has failed. What is closed stays
+-- closed. The column stays that of its resolver, from its first row.
 pub record KeepsServing (before after : DeskView) : Type 0 where
   pub resolver : after.column.resolver ≡ before.column.resolver
   pub first : after.column.rows.first ≡ before.column.rows.first
+  pub stays_closed : IsTrue before.closed → IsTrue after.closed
   pub failed : IsFalse (has_failed after) → IsFalse (has_failed before)
   pub served :
       IsFalse (has_failed after) → (row : RowNumber) → Serves before row → Serves after row
 
+-- each request that is held back is of a row after the next one to be judged
+abbrev pub IsNoneDue : DeskView → (next : RowNumber) → Type 0
+IsNoneDue v next =
+    (place : ℕ) (q : RequestView) → slice_get v.held place ≡ Some q → next < q.plain.row
+
+-- the turn of the request at this place has come: it is not of a row after the next one to be judged
+abbrev pub IsDueAt : DeskView → (next : RowNumber) → (place : ℕ) → Type 0
+IsDueAt v next place =
+    (q : RequestView) × (slice_get v.held place ≡ Some q) × (q.plain.row ≤ next)
+
+-- the row after all that the worker's column has or the resolver has judged
+abbrev pub next_row : DeskView → LockedResolverView → RowNumber
+next_row v resolver = max (end_of v.column.rows) (length resolver.column)
+
 -- no request is held back whose turn has come, unless the worker has failed
 abbrev pub IsSettled : DeskView → Type 0
-IsSettled v =
-    IsFalse (has_failed v)
-    → (place : ℕ) (q : RequestView) → slice_get v.held place ≡ Some q
-    → end_of v.column.rows < q.plain.row
-
--- the turn of the request at this place has come
-abbrev pub IsDueAt : DeskView → (place : ℕ) → Type 0
-IsDueAt v place =
-    (q : RequestView) × (slice_get v.held place ≡ Some q) × (q.plain.row ≤ end_of v.column.rows)
+IsSettled v = IsFalse (has_failed v) → IsNoneDue v (end_of v.column.rows)
 
 -- nothing changes, but that the worker may have failed
 pub record OnlyFails (before after : DeskView) : Type 0 where
   pub column : after.column ≡ before.column
   pub held : after.held ≡ before.held
+  pub stays_closed : IsTrue before.closed → IsTrue after.closed
   pub failed : IsFalse (has_failed after) → IsFalse (has_failed before)
 
 -- nothing is held back any more; otherwise nothing changes, but that the worker may have failed

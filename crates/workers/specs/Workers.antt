@@ -1,12 +1,14 @@
 -- What a worker serves of the messages that it took. *Profile*: all of it.
-use Rattle.std.specs.Prelude.{◌≡◌, ℕ, ◌<◌, ◌≤◌, List, slice_get, Some, Bool, ◌||◌, IsFalse}
+use Rattle.std.specs.Prelude.{◌≡◌, ℕ, ◌+◌, ◌<◌, ◌≤◌, List, [], ◌∷◌, ◌++◌, slice_get, Some}
+use Rattle.std.specs.Prelude.{◌⊎◌, Bool, false, ◌||◌, IsFalse, IsTrue}
 use Rattle.facts.specs.Stretches.{end_of}
 use Rattle.model.specs.Numbers.{ResolverNumber, RowNumber}
 use Rattle.agreed_ledger.specs.Cells.{ColumnView}
 use Rattle.inboxes.specs.declared.tag.Tag.{Tag}
 use Rattle.inboxes.specs.declared.tag.Kind.TheVariants as kinds
 use Rattle.inboxes.specs.Ends.{TakerView}
-use Rattle.workers.specs.Desks.{DeskView, IsSettled, Serves, has_failed}
+use Rattle.inboxes.specs.Sending.{ends_in}
+use Rattle.workers.specs.Desks.{DeskView, IsSettled, Serves, has_failed, new_desk}
 
 -- the message is a request to resolver r of the row
 pub record IsRequestOf (r : ResolverNumber) (row : RowNumber) (tag : Tag) : Type 0 where
@@ -25,27 +27,62 @@ abbrev pub ServesAsked : ResolverNumber → List Tag → DeskView → Type 0
 ServesAsked r messages v =
     IsFalse (has_failed v) → (row : RowNumber) → IsAsked r messages row → Serves v row
 
--- a worker: what it took, and what it keeps of it
+-- one of the messages is a Close
+abbrev pub HasClose : List Tag → Type 0
+HasClose messages =
+    (place : ℕ) × (tag : Tag) × (slice_get messages place ≡ Some tag) × (tag.kind ≡ kinds.Close)
+
+-- A worker: what it took, what it keeps of it, how many proxies have not sent their End yet, and
+-- whether its inbox has no sender left.
 pub record WorkerView : Type 0 where
   pub taken : TakerView
   pub desk : DeskView
+  pub proxies_left : ℕ
+  pub cut_off : Bool
+
+-- the worker of resolver r, of so many proxies, before the first message
+abbrev pub new_worker : ResolverNumber → (proxies : ℕ) → WorkerView
+new_worker r proxies = record {
+  taken = record { resolver = r; got = [] };
+  desk = new_desk r;
+  proxies_left = proxies;
+  cut_off = false;
+}
 
 -- The worker of resolver r serves each row that was asked, and holds back no request whose turn has
--- come.
-pub record IsWorkerOf (r : ResolverNumber) (v : WorkerView) : Type 0 where
+-- come. It is closed if it took a Close. It took an End for each of the proxies but those that are
+-- left.
+pub record IsWorkerOf (r : ResolverNumber) (proxies : ℕ) (v : WorkerView) : Type 0 where
   pub taken : v.taken.resolver ≡ r
   pub resolver : v.desk.column.resolver ≡ r
   pub first : v.desk.column.rows.first ≡ 0
   pub served : ServesAsked r v.taken.got v.desk
   pub settled : IsSettled v.desk
+  pub closed : HasClose v.taken.got → IsTrue v.desk.closed
+  pub ends : v.proxies_left + ends_in v.taken.got ≡ proxies
+
+-- what was taken before was taken, in order, and perhaps more
+pub record HasTakenMore (before after : TakerView) : Type 0 where
+  pub resolver : after.resolver ≡ before.resolver
+  pub more : List Tag
+  pub got : after.got ≡ before.got ++ more
+
+-- one message more was taken, or none, since the inbox has no sender left
+abbrev pub TakesOne : (before after : WorkerView) → Type 0
+TakesOne before after =
+    ((tag : Tag) × (after.taken ≡ record before.taken { got = before.taken.got ++ tag ∷ [] })
+    × (after.cut_off ≡ before.cut_off))
+    ⊎ ((after.taken ≡ before.taken) × IsTrue after.cut_off)
 
 -- A worker that has ended: what it took, the verdict cells of the rows that its resolver judged, as
--- far as it knows them, whether it was closed, and whether it was refused memory.
+-- far as it knows them, whether it was closed, whether it was refused memory, and whether its inbox
+-- had no sender left.
 pub record EndedView : Type 0 where
   pub taken : TakerView
   pub column : ColumnView
   pub closed : Bool
   pub wanted : Bool
+  pub cut_off : Bool
 
 -- Unless the worker was closed or was refused memory, each row was judged up to which it took a
 -- request of each row.
@@ -55,8 +92,12 @@ HasServed v =
     → ((asked : RowNumber) → asked ≤ row → IsAsked v.taken.resolver v.taken.got asked)
     → row < end_of v.column.rows
 
--- the column is that of the worker's resolver, from row 0, and no request was dropped whose turn came
-pub record IsEnded (v : EndedView) : Type 0 where
+-- The column is that of the worker's resolver, from row 0, and no request was dropped whose turn came.
+-- The worker was closed if it took a Close. It took an End of each of so many proxies, unless its inbox
+-- had no sender left.
+pub record IsEnded (proxies : ℕ) (v : EndedView) : Type 0 where
   pub resolver : v.column.resolver ≡ v.taken.resolver
   pub first : v.column.rows.first ≡ 0
   pub served : HasServed v
+  pub told : HasClose v.taken.got → IsTrue v.closed
+  pub ends : IsFalse v.cut_off → ends_in v.taken.got ≡ proxies

@@ -1,12 +1,16 @@
 //! The requests that a worker took, and how it serves them.
 
-ghost use Rattle.std.specs.Prelude.{◌≡◌, ◌≢◌, ◌<◌, ◌≤◌, ℕ, length, slice_get, Some, IsFalse, MatchOption};
-ghost use Rattle.std.specs.Prelude.{[], true};
+ghost use Rattle.std.specs.Prelude.{◌≡◌, ◌≢◌, ◌<◌, ◌≤◌, ℕ, length, slice_get, Some, IsFalse, IsTrue};
+ghost use Rattle.std.specs.Prelude.{[], true, MatchOption};
 ghost use Rattle.facts.specs.Stretches.{end_of};
-ghost use Rattle.workers.specs.Desks.{HasLetGo, HasRow, IsDueAt, IsSettled, KeepsServing};
-ghost use Rattle.workers.specs.Desks.{OnlyFails, Serves, has_failed, new_desk};
+ghost use Rattle.model.specs.Numbers.{RowNumber, Version};
+ghost use Rattle.workers.specs.Desks.{HasLetGo, HasRow, IsDueAt, IsNoneDue, IsSettled};
+ghost use Rattle.workers.specs.Desks.{KeepsServing, OnlyFails, Serves, has_failed, new_desk};
+ghost use Rattle.workers.specs.Desks.{next_row};
+ghost use Rattle.shared_cluster.specs.declared.refusal.Refusal.TheVariants as refusals;
 
 use crate::gate::{Gate, Place};
+use crate::held::Held;
 use crate::refusing::{refused_as_closed, refused_by_offer};
 use agreed_ledger::{Column, Naming};
 use crossbeam_channel::{SendError, Sender};
@@ -16,45 +20,6 @@ use shared_cluster::{Refusal, Request, ResolverGuard, SharedResolver};
 use std::alloc::Global;
 use std::marker::Model;
 use std::sync::Wait;
-
-/// A request, and where its answer goes.
-#[derive(Drop)]
-pub(crate) struct Held<N: Naming> {
-    request: Request<N>,
-    reply: Sender<Answer<N>>,
-}
-
-impl<N: Naming> Model for Held<N> {
-    ghost use Rattle.shared_cluster.specs.Requests.{RequestView};
-
-    ghost Value = { RequestView };
-
-    ghost view = { λ h. h.request };
-}
-
-impl<N: Naming> Held<N> {
-    /// The request, whose answer goes there.
-    pub(crate) fn new(request: Request<N>, reply: Sender<Answer<N>>) -> Held<N>
-        ensures { result ≡ request }
-    {
-        Held { request, reply }
-    }
-
-    /// The row of the request.
-    fn row(&self) -> RowNumber
-        ensures { result ≡ self.now.plain.row }
-    {
-        self.request.row()
-    }
-
-    /// The request, and where its answer goes.
-    fn into_parts(self) -> (Request<N>, Sender<Answer<N>>)
-        ensures { result.0 ≡ self }
-    {
-        let Held { request, reply } = self;
-        (request, reply)
-    }
-}
 
 /// What a worker keeps of the requests that it took: the verdict cells of the rows that its resolver
 /// judged, the requests that it holds back until their turn, whether it is closed, and whether it was
@@ -181,7 +146,8 @@ impl<N: Naming> Desk<N> {
         );
     }
 
-    /// Holds the request back. Where there is no memory to hold it, answers so.
+    /// Appends the request to those that are held back. If the allocation fails, answers it with
+    /// `OutOfMemory`.
     fn hold<R: Wait>(&mut self, rt: &R, held: Held<N>)
         ensures keeps { KeepsServing self.old self.new }
         ensures held { IsFalse (has_failed self.new) → HasRow self.new.held held.plain.row }
@@ -204,19 +170,36 @@ impl<N: Naming> Desk<N> {
         ensures keeps { KeepsServing self.old self.new }
         ensures settled { IsSettled self.new }
     {
-        let mut guard = shared.lock(rt);
-        self.catch_up(guard.column());
-        while let Some(place) = self.due() {
-            self.judge_at(rt, &mut guard, gate, place);
-        }
-        self.let_go_if_closed(rt, &guard);
+        self.offer_due(rt, &mut shared.lock(rt), gate);
     }
 
-    /// The place of the first request whose turn has come: whose row is not after the next one.
-    fn due(&self) -> Option<usize>
-        ensures { MatchOption result (IsSettled self.now) (IsDueAt self.now) }
+    /// Offers each request whose turn has come, until there is none. None is left over where an
+    /// allocation failed either: what comes next is what the resolver has judged, not only what the
+    /// worker's column has.
+    fn offer_due<R: Wait, G: Gate>(&mut self, rt: &R, guard: &mut ResolverGuard<'_, N>, gate: &G)
+        requires { self.old.column.resolver ≡ guard.old.memory.number }
+        ensures keeps { KeepsServing self.old self.new }
+        ensures settled { IsSettled self.new }
+        ensures none_due { IsNoneDue self.new (next_row self.new guard.new) }
     {
-        let next = self.column.end();
+        self.catch_up(guard.column());
+        while let Some(place) = self.due(self.next_row(guard)) {
+            self.judge_at(rt, guard, gate, place);
+        }
+        self.let_go_if_closed(rt, guard);
+    }
+
+    /// The row after all that the worker's column has or the resolver has judged.
+    fn next_row(&self, guard: &ResolverGuard<'_, N>) -> RowNumber
+        ensures { result ≡ next_row self.now guard.now }
+    {
+        self.column.end().max(guard.column().end())
+    }
+
+    /// Returns the place of the first request whose row is not after the next one to be judged.
+    fn due(&self, next: RowNumber) -> Option<usize>
+        ensures { MatchOption result (IsNoneDue self.now next) (IsDueAt self.now next) }
+    {
         for (place, held) in self.held.iter().enumerate() {
             if held.row() <= next {
                 return Some(place);
@@ -233,7 +216,7 @@ impl<N: Naming> Desk<N> {
         gate: &G,
         place: usize,
     )
-        requires due { IsDueAt self.old place }
+        requires due { IsDueAt self.old (next_row self.old guard.old) place }
         requires own { self.old.column.resolver ≡ guard.old.memory.number }
         ensures keeps { KeepsServing self.old self.new }
         ensures fewer { length self.new.held < length self.old.held }
@@ -292,15 +275,21 @@ impl<N: Naming> Desk<N> {
         self.wanted = true;
     }
 
-    /// Notes that the offer of a request of this row was refused. A refusal other than these does not
-    /// come; the worker would then be closed.
+    /// Takes up a refused offer of a request of this row. `OutOfMemory` is an allocation that failed,
+    /// and with `GivenUp` nothing changes, since the row was judged before. `Closed` and `CellTaken`
+    /// close the worker, as any other refusal would, but none comes.
     fn fail(&mut self, refusal: Refusal, row: RowNumber)
         ensures fails { OnlyFails self.old self.new }
         ensures served { IsFalse (has_failed self.new) → row < end_of self.new.column.rows }
+        ensures memory { refusal ≡ refusals.OutOfMemory → self.new.closed ≡ self.old.closed }
+        ensures given_up { (acknowledged : Version) → refusal ≡ refusals.GivenUp acknowledged
+            → IsTrue self.old.wanted → self.new ≡ self.old }
+        ensures closed { refusal ≡ refusals.Closed → IsTrue self.new.closed }
+        ensures taken { refusal ≡ refusals.CellTaken → IsTrue self.new.closed }
     {
         match refusal {
             Refusal::OutOfMemory => self.wanted = true,
-            Refusal::GivenUp { .. } if row < self.column.end() => {}
+            Refusal::GivenUp { .. } if self.wanted || row < self.column.end() => {}
             _ => self.closed = true,
         }
     }
@@ -309,6 +298,8 @@ impl<N: Naming> Desk<N> {
     fn let_go_if_closed<R: Wait>(&mut self, rt: &R, guard: &ResolverGuard<'_, N>)
         ensures keeps { KeepsServing self.old self.new }
         ensures settled { IsSettled self.old → IsSettled self.new }
+        ensures none_due { (next : RowNumber) → IsNoneDue self.old next → IsNoneDue self.new next }
+        ensures column { self.new.column ≡ self.old.column }
     {
         if !self.closed {
             return;

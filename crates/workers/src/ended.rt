@@ -1,4 +1,4 @@
-//! What is left of a worker that has ended.
+//! A worker that has ended.
 
 ghost use Rattle.std.specs.Prelude.{◌≡◌, ◌≢◌, IfErr, IfOk};
 ghost use Rattle.inboxes.specs.Counts.{counted};
@@ -15,13 +15,15 @@ use std::marker::Model;
 /// A worker that has ended.
 ///
 /// By its type, unless it was closed or was refused memory, its column has each row up to which it
-/// took a request of each row: it dropped no request whose turn came.
+/// took a request of each row: it dropped no request whose turn came. If it took a Close, it was
+/// closed. It took an End of each proxy, unless its inbox had no sender left.
 #[derive(Drop)]
 pub struct EndedWorker<N: Naming, M: Channels, G: Gate + Drop> {
     taker: Taker<N, M>,
     column: Column<N>,
     closed: bool,
     wanted: bool,
+    cut_off: bool,
     gate: G,
 }
 
@@ -35,36 +37,41 @@ impl<N: Naming, M: Channels, G: Gate + Drop> Model for EndedWorker<N, M, G> {
       column = w.column;
       closed = w.closed;
       wanted = w.wanted;
+      cut_off = w.cut_off;
     } };
 
-    ghost invariant = { λ w. IsEnded (record {
+    ghost invariant = { λ w. IsEnded N.cells.config.proxies (record {
       taken = w.taker;
       column = w.column;
       closed = w.closed;
       wanted = w.wanted;
+      cut_off = w.cut_off;
     }) };
 }
 
 impl<N: Naming, M: Channels, G: Gate + Drop> EndedWorker<N, M, G> {
-    /// What is left of a worker.
+    /// The worker that has ended, of these parts.
     pub(crate) fn of(
         taker: Taker<N, M>,
         column: Column<N>,
         closed: bool,
         wanted: bool,
+        cut_off: bool,
         gate: G,
     ) -> EndedWorker<N, M, G>
-        requires { IsEnded (record {
+        requires { IsEnded N.cells.config.proxies (record {
           taken = taker;
           column = column;
           closed = closed;
           wanted = wanted;
+          cut_off = cut_off;
         }) }
         ensures { result ≡ record {
           taken = taker;
           column = column;
           closed = closed;
           wanted = wanted;
+          cut_off = cut_off;
         } }
     {
         EndedWorker {
@@ -72,6 +79,7 @@ impl<N: Naming, M: Channels, G: Gate + Drop> EndedWorker<N, M, G> {
             column,
             closed,
             wanted,
+            cut_off,
             gate,
         }
     }
@@ -79,16 +87,15 @@ impl<N: Naming, M: Channels, G: Gate + Drop> EndedWorker<N, M, G> {
     /// The verdict cells of its resolver, from row 0.
     pub fn column(&self) -> &Column<N>
         ensures value { result.now ≡ self.now.column }
-        ensures kept { IsEnded self.now }
+        ensures kept { IsEnded N.cells.config.proxies self.now }
     {
         &self.column
     }
 
-    /// Whether it was told to close, or its resolver refused a request as closed or with a taken
-    /// cell.
+    /// Whether it took a Close, or its resolver refused a request as closed or with a taken cell.
     pub fn closed(&self) -> bool
         ensures value { result ≡ self.now.closed }
-        ensures kept { IsEnded self.now }
+        ensures kept { IsEnded N.cells.config.proxies self.now }
     {
         self.closed
     }
@@ -96,9 +103,17 @@ impl<N: Naming, M: Channels, G: Gate + Drop> EndedWorker<N, M, G> {
     /// Whether an allocation failed, to hold a request back, to keep a column or to send an answer.
     pub fn wanted_memory(&self) -> bool
         ensures value { result ≡ self.now.wanted }
-        ensures kept { IsEnded self.now }
+        ensures kept { IsEnded N.cells.config.proxies self.now }
     {
         self.wanted
+    }
+
+    /// Whether it ended since its inbox had no sender left, before it took an End of each proxy.
+    pub fn cut_off(&self) -> bool
+        ensures value { result ≡ self.now.cut_off }
+        ensures kept { IsEnded N.cells.config.proxies self.now }
+    {
+        self.cut_off
     }
 
     /// Compares what it took of a proxy that sends no more with what that proxy sent to it, and
@@ -123,7 +138,7 @@ impl<N: Naming, M: Channels, G: Gate + Drop> EndedWorker<N, M, G> {
         self.taker.compare(ended)
     }
 
-    /// Its gate.
+    /// Returns the gate that was given to [`new`](crate::ResolverWorker::new).
     pub fn gate(&self) -> &G {
         &self.gate
     }

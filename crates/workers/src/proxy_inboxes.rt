@@ -2,15 +2,16 @@
 
 ghost use Rattle.std.specs.Prelude.{◌≡◌, ◌<◌, ◌≤◌, [], length, IfErr, IfOk};
 ghost use Rattle.model.specs.Configs.{IsConfig};
-ghost use Rattle.model.specs.Numbers.{ProxyNumber};
 ghost use Rattle.inboxes.specs.Ends.{AreSenders};
+ghost use Rattle.inboxes.specs.Sending.{AreEndedSenders, AreSent, IsSentTo};
+ghost use Rattle.inboxes.specs.Tags.{close_tag, request_tag};
 ghost use Rattle.shared_cluster.specs.Commits.{AreOfOneRecord, AreRepliesInOrder, IsAskAllRefusal};
 ghost use Rattle.workers.specs.Asking.{AreOwn, IsInboxRefusal};
 
-use crate::waiting::{Prepared, collect, prepare, refuse_others};
+use crate::held::Held;
+use crate::waiting::{Prepared, collect, other_at, prepare};
 use agreed_ledger::{Ledger, Naming};
-use crossbeam_channel::Sender;
-use inboxes::{Answer, Channels, EndedSender, Message, ProxySenders};
+use inboxes::{Channels, EndedSender, Message, ProxySenders};
 use model::ProxyNumber;
 use shared_cluster::{Asking, NotedReply, Refusal, Request};
 use std::alloc::Global;
@@ -73,20 +74,22 @@ impl<N: Naming, M: Channels> ProxyInboxes<N, M> {
         ensures replied { IfOk result (λ replies. AreRepliesInOrder requests.now replies.items) }
         ensures refused { IfErr result (IsInboxRefusal N.cells.config self.now requests.now) }
     {
-        if let Err(refusal) = refuse_others(self.proxy, requests) {
-            return Err(refusal);
+        if let Some(_place) = other_at(self.proxy, requests) {
+            return Err(Refusal::NotMine);
         }
         self.ask_own(rt, alloc, requests)
     }
 
     /// Sends the last message of the proxy to each resolver's inbox. Returns the sending ends, in the
-    /// order of the resolvers. Allocates nothing.
+    /// order of the resolvers, through which nothing more can be sent. Allocates nothing.
     pub fn end<R: Wait>(self, rt: &R) -> Vec<EndedSender<N, M>>
-        ensures { (p : ProxyNumber) × AreSenders p N.cells.config.resolvers result.items }
+        ensures senders { AreSenders self N.cells.config.resolvers result.items }
+        ensures ended { AreEndedSenders self result.items }
     {
-        let mut senders = self.lock.into_inner();
-        send_ends(rt, &mut senders);
-        senders.into_ends()
+        let proxy = self.proxy;
+        let senders = self.lock.into_inner();
+        await_own(rt, proxy, &senders);
+        senders.into_ended(rt)
     }
 
     /// Tells the worker of each resolver to close it.
@@ -119,10 +122,10 @@ impl<N: Naming, M: Channels> ProxyInboxes<N, M> {
     }
 
     /// Sends the requests. One whose worker has gone is dropped, and nobody answers it.
-    fn send_all<R: Wait>(&self, rt: &R, messages: Vec<(Request<N>, Sender<Answer<N>>)>) {
+    fn send_all<R: Wait>(&self, rt: &R, messages: Vec<Held<N>>) {
         let mut senders = self.lock.lock(rt);
-        for (request, answers) in messages {
-            send_request(rt, &mut senders, request, answers);
+        for held in messages {
+            send_request(rt, &mut senders, held);
         }
     }
 }
@@ -136,22 +139,42 @@ impl<N: Naming, M: Channels> Asking<N> for ProxyInboxes<N, M> {
         alloc: Global,
         requests: &[Request<N>],
     ) -> Result<Vec<NotedReply<N>>, Refusal> {
-        if let Err(_not_mine) = refuse_others(self.proxy, requests) {
+        if let Some(place) = other_at(self.proxy, requests) {
+            // (its contract says that the cluster has the resolver)
+            let _plain = requests[place].plain();
             return Err(Refusal::Closed);
         }
         self.ask_own(rt, alloc, requests)
     }
 }
 
+/// Returns once the ends are those of this proxy, as they always are. (No type says so of what is
+/// under a lock.)
+fn await_own<N: Naming, M: Channels, R: Wait>(
+    rt: &R,
+    proxy: ProxyNumber,
+    senders: &ProxySenders<N, M>,
+)
+    ensures { senders.now.proxy ≡ proxy }
+{
+    for _ in rt.forever() {
+        if senders.proxy() == proxy {
+            return;
+        }
+    }
+    unreachable!()
+}
+
 /// Sends a request to the inbox of its resolver.
 fn send_request<N: Naming, M: Channels, R: Wait>(
     rt: &R,
     senders: &mut ProxySenders<N, M>,
-    request: Request<N>,
-    answers: Sender<Answer<N>>,
+    held: Held<N>,
 )
-    ensures { senders.new ≡ senders.old }
+    ensures { IsSentTo held.plain.resolver (request_tag senders.old.proxy held)
+        senders.old senders.new }
 {
+    let (request, answers) = held.into_parts();
     // (their contracts say that there is an end to the resolver)
     let _plain = request.plain();
     let _ends = senders.ends();
@@ -160,18 +183,10 @@ fn send_request<N: Naming, M: Channels, R: Wait>(
     let _sent = senders.send(rt, resolver, message);
 }
 
-/// Sends the last message of the proxy to each inbox.
-fn send_ends<N: Naming, M: Channels, R: Wait>(rt: &R, senders: &mut ProxySenders<N, M>)
-    ensures { senders.new ≡ senders.old }
-{
-    for resolver in 0..senders.ends() {
-        let message = Message::end(senders.proxy());
-        let _sent = senders.send(rt, resolver, message);
-    }
-}
-
 /// Tells each worker to close its resolver.
-fn send_closes<N: Naming, M: Channels, R: Wait>(rt: &R, senders: &mut ProxySenders<N, M>) {
+fn send_closes<N: Naming, M: Channels, R: Wait>(rt: &R, senders: &mut ProxySenders<N, M>)
+    ensures { AreSent (close_tag senders.old.proxy) senders.old.ends senders.new.ends }
+{
     for resolver in 0..senders.ends() {
         let message = Message::close(senders.proxy());
         let _sent = senders.send(rt, resolver, message);

@@ -1,6 +1,8 @@
 //! Answers to requests that get no reply.
 
-ghost use Rattle.std.specs.Prelude.{◌≡◌};
+ghost use Rattle.std.specs.Prelude.{◌≡◌, ◌≢◌};
+ghost use Rattle.model.specs.Numbers.{Version};
+ghost use Rattle.shared_cluster.specs.Resolvers.{IsNotEarly};
 ghost use Rattle.shared_cluster.specs.declared.refusal.Refusal.TheVariants as refusals;
 ghost use Rattle.workers.specs.Refusing.{WasRefusedBy};
 
@@ -30,6 +32,13 @@ pub(crate) fn refused_by_offer<N: Naming>(
 ) -> RefusedRequest<N>
     requires { WasRefusedBy N.cells.config guard.now.memory.number
         refused.request.plain refused.refusal }
+    ensures request { result.request ≡ refused.request }
+    ensures refusal { refused.request.plain.resolver ≡ guard.now.memory.number
+        → IsNotEarly refused.refusal → result.refusal ≡ refused.refusal }
+    ensures other { refused.request.plain.resolver ≢ guard.now.memory.number
+        → result.refusal ≡ refusals.Closed }
+    ensures early { (version : Version) → refused.refusal ≡ refusals.Early version
+        → result.refusal ≡ refusals.Closed }
 {
     let Refused {
         refusal,

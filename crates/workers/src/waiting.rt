@@ -1,15 +1,15 @@
 //! Waiting for the answers to requests.
 
-ghost use Rattle.std.specs.Prelude.{◌≡◌, ◌≤◌, [], length, IfErr, IfOk, IfSome, IsTrue, MatchResult};
-ghost use Rattle.std.specs.Prelude.{vec_capacity};
+ghost use Rattle.std.specs.Prelude.{◌≡◌, ◌≢◌, ◌≤◌, [], length, IfErr, IfOk, IfSome, MatchBool};
+ghost use Rattle.std.specs.Prelude.{MatchOption, vec_capacity};
 ghost use Rattle.model.specs.Configs.{IsConfig};
 ghost use Rattle.shared_cluster.specs.Commits.{AreRepliesInOrder, IsAskAllRefusal, IsAskRefusal};
 ghost use Rattle.shared_cluster.specs.NotedReplies.{IsReplyToRequest};
-ghost use Rattle.workers.specs.Asking.{AreOwn, HasOthers};
-ghost use Rattle.shared_cluster.specs.declared.refusal.Refusal.TheVariants as refusals;
+ghost use Rattle.workers.specs.Asking.{AreOwn, IsOtherAt};
 
+use crate::held::Held;
 use agreed_ledger::Naming;
-use crossbeam_channel::{Receiver, Sender, bounded};
+use crossbeam_channel::{Receiver, bounded};
 use inboxes::{Answer, RefusedRequest};
 use model::ProxyNumber;
 use shared_cluster::{NotedReply, Refusal, Request};
@@ -17,31 +17,24 @@ use std::alloc::Global;
 use std::sync::Wait;
 use system_keys::OutOfMemory;
 
-/// Fails with `NotMine` if one of the requests is of another proxy.
-pub(crate) fn refuse_others<N: Naming>(
-    proxy: ProxyNumber,
-    requests: &[Request<N>],
-) -> Result<(), Refusal>
-    ensures own { MatchResult result (λ _. AreOwn proxy requests.now)
-        (λ refusal. HasOthers proxy requests.now × (refusal ≡ refusals.NotMine)) }
-    ensures closed { IsConfig N.cells.config → IfErr result (λ refusal.
-        IsAskAllRefusal N.cells.config requests.now refusals.Closed) }
+/// The place of a request of another proxy, if there is one.
+pub(crate) fn other_at<N: Naming>(proxy: ProxyNumber, requests: &[Request<N>]) -> Option<usize>
+    ensures { MatchOption result
+        (AreOwn proxy requests.now) (IsOtherAt proxy requests.now) }
 {
-    for request in requests {
+    for (place, request) in requests.iter().enumerate() {
         if request.proxy() != proxy {
-            // (its contract says that the cluster has the resolver)
-            let _plain = request.plain();
-            return Err(Refusal::NotMine);
+            return Some(place);
         }
     }
-    Ok(())
+    None
 }
 
-/// Requests with the ends that their answers go to, the ends that these come from, and room for the
-/// replies.
+/// Requests with the senders that their answers go to, the receivers that the answers come from, and
+/// room for the replies.
 #[derive(Drop)]
 pub(crate) struct Prepared<N: Naming> {
-    pub(crate) messages: Vec<(Request<N>, Sender<Answer<N>>)>,
+    pub(crate) messages: Vec<Held<N>>,
     pub(crate) waiting: Vec<Receiver<Answer<N>>>,
     pub(crate) replies: Vec<NotedReply<N>>,
 }
@@ -52,6 +45,7 @@ pub(crate) fn prepare<N: Naming>(
     alloc: Global,
     requests: &[Request<N>],
 ) -> Result<Prepared<N>, OutOfMemory>
+    ensures messages { IfOk result (λ made. made.messages.items ≡ requests.now) }
     ensures count { IfOk result (λ made. length made.waiting.items ≡ length requests.now) }
     ensures room { IfOk result (λ made. length requests.now ≤ vec_capacity made.replies) }
     ensures none { IfOk result (λ made. made.replies.items ≡ []) }
@@ -61,7 +55,7 @@ pub(crate) fn prepare<N: Naming>(
     let mut waiting = Vec::with_capacity(alloc, requests.len())?;
     for request in requests {
         let (answers, answered) = bounded(alloc, 1)?;
-        messages.push((request.copy()?, answers))?;
+        messages.push(Held::new(request.copy()?, answers))?;
         waiting.push(answered)?;
     }
     Ok(Prepared {
@@ -126,7 +120,8 @@ fn await_reply<N: Naming, R: Wait>(
 
 /// Whether the reply is to this request.
 fn is_reply_to<N: Naming>(noted: &NotedReply<N>, request: &Request<N>) -> bool
-    ensures { IsTrue result → IsReplyToRequest request.now.plain noted.now.reply }
+    ensures { MatchBool result (IsReplyToRequest request.now.plain noted.now.reply)
+        (IsReplyToRequest request.now.plain noted.now.reply → ⊥) }
 {
     let reply = noted.value();
     reply.resolver == request.resolver()
@@ -148,7 +143,7 @@ fn refusal_of<N: Naming>(refused: &RefusedRequest<N>, request: &Request<N>) -> O
 
 /// Whether the two requests are the same, but for their records, which agree.
 fn is_same<N: Naming>(one: &Request<N>, other: &Request<N>) -> bool
-    ensures { IsTrue result → one.now.plain ≡ other.now.plain }
+    ensures { MatchBool result (one.now.plain ≡ other.now.plain) (one.now.plain ≢ other.now.plain) }
 {
     one.records().agree(other.records());
     let (one, other) = (one.plain(), other.plain());

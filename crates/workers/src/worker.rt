@@ -1,12 +1,13 @@
 //! The worker of a resolver, which runs in a thread of its own.
 
-ghost use Rattle.std.specs.Prelude.{◌≡◌, ◌≢◌, IfErr, MatchResult};
-ghost use Rattle.workers.specs.Workers.{IsWorkerOf};
+ghost use Rattle.std.specs.Prelude.{◌≡◌, ◌≢◌, ◌<◌, ◌⊎◌, IsFalse, IsTrue, MatchBool, MatchResult};
+ghost use Rattle.workers.specs.Workers.{HasTakenMore, IsWorkerOf, TakesOne, new_worker};
 ghost use Rattle.shared_cluster.specs.declared.refusal.Refusal.TheVariants as refusals;
 
-use crate::desk::{Desk, Held};
+use crate::desk::Desk;
 use crate::ended::EndedWorker;
 use crate::gate::Gate;
+use crate::held::Held;
 use agreed_ledger::Naming;
 use inboxes::{Body, Channels, FreshEnd, InboxEnd};
 use shared_cluster::{Refusal, SharedResolver};
@@ -21,7 +22,8 @@ pub struct ResolverWorker<'a, 'l, N: Naming, M: Channels, G: Gate + Drop> {
     end: InboxEnd<N, M>,
     desk: Desk<N>,
     gate: G,
-    open: usize,
+    proxies_left: usize,
+    cut_off: bool,
 }
 
 impl<'a, 'l, N: Naming, M: Channels, G: Gate + Drop> Model for ResolverWorker<'a, 'l, N, M, G> {
@@ -29,9 +31,19 @@ impl<'a, 'l, N: Naming, M: Channels, G: Gate + Drop> Model for ResolverWorker<'a
 
     ghost Value = { WorkerView };
 
-    ghost view = { λ w. record { taken = w.end; desk = w.desk } };
+    ghost view = { λ w. record {
+      taken = w.end;
+      desk = w.desk;
+      proxies_left = w.proxies_left;
+      cut_off = w.cut_off;
+    } };
 
-    ghost invariant = { λ w. IsWorkerOf w.shared.now (record { taken = w.end; desk = w.desk }) };
+    ghost invariant = { λ w. IsWorkerOf w.shared.now N.cells.config.proxies (record {
+      taken = w.end;
+      desk = w.desk;
+      proxies_left = w.proxies_left;
+      cut_off = w.cut_off;
+    }) };
 }
 
 impl<'a, 'l, N: Naming, M: Channels, G: Gate + Drop> ResolverWorker<'a, 'l, N, M, G> {
@@ -43,71 +55,87 @@ impl<'a, 'l, N: Naming, M: Channels, G: Gate + Drop> ResolverWorker<'a, 'l, N, M
         end: FreshEnd<N, M>,
         gate: G,
     ) -> Result<ResolverWorker<'a, 'l, N, M, G>, (Refusal, FreshEnd<N, M>, G)>
-        ensures { MatchResult result (λ worker. worker.taken.resolver ≡ shared.now)
+        ensures { MatchResult result
+            (λ worker. worker ≡ new_worker shared.now N.cells.config.proxies)
             (λ refused. (end ≢ shared.now) × (refused.0 ≡ refusals.WrongResolver)
-            × (refused.1 ≡ end)) }
+            × (refused.1 ≡ end) × (refused.2 ≡ gate)) }
     {
         if end.resolver() != shared.number() {
             return Err((Refusal::WrongResolver, end, gate));
         }
         let end = end.into_end();
-        let open = end.proxies();
+        let proxies_left = end.proxies();
         Ok(ResolverWorker {
             shared,
             end,
             desk: Desk::new(alloc, shared.number()),
             gate,
-            open,
+            proxies_left,
+            cut_off: false,
         })
     }
 
     /// Takes messages and serves them, until it has taken the last message of each proxy, or until
     /// nobody is left who could send one. Requests that are then still held back are answered that
     /// the resolver is closed.
-    pub fn run<R: Wait>(self, rt: &R) -> EndedWorker<N, M, G> {
+    pub fn run<R: Wait>(self, rt: &R) -> EndedWorker<N, M, G>
+        ensures { HasTakenMore self.entry.taken result.taken }
+    {
         let mut worker = self;
         for _ in rt.forever() {
-            if !worker.step(rt) {
+            if worker.has_ended() {
                 break;
             }
+            worker.step(rt);
         }
         worker.ended(rt)
     }
 
-    /// Takes a message and serves it. Returns whether more may come.
-    fn step<R: Wait>(&mut self, rt: &R) -> bool {
+    /// Whether it took the last message of each proxy, or nobody is left who could send one.
+    fn has_ended(&self) -> bool
+        ensures { MatchBool result
+            ((self.now.proxies_left ≡ 0) ⊎ IsTrue self.now.cut_off)
+            ((0 < self.now.proxies_left) × IsFalse self.now.cut_off) }
+    {
+        self.cut_off || self.proxies_left == 0
+    }
+
+    /// Takes a message and serves it.
+    fn step<R: Wait>(&mut self, rt: &R)
+        requires { 0 < self.old.proxies_left }
+        ensures { TakesOne self.old self.new }
+    {
         let Ok(message) = self.end.take(rt) else {
-            return false;
+            self.cut_off = true;
+            return;
         };
         match message.into_body() {
             Body::Request(request, reply) => {
                 let held = Held::new(request, reply);
                 self.desk.take(rt, self.shared, &self.gate, held);
-                true
             }
-            Body::Close => {
-                self.desk.close(rt, self.shared);
-                true
-            }
-            Body::End => {
-                self.open = self.open.saturating_sub(1);
-                0 < self.open
-            }
+            Body::Close => self.desk.close(rt, self.shared),
+            Body::End => self.proxies_left -= 1,
         }
     }
 
-    /// What is left of it.
-    fn ended<R: Wait>(self, rt: &R) -> EndedWorker<N, M, G> {
+    /// Ends the worker, which takes no more. Answers the requests that are still held back that the
+    /// resolver is closed.
+    fn ended<R: Wait>(self, rt: &R) -> EndedWorker<N, M, G>
+        requires { (self.proxies_left ≡ 0) ⊎ IsTrue self.cut_off }
+        ensures { result.taken ≡ self.entry.taken }
+    {
         let ResolverWorker {
             shared,
             end,
             desk,
             gate,
-            open: _,
+            proxies_left: _,
+            cut_off,
         } = self;
         let mut desk = desk;
         desk.let_go(rt, &shared.lock(rt));
         let (column, closed, wanted) = desk.into_parts();
-        EndedWorker::of(end.into_taker(), column, closed, wanted, gate)
+        EndedWorker::of(end.into_taker(), column, closed, wanted, cut_off, gate)
     }
 }

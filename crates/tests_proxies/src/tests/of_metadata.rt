@@ -480,3 +480,84 @@ fn rows_one_by_one_give_what_they_give_folded(rt: HostRuntime) -> Result<(), Fai
     }
     Ok(())
 }
+
+const TAG_0: Tag = Tag { locality: 0, id: 0 };
+
+const SERVERS_1_TO_2: &[u8] = b"\x01server0000000001\x01server0000000002";
+
+/// A row of one server, and one from which a range moves to a second.
+const OF_TWO_SERVERS: &[(&[u8], &[u8])] = &[
+    (ROW_OF_ALL, SERVER_1),
+    (TAG_ROW_1, b"\x00\x00\x01"),
+    (ROW_OF_B, SERVERS_1_TO_2),
+    (TAG_ROW_2, b"\x00\x00\x00"),
+];
+
+/// Whether these tags, or none, are kept at the places from 0 on.
+fn has_cached(metadata: &Metadata, wanted: &[Option<&[Tag]>]) -> bool {
+    for place in 0..wanted.len() {
+        if !is_cached(metadata.cached(place), wanted[place]) {
+            return false;
+        }
+    }
+    true
+}
+
+fn is_cached(tags: Option<&[Tag]>, wanted: Option<&[Tag]>) -> bool {
+    match (tags, wanted) {
+        (Some(tags), Some(wanted)) => tags == wanted,
+        (None, None) => true,
+        _ => false,
+    }
+}
+
+/// Whether a step is applied, after which these tags, or none, are kept at the places from 0 on.
+fn leaves_cached(
+    alloc: Global,
+    metadata: &mut Metadata,
+    step: Step<'_>,
+    wanted: &[Option<&[Tag]>],
+) -> Result<bool, Fail> {
+    Ok(apply_step(alloc, metadata, step)? && has_cached(metadata, wanted))
+}
+
+#[test]
+fn each_place_has_the_tags_of_its_row(rt: HostRuntime) -> Result<(), Fail> {
+    let metadata = made(rt.alloc(), OF_TWO_SERVERS)?;
+    assert!(rt; has_cached(&metadata, &[Some(&[TAG_1]), Some(&[TAG_0, TAG_1]), None]));
+    Ok(())
+}
+
+#[test]
+fn without_server_tags_each_place_has_no_tags(rt: HostRuntime) -> Result<(), Fail> {
+    let mut metadata = made(rt.alloc(), OF_TWO_SERVERS)?;
+    let step = Step::Clear(b"\xff/serverTag/", b"\xff/serverTag0");
+    assert!(rt;
+        leaves_cached(
+            rt.alloc(),
+            &mut metadata,
+            step,
+            &[Some(&[]), Some(&[]), None]
+        )?
+    );
+    Ok(())
+}
+
+#[test]
+fn a_changed_tag_changes_at_each_place_that_names_its_server(rt: HostRuntime) -> Result<(), Fail> {
+    let mut metadata = made(rt.alloc(), OF_TWO_SERVERS)?;
+    let step = Step::Set(TAG_ROW_1, b"\x00\x00\x02");
+    let tag = Tag { locality: 0, id: 2 };
+    let wanted: &[Option<&[Tag]>] = &[Some(&[tag]), Some(&[TAG_0, tag]), None];
+    assert!(rt; leaves_cached(rt.alloc(), &mut metadata, step, wanted)?);
+    let step = Step::Clear(ROW_OF_ALL, ROW_OF_B);
+    assert!(rt;
+        leaves_cached(
+            rt.alloc(),
+            &mut metadata,
+            step,
+            &[Some(&[TAG_0, tag]), None]
+        )?
+    );
+    Ok(())
+}

@@ -260,7 +260,7 @@ fn four_threads_see_the_records_that_a_fifth_sequences(rt: HostRuntime) -> Resul
 /// Whether the first record has no moves.
 fn begins_without_moves<N: Naming>(ticket: &Ticket<N>, ledger: &Ledger<N>) -> bool {
     match ticket.records().get(ledger, 0) {
-        Some(rec) => rec.moves().is_empty(),
+        Some(rec) => rec.moves().len() == 0,
         None => false,
     }
 }

@@ -1,6 +1,7 @@
--- The begin of the range and the ends of the moves so far are tried.
-use Rattle.dated_owners.proofs.Askers.{IsTried}
+-- The begin of the range and the starts inside so far are tried.
+use Rattle.dated_owners.specs.Starts.{starts_of}
+use Rattle.dated_owners.proofs.AskedStarts.{IsTried}
 use Rattle.dated_owners.proofs.walks.flag_askers.Given as goal
 
-abbrev pub invariant-loop-m : goal.invariant-loop-m
-invariant-loop-m l = IsTried l.moves l.walk l.range l.fn.flags l.m-index l.flags
+abbrev pub invariant-loop-owners : goal.invariant-loop-owners
+invariant-loop-owners l = IsTried (starts_of l.pieces.entries) l.walk (record { begin = l.begin.items; end = l.end.items }) l.fn.flags (starts_of l.owners-iterator) l.flags

@@ -4,7 +4,7 @@ use Rattle.std.specs.Prelude.{All}
 use Rattle.std.specs.Vec.{vec_capacity}
 use Rattle.std.specs.Vec.Iter.{into_iter_items, into_iter_len}
 use Rattle.inboxes.specs.Blanks.{BlankSenderView}
-use Rattle.inboxes.specs.Ends.{AreSenders}
+use Rattle.inboxes.specs.Ends.{IsEach, fresh_sender}
 use Rattle.inboxes.proofs.blank_inboxes.named_row.Given as goal
 
 abbrev pub invariant-loop-sender : goal.invariant-loop-sender
@@ -12,7 +12,7 @@ invariant-loop-sender g l =
     let config = g.N.Naming.cells.config in
     let done = length l.ends.items in
     let waiting = into_iter_items l.sender-iterator in record {
-      ends : AreSenders l.proxy done l.ends.items;
+      ends : IsEach (fresh_sender l.proxy) done l.ends.items;
       left : map (λ (s : BlankSenderView). s.place) waiting ≡ drop done g.M.Channels.places;
       mine : All (λ (s : BlankSenderView). s.proxy ≡ l.proxy) waiting;
       all : done + length waiting ≡ config.resolvers;

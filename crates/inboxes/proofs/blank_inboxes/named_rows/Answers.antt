@@ -1,9 +1,9 @@
 -- One proxy more has its side.
-use Rattle.std.proofs.Common.{◌≡◌, ◌∙◌, ◌+◌, [], ◌∷◌, ℕ, List, sym, ap, length, length-append, drop, arith}
+use Rattle.std.proofs.Common.{◌≡◌, ◌∙◌, ◌+◌, [], ◌∷◌, ℕ, List, sym, ap, subst, length, length-append, drop, arith}
 use Rattle.std.specs.Vec.Iter.{into_iter_items}
-use Rattle.inboxes.specs.Blanks.{BlankRow}
+use Rattle.inboxes.specs.Blanks.{BlankRow, IsFreshSide}
 use Rattle.inboxes.specs.Ends.{ProxyView}
-use Rattle.inboxes.proofs.Each.{drop_next, each_grown}
+use Rattle.inboxes.proofs.Each.{drop_next, sides_grown}
 use Rattle.inboxes.proofs.blank_inboxes.named_rows.Goals as goal
 
 pub named_row-requires-clause-places : goal.named_row-requires-clause-places
@@ -36,12 +36,11 @@ loop-row-preserved g c =
     let after = c.push_reserved.new.self.items in
     let grown = c.push_reserved.ensures.items in
     let (at, later) = drop_next rows done c.in-Some.row rest (sym c.loop-row.invariant.left ∙ next) in
-    let side : c.named_row.result ≡ record { proxy = done; ends = resolvers } =
-    c.named_row.ensures
-    ∙ ap (λ (r : BlankRow). record { proxy = r.proxy; ends = resolvers }) (c.requires.rows.1 done c.in-Some.row at) in
+    let side =
+    subst (λ (p : ℕ). IsFreshSide p resolvers c.named_row.result) (ap (λ (r : BlankRow). r.proxy) (c.requires.rows.1 done c.in-Some.row at)) c.named_row.ensures in
     let more : length after ≡ done + 1 = ap (λ (xs : List ProxyView). length xs) grown ∙ length-append sides (c.named_row.result ∷ []) in
     record {
-      sides = each_grown (λ (p : ℕ). record { proxy = p; ends = resolvers }) sides after c.named_row.result c.loop-row.invariant.sides side grown;
+      sides = sides_grown resolvers sides after c.named_row.result c.loop-row.invariant.sides side grown;
       left = sym later ∙ ap (λ (n : ℕ). drop n rows) (sym more);
       rooms = omega (arith, count, c.loop-row.invariant.rooms, c.in-Some-pop.ensures.cases, c.loop-row.rooms.ok, c.pop.new.self.ok);
       all = omega (arith, count, more, c.loop-row.invariant.all);

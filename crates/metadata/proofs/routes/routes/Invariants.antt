@@ -1,8 +1,9 @@
--- The routes so far, and those of the entries that are left, are the own routes of all entries.
+-- The routes so far, and those of the entries that are left, are the own routes of all entries; and each is a row of the map.
 use Rattle.std.proofs.Common.{◌≡◌, ◌++◌}
 use Rattle.metadata.specs.MapEntries.{entries_of}
 use Rattle.metadata.specs.OwnRoutes.{own_routes}
+use Rattle.metadata.proofs.KeptTags.{AreRows}
 use Rattle.metadata.proofs.routes.routes.Given as goal
 
 abbrev pub invariant-loop-key : goal.invariant-loop-key
-invariant-loop-key l = l.routes.items ++ own_routes l.view (entries_of l.key-iterator) ≡ own_routes l.view l.entries
+invariant-loop-key l = (l.routes.items ++ own_routes l.entries (entries_of l.key-iterator) ≡ own_routes l.entries l.entries) × AreRows l.entries l.key-iterator

@@ -3,10 +3,15 @@ use Rattle.std.proofs.Common.{◌≡◌, flat_map, filter}
 use Rattle.model.specs.Metadata.{entry_tags, key_servers_entries, is_entry_inside}
 use Rattle.metadata.specs.MapEntries.{entries_of}
 use Rattle.metadata.proofs.Tags.{added}
+use Rattle.metadata.proofs.KeptTags.{AreRows, AreKeyServers}
 use Rattle.metadata.proofs.ServingEntries.{is_left}
 use Rattle.metadata.proofs.tagging.add_tags_inside.Given as goal
 
 abbrev pub invariant-loop-key : goal.invariant-loop-key
-invariant-loop-key l =
-    added l.tags.keys (flat_map (entry_tags l.entries) (filter (is_left l.entries-inside.hidden.now) (entries_of l.key-iterator)))
-    ≡ added l.fn.tags.keys (flat_map (entry_tags l.entries) (filter (is_entry_inside l.range) (key_servers_entries l.entries)))
+invariant-loop-key l = record {
+  added :
+      added l.tags.keys (flat_map (entry_tags l.entries) (filter (is_left l.entries-inside.hidden.now) (entries_of l.key-iterator)))
+      ≡ added l.fn.tags.keys (flat_map (entry_tags l.entries) (filter (is_entry_inside l.range) (key_servers_entries l.entries)));
+  rows : AreRows l.entries-inside.entries.now l.key-iterator;
+  own : AreKeyServers l.key-iterator;
+}

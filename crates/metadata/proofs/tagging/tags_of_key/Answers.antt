@@ -1,13 +1,16 @@
--- The tags of the entry that serves the key, added to none.
-use Rattle.std.proofs.Common.{◌∙◌, flat_map, option_to_list}
+-- The tags kept for the row that serves the key.
+use Rattle.std.proofs.Common.{◌∙◌, ap, sym, Some, None, List}
+use Rattle.std.specs.Option.{option_map}
 use Rattle.std.proofs.lemmas.Result.{IfOk-weaker}
-use Rattle.model.specs.Metadata.{tags, entry_tags, serving_entry, key_servers_entries}
-use Rattle.metadata.proofs.Tags.{rising_from}
+use Rattle.metadata.proofs.KeptTags.{tags_known}
 use Rattle.metadata.proofs.tagging.tags_of_key.Goals as goal
 
-pub returns : goal.returns
-unfolding tags
-returns c =
-    IfOk-weaker c.listed.result _ _
-    (λ list is. is ∙ rising_from c.new-tags.result.keys c.add_tags_of_key.new.tags.keys (flat_map (entry_tags c.args.entries.now) (option_to_list (serving_entry (key_servers_entries c.args.entries.now) c.args.key.now))) c.new-tags.ensures.empty c.in_ok-add_tags_of_key.ensures)
-    c.listed.ensures
+pub returns-in-Some : goal.returns-in-Some
+returns-in-Some c =
+    IfOk-weaker c.copied_tags.result _ _
+    (λ found is. is ∙ tags_known c.args.entries.now c.args.key.now (Some c.in-Some.tags.now) (ap (option_map (λ tags. tags.now)) (sym c.in-Some.is) ∙ c.in_ok-tags.ensures))
+    c.copied_tags.ensures
+
+pub returns-in-None : goal.returns-in-None
+returns-in-None c =
+    c.from.ensures ∙ c.new.ensures.items ∙ tags_known c.args.entries.now c.args.key.now None (ap (option_map (λ tags. tags.now)) (sym c.in-None.is) ∙ c.in_ok-tags.ensures)

@@ -6,5 +6,5 @@ use Rattle.request_builder.proofs.asked_resolvers.all_asked_resolvers.Given as g
 abbrev pub invariant-loop-transaction : goal.invariant-loop-transaction
 invariant-loop-transaction l = record {
   as_many : length l.askings.items ≡ l.transaction-index;
-  asked : AreAllAskedResolvers l.owners (take l.transaction-index l.batch) l.askings.items;
+  asked : AreAllAskedResolvers l.oldest l.owners (take l.transaction-index l.batch) l.askings.items;
 }

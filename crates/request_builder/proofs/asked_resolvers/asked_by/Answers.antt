@@ -3,7 +3,7 @@ use Rattle.std.proofs.Common.{◌≡◌, ◌∙◌, ap, subst, List, Bool, repli
 use Rattle.std.proofs.lemmas.Result.{IfOk-weaker}
 use Rattle.model.specs.Shares.{each_below}
 use Rattle.dated_owners.specs.Flags.{is_flagged, Flags}
-use Rattle.dated_owners.proofs.Askers.{taken_front}
+use Rattle.dated_owners.proofs.AskedStarts.{taken_front}
 use Rattle.request_builder.specs.AskedResolvers.{is_asked_about}
 use Rattle.request_builder.proofs.FlaggedLists.{asked_flagged}
 use Rattle.request_builder.proofs.asked_resolvers.asked_by.Goals as goal

@@ -7,7 +7,7 @@ use Rattle.request_builder.proofs.parts.is_listed.Goals as goal
 pub returns-in-Some : goal.returns-in-Some
 returns-in-Some c =
     c.contains.ensures.value
-    ∙ ap (is_in c.args.resolver) (c.as_slice.ensures ∙ sym (list_found c.args.lists.now c.args.number c.in-Some.list.now c.in-Some.ensures.lookup.3.0 c.in-Some.ensures.lookup.1))
+    ∙ ap (is_in c.args.resolver) (c.as_slice.ensures ∙ sym (list_found c.args.lists.now c.args.place c.in-Some.list.now c.in-Some.ensures.lookup.3.0 c.in-Some.ensures.lookup.1))
 
 pub returns-in-None : goal.returns-in-None
-returns-in-None c = ap (is_in c.args.resolver) (sym (list_past c.args.lists.now c.args.number c.in-None.ensures.lookup.3))
+returns-in-None c = ap (is_in c.args.resolver) (sym (list_past c.args.lists.now c.args.place c.in-None.ensures.lookup.3))

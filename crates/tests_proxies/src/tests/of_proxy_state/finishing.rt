@@ -9,7 +9,7 @@ use crate::tests::of_proxy_state::{
 use model::Reply;
 use mutation::Batch;
 use proxy_state::{Finished, Outcome, Proxy, Refusal, Replies, Verdict};
-use request_builder::{Record, Requests};
+use request_builder::{Moves, Record, Requests};
 use std::alloc::Global;
 use std::marker::Model;
 use std::process::Abort;
@@ -61,6 +61,7 @@ impl Tested {
         requires small { previous < 1000 }
     {
         let version = previous + 10;
+        let moves = Moves::new(alloc);
         let rec = Record::new(
             alloc,
             row,
@@ -68,7 +69,7 @@ impl Tested {
             version,
             own_previous,
             number,
-            &[],
+            &moves,
             batch,
         )?;
         self.proxy.begin(&rec)

@@ -4,7 +4,7 @@ use Rattle.std.specs.Prelude.{IsOk, string_bytes}
 use Rattle.std.specs.Vec.Iter.{into_iter_items}
 use Rattle.threads_run.specs.Parts.{IsInParts}
 use Rattle.threads_run.specs.Threads.{AreLinesOfThread}
-use Rattle.threads_run.proofs.ThreadLemmas.{both_ok, drop_next, one_more_joined, told_lines}
+use Rattle.threads_run.proofs.ThreadLemmas.{both_ok, drop_next, one_more_joined, returned_lines}
 use Rattle.threads_run.proofs.threads.join_proxy_threads.Goals as goal
 
 pub loop-handle-preserved : goal.loop-handle-preserved
@@ -21,9 +21,9 @@ loop-handle-preserved g c =
     record {
       left = sym later ∙ ap (λ (n : ℕ). drop n threads) (sym more);
       count = omega (arith, size, l.invariant.count, c.in-Some.ensures.steps.1);
-      told = λ ok.
-          let (earlier, now) = both_ok l.joined c.append_returned_lines.result (subst IsOk c.join_results-joined.ensures ok) in
-          let told = told_lines (AreLines thread.promise.number thread.promise.batches.now) c.join.result c.append_returned_lines.result (string_bytes l.text) (string_bytes c.append_returned_lines.new.text) c.join.ensures c.append_returned_lines.ensures now in
+      lines = λ ok.
+          let (earlier, now) = both_ok l.outcome c.append_returned_lines.result (subst IsOk c.join_results-outcome.ensures ok) in
+          let lines = returned_lines (AreLines thread.promise.number thread.promise.batches.now) c.join.result c.append_returned_lines.result (string_bytes l.text) (string_bytes c.append_returned_lines.new.text) c.join.ensures c.append_returned_lines.ensures now in
           subst (λ (n : ℕ). IsInParts (AreLinesOfThread AreLines threads (λ t. t.promise.number) (λ t. t.promise.batches.now)) n (string_bytes c.append_returned_lines.new.text)) (sym more)
-          (one_more_joined AreLines threads (λ t. t.promise.number) (λ t. t.promise.batches.now) k thread (string_bytes l.text) (string_bytes c.append_returned_lines.new.text) at (l.invariant.told earlier) told);
+          (one_more_joined AreLines threads (λ t. t.promise.number) (λ t. t.promise.batches.now) k thread (string_bytes l.text) (string_bytes c.append_returned_lines.new.text) at (l.invariant.lines earlier) lines);
     }

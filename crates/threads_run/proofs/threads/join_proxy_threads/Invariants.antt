@@ -10,5 +10,5 @@ abbrev pub invariant-loop-handle : goal.invariant-loop-handle
 invariant-loop-handle g l = record {
   left : into_iter_items l.handle-iterator ≡ drop (length l.yielded) l.fn.handles.items;
   count : into_iter_len l.handle-iterator ≡ length (into_iter_items l.handle-iterator);
-  told : IsOk l.joined → IsInParts (AreLinesOfThread g.C.CommitsBatches.are_lines l.fn.handles.items (λ thread. thread.promise.number) (λ thread. thread.promise.batches.now)) (length l.yielded) (string_bytes l.text);
+  lines : IsOk l.outcome → IsInParts (AreLinesOfThread g.C.CommitsBatches.are_lines l.fn.handles.items (λ thread. thread.promise.number) (λ thread. thread.promise.batches.now)) (length l.yielded) (string_bytes l.text);
 }

@@ -1,5 +1,6 @@
 -- The request is the one that was refused.
-use Rattle.std.proofs.Common.{◌≡◌, ap, sym, ◌∙◌, subst}
+use Rattle.std.specs.Prelude.{Bool, MatchBool}
+use Rattle.std.proofs.Common.{◌≡◌, ◌≢◌, ap, sym, ◌∙◌, subst}
 use Rattle.shared_cluster.specs.Commits.{IsAskRefusal}
 use Rattle.shared_cluster.specs.Requests.{RequestView}
 use Rattle.workers.proofs.AskLemmas.{same_refusal}
@@ -9,5 +10,5 @@ pub returns-then-is_same : goal.returns-then-is_same
 returns-then-is_same g c =
     let config = g.N.Naming.cells.config in
     let refused = c.args.refused.now in
-    let same : refused.request.plain ≡ c.args.request.now.plain = sym (ap (λ (q : RequestView). q.plain) c.request.ensures) ∙ c.is_same.ensures c.if-is_same.true in
+    let same : refused.request.plain ≡ c.args.request.now.plain = sym (ap (λ (q : RequestView). q.plain) c.request.ensures) ∙ subst (λ (t : Bool). MatchBool t (c.request.result.now.plain ≡ c.args.request.now.plain) (c.request.result.now.plain ≢ c.args.request.now.plain)) c.if-is_same.true c.is_same.ensures in
     subst (IsAskRefusal config c.args.request.now) (sym c.refusal.ensures.value) (same_refusal config refused.request c.args.request.now refused.refusal same c.refusal.ensures.kept)

@@ -8,7 +8,7 @@ invariant_of-self-2 g c =
     let config = g.N.Naming.cells.config in
     let there : c.args.dest < config.resolvers = omega (arith, c.if-resolvers-dest.false, c.resolvers.ensures.value, ap (λ (n : Config). n.resolvers) c.config.ensures.value) in (
       c.self.invariant.0,
-      move_made config c.self.inside.records.known c.self.inside.moves.items c.reserve.new.self.items c.push_reserved.new.self.items _ c.push_reserved.ensures.items c.in-Ok.ensures.items
+      move_made config c.self.inside.records.known c.self.inside.moves c.push.new.self _ c.in_ok-push.ensures.ok
           (ap (λ (v : ℕ). v + 1) c.self.invariant.2.version_is) there c.self.invariant.1,
       c.self.invariant.2,
     )

@@ -12,7 +12,7 @@ pub of-requires-2-clause-history : goal.of-requires-2-clause-history
 of-requires-2-clause-history g c =
     let config = g.N.Naming.cells.config in
     let h = c.self.inside.records.known in
-    let moves = c.self.inside.moves.items in
+    let moves = c.self.inside.moves in
     let is : c.in-Ok.rec ≡ record_after config h moves c.args.proxy c.args.batch = c.in-Ok.ensures ∙ ap (λ (s : SequencedView). record_after config s.records s.moves c.args.proxy c.args.batch) (sym c.self.view_is) in
     let there : c.args.proxy < config.proxies = omega (arith, c.if-proxies-proxy.false, c.proxies.ensures.value, ap (λ (n : Config). n.proxies) c.config.ensures.value) in
     let step : c.step-step.result ≡ config.step = c.step-step.ensures.value ∙ ap (λ (n : Config). n.step) c.config-2.ensures.value in
@@ -24,7 +24,7 @@ pub invariant_of-self-2 : goal.invariant_of-self-2
 invariant_of-self-2 g c =
     let config = g.N.Naming.cells.config in
     let h = c.self.inside.records.known in
-    let moves = c.self.inside.moves.items in
+    let moves = c.self.inside.moves in
     let is : c.in-Ok.rec ≡ record_after config h moves c.args.proxy c.args.batch = c.in-Ok.ensures ∙ ap (λ (s : SequencedView). record_after config s.records s.moves c.args.proxy c.args.batch) (sym c.self.view_is) in
     let version = c.self.inside.version in
     let own = c.self.inside.own_versions.items in

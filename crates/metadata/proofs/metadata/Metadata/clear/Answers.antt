@@ -1,7 +1,14 @@
--- Without the entries of a range, the entries are still in order, and all of their keys kept.
+-- What was staged is started and finished.
+use Rattle.std.proofs.Common.{subst}
 use Rattle.system_keys.specs.declared.change.Change.TheVariants.{Clear}
-use Rattle.metadata.proofs.KeptInOrder.{changed_kept_in_order}
+use Rattle.model.specs.Metadata.{Entries, IsInOrder, after_change}
+use Rattle.model.proofs.Metadata.Entries.{changed_in_order}
+use Rattle.metadata.specs.Overwrites.{IsOverwritten}
 use Rattle.metadata.proofs.metadata.Metadata.clear.Goals as goal
 
-pub invariant_of-self-2 : goal.invariant_of-self-2
-invariant_of-self-2 c = changed_kept_in_order c.self.inside.entries c.remove.new.self (Clear c.args.range.now) c.self.invariant c.in_ok-remove.ensures.ok
+pub returns-clause-ok : goal.returns-clause-ok
+returns-clause-ok c =
+    let change = Clear c.args.range.now in
+    c.finish_rows.ensures c.args.self.now (after_change c.args.self.now change)
+    (c.in_ok-started.ensures.ok (after_change c.args.self.now change) (changed_in_order c.args.self.now change (subst IsInOrder c.self.view_is c.stage_clear.ensures.order))
+    (subst (λ (entries : Entries). IsOverwritten c.in_ok-staged.staged.cleared c.in_ok-staged.staged.puts entries (after_change entries change)) c.self.view_is c.in_ok-staged.ensures.staged))

@@ -1,12 +1,12 @@
--- Without some entries, the entries are still in order, and all of their keys kept.
-use Rattle.std.proofs.Common.{◌∙◌, ap}
+-- What is removed gives no tag.
+use Rattle.std.proofs.Common.{◌∙◌, sym, ap}
 use Rattle.model.specs.Metadata.{Entries}
-use Rattle.metadata.specs.Overwrites.{entries_without}
-use Rattle.metadata.proofs.EntriesLeft.{without_kept_in_order}
+use Rattle.metadata.specs.CachedTags.{tags_at, may_tag_some}
+use Rattle.metadata.proofs.MetadataTags.{tags_left_over}
 use Rattle.metadata.proofs.metadata.Metadata.remove_all.Goals as goal
 
 pub invariant_of-self : goal.invariant_of-self
-invariant_of-self c = without_kept_in_order c.args.keys.now c.self.inside.entries c.remove_all.new.self c.self.invariant (c.remove_all.ensures c.self.invariant.0)
-
-pub returns : goal.returns
-returns c = c.remove_all.ensures c.self.invariant.0 ∙ ap (λ (entries : Entries). entries_without c.args.keys.now entries) c.self.view_is
+invariant_of-self c = (
+  tags_left_over c.args.keys.now c.self.inside.entries c.remove_all.new.self (tags_at c.self.inside.tags) (tags_at c.remove_all-2.new.self) (ap (λ (entries : Entries). may_tag_some entries c.args.keys.now) c.self.view_is ∙ c.requires) c.self.invariant.0 c.remove_all.ensures c.remove_all-2.ensures,
+  c.self.invariant.1,
+)

@@ -1,8 +1,12 @@
 -- Each part of the routing is read from the rows.
-use Rattle.std.proofs.Common.{refl}
-use Rattle.model.specs.Metadata.{routing}
+use Rattle.std.proofs.Common.{refl, subst, sym}
+use Rattle.model.specs.Metadata.{Entries, entry_value, routing}
+use Rattle.metadata.specs.CachedTags.{AreTags, tags_at}
 use Rattle.metadata.proofs.metadata.Metadata.routing.Goals as goal
+
+pub routes-requires : goal.routes-requires
+routes-requires c = subst (λ (entries : Entries). AreTags (tags_at c.self.inside.tags) (entry_value entries)) (sym c.map.ensures.entries) c.self.invariant.0
 
 pub returns : goal.returns
 unfolding routing
-returns c = rw (c.is_locked.ensures, c.in_ok-metadata_version.ensures, c.in_ok-routes.ensures, c.self.view_is) refl
+returns c = rw (c.is_locked.ensures, c.in_ok-metadata_version.ensures, c.in_ok-routes.ensures, c.map.ensures.entries, c.self.view_is) refl

@@ -1,5 +1,5 @@
 -- The line is that of the answer.
-use Rattle.std.proofs.Common.{List, subst}
+use Rattle.std.proofs.Common.{List, length, subst}
 use Rattle.std.specs.Prelude.{string_bytes}
 use Rattle.model.specs.Stamps.{Given}
 use Rattle.threads_run.specs.Answers.{IsCommitOf, IsLineOf}
@@ -11,15 +11,17 @@ use Rattle.threads_run.proofs.committer.Committer.print_closing.Goals as goal
 pub returns-in_ok-print_closing_version-in-Finished : goal.returns-in_ok-print_closing_version-in-Finished
 returns-in_ok-print_closing_version-in-Finished g c =
     let config = g.N.Naming.cells.config in
+    let rows = length g.N.Naming.cells.records in
     let line = closing_line c.args.self.now.number in
-    subst (λ (batch : List Given). GrowsBy (IsLineOf config c.args.self.now.number line batch) (string_bytes c.args.text.now) (string_bytes c.print_closing_version.new.text)) c.requires
-    (finished_line config c.args.self.now.number line c.args.empty.now c.in-Finished.noted c.value.result.now (string_bytes c.args.text.now) (string_bytes c.print_closing_version.new.text)
-    (subst (IsCommitOf config c.args.self.now.number c.args.empty.now) c.in-Finished.is c.in_ok-noted.ensures) c.value.ensures.value c.in_ok-print_closing_version-in-Finished.ensures)
+    subst (λ (batch : List Given). GrowsBy (IsLineOf config rows c.args.self.now.number line batch) (string_bytes c.args.text.now) (string_bytes c.print_closing_version.new.text)) c.requires
+    (finished_line config rows c.args.self.now.number line c.args.empty.now c.in-Finished.noted c.value.result.now (string_bytes c.args.text.now) (string_bytes c.print_closing_version.new.text)
+    (subst (IsCommitOf config rows c.args.self.now.number c.args.empty.now) c.in-Finished.is c.in_ok-noted.ensures) c.value.ensures.value c.in_ok-print_closing_version-in-Finished.ensures)
 
 pub returns-in_ok-print_refused_closing-in-NoRecord : goal.returns-in_ok-print_refused_closing-in-NoRecord
 returns-in_ok-print_refused_closing-in-NoRecord g c =
     let config = g.N.Naming.cells.config in
+    let rows = length g.N.Naming.cells.records in
     let line = closing_line c.args.self.now.number in
-    subst (λ (batch : List Given). GrowsBy (IsLineOf config c.args.self.now.number line batch) (string_bytes c.args.text.now) (string_bytes c.print_refused_closing.new.text)) c.requires
-    (refused_line config c.args.self.now.number line c.args.empty.now c.in-NoRecord.refusal (string_bytes c.args.text.now) (string_bytes c.print_refused_closing.new.text)
-    (subst (IsCommitOf config c.args.self.now.number c.args.empty.now) c.in-NoRecord.is c.in_ok-noted.ensures) c.in_ok-print_refused_closing-in-NoRecord.ensures)
+    subst (λ (batch : List Given). GrowsBy (IsLineOf config rows c.args.self.now.number line batch) (string_bytes c.args.text.now) (string_bytes c.print_refused_closing.new.text)) c.requires
+    (refused_line config rows c.args.self.now.number line c.args.empty.now c.in-NoRecord.refusal (string_bytes c.args.text.now) (string_bytes c.print_refused_closing.new.text)
+    (subst (IsCommitOf config rows c.args.self.now.number c.args.empty.now) c.in-NoRecord.is c.in_ok-noted.ensures) c.in_ok-print_refused_closing-in-NoRecord.ensures)

@@ -1,5 +1,5 @@
 -- One more closing is printed.
-use Rattle.std.proofs.Common.{ℕ, subst}
+use Rattle.std.proofs.Common.{ℕ, length, subst}
 use Rattle.std.specs.Prelude.{string_bytes}
 use Rattle.threads_run.specs.Answers.{IsClosingLine}
 use Rattle.threads_run.specs.Parts.{GrowsBy}
@@ -10,5 +10,6 @@ pub loop-number-preserved : goal.loop-number-preserved
 loop-number-preserved g c =
     let l = c.loop-number in
     let config = g.N.Naming.cells.config in
-    one_more_part (IsClosingLine config) l.number (string_bytes c.args.text.now) (string_bytes l.text) (string_bytes c.print_closing.new.text) l.invariant
-    (subst (λ (p : ℕ). GrowsBy (IsClosingLine config p) (string_bytes l.text) (string_bytes c.print_closing.new.text)) c.committer.ensures c.in_ok-print_closing.ensures)
+    let rows = length g.N.Naming.cells.records in
+    one_more_part (IsClosingLine config rows) l.number (string_bytes c.args.text.now) (string_bytes l.text) (string_bytes c.print_closing.new.text) l.invariant
+    (subst (λ (p : ℕ). GrowsBy (IsClosingLine config rows p) (string_bytes l.text) (string_bytes c.print_closing.new.text)) c.committer.ensures c.in_ok-print_closing.ensures)

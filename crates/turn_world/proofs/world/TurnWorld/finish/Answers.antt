@@ -14,13 +14,13 @@ use Rattle.turn_world.proofs.world.TurnWorld.finish.Goals as goal
 pub returns-then-proxies-proxy-clause-answer : goal.returns-then-proxies-proxy-clause-answer
 returns-then-proxies-proxy-clause-answer c =
     let t = c.self.inside in
-    let w = world_of t.rows.items t.moves.items t.judged_counts.items t.finished.items in
+    let w = world_of t.rows.items t.moves t.judged_counts.items t.finished.items in
     no_proxy t.config w c.args.self.now c.args.proxy c.self.view_is (omega (arith, c.proxies.ensures.value, c.if-proxies-proxy.true))
 
 pub returns-in_default-clause-answer : goal.returns-in_default-clause-answer
 returns-in_default-clause-answer c =
     let t = c.self.inside in
-    let w = world_of t.rows.items t.moves.items t.judged_counts.items t.finished.items in
+    let w = world_of t.rows.items t.moves t.judged_counts.items t.finished.items in
     let there : c.args.proxy < t.config.proxies = omega (arith, c.proxies.ensures.value, c.if-proxies-proxy.false) in
     let at = got t.proxies.items c.args.proxy c.index.result.now (omega (arith, there, c.self.invariant.parts.proxy_count)) c.index.ensures in
     none_begun t.config w c.args.self.now c.args.proxy c.index.result.now t.resolvers.items t.proxies.items (requests_of t.rows.items) c.self.view_is c.self.invariant.parts there at c.in_default.ensures.first
@@ -28,7 +28,7 @@ returns-in_default-clause-answer c =
 pub returns-in-Some-first_missing-clause-answer : goal.returns-in-Some-first_missing-clause-answer
 returns-in-Some-first_missing-clause-answer c =
     let t = c.self.inside in
-    let w = world_of t.rows.items t.moves.items t.judged_counts.items t.finished.items in
+    let w = world_of t.rows.items t.moves t.judged_counts.items t.finished.items in
     let there : c.args.proxy < t.config.proxies = omega (arith, c.proxies.ensures.value, c.if-proxies-proxy.false) in
     let at = got t.proxies.items c.args.proxy c.index.result.now (omega (arith, there, c.self.invariant.parts.proxy_count)) c.index.ensures in
     let rec = c.in-Some.rec.now in
@@ -43,7 +43,7 @@ returns-in-Some-first_missing-clause-answer c =
 pub kept_replies-requires-clause-kept : goal.kept_replies-requires-clause-kept
 kept_replies-requires-clause-kept c =
     let t = c.self.inside in
-    let w = world_of t.rows.items t.moves.items t.judged_counts.items t.finished.items in
+    let w = world_of t.rows.items t.moves t.judged_counts.items t.finished.items in
     let there : c.args.proxy < t.config.proxies = omega (arith, c.proxies.ensures.value, c.if-proxies-proxy.false) in
     let at = got t.proxies.items c.args.proxy c.index.result.now (omega (arith, there, c.self.invariant.parts.proxy_count)) c.index.ensures in
     let rec = c.in-Some.rec.now in
@@ -62,7 +62,7 @@ kept_replies-requires-clause-kept c =
 pub returns-in_err-replies-clause-answer : goal.returns-in_err-replies-clause-answer
 returns-in_err-replies-clause-answer c =
     let t = c.self.inside in
-    let w = world_of t.rows.items t.moves.items t.judged_counts.items t.finished.items in
+    let w = world_of t.rows.items t.moves t.judged_counts.items t.finished.items in
     let there : c.args.proxy < t.config.proxies = omega (arith, c.proxies.ensures.value, c.if-proxies-proxy.false) in
     let at = got t.proxies.items c.args.proxy c.index.result.now (omega (arith, there, c.self.invariant.parts.proxy_count)) c.index.ensures in
     let rec = c.in-Some.rec.now in
@@ -80,7 +80,7 @@ returns-in_err-replies-clause-answer c =
 pub returns-in_err-finished-clause-answer : goal.returns-in_err-finished-clause-answer
 returns-in_err-finished-clause-answer c =
     let t = c.self.inside in
-    let w = world_of t.rows.items t.moves.items t.judged_counts.items t.finished.items in
+    let w = world_of t.rows.items t.moves t.judged_counts.items t.finished.items in
     let there : c.args.proxy < t.config.proxies = omega (arith, c.proxies.ensures.value, c.if-proxies-proxy.false) in
     let at = got t.proxies.items c.args.proxy c.index.result.now (omega (arith, there, c.self.invariant.parts.proxy_count)) c.index.ensures in
     let rec = c.in-Some.rec.now in
@@ -98,7 +98,7 @@ returns-in_err-finished-clause-answer c =
 pub overflow_add-count : goal.overflow_add-count
 overflow_add-count c =
     let t = c.self.inside in
-    let w = world_of t.rows.items t.moves.items t.judged_counts.items t.finished.items in
+    let w = world_of t.rows.items t.moves t.judged_counts.items t.finished.items in
     let there : c.args.proxy < t.config.proxies = omega (arith, c.proxies.ensures.value, c.if-proxies-proxy.false) in
     let at = got t.proxies.items c.args.proxy c.index.result.now (omega (arith, there, c.self.invariant.parts.proxy_count)) c.index.ensures in
     let rec = c.in-Some.rec.now in
@@ -114,7 +114,7 @@ overflow_add-count c =
 pub finish_at-requires : goal.finish_at-requires
 finish_at-requires c =
     let t = c.self.inside in
-    let w = world_of t.rows.items t.moves.items t.judged_counts.items t.finished.items in
+    let w = world_of t.rows.items t.moves t.judged_counts.items t.finished.items in
     let there : c.args.proxy < t.config.proxies = omega (arith, c.proxies.ensures.value, c.if-proxies-proxy.false) in
     let at = got t.proxies.items c.args.proxy c.index.result.now (omega (arith, there, c.self.invariant.parts.proxy_count)) c.index.ensures in
     let rec = c.in-Some.rec.now in
@@ -136,7 +136,7 @@ finish_at-requires c =
 pub invariant_of-self-2 : goal.invariant_of-self-2
 invariant_of-self-2 c =
     let t = c.self.inside in
-    let w = world_of t.rows.items t.moves.items t.judged_counts.items t.finished.items in
+    let w = world_of t.rows.items t.moves t.judged_counts.items t.finished.items in
     let there : c.args.proxy < t.config.proxies = omega (arith, c.proxies.ensures.value, c.if-proxies-proxy.false) in
     let at = got t.proxies.items c.args.proxy c.index.result.now (omega (arith, there, c.self.invariant.parts.proxy_count)) c.index.ensures in
     let rec = c.in-Some.rec.now in
@@ -163,7 +163,7 @@ invariant_of-self-2 c =
 pub returns-clause-answer : goal.returns-clause-answer
 returns-clause-answer c =
     let t = c.self.inside in
-    let w = world_of t.rows.items t.moves.items t.judged_counts.items t.finished.items in
+    let w = world_of t.rows.items t.moves t.judged_counts.items t.finished.items in
     let there : c.args.proxy < t.config.proxies = omega (arith, c.proxies.ensures.value, c.if-proxies-proxy.false) in
     let at = got t.proxies.items c.args.proxy c.index.result.now (omega (arith, there, c.self.invariant.parts.proxy_count)) c.index.ensures in
     let rec = c.in-Some.rec.now in
@@ -190,7 +190,7 @@ returns-clause-answer c =
 pub returns-clause-ok : goal.returns-clause-ok
 returns-clause-ok c =
     let t = c.self.inside in
-    let w = world_of t.rows.items t.moves.items t.judged_counts.items t.finished.items in
+    let w = world_of t.rows.items t.moves t.judged_counts.items t.finished.items in
     let there : c.args.proxy < t.config.proxies = omega (arith, c.proxies.ensures.value, c.if-proxies-proxy.false) in
     let at = got t.proxies.items c.args.proxy c.index.result.now (omega (arith, there, c.self.invariant.parts.proxy_count)) c.index.ensures in
     let rec = c.in-Some.rec.now in

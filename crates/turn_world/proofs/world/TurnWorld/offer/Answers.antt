@@ -20,19 +20,19 @@ pub returns-then-len-row-clause-answer : goal.returns-then-len-row-clause-answer
 returns-then-len-row-clause-answer c =
     let t = c.self.inside in
     let many : c.len.result ≡ length t.rows.items = search rules in
-    no_row t.config t.rows.items (world_of t.rows.items t.moves.items t.judged_counts.items t.finished.items) c.args.self.now c.args.row c.args.resolver refl c.self.view_is (omega (arith, many, c.if-len-row.true))
+    no_row t.config t.rows.items (world_of t.rows.items t.moves t.judged_counts.items t.finished.items) c.args.self.now c.args.row c.args.resolver refl c.self.view_is (omega (arith, many, c.if-len-row.true))
 
 pub returns-then-resolvers-resolver-clause-answer : goal.returns-then-resolvers-resolver-clause-answer
 returns-then-resolvers-resolver-clause-answer c =
     let t = c.self.inside in
     let many : c.len.result ≡ length t.rows.items = search rules in
     let one = element_at t.rows.items c.args.row (omega (arith, many, c.if-len-row.false)) in
-    no_resolver t.config (world_of t.rows.items t.moves.items t.judged_counts.items t.finished.items) c.args.self.now c.args.row c.args.resolver one.0.rec c.self.view_is (record_at t.rows.items c.args.row one.0 one.1) (omega (arith, c.resolvers.ensures.value, c.if-resolvers-resolver.true))
+    no_resolver t.config (world_of t.rows.items t.moves t.judged_counts.items t.finished.items) c.args.self.now c.args.row c.args.resolver one.0.rec c.self.view_is (record_at t.rows.items c.args.row one.0 one.1) (omega (arith, c.resolvers.ensures.value, c.if-resolvers-resolver.true))
 
 pub bounds-requests-resolver : goal.bounds-requests-resolver
 bounds-requests-resolver c =
     let t = c.self.inside in
-    let w = world_of t.rows.items t.moves.items t.judged_counts.items t.finished.items in
+    let w = world_of t.rows.items t.moves t.judged_counts.items t.finished.items in
     let many : c.len.result ≡ length t.rows.items = search rules in
     let there : c.args.resolver < t.config.resolvers = omega (arith, c.resolvers.ensures.value, c.if-resolvers-resolver.false) in
     let at = got t.rows.items c.args.row c.index.result.now (omega (arith, many, c.if-len-row.false)) c.index.ensures in
@@ -43,7 +43,7 @@ bounds-requests-resolver c =
 pub invariant_of-self : goal.invariant_of-self
 invariant_of-self c =
     let t = c.self.inside in
-    let w = world_of t.rows.items t.moves.items t.judged_counts.items t.finished.items in
+    let w = world_of t.rows.items t.moves t.judged_counts.items t.finished.items in
     let many : c.len.result ≡ length t.rows.items = search rules in
     let there : c.args.resolver < t.config.resolvers = omega (arith, c.resolvers.ensures.value, c.if-resolvers-resolver.false) in
     let at = got t.rows.items c.args.row c.index.result.now (omega (arith, many, c.if-len-row.false)) c.index.ensures in
@@ -60,7 +60,7 @@ invariant_of-self c =
 pub returns-in-Ok-Judged-clause-answer : goal.returns-in-Ok-Judged-clause-answer
 returns-in-Ok-Judged-clause-answer c =
     let t = c.self.inside in
-    let w = world_of t.rows.items t.moves.items t.judged_counts.items t.finished.items in
+    let w = world_of t.rows.items t.moves t.judged_counts.items t.finished.items in
     let many : c.len.result ≡ length t.rows.items = search rules in
     let there : c.args.resolver < t.config.resolvers = omega (arith, c.resolvers.ensures.value, c.if-resolvers-resolver.false) in
     let at = got t.rows.items c.args.row c.index.result.now (omega (arith, many, c.if-len-row.false)) c.index.ensures in
@@ -77,7 +77,7 @@ returns-in-Ok-Judged-clause-answer c =
 pub returns-in-Ok-Judged-clause-ok : goal.returns-in-Ok-Judged-clause-ok
 returns-in-Ok-Judged-clause-ok c =
     let t = c.self.inside in
-    let w = world_of t.rows.items t.moves.items t.judged_counts.items t.finished.items in
+    let w = world_of t.rows.items t.moves t.judged_counts.items t.finished.items in
     let many : c.len.result ≡ length t.rows.items = search rules in
     let there : c.args.resolver < t.config.resolvers = omega (arith, c.resolvers.ensures.value, c.if-resolvers-resolver.false) in
     let at = got t.rows.items c.args.row c.index.result.now (omega (arith, many, c.if-len-row.false)) c.index.ensures in
@@ -94,7 +94,7 @@ returns-in-Ok-Judged-clause-ok c =
 pub returns-in-Ok-Again-clause-answer : goal.returns-in-Ok-Again-clause-answer
 returns-in-Ok-Again-clause-answer c =
     let t = c.self.inside in
-    let w = world_of t.rows.items t.moves.items t.judged_counts.items t.finished.items in
+    let w = world_of t.rows.items t.moves t.judged_counts.items t.finished.items in
     let many : c.len.result ≡ length t.rows.items = search rules in
     let there : c.args.resolver < t.config.resolvers = omega (arith, c.resolvers.ensures.value, c.if-resolvers-resolver.false) in
     let at = got t.rows.items c.args.row c.index.result.now (omega (arith, many, c.if-len-row.false)) c.index.ensures in
@@ -111,7 +111,7 @@ returns-in-Ok-Again-clause-answer c =
 pub returns-in-Ok-Again-clause-ok : goal.returns-in-Ok-Again-clause-ok
 returns-in-Ok-Again-clause-ok c =
     let t = c.self.inside in
-    let w = world_of t.rows.items t.moves.items t.judged_counts.items t.finished.items in
+    let w = world_of t.rows.items t.moves t.judged_counts.items t.finished.items in
     let many : c.len.result ≡ length t.rows.items = search rules in
     let there : c.args.resolver < t.config.resolvers = omega (arith, c.resolvers.ensures.value, c.if-resolvers-resolver.false) in
     let at = got t.rows.items c.args.row c.index.result.now (omega (arith, many, c.if-len-row.false)) c.index.ensures in
@@ -128,7 +128,7 @@ returns-in-Ok-Again-clause-ok c =
 pub passed_on-requires : goal.passed_on-requires
 passed_on-requires c =
     let t = c.self.inside in
-    let w = world_of t.rows.items t.moves.items t.judged_counts.items t.finished.items in
+    let w = world_of t.rows.items t.moves t.judged_counts.items t.finished.items in
     let many : c.len.result ≡ length t.rows.items = search rules in
     let there : c.args.resolver < t.config.resolvers = omega (arith, c.resolvers.ensures.value, c.if-resolvers-resolver.false) in
     let at = got t.rows.items c.args.row c.index.result.now (omega (arith, many, c.if-len-row.false)) c.index.ensures in
@@ -144,7 +144,7 @@ passed_on-requires c =
 pub returns-in-Err-clause-answer : goal.returns-in-Err-clause-answer
 returns-in-Err-clause-answer c =
     let t = c.self.inside in
-    let w = world_of t.rows.items t.moves.items t.judged_counts.items t.finished.items in
+    let w = world_of t.rows.items t.moves t.judged_counts.items t.finished.items in
     let many : c.len.result ≡ length t.rows.items = search rules in
     let there : c.args.resolver < t.config.resolvers = omega (arith, c.resolvers.ensures.value, c.if-resolvers-resolver.false) in
     let at = got t.rows.items c.args.row c.index.result.now (omega (arith, many, c.if-len-row.false)) c.index.ensures in

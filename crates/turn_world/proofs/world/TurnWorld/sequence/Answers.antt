@@ -16,17 +16,17 @@ use Rattle.turn_world.proofs.world.TurnWorld.sequence.Goals as goal
 pub returns-then-proxies-proxy-clause-answer : goal.returns-then-proxies-proxy-clause-answer
 returns-then-proxies-proxy-clause-answer c =
     let t = c.self.inside in
-    no_proxy t.config (world_of t.rows.items t.moves.items t.judged_counts.items t.finished.items) c.args.self.now c.args.proxy c.args.batch.now c.self.view_is (omega (arith, c.proxies.ensures.value, c.if-proxies-proxy.true))
+    no_proxy t.config (world_of t.rows.items t.moves t.judged_counts.items t.finished.items) c.args.self.now c.args.proxy c.args.batch.now c.self.view_is (omega (arith, c.proxies.ensures.value, c.if-proxies-proxy.true))
 
 pub returns-then-self-step-clause-answer : goal.returns-then-self-step-clause-answer
 returns-then-self-step-clause-answer c =
     let t = c.self.inside in
-    no_version t.config (world_of t.rows.items t.moves.items t.judged_counts.items t.finished.items) c.args.self.now c.args.proxy t.last c.args.batch.now c.self.view_is (omega (arith, c.proxies.ensures.value, c.if-proxies-proxy.false)) c.self.invariant.last_is (omega (arith, c.step.ensures.value, c.if-self-step.true))
+    no_version t.config (world_of t.rows.items t.moves t.judged_counts.items t.finished.items) c.args.self.now c.args.proxy t.last c.args.batch.now c.self.view_is (omega (arith, c.proxies.ensures.value, c.if-proxies-proxy.false)) c.self.invariant.last_is (omega (arith, c.step.ensures.value, c.if-self-step.true))
 
 pub returns-in_err-rec-clause-answer : goal.returns-in_err-rec-clause-answer
 returns-in_err-rec-clause-answer c =
     let t = c.self.inside in
-    let w = world_of t.rows.items t.moves.items t.judged_counts.items t.finished.items in
+    let w = world_of t.rows.items t.moves t.judged_counts.items t.finished.items in
     let is : c.from_residual.result ≡ Err refusals.OutOfMemory = search rules in
     let limit : last_version w.history + t.config.step < version_limit = limit_is t.config w t.last c.self.invariant.last_is (omega (arith, c.step.ensures.value, c.if-self-step.false)) in
     subst (AnswersEvent c.args.self.now (Sequence c.args.proxy c.args.batch.now)) (sym is) (not_refused t.config w c.args.self.now c.args.proxy c.args.batch.now c.self.view_is (omega (arith, c.proxies.ensures.value, c.if-proxies-proxy.false)) limit)
@@ -34,14 +34,14 @@ returns-in_err-rec-clause-answer c =
 pub returns-in_default-clause-answer : goal.returns-in_default-clause-answer
 returns-in_default-clause-answer c =
     let t = c.self.inside in
-    let w = world_of t.rows.items t.moves.items t.judged_counts.items t.finished.items in
+    let w = world_of t.rows.items t.moves t.judged_counts.items t.finished.items in
     let limit : last_version w.history + t.config.step < version_limit = limit_is t.config w t.last c.self.invariant.last_is (omega (arith, c.step.ensures.value, c.if-self-step.false)) in
     not_refused t.config w c.args.self.now c.args.proxy c.args.batch.now c.self.view_is (omega (arith, c.proxies.ensures.value, c.if-proxies-proxy.false)) limit
 
 pub begin_at-requires : goal.begin_at-requires
 begin_at-requires c =
     let t = c.self.inside in
-    let w = world_of t.rows.items t.moves.items t.judged_counts.items t.finished.items in
+    let w = world_of t.rows.items t.moves t.judged_counts.items t.finished.items in
     let limit : last_version w.history + t.config.step < version_limit = limit_is t.config w t.last c.self.invariant.last_is (omega (arith, c.step.ensures.value, c.if-self-step.false)) in
     let within : c.args.proxy < length t.proxies.items = omega (arith, c.proxies.ensures.value, c.if-proxies-proxy.false, c.self.invariant.parts.proxy_count) in
     may_begin_at t.config w c.args.proxy c.args.batch.now c.index.result.now c.in_ok-rec.rec t.resolvers.items t.proxies.items (requests_of t.rows.items) t.last c.self.invariant (omega (arith, c.proxies.ensures.value, c.if-proxies-proxy.false)) limit
@@ -50,7 +50,7 @@ begin_at-requires c =
 pub returns-in_err-requests-clause-answer : goal.returns-in_err-requests-clause-answer
 returns-in_err-requests-clause-answer c =
     let t = c.self.inside in
-    let w = world_of t.rows.items t.moves.items t.judged_counts.items t.finished.items in
+    let w = world_of t.rows.items t.moves t.judged_counts.items t.finished.items in
     let is : c.from_residual-in_err-requests.result ≡ Err refusals.OutOfMemory = search rules in
     let limit : last_version w.history + t.config.step < version_limit = limit_is t.config w t.last c.self.invariant.last_is (omega (arith, c.step.ensures.value, c.if-self-step.false)) in
     subst (AnswersEvent c.args.self.now (Sequence c.args.proxy c.args.batch.now)) (sym is) (not_refused t.config w c.args.self.now c.args.proxy c.args.batch.now c.self.view_is (omega (arith, c.proxies.ensures.value, c.if-proxies-proxy.false)) limit)
@@ -58,7 +58,7 @@ returns-in_err-requests-clause-answer c =
 pub invariant_of-self-2 : goal.invariant_of-self-2
 invariant_of-self-2 c =
     let t = c.self.inside in
-    let w = world_of t.rows.items t.moves.items t.judged_counts.items t.finished.items in
+    let w = world_of t.rows.items t.moves t.judged_counts.items t.finished.items in
     let there : c.args.proxy < t.config.proxies = omega (arith, c.proxies.ensures.value, c.if-proxies-proxy.false) in
     let limit : last_version w.history + t.config.step < version_limit = limit_is t.config w t.last c.self.invariant.last_is (omega (arith, c.step.ensures.value, c.if-self-step.false)) in
     let rec_is : c.in_ok-rec.rec ≡ next_record t.config w c.args.proxy c.args.batch.now = record_is t.config w c.args.self.now c.args.proxy c.args.batch.now c.in_ok-rec.rec c.self.view_is c.in_ok-rec.ensures in
@@ -67,13 +67,13 @@ invariant_of-self-2 c =
     let at = got t.proxies.items c.args.proxy c.index.result.now within c.index.ensures in
     let received : c.version-received.result ≡ finished_version w c.args.proxy = c.version-received.ensures ∙ (c.self.invariant.parts.each_proxy c.args.proxy c.index.result.now at).version in
     let is : c.push_reserved.new.self.items ≡ t.rows.items ++ row ∷ [] = c.push_reserved.ensures.items ∙ ap (λ (rs : List KeptRecord). rs ++ row ∷ []) c.reserve.ensures.items in
-    subst (IsKept t.config (world_of c.push_reserved.new.self.items t.moves.items t.judged_counts.items t.finished.items) t.resolvers.items c.begin_at.new.proxies.items (requests_of c.push_reserved.new.self.items)) (sym c.version-version.ensures.value)
-    (kept t.config c.args.proxy c.args.batch.now t.rows.items c.push_reserved.new.self.items row t.moves.items t.judged_counts.items t.finished.items t.resolvers.items t.proxies.items c.begin_at.new.proxies.items t.last c.self.invariant is rec_is received there limit c.in_ok-requests.ensures.begun)
+    subst (IsKept t.config (world_of c.push_reserved.new.self.items t.moves t.judged_counts.items t.finished.items) t.resolvers.items c.begin_at.new.proxies.items (requests_of c.push_reserved.new.self.items)) (sym c.version-version.ensures.value)
+    (kept t.config c.args.proxy c.args.batch.now t.rows.items c.push_reserved.new.self.items row t.moves t.judged_counts.items t.finished.items t.resolvers.items t.proxies.items c.begin_at.new.proxies.items t.last c.self.invariant is rec_is received there limit c.in_ok-requests.ensures.begun)
 
 pub returns-clause-answer : goal.returns-clause-answer
 returns-clause-answer c =
     let t = c.self.inside in
-    let w = world_of t.rows.items t.moves.items t.judged_counts.items t.finished.items in
+    let w = world_of t.rows.items t.moves t.judged_counts.items t.finished.items in
     let there : c.args.proxy < t.config.proxies = omega (arith, c.proxies.ensures.value, c.if-proxies-proxy.false) in
     let limit : last_version w.history + t.config.step < version_limit = limit_is t.config w t.last c.self.invariant.last_is (omega (arith, c.step.ensures.value, c.if-self-step.false)) in
     let rec_is : c.in_ok-rec.rec ≡ next_record t.config w c.args.proxy c.args.batch.now = record_is t.config w c.args.self.now c.args.proxy c.args.batch.now c.in_ok-rec.rec c.self.view_is c.in_ok-rec.ensures in
@@ -85,7 +85,7 @@ returns-clause-answer c =
 pub returns-clause-ok : goal.returns-clause-ok
 returns-clause-ok c =
     let t = c.self.inside in
-    let w = world_of t.rows.items t.moves.items t.judged_counts.items t.finished.items in
+    let w = world_of t.rows.items t.moves t.judged_counts.items t.finished.items in
     let there : c.args.proxy < t.config.proxies = omega (arith, c.proxies.ensures.value, c.if-proxies-proxy.false) in
     let limit : last_version w.history + t.config.step < version_limit = limit_is t.config w t.last c.self.invariant.last_is (omega (arith, c.step.ensures.value, c.if-self-step.false)) in
     let rec_is : c.in_ok-rec.rec ≡ next_record t.config w c.args.proxy c.args.batch.now = record_is t.config w c.args.self.now c.args.proxy c.args.batch.now c.in_ok-rec.rec c.self.view_is c.in_ok-rec.ensures in
@@ -94,5 +94,5 @@ returns-clause-ok c =
     let at = got t.proxies.items c.args.proxy c.index.result.now within c.index.ensures in
     let received : c.version-received.result ≡ finished_version w c.args.proxy = c.version-received.ensures ∙ (c.self.invariant.parts.each_proxy c.args.proxy c.index.result.now at).version in
     let is : c.push_reserved.new.self.items ≡ t.rows.items ++ row ∷ [] = c.push_reserved.ensures.items ∙ ap (λ (rs : List KeptRecord). rs ++ row ∷ []) c.reserve.ensures.items in
-    after t.config w (world_of c.push_reserved.new.self.items t.moves.items t.judged_counts.items t.finished.items) c.args.self.now c.args.proxy c.args.batch.now c.self.view_is
-    (world_is t.config c.args.proxy c.args.batch.now t.rows.items c.push_reserved.new.self.items row t.moves.items t.judged_counts.items t.finished.items is rec_is received there limit)
+    after t.config w (world_of c.push_reserved.new.self.items t.moves t.judged_counts.items t.finished.items) c.args.self.now c.args.proxy c.args.batch.now c.self.view_is
+    (world_is t.config c.args.proxy c.args.batch.now t.rows.items c.push_reserved.new.self.items row t.moves t.judged_counts.items t.finished.items is rec_is received there limit)

@@ -1,5 +1,5 @@
 -- The request that was taken out is of a row that was judged since.
-use Rattle.std.proofs.Common.{◌≡◌, ap, subst, ◌<◌, List, length, arith}
+use Rattle.std.proofs.Common.{ap, subst, ◌<◌, List, length, arith}
 use Rattle.std.specs.Prelude.{IsFalse}
 use Rattle.std.proofs.lemmas.Option.{slice_get_within}
 use Rattle.facts.specs.Stretches.{end_of}

@@ -1,5 +1,5 @@
 -- One request less; nothing else changes, but that the worker may have failed.
-use Rattle.std.proofs.Common.{◌≡◌, ap, ◌∙◌, subst}
+use Rattle.std.proofs.Common.{ap, ◌∙◌, subst}
 use Rattle.std.specs.Prelude.{IsFalse}
 use Rattle.workers.specs.Desks.{DeskView, has_failed}
 use Rattle.workers.proofs.desk.Desk.let_go.Goals as goal

@@ -1,5 +1,5 @@
 -- What the guard showed before is what refused the request.
-use Rattle.std.proofs.Common.{◌≡◌, sym, ap, ◌∙◌, subst}
+use Rattle.std.proofs.Common.{sym, ap, ◌∙◌, subst}
 use Rattle.shared_cluster.specs.Requests.{RequestView}
 use Rattle.shared_cluster.specs.Resolvers.{IsOfferRefusal, LockedResolverView}
 use Rattle.workers.proofs.DeskLemmas.{fails_keeps, keeps_trans, number_refused}

@@ -1,5 +1,6 @@
 -- What it served, it has judged.
-use Rattle.std.proofs.Common.{◌≡◌, sym, ◌∙◌, ◌||◌}
+use Rattle.std.proofs.Common.{◌≡◌, refl, sym, ◌∙◌, subst, ◌||◌, ◌⊎◌}
+use Rattle.std.specs.Prelude.{IsTrue}
 use Rattle.workers.specs.Workers.{EndedView, WorkerView}
 use Rattle.workers.proofs.WorkerLemmas.{worker_ended}
 use Rattle.workers.proofs.worker.ResolverWorker.ended.Goals as goal
@@ -8,7 +9,9 @@ pub of-requires : goal.of-requires
 of-requires g c =
     let parts = c.into_parts-column.result in
     let told = c.into_parts-column.ensures in
-    let worker : WorkerView = record { taken = c.self.inside.end; desk = c.self.inside.desk } in
-    let ended : EndedView = record { taken = c.into_taker.result; column = parts.0; closed = parts.1; wanted = parts.2 } in
-    worker_ended c.self.inside.shared.now worker ended c.self.invariant c.into_taker.ensures (told.column ∙ c.let_go-2.ensures.column)
-    (λ sound. c.let_go-2.ensures.failed (sym (λ i. told.closed i || told.wanted i) ∙ sound))
+    let inside = c.self.inside in
+    let worker : WorkerView = record { taken = inside.end; desk = inside.desk; proxies_left = inside.proxies_left; cut_off = inside.cut_off } in
+    let ended : EndedView = record { taken = c.into_taker.result; column = parts.0; closed = parts.1; wanted = parts.2; cut_off = inside.cut_off } in
+    let why = subst (λ (v : WorkerView). (v.proxies_left ≡ 0) ⊎ IsTrue v.cut_off) (sym c.self.view_is) c.requires in
+    worker_ended inside.shared.now g.N.Naming.cells.config.proxies worker ended c.self.invariant c.into_taker.ensures (told.column ∙ c.let_go-2.ensures.column)
+    (λ sound. c.let_go-2.ensures.failed (sym (λ i. told.closed i || told.wanted i) ∙ sound)) (told.closed ∙ c.let_go-2.ensures.closed) refl why

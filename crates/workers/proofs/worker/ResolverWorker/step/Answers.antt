@@ -1,33 +1,65 @@
--- A message more was taken: a request, which is served, or the last of a proxy.
-use Rattle.std.proofs.Common.{◌≡◌, ap, sym, ◌∙◌, subst, ℕ}
+-- A message more was taken: a request, which is served, a Close, or the last of a proxy.
+use Rattle.std.proofs.Common.{◌≡◌, refl, ap, sym, ◌∙◌, subst, ℕ, ◌+◌, ◌-◌, true, false, arith}
 use Rattle.shared_cluster.specs.Requests.{RequestView}
-use Rattle.inboxes.specs.Tags.{end_tag, request_tag}
+use Rattle.inboxes.specs.Sending.{is_end}
+use Rattle.inboxes.specs.Tags.{close_tag, end_tag, request_tag}
 use Rattle.inboxes.specs.declared.tag.Kind.TheVariants as kinds
 use Rattle.inboxes.specs.declared.tag.Tag.{Tag}
-use Rattle.workers.specs.Desks.{Serves, has_failed}
-use Rattle.workers.specs.Workers.{IsRequestOf, WorkerView}
+use Rattle.inboxes.proofs.Sent.{no_end, one_end}
+use Rattle.workers.specs.Desks.{Serves}
+use Rattle.workers.specs.Workers.{WorkerView}
 use Rattle.workers.proofs.DeskLemmas.{keeps_same}
-use Rattle.workers.proofs.WorkerLemmas.{worker_next}
+use Rattle.workers.proofs.WorkerLemmas.{closed_keeps, closed_settled, worker_next, worker_same}
 use Rattle.workers.proofs.worker.ResolverWorker.step.Goals as goal
 
 pub invariant_of-self-in-Request : goal.invariant_of-self-in-Request
 invariant_of-self-in-Request g c =
-    let before : WorkerView = record { taken = c.self.inside.end; desk = c.self.inside.desk } in
-    let after : WorkerView = record { taken = c.take.new.self; desk = c.take-in-Request.new.self } in
+    let inside = c.self.inside in
+    let before : WorkerView = record { taken = inside.end; desk = inside.desk; proxies_left = inside.proxies_left; cut_off = inside.cut_off } in
+    let after : WorkerView = record before { taken = c.take.new.self; desk = c.take-in-Request.new.self } in
     let message = c.in-Ok.message in
     let told : request_tag message.proxy c.in-Request.request ≡ message = c.in-Request.ensures in
-    worker_next c.self.inside.shared.now before after message c.self.invariant c.in-Ok.ensures.taken c.take-in-Request.ensures.keeps c.take-in-Request.ensures.settled
+    let other : is_end message ≡ false = ap is_end (sym told) in
+    worker_next inside.shared.now g.N.Naming.cells.config.proxies before after message c.self.invariant c.in-Ok.ensures.taken c.take-in-Request.ensures.keeps c.take-in-Request.ensures.settled
     (λ row is sound.
-    let own : c.new-held.result.plain.resolver ≡ c.self.inside.desk.column.resolver =
+    let own : c.new-held.result.plain.resolver ≡ inside.desk.column.resolver =
     ap (λ (q : RequestView). q.plain.resolver) c.new-held.ensures ∙ ap (λ (t : Tag). t.to) told ∙ is.to ∙ sym c.self.invariant.resolver in
     let of : c.new-held.result.plain.row ≡ row = ap (λ (q : RequestView). q.plain.row) c.new-held.ensures ∙ ap (λ (t : Tag). t.row) told ∙ is.row_is in
     subst (Serves after.desk) of (c.take-in-Request.ensures.served own sound))
+    (λ closes. let not : kinds.Request ≡ kinds.Close = ap (λ (t : Tag). t.kind) told ∙ closes in absurd (cc))
+    (ap (λ (n : ℕ). before.proxies_left + n) (no_end before.taken.got message other))
+
+pub invariant_of-self-in-Close : goal.invariant_of-self-in-Close
+invariant_of-self-in-Close g c =
+    let inside = c.self.inside in
+    let before : WorkerView = record { taken = inside.end; desk = inside.desk; proxies_left = inside.proxies_left; cut_off = inside.cut_off } in
+    let after : WorkerView = record before { taken = c.take.new.self; desk = c.close.new.self } in
+    let message = c.in-Ok.message in
+    let told : close_tag message.proxy ≡ message = c.in-Close.ensures in
+    let other : is_end message ≡ false = ap is_end (sym told) in
+    worker_next inside.shared.now g.N.Naming.cells.config.proxies before after message c.self.invariant c.in-Ok.ensures.taken
+    (closed_keeps inside.desk after.desk c.close.ensures.column c.close.ensures.closed) (closed_settled after.desk c.close.ensures.closed)
+    (λ row is sound. let not : kinds.Close ≡ kinds.Request = ap (λ (t : Tag). t.kind) told ∙ is.kind in absurd (cc))
+    (λ closes. c.close.ensures.closed)
+    (ap (λ (n : ℕ). before.proxies_left + n) (no_end before.taken.got message other))
 
 pub invariant_of-self-in-End : goal.invariant_of-self-in-End
 invariant_of-self-in-End g c =
-    let before : WorkerView = record { taken = c.self.inside.end; desk = c.self.inside.desk } in
-    let after : WorkerView = record { taken = c.take.new.self; desk = c.self.inside.desk } in
+    let inside = c.self.inside in
+    let before : WorkerView = record { taken = inside.end; desk = inside.desk; proxies_left = inside.proxies_left; cut_off = inside.cut_off } in
+    let after : WorkerView = record before { taken = c.take.new.self; proxies_left = inside.proxies_left - 1 } in
     let message = c.in-Ok.message in
     let told : end_tag message.proxy ≡ message = c.in-End.ensures in
-    worker_next c.self.inside.shared.now before after message c.self.invariant c.in-Ok.ensures.taken (keeps_same c.self.inside.desk) c.self.invariant.settled
-    (λ row is sound. let other : kinds.End ≡ kinds.Request = ap (λ (t : Tag). t.kind) told ∙ is.kind in absurd (cc))
+    let last : is_end message ≡ true = ap is_end (sym told) in
+    let some = ap (λ (v : WorkerView). v.proxies_left) c.self.view_is in
+    worker_next inside.shared.now g.N.Naming.cells.config.proxies before after message c.self.invariant c.in-Ok.ensures.taken (keeps_same inside.desk) c.self.invariant.settled
+    (λ row is sound. let not : kinds.End ≡ kinds.Request = ap (λ (t : Tag). t.kind) told ∙ is.kind in absurd (cc))
+    (λ closes. let not : kinds.End ≡ kinds.Close = ap (λ (t : Tag). t.kind) told ∙ closes in absurd (cc))
+    (let more = one_end before.taken.got message last in omega (arith, more, some, c.requires))
+
+pub invariant_of-self : goal.invariant_of-self
+invariant_of-self g c =
+    let inside = c.self.inside in
+    let before : WorkerView = record { taken = inside.end; desk = inside.desk; proxies_left = inside.proxies_left; cut_off = inside.cut_off } in
+    let after : WorkerView = record before { taken = c.take.new.self; cut_off = true } in
+    worker_same inside.shared.now g.N.Naming.cells.config.proxies before after c.self.invariant c.in_default.ensures.none refl refl

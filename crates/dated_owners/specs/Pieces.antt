@@ -1,0 +1,25 @@
+-- The pieces of a map of owners: the greatest ranges of keys with one list of owners left.
+use Rattle.std.specs.Prelude.{◌≡◌, ℕ, suc, List, [], ◌∷◌, length, IsTrue}
+use Rattle.system_keys.specs.Keys.{Key, Range, holds, is_key_below}
+use Rattle.system_keys.specs.Limits.{key_space_end}
+use Rattle.model.specs.OwnerMaps.{OwnerMapView, owners_left}
+
+-- the value is the same at each key of the range
+abbrev pub IsConstantIn : {X : Type 0} → (value : Key → X) → Range → Type 0
+IsConstantIn value range = (key : Key) → IsTrue (holds range key) → value key ≡ value range.begin
+
+-- The cuts, in rising order, divide the keys from `begin` on into ranges: the value is the same at
+-- each key of one range, and it changes from each range to the next.
+abbrev pub AreCuts : {X : Type 0} → (value : Key → X) → (begin : Key) → (cuts : List Key) → Type 0
+AreCuts value begin [] = IsConstantIn value (record { begin = begin; end = key_space_end })
+AreCuts value begin (cut ∷ cuts) =
+    IsTrue (is_key_below begin cut) × IsTrue (is_key_below cut key_space_end)
+    × IsConstantIn value (record { begin = begin; end = cut })
+    × (value begin ≡ value cut → ⊥)
+    × AreCuts value cut cuts
+
+-- so many are the greatest ranges of all keys with one list of owners left
+pub record CountsPieces (map : OwnerMapView) (count : ℕ) : Type 0 where
+  pub cuts : List Key
+  pub divide : AreCuts (owners_left map) [] cuts
+  pub counted : count ≡ suc (length cuts)

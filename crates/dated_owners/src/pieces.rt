@@ -1,0 +1,178 @@
+//! The keys at which the owners change, in an ordered map: each stands for all keys from it on, up
+//! to the next. Keys before the first one have the first owner alone.
+
+ghost use Rattle.std.specs.Prelude.{◌≡◌, suc, ◌++◌, ◌∷◌, [], true, false, IfOk, OnOk, OnErr};
+ghost use Rattle.system_keys.specs.Keys.{Range, is_key_below};
+ghost use Rattle.dated_owners.specs.LaterOwners.{needed, are_same};
+ghost use Rattle.dated_owners.specs.Starts.{starts_of, value_from, IsStart, AreStarts, AreKept, AddsIn};
+ghost use Rattle.dated_owners.specs.Starts.{put_all, changed_in, with_values, joined, changes};
+
+use crate::later_owners::{LaterOwner, LaterOwners, are_same, needed};
+use model::Version;
+use std::alloc::Global;
+use std::collections::BTreeMap;
+use std::ops::Bound;
+use system_keys::{KEY_SPACE_END, OutOfMemory};
+
+/// From each key on, the owners after the first one.
+pub(crate) type Pieces = BTreeMap<Vec<u8>, LaterOwners>;
+
+/// The owners of the key after the first one.
+pub(crate) fn owners_at<'a>(pieces: &'a Pieces, key: &Vec<u8>) -> &'a [LaterOwner]
+    ensures { result.now ≡ value_from [] (starts_of pieces.now.entries) key.now.items }
+{
+    match pieces.range(..=key).next_back() {
+        Some((_, owners)) => owners.as_slice(),
+        None => &[],
+    }
+}
+
+/// Cuts the piece that the key lies in, at the key. Fails only with `OutOfMemory`.
+pub(crate) fn cut(alloc: Global, pieces: &mut Pieces, key: &Vec<u8>) -> Result<(), OutOfMemory>
+    ensures same { joined [] (starts_of pieces.new.entries)
+        ≡ joined [] (starts_of pieces.old.entries) }
+    ensures there { OnOk result (IsStart key.now.items (starts_of pieces.new.entries)) }
+    ensures others { (k : _) → IsStart k (starts_of pieces.old.entries)
+        → IsStart k (starts_of pieces.new.entries) }
+    ensures kept { AreKept (starts_of pieces.old.entries) → AreKept (starts_of pieces.new.entries) }
+{
+    let copy = Vec::from_slice(alloc, key.as_slice())?;
+    let owners = LaterOwners::copied(alloc, owners_at(pieces, key))?;
+    pieces.insert(copy, owners)?;
+    Ok(())
+}
+
+/// Adds an owner to each key from `begin` up to `end`. Fails only with `OutOfMemory`: then the owners
+/// change at the same keys as before. `spare` gets room for the longest list.
+pub(crate) fn add_owner(
+    pieces: &mut Pieces,
+    spare: &mut LaterOwners,
+    begin: &Vec<u8>,
+    end: &Vec<u8>,
+    owner: LaterOwner,
+) -> Result<(), OutOfMemory>
+    requires below { is_key_below begin.now.items end.now.items ≡ true }
+    requires kept { AreKept (starts_of pieces.old.entries) }
+    ensures ok { let range : Range = record { begin = begin.now.items; end = end.now.items } in
+        OnOk result (AddsIn range owner (starts_of pieces.old.entries) (starts_of pieces.new.entries)) }
+    ensures err { OnErr result
+        (joined [] (starts_of pieces.new.entries) ≡ joined [] (starts_of pieces.old.entries)) }
+    ensures kept { AreKept (starts_of pieces.new.entries) }
+{
+    let alloc = spare.alloc();
+    cut(alloc, pieces, end)?;
+    cut(alloc, pieces, begin)?;
+    let grown = grown_inside(pieces, spare, begin, end, owner)?;
+    put_all(pieces, grown);
+    Ok(())
+}
+
+/// The pieces from `begin` up to `end`, each with one owner more. Fails only with `OutOfMemory`.
+/// `spare` gets room for the longest list.
+fn grown_inside(
+    pieces: &Pieces,
+    spare: &mut LaterOwners,
+    begin: &Vec<u8>,
+    end: &Vec<u8>,
+    owner: LaterOwner,
+) -> Result<Vec<(Vec<u8>, LaterOwners)>, OutOfMemory>
+    requires { is_key_below begin.now.items end.now.items ≡ true }
+    ensures { let range : Range = record { begin = begin.now.items; end = end.now.items } in
+        IfOk result (λ grown. starts_of grown.items
+        ≡ changed_in range (λ later. later ++ owner ∷ []) (starts_of pieces.now.entries)) }
+{
+    let alloc = spare.alloc();
+    let mut grown = Vec::new(alloc);
+    for (key, owners) in pieces.range((Bound::Included(begin), Bound::Excluded(end))) {
+        let key = Vec::from_slice(alloc, key.as_slice())?;
+        let more = LaterOwners::with_newest(alloc, owners.as_slice(), owner)?;
+        spare.make_room(more.as_slice().len())?;
+        grown.push((key, more))?;
+    }
+    Ok(grown)
+}
+
+/// Puts owners at keys at which pieces begin. Does not allocate.
+fn put_all(pieces: &mut Pieces, grown: Vec<(Vec<u8>, LaterOwners)>)
+    ensures { AreStarts (starts_of grown.items) (starts_of pieces.old.entries)
+        → starts_of pieces.new.entries
+        ≡ put_all (starts_of pieces.old.entries) (starts_of grown.items) }
+{
+    for (key, owners) in grown {
+        put(pieces, key, owners);
+    }
+}
+
+/// Puts owners at a key at which a piece begins. Does not allocate.
+fn put(pieces: &mut Pieces, key: Vec<u8>, owners: LaterOwners)
+    ensures { IsStart key.items (starts_of pieces.old.entries)
+        → starts_of pieces.new.entries
+        ≡ put_all (starts_of pieces.old.entries) ((key.items, owners) ∷ []) }
+{
+    let _ = pieces.insert(key, owners);
+}
+
+/// Drops the owners that no walk needs, and joins neighbours with equal owners. Does not allocate.
+///
+/// `spare` holds the owners of the piece before; one that there is no room for is not joined.
+pub(crate) fn sweep(pieces: &mut Pieces, spare: &mut LaterOwners, oldest: Version)
+    ensures swept { joined [] (starts_of pieces.new.entries)
+        ≡ joined [] (with_values (needed oldest) (starts_of pieces.old.entries)) }
+    ensures kept { AreKept (starts_of pieces.old.entries) → AreKept (starts_of pieces.new.entries) }
+{
+    spare.clear();
+    let mut is_noted = true;
+    pieces.retain(
+        |_, owners| -> bool
+            ensures { (owners.new ≡ needed oldest owners.old)
+                × (result ≡ false → (is_noted.entry ≡ true) × (owners.new ≡ spare.entry.now))
+                × (is_noted.exit ≡ true → spare.exit.now ≡ owners.new) }
+        { is_kept(owners, spare, &mut is_noted, oldest) },
+    );
+}
+
+/// Drops the owners of a piece that no walk needs, and tells whether those left differ from the
+/// owners noted in `spare`; then notes them, if there is room. Does not allocate.
+fn is_kept(
+    owners: &mut LaterOwners,
+    spare: &mut LaterOwners,
+    is_noted: &mut bool,
+    oldest: Version,
+) -> bool
+    ensures needed { owners.new ≡ needed oldest owners.old }
+    ensures joined { result ≡ false → (is_noted.old ≡ true) × (owners.new ≡ spare.old) }
+    ensures noted { is_noted.new ≡ true → spare.new ≡ owners.new }
+{
+    owners.drop_needless(oldest);
+    if *is_noted && are_same(owners.as_slice(), spare.as_slice()) {
+        return false;
+    }
+    *is_noted = spare.note(owners.as_slice());
+    true
+}
+
+/// How many greatest ranges of keys have one list of owners that a walk may need.
+pub(crate) fn count_pieces(pieces: &Pieces, oldest: Version) -> usize
+    ensures { result ≡ suc (changes oldest [] (starts_of pieces.now.entries)) }
+{
+    let _length = pieces.len();
+    let mut count = 1;
+    let mut last: &[LaterOwner] = &[];
+    for (key, owners) in pieces {
+        let left = needed(owners.as_slice(), oldest);
+        if !is_below(b"", key.as_slice()) {
+            last = left;
+        } else if is_below(key.as_slice(), KEY_SPACE_END) && !are_same(left, last) {
+            count += 1;
+            last = left;
+        }
+    }
+    count
+}
+
+/// Whether one key is below the other.
+fn is_below(a: &[u8], b: &[u8]) -> bool
+    ensures { result ≡ is_key_below a.now b.now }
+{
+    a.cmp(b).is_lt()
+}

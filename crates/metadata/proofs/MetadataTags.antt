@@ -1,0 +1,71 @@
+-- The tags that a metadata keeps, when it is made, when entries are put over it, and when some are removed.
+use Rattle.std.proofs.Common.{◌≡◌, refl, sym, ap, ◌∙◌, subst, ℕ, List, [], Bool, true, false, Option, Some, None}
+use Rattle.std.specs.Option.{is_some, option_or}
+use Rattle.std.specs.Map.{keys_of}
+use Rattle.system_keys.specs.Keys.{Key}
+use Rattle.model.specs.Metadata.{Entries, IsInOrder, entry_value}
+use Rattle.metadata.specs.Overwrites.{is_listed, entries_without, IsPutOver}
+use Rattle.metadata.specs.CachedTags.{Values, TagLists, KeyTags, AreTags, tags_written, displaced_tags, values_over, changed_tags, may_tag_some, TagsTakeBack}
+use Rattle.metadata.proofs.KeptInOrder.{none_kept_in_order}
+use Rattle.metadata.proofs.EntriesLeft.{without_none}
+use Rattle.metadata.proofs.TagEntries.{reserved_are_tags}
+use Rattle.metadata.proofs.CachedTags.{changed_are_tags, changed_after, displaced_take_back, removed_are_tags}
+
+-- without any entry, any tags will do
+pub no_rows : (entries : Entries) (lists : TagLists) → entries ≡ [] → AreTags lists (entry_value entries)
+no_rows entries lists none = λ key value own there.
+    let two : None ≡ Some value = sym (ap (λ (rows : Entries). entry_value rows key) none) ∙ there in absurd (cc)
+
+-- what was kept, with places made, and the tags that change put there
+pub record ArePut (lists reserved written : TagLists) (rows : List KeyTags) : Type 0 where
+  pub kept : (key : Key) → is_some (lists key) ≡ true → reserved key ≡ lists key
+  pub there : (key : Key) → is_listed (keys_of rows) key ≡ true → is_some (reserved key) ≡ true
+  pub put :
+      ((key : Key) → is_listed (keys_of rows) key ≡ true → is_some (reserved key) ≡ true)
+      → (key : Key) → written key ≡ tags_written reserved rows key
+
+put_at : (lists reserved written : TagLists) (rows : List KeyTags) → ArePut lists reserved written rows → tags_written reserved rows ≡ written
+put_at lists reserved written rows calls =
+    let path : written ≡ tags_written reserved rows = λ i key. calls.put calls.there key i in sym path
+
+or_none : (found : Option (List ℕ)) → option_or found None ≡ found
+or_none None = refl
+or_none (Some value) = refl
+
+-- the tags of a metadata that is made of entries
+pub made_tags : (entries none : Entries) (lists reserved written : TagLists) (rows : List KeyTags) → IsInOrder entries → none ≡ [] → rows ≡ changed_tags entries none → ArePut lists reserved written rows → AreTags written (entry_value entries)
+made_tags entries none lists reserved written rows s empty is calls =
+    subst (AreTags written) (λ i key. (ap (λ (rest : Entries). option_or (entry_value entries key) (entry_value rest key)) empty ∙ or_none (entry_value entries key)) i)
+    (subst (λ (found : TagLists). AreTags found (values_over entries none)) (put_at lists reserved written rows calls)
+    (subst (λ (changed : List KeyTags). AreTags (tags_written reserved changed) (values_over entries none)) (sym is)
+    (changed_are_tags entries none reserved s (none_kept_in_order none empty).0 (no_rows none reserved empty))))
+
+-- the tags after entries are put
+pub tags_put_over : (puts old new : Entries) (lists reserved written : TagLists) (rows : List KeyTags) → IsInOrder puts → IsInOrder old → IsPutOver puts old new → rows ≡ changed_tags puts old → ArePut lists reserved written rows
+    → AreTags lists (entry_value old) → AreTags written (entry_value new)
+tags_put_over puts old new lists reserved written rows s t over is calls are =
+    subst (λ (found : TagLists). AreTags found (entry_value new)) (put_at lists reserved written rows calls)
+    (subst (λ (changed : List KeyTags). AreTags (tags_written reserved changed) (entry_value new)) (sym is)
+    (changed_after puts old new reserved s t over (reserved_are_tags lists reserved (entry_value old) calls.kept are)))
+
+-- what takes back the tags
+pub tags_displaced : (puts old new : Entries) (lists : TagLists) (rows displaced : List KeyTags) → IsInOrder puts → IsInOrder old → IsPutOver puts old new → rows ≡ changed_tags puts old → displaced ≡ displaced_tags lists rows
+    → AreTags lists (entry_value old) → TagsTakeBack displaced (entry_value old) (entry_value new)
+tags_displaced puts old new lists rows displaced s t over is found are =
+    subst (λ (back : List KeyTags). TagsTakeBack back (entry_value old) (entry_value new)) (sym (found ∙ ap (displaced_tags lists) is)) (displaced_take_back puts old new lists s t over are)
+
+-- what takes back tags, put back
+pub tags_taken_back : (displaced : List KeyTags) (before now after : Entries) (lists written : TagLists) → TagsTakeBack displaced (entry_value before) (entry_value now) → AreTags lists (entry_value now) → after ≡ before
+    → (((key : Key) → is_listed (keys_of displaced) key ≡ true → is_some (lists key) ≡ true) → (key : Key) → written key ≡ tags_written lists displaced key) → AreTags written (entry_value after)
+tags_taken_back displaced before now after lists written takes are same put =
+    let path : written ≡ tags_written lists displaced = λ i key. put (takes.there lists are) key i in
+    subst (λ (rows : Entries). AreTags written (entry_value rows)) (sym same) (subst (λ (found : TagLists). AreTags found (entry_value before)) (sym path) (takes.back lists are))
+
+-- the tags of all entries, with none hidden
+pub none_hidden : (hidden : List Key) (entries : Entries) (lists : TagLists) → hidden ≡ [] → AreTags lists (entry_value entries) → AreTags lists (entry_value (entries_without hidden entries))
+none_hidden hidden entries lists none are = subst (λ (rows : Entries). AreTags lists (entry_value rows)) (sym (without_none hidden entries none)) are
+
+-- the tags of the entries that are left, where the others give none
+pub tags_left_over : (keys : List Key) (entries left : Entries) (lists after : TagLists) → may_tag_some entries keys ≡ false → AreTags lists (entry_value entries) → left ≡ entries_without keys entries → ((key : Key) → is_listed keys key ≡ false → after key ≡ lists key)
+    → AreTags after (entry_value left)
+tags_left_over keys entries left lists after none are is others = subst (λ (rows : Entries). AreTags after (entry_value rows)) (sym is) (removed_are_tags keys entries lists after none are others)

@@ -1,0 +1,11 @@
+-- The entry that is put, over no entries.
+use Rattle.std.proofs.Common.{subst}
+use Rattle.system_keys.specs.declared.change.Change.TheVariants.{Set}
+use Rattle.model.specs.Metadata.{Entries, after_change}
+use Rattle.metadata.specs.Overwrites.{IsOverwritten}
+use Rattle.metadata.proofs.StagedChanges.{set_staged}
+use Rattle.metadata.proofs.kept_entries.KeptEntries.stage_set.Goals as goal
+
+pub returns-clause-staged : goal.returns-clause-staged
+returns-clause-staged c =
+    set_staged c.args.self.now c.set.new.self c.new-staged.result.puts c.new-staged.result.cleared c.args.key.now c.args.value.now c.new-staged.ensures.cleared c.new-staged.ensures.puts c.in_ok-set.ensures.ok

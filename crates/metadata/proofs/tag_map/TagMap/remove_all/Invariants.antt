@@ -1,0 +1,7 @@
+-- The keys that are left are among the keys, and no other key has changed.
+use Rattle.metadata.specs.CachedTags.{tags_at}
+use Rattle.metadata.proofs.TagEntries.{AreRemoving}
+use Rattle.metadata.proofs.tag_map.TagMap.remove_all.Given as goal
+
+abbrev pub invariant-loop-key : goal.invariant-loop-key
+invariant-loop-key l = AreRemoving l.keys l.key-iterator (tags_at l.fn.self) (tags_at l.self)

@@ -1,0 +1,196 @@
+//! The tags that are kept for the keyServers entries.
+
+ghost use Rattle.std.specs.Prelude.{◌≡◌, ◌++◌, [], true, false, None, Some, IfOk, OnOk, OnErr};
+ghost use Rattle.std.specs.Prelude.{if◌then◌else◌, option_map};
+ghost use Rattle.std.specs.Option.{is_some};
+ghost use Rattle.std.specs.Map.{keys_of};
+ghost use Rattle.system_keys.specs.Keys.{Key};
+ghost use Rattle.metadata.specs.CachedTags.{displaced_tags, tags_at, tags_there, tags_written};
+ghost use Rattle.metadata.specs.Overwrites.{is_same_key, is_listed};
+
+use crate::key_set::KeySet;
+use std::alloc::Global;
+use std::collections::BTreeMap;
+use std::marker::Model;
+use system_keys::{Items, OutOfMemory, Tag};
+
+/// A key, and tags for it.
+#[derive(Drop)]
+pub(crate) struct TagRow {
+    key: Vec<u8>,
+    tags: Items<Tag>,
+}
+
+impl Model for TagRow {
+    ghost use Rattle.metadata.specs.CachedTags.{KeyTags};
+
+    ghost Value = { KeyTags };
+
+    ghost view = { λ r. (r.key.items, r.tags) };
+}
+
+impl TagRow {
+    /// Copies the key. Fails only with `OutOfMemory`.
+    pub(crate) fn new(alloc: Global, key: &[u8], tags: Items<Tag>) -> Result<TagRow, OutOfMemory>
+        ensures { IfOk result (λ row. row ≡ (key.now, tags)) }
+    {
+        let key = Vec::from_slice(alloc, key)?;
+        Ok(TagRow { key, tags })
+    }
+
+    fn key(&self) -> &[u8]
+        ensures { result.now ≡ self.now.0 }
+    {
+        self.key.as_slice()
+    }
+}
+
+/// A map from keys to tags. Contracts see the list of keys with their tags.
+#[derive(Drop)]
+pub(crate) struct TagMap {
+    alloc: Global,
+    lists: BTreeMap<Vec<u8>, Items<Tag>>,
+}
+
+impl Model for TagMap {
+    ghost use Rattle.std.specs.Prelude.{List};
+    ghost use Rattle.metadata.specs.CachedTags.{KeyTags};
+    ghost use Rattle.metadata.specs.TagEntries.{rows_of};
+
+    ghost Value = { List KeyTags };
+
+    ghost view = { λ m. rows_of m.lists.entries };
+}
+
+impl TagMap {
+    /// No tags for any key. Does not allocate.
+    pub(crate) fn new(alloc: Global) -> TagMap
+        ensures { result ≡ [] }
+    {
+        TagMap {
+            alloc,
+            lists: BTreeMap::new(alloc),
+        }
+    }
+
+    /// The tags at a key. Does not allocate.
+    pub(crate) fn get(&self, key: &[u8]) -> Option<&[Tag]>
+        ensures { option_map (λ tags. tags.now) result ≡ tags_at self.now key.now }
+    {
+        let tags = self.lists.get(key)?;
+        Some(tags.as_slice())
+    }
+
+    /// Puts the tags at the key. Fails only with `OutOfMemory`; the map is then unchanged.
+    fn insert(&mut self, row: TagRow) -> Result<(), OutOfMemory>
+        ensures ok { OnOk result ((key : Key) → tags_at self.new key
+            ≡ (if is_same_key key row.0 then Some row.1 else tags_at self.old key)) }
+        ensures err { OnErr result ((key : Key) → tags_at self.new key ≡ tags_at self.old key) }
+    {
+        self.lists.insert(row.key, row.tags)?;
+        Ok(())
+    }
+
+    /// Puts the tags at the key, if there are some already. Does not allocate.
+    fn fill(&mut self, row: TagRow)
+        ensures { is_some (tags_at self.old row.0) ≡ true → (key : Key) → tags_at self.new key
+            ≡ (if is_same_key key row.0 then Some row.1 else tags_at self.old key) }
+    {
+        let _ = self.lists.insert(row.key, row.tags);
+    }
+
+    /// Makes a place for tags at each of the keys. Fails only with `OutOfMemory`. What is kept at a
+    /// key stays, also then.
+    pub(crate) fn reserve(&mut self, rows: &[TagRow]) -> Result<(), OutOfMemory>
+        ensures kept { (key : Key) → is_some (tags_at self.old key) ≡ true
+            → tags_at self.new key ≡ tags_at self.old key }
+        ensures there { OnOk result ((key : Key) → is_listed (keys_of rows.now) key ≡ true
+            → is_some (tags_at self.new key) ≡ true) }
+    {
+        for row in rows {
+            self.reserve_key(row.key())?;
+        }
+        Ok(())
+    }
+
+    fn reserve_key(&mut self, key: &[u8]) -> Result<(), OutOfMemory>
+        ensures kept { (other : Key) → is_some (tags_at self.old other) ≡ true
+            → tags_at self.new other ≡ tags_at self.old other }
+        ensures there { OnOk result (is_some (tags_at self.new key.now) ≡ true) }
+    {
+        if self.get(key).is_none() {
+            self.place(key)
+        } else {
+            Ok(())
+        }
+    }
+
+    fn place(&mut self, key: &[u8]) -> Result<(), OutOfMemory>
+        ensures ok { OnOk result ((other : Key) → tags_at self.new other
+            ≡ (if is_same_key other key.now then Some [] else tags_at self.old other)) }
+        ensures err { OnErr result ((other : Key)
+            → tags_at self.new other ≡ tags_at self.old other) }
+    {
+        let none = Items::from(Vec::new(self.alloc));
+        self.insert(TagRow::new(self.alloc, key, none)?)?;
+        Ok(())
+    }
+
+    /// Copies of what is kept at the keys. Fails only with `OutOfMemory`.
+    pub(crate) fn displaced_by(&self, rows: &[TagRow]) -> Result<Vec<TagRow>, OutOfMemory>
+        ensures { IfOk result (λ found. found.items ≡ displaced_tags (tags_at self.now) rows.now) }
+    {
+        let mut found = Vec::new(self.alloc);
+        for row in rows {
+            self.add_displaced(row, &mut found)?;
+        }
+        Ok(found)
+    }
+
+    fn add_displaced(&self, row: &TagRow, found: &mut Vec<TagRow>) -> Result<(), OutOfMemory>
+        ensures { OnOk result (found.new.items
+            ≡ found.old.items ++ tags_there (tags_at self.now) row.now) }
+    {
+        let Some(tags) = self.get(row.key()) else {
+            return Ok(());
+        };
+        let tags = copied_tags(self.alloc, tags)?;
+        found.push(TagRow::new(self.alloc, row.key(), tags)?)?;
+        Ok(())
+    }
+
+    /// Puts the tags at the keys, if there are some at each already. Does not allocate.
+    pub(crate) fn write(&mut self, rows: Vec<TagRow>)
+        ensures { ((key : Key) → is_listed (keys_of rows.items) key ≡ true
+            → is_some (tags_at self.old key) ≡ true)
+            → (key : Key) → tags_at self.new key ≡ tags_written (tags_at self.old) rows.items key }
+    {
+        for row in rows {
+            self.fill(row);
+        }
+    }
+
+    /// Removes what is kept at the keys. Does not allocate.
+    pub(crate) fn remove_all(&mut self, keys: &KeySet)
+        ensures { (key : Key) → is_listed keys.now key ≡ false
+            → tags_at self.new key ≡ tags_at self.old key }
+    {
+        for key in keys.iter() {
+            self.remove(key.as_slice());
+        }
+    }
+
+    fn remove(&mut self, key: &[u8])
+        ensures { (other : Key) → is_same_key other key.now ≡ false
+            → tags_at self.new other ≡ tags_at self.old other }
+    {
+        self.lists.remove(key);
+    }
+}
+
+/// A copy of the tags. Fails only with `OutOfMemory`.
+pub(crate) fn copied_tags(alloc: Global, tags: &[Tag]) -> Result<Items<Tag>, OutOfMemory>
+    ensures { IfOk result (λ copied. copied ≡ tags.now) }
+{
+    Ok(Items::from(Vec::from_slice(alloc, tags)?))
+}

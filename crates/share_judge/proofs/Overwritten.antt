@@ -1,0 +1,203 @@
+-- Starts that get a version: each key that is written in the other map has it then.
+use Rattle.std.proofs.Common.{◌≡◌, refl, sym, ap, ap₂, ◌∙◌, ℕ, ◌<◌, inl, inr, List, [], ◌∷◌, map, Bool, true, false, cond, not, ◌&&◌, ◌||◌, nat_lt}
+use Rattle.std.proofs.lemmas.Bool.{both_ways, lt-ltb}
+use Rattle.std.specs.Map.{set_value}
+use Rattle.system_keys.specs.Keys.{Key, Range, is_key_below, holds}
+use Rattle.system_keys.proofs.KeyOrder.{not_below_itself, below_trans, up_to_trans, not_below_back}
+use Rattle.share_judge.specs.Steps.{Start, last_from, last_of_all, IsBefore, AreRising, HasStart, TellTheSame, is_same_key, is_listed, marked, is_written, AreOver, TakeOver}
+use Rattle.share_judge.proofs.Starts.{same_key, below_differs, before_has}
+use Rattle.share_judge.proofs.Settled.{same_last, same_past}
+
+-- ---- marked starts
+
+marked_before : (test : Key → Bool) (version : ℕ) (key : Key) (ss : List Start) → IsBefore key ss → IsBefore key (marked test version ss)
+marked_before test version key [] all = tt
+marked_before test version key (s ∷ ss) all = (all.0, marked_before test version key ss all.1)
+
+pub marked_rising : (test : Key → Bool) (version : ℕ) (ss : List Start) → AreRising ss → AreRising (marked test version ss)
+marked_rising test version [] rising = tt
+marked_rising test version (s ∷ ss) rising = (marked_before test version s.0 ss rising.0, marked_rising test version ss rising.1)
+
+marked_has : (test : Key → Bool) (version : ℕ) (ss : List Start) (key : Key) → HasStart (marked test version ss) key → HasStart ss key
+marked_has test version [] key has = absurd has
+marked_has test version (s ∷ ss) key (inl e) = inl e
+marked_has test version (s ∷ ss) key (inr has) = inr (marked_has test version ss key has)
+
+pub marked_alike : (p q : Key → Bool) (version : ℕ) (ss : List Start) → ((key : Key) → HasStart ss key → p key ≡ q key) → marked p version ss ≡ marked q version ss
+marked_alike p q version [] same = refl
+marked_alike p q version (s ∷ ss) same =
+    ap₂ (λ (b : Bool) (rest : List Start). (s.0, cond b version s.1) ∷ rest) (same s.0 (inl refl)) (marked_alike p q version ss (λ key has. same key (inr has)))
+
+pub marked_twice : (p q : Key → Bool) (version : ℕ) (ss : List Start) → marked p version (marked q version ss) ≡ marked (λ key. q key || p key) version ss
+marked_twice p q version [] = refl
+marked_twice p q version (s ∷ ss) = ap₂ (λ (n : ℕ) (rest : List Start). (s.0, n) ∷ rest) (by (p s.0) (q s.0)) (marked_twice p q version ss)
+  where
+    by : (a b : Bool) → cond a version (cond b version s.1) ≡ cond (b || a) version s.1
+    by true true = refl
+    by true false = refl
+    by false true = refl
+    by false false = refl
+
+pub none_marked : (version : ℕ) (ss : List Start) → marked (λ key. false) version ss ≡ ss
+none_marked version [] = refl
+none_marked version (s ∷ ss) = ap (λ (rest : List Start). s ∷ rest) (none_marked version ss)
+
+unmarked : (key : Key) (version : ℕ) (ss : List Start) → IsBefore key ss → marked (is_same_key key) version ss ≡ ss
+unmarked key version [] all = refl
+unmarked key version (s ∷ ss) all = ap₂ (λ (b : Bool) (rest : List Start). (s.0, cond b version s.1) ∷ rest) (below_differs key s.0 all.0) (unmarked key version ss all.1)
+
+-- one value that is set
+pub value_set : (key : Key) (version : ℕ) (ss : List Start) → AreRising ss → set_value (is_same_key key) ss version ≡ marked (is_same_key key) version ss
+value_set key version [] rising = refl
+value_set key version (s ∷ ss) rising = by (is_same_key key s.0) refl (value_set key version ss rising.1)
+  where
+    by : (t : Bool) → is_same_key key s.0 ≡ t → set_value (is_same_key key) ss version ≡ marked (is_same_key key) version ss →
+        cond t ((s.0, version) ∷ ss) (s ∷ set_value (is_same_key key) ss version) ≡ (s.0, cond t version s.1) ∷ marked (is_same_key key) version ss
+    by true same rest = ap (λ (more : List Start). (s.0, version) ∷ more) (sym (rw (same_key key s.0 same) (unmarked s.0 version ss rising.0)))
+    by false differs rest = ap (λ (more : List Start). s ∷ more) rest
+
+-- ---- what stands at the starts
+
+-- at each start, what a function has there
+abbrev pub sampled : {X : Type 0} → (Key → X) → List Start → List (Key × X)
+sampled f ss = map (λ (s : Start). (s.0, f s.0)) ss
+
+marked_last : (test : Key → Bool) (version first : ℕ) (c : Bool) (ss : List Start) (key : Key) →
+    last_from (cond c version first) (marked test version ss) key ≡ cond (last_from c (sampled test ss) key) version (last_from first ss key)
+marked_last test version first c [] key = refl
+marked_last test version first c (s ∷ ss) key = by (is_key_below key s.0) (marked_last test version s.1 (test s.0) ss key)
+  where
+    by : (b : Bool) → last_from (cond (test s.0) version s.1) (marked test version ss) key ≡ cond (last_from (test s.0) (sampled test ss) key) version (last_from s.1 ss key) →
+        cond b (cond c version first) (last_from (cond (test s.0) version s.1) (marked test version ss) key)
+        ≡ cond (cond b c (last_from (test s.0) (sampled test ss) key)) version (cond b first (last_from s.1 ss key))
+    by true rest = refl
+    by false rest = rest
+
+tested : (test : ℕ → Bool) (f : Key → ℕ) (first : ℕ) (ss : List Start) (key : Key) → last_from (test first) (sampled (λ k. test (f k)) ss) key ≡ test (last_from first (sampled f ss) key)
+tested test f first [] key = refl
+tested test f first (s ∷ ss) key = by (is_key_below key s.0) (tested test f (f s.0) ss key)
+  where
+    by : (b : Bool) → last_from (test (f s.0)) (sampled (λ k. test (f k)) ss) key ≡ test (last_from (f s.0) (sampled f ss) key) →
+        cond b (test first) (last_from (test (f s.0)) (sampled (λ k. test (f k)) ss) key) ≡ test (cond b first (last_from (f s.0) (sampled f ss) key))
+    by true rest = refl
+    by false rest = rest
+
+-- between two keys with no start in between nothing changes
+steady : (first : ℕ) (over : List Start) (low key : Key) → is_key_below key low ≡ false → ((k : Key) → HasStart over k → is_key_below low k ≡ true → is_key_below key k ≡ true) → last_from first over key ≡ last_from first over low
+steady first [] low key up_to none = refl
+steady first (o ∷ over) low key up_to none = by (is_key_below low o.0) refl (steady o.1 over low key up_to (λ k has. none k (inr has)))
+  where
+    by : (t : Bool) → is_key_below low o.0 ≡ t → last_from o.1 over key ≡ last_from o.1 over low → last_from first (o ∷ over) key ≡ cond t first (last_from o.1 over low)
+    by true e rest = ap (λ (b : Bool). cond b first (last_from o.1 over key)) (none o.0 (inl refl) e)
+    by false e rest = ap (λ (b : Bool). cond b first (last_from o.1 over key)) (up_to_trans o.0 low key e up_to) ∙ rest
+
+sampled_from : (first : ℕ) (over : List Start) (low key : Key) (ss : List Start) → is_key_below key low ≡ false → IsBefore low ss → AreRising ss → ((k : Key) → HasStart over k → is_key_below low k ≡ true → HasStart ss k)
+    → last_from (last_from first over low) (sampled (last_from first over) ss) key ≡ last_from first over key
+sampled_from first over low key [] up_to all rising there = sym (steady first over low key up_to (λ k has above. absurd (there k has above)))
+sampled_from first over low key (s ∷ ss) up_to all rising there = by (is_key_below key s.0) refl (sampled_from first over s.0 key ss)
+  where
+    later : (k : Key) → is_key_below key s.0 ≡ true → HasStart (s ∷ ss) k → is_key_below key k ≡ true
+    later k e (inl is) = rw is e
+    later k e (inr has) = below_trans key s.0 k e (before_has s.0 k ss rising.0 has)
+
+    not_first : (k : Key) → is_key_below s.0 k ≡ true → HasStart (s ∷ ss) k → HasStart ss k
+    not_first k above (inl is) = absurd (both_ways (is_key_below s.0 k) (rw is (not_below_itself s.0)) above)
+    not_first k above (inr has) = has
+
+    by : (t : Bool) → is_key_below key s.0 ≡ t
+        → (is_key_below key s.0 ≡ false → IsBefore s.0 ss → AreRising ss → ((k : Key) → HasStart over k → is_key_below s.0 k ≡ true → HasStart ss k) → last_from (last_from first over s.0) (sampled (last_from first over) ss) key ≡ last_from first over key)
+        → cond t (last_from first over low) (last_from (last_from first over s.0) (sampled (last_from first over) ss) key) ≡ last_from first over key
+    by true e rest = sym (steady first over low key up_to (λ k has above. later k e (there k has above)))
+    by false e rest = rest e rising.0 rising.1 (λ k has above. not_first k above (there k has (below_trans low s.0 k all.0 above)))
+
+none_up_to : (first : ℕ) (over : List Start) (key : Key) → ((k : Key) → HasStart over k → is_key_below key k ≡ true) → last_from first over key ≡ first
+none_up_to first [] key none = refl
+none_up_to first (o ∷ over) key none = ap (λ (b : Bool). cond b first (last_from o.1 over key)) (none o.0 (inl refl))
+
+-- if each start of a map is one of these, it changes at no other key
+sampled_is : (first : ℕ) (over ss : List Start) (key : Key) → AreRising ss → ((k : Key) → HasStart over k → HasStart ss k) → last_from first (sampled (last_from first over) ss) key ≡ last_from first over key
+sampled_is first over [] key rising there = sym (none_up_to first over key (λ k has. absurd (there k has)))
+sampled_is first over (s ∷ ss) key rising there = by (is_key_below key s.0) refl
+  where
+    later : (k : Key) → is_key_below key s.0 ≡ true → HasStart (s ∷ ss) k → is_key_below key k ≡ true
+    later k e (inl is) = rw is e
+    later k e (inr has) = below_trans key s.0 k e (before_has s.0 k ss rising.0 has)
+
+    not_first : (k : Key) → is_key_below s.0 k ≡ true → HasStart (s ∷ ss) k → HasStart ss k
+    not_first k above (inl is) = absurd (both_ways (is_key_below s.0 k) (rw is (not_below_itself s.0)) above)
+    not_first k above (inr has) = has
+
+    by : (t : Bool) → is_key_below key s.0 ≡ t → cond t first (last_from (last_from first over s.0) (sampled (last_from first over) ss) key) ≡ last_from first over key
+    by true e = sym (none_up_to first over key (λ k has. later k e (there k has)))
+    by false e = sampled_from first over s.0 key ss e rising.0 rising.1 (λ k has above. not_first k above (there k has))
+
+-- ---- past the last start
+
+-- the key of the last start, or `low` if there is none
+abbrev pub top : Key → List Start → Key
+top low [] = low
+top low (s ∷ ss) = top s.0 ss
+
+low_up_to_top : (low : Key) (ss : List Start) → IsBefore low ss → AreRising ss → is_key_below (top low ss) low ≡ false
+low_up_to_top low [] all rising = not_below_itself low
+low_up_to_top low (s ∷ ss) all rising = up_to_trans low s.0 (top s.0 ss) (not_below_back low s.0 all.0) (low_up_to_top s.0 ss rising.0 rising.1)
+
+has_up_to_top : (low : Key) (ss : List Start) (key : Key) → AreRising ss → HasStart ss key → is_key_below (top low ss) key ≡ false
+has_up_to_top low [] key rising has = absurd has
+has_up_to_top low (s ∷ ss) key rising (inl e) = rw e (low_up_to_top s.0 ss rising.0 rising.1)
+has_up_to_top low (s ∷ ss) key rising (inr has) = has_up_to_top s.0 ss key rising.1 has
+
+past_all : (first : ℕ) (ss : List Start) (key : Key) → ((k : Key) → HasStart ss k → is_key_below key k ≡ false) → last_from first ss key ≡ last_of_all first ss
+past_all first [] key up_to = refl
+past_all first (s ∷ ss) key up_to = ap (λ (b : Bool). cond b first (last_from s.1 ss key)) (up_to s.0 (inl refl)) ∙ past_all s.1 ss key (λ k has. up_to k (inr has))
+
+-- ---- one map over another
+
+at_each : (over ss : List Start) (version : ℕ) (key : Key) → AreRising ss → ((k : Key) → HasStart over k → HasStart ss k) → last_from 0 (marked (is_written over) version ss) key ≡ cond (is_written over key) version (last_from 0 ss key)
+at_each over ss version key rising there =
+    marked_last (is_written over) version 0 false ss key
+    ∙ ap (λ (b : Bool). cond b version (last_from 0 ss key)) (tested (nat_lt 0) (last_from 0 over) 0 ss key ∙ ap (nat_lt 0) (sampled_is 0 over ss key rising there))
+
+past_each : (over ss : List Start) (version : ℕ) → AreRising ss → ((k : Key) → HasStart over k → HasStart ss k) → last_of_all 0 over ≡ 0 → last_of_all 0 ss ≡ 0 → last_of_all 0 (marked (is_written over) version ss) ≡ 0
+past_each over ss version rising there none_over none =
+    let key = top [] ss in
+    sym (past_all 0 (marked (is_written over) version ss) key (λ k has. has_up_to_top [] ss k rising (marked_has (is_written over) version ss k has)))
+    ∙ at_each over ss version key rising there
+    ∙ ap₂ (λ (n : ℕ) (m : ℕ). cond (nat_lt 0 n) version m) (past_all 0 over key (λ k has. has_up_to_top [] ss k rising (there k has)) ∙ none_over) (past_all 0 ss key (λ k has. has_up_to_top [] ss k rising has) ∙ none)
+
+pub takes_over : (over ss : List Start) (keys : List Key) → AreRising ss → last_of_all 0 over ≡ 0 → ((k : Key) → HasStart over k → HasStart ss k) → ((k : Key) → HasStart ss k → is_listed keys k ≡ is_written over k) → TakeOver over ss keys
+takes_over over ss keys rising none_over there listed version =
+    let same = marked_alike (is_listed keys) (is_written over) version ss listed in
+    record {
+      at = λ key. ap (λ (ts : List Start). last_from 0 ts key) same ∙ at_each over ss version key rising there;
+      past = λ none. ap (last_of_all 0) same ∙ past_each over ss version rising there none_over none;
+    }
+
+-- room is made, and then filled
+pub filled : (over old mid new : List Start) (keys : List Key) (version : ℕ) → AreRising old → AreRising mid → AreRising new → TellTheSame old mid → TakeOver over mid keys → TellTheSame (marked (is_listed keys) version mid) new → AreOver (is_written over) version old new
+filled over old mid new keys version rising rising_mid rising_new same take same_too =
+    let taken = take version in
+    record {
+      at = λ key.
+          same_last (marked (is_listed keys) version mid) new (marked_rising (is_listed keys) version mid rising_mid) rising_new same_too key
+          ∙ taken.at key
+          ∙ ap (λ n. cond (is_written over key) version n) (same_last old mid rising rising_mid same key);
+      past = λ none. same_past (marked (is_listed keys) version mid) new same_too ∙ taken.past (same_past old mid same ∙ none);
+    }
+
+-- ---- one range
+
+pub range_written : (range : Range) (version : ℕ) (key : Key) → 0 < version → is_written ((range.begin, version) ∷ (range.end, 0) ∷ []) key ≡ holds range key
+range_written range version key above = by (is_key_below key range.begin) (is_key_below key range.end)
+  where
+    by : (a b : Bool) → nat_lt 0 (cond a 0 (cond b version 0)) ≡ (not a && b)
+    by true b = refl
+    by false true = lt-ltb 0 version above
+    by false false = refl
+
+pub over_range : (range : Range) (version : ℕ) (old new : List Start) → 0 < version → AreOver (is_written ((range.begin, version) ∷ (range.end, 0) ∷ [])) version old new → AreOver (holds range) version old new
+over_range range version old new above over =
+    record {
+      at = λ key. over.at key ∙ ap (λ (b : Bool). cond b version (last_from 0 old key)) (range_written range version key above);
+      past = over.past;
+    }

@@ -1,0 +1,172 @@
+-- Steps over all keys: each start gives its version to the keys from it on, up to the next start.
+use Rattle.std.specs.Prelude.{◌≡◌, ℕ, ◌+◌, ◌<◌, List, [], ◌∷◌, ◌++◌, map, filter, Bool, true}
+use Rattle.std.specs.Prelude.{not, ◌&&◌, nat_eq, nat_lt, cond, IsTrue, ◌⊎◌, Option, None, Some}
+use Rattle.std.specs.Prelude.{◌||◌}
+use Rattle.std.specs.List.{list_any}
+use Rattle.std.specs.Map.{keys_of}
+use Rattle.std.specs.Global.{Vec}
+use Rattle.std.specs.Ordering.{nat_cmp, is_eq}
+use Rattle.std.specs.Cmp.Lexicographic.{slice_cmp}
+use Rattle.system_keys.specs.Keys.{Key, Range, is_key_below, holds}
+use Rattle.system_keys.specs.Limits.{key_space_end}
+use Rattle.model.specs.Numbers.{Version}
+use Rattle.model.specs.WriteHistories.{Write, unless_forgotten}
+
+-- a start: a key, and the version from there on
+abbrev pub Start : Type 0
+Start = Key × Version
+
+-- an entry of the map, with the bytes of its key
+abbrev pub start_from : Vec ℕ × ℕ → Start
+start_from entry = (entry.0.items, entry.1)
+
+-- the entries of the map, with the bytes of their keys
+abbrev pub starts_of : List (Vec ℕ × ℕ) → List Start
+starts_of entries = map start_from entries
+
+-- the bytes of each key
+abbrev pub bytes_of_keys : List (Vec ℕ) → List Key
+bytes_of_keys keys = map (λ (key : Vec ℕ). key.items) keys
+
+-- what stands at a key: what the last start up to it has, or `first` before the first start
+abbrev pub last_from : {X : Type 0} → (first : X) (starts : List (Key × X)) (key : Key) → X
+last_from first [] key = first
+last_from first (s ∷ starts) key = cond (is_key_below key s.0) first (last_from s.1 starts key)
+
+-- what stands just before a key
+abbrev pub last_before : (first : Version) (starts : List Start) (key : Key) → Version
+last_before first [] key = first
+last_before first (s ∷ starts) key = cond (is_key_below s.0 key) (last_before s.1 starts key) first
+
+-- what stands past the last start
+abbrev pub last_of_all : (first : Version) (starts : List Start) → Version
+last_of_all first [] = first
+last_of_all first (s ∷ starts) = last_of_all s.1 starts
+
+-- the starts at which the version changes, where those up to `dropped` count as none
+abbrev pub settled : (dropped first : Version) (starts : List Start) → List Start
+settled dropped first [] = []
+settled dropped first (s ∷ starts) =
+    cond (nat_eq (unless_forgotten dropped s.1) (unless_forgotten dropped first))
+    (settled dropped s.1 starts)
+    ((s.0, unless_forgotten dropped s.1) ∷ settled dropped s.1 starts)
+
+-- the steps from `begin` on, each as a write of its keys at its version
+abbrev pub writes_from : (begin : Key) (version : Version) (starts : List Start) → List Write
+writes_from begin version [] = []
+writes_from begin version (s ∷ starts) =
+    record { range = record { begin = begin; end = s.0 }; version = version }
+    ∷ writes_from s.0 s.1 starts
+
+-- the steps, each as a write of its keys at its version
+abbrev pub writes_of_starts : (starts : List Start) → List Write
+writes_of_starts [] = []
+writes_of_starts (s ∷ starts) = writes_from s.0 s.1 starts
+
+-- the writes that starts tell, where versions up to `dropped` count as none
+abbrev pub kept_writes : (dropped : Version) (starts : List Start) → List Write
+kept_writes dropped starts = writes_of_starts (settled dropped 0 starts)
+
+-- the key is below each start
+abbrev pub IsBefore : (key : Key) (starts : List Start) → Type 0
+IsBefore key [] = Unit {0}
+IsBefore key (s ∷ starts) = (is_key_below key s.0 ≡ true) × IsBefore key starts
+
+-- the keys of the starts rise
+abbrev pub AreRising : (starts : List Start) → Type 0
+AreRising [] = Unit {0}
+AreRising (s ∷ starts) = IsBefore s.0 starts × AreRising starts
+
+-- there is a start at the key
+abbrev pub HasStart : (starts : List Start) (key : Key) → Type 0
+HasStart [] key = ⊥
+HasStart (s ∷ starts) key = (key ≡ s.0) ⊎ HasStart starts key
+
+-- the two give each key the same version, also where versions up to a bound count as none
+abbrev pub TellTheSame : (old new : List Start) → Type 0
+TellTheSame old new = (dropped : Version) → settled dropped 0 new ≡ settled dropped 0 old
+
+-- the two keys are the same
+abbrev pub is_same_key : (key other : Key) → Bool
+is_same_key key other = is_eq (slice_cmp nat_cmp key other)
+
+-- the key is one of the list
+abbrev pub is_listed : (keys : List Key) (key : Key) → Bool
+is_listed keys key = list_any (λ k. is_same_key k key) keys
+
+-- the starts, with the version at those whose keys pass the test
+abbrev pub marked : (test : Key → Bool) (version : Version) (starts : List Start) → List Start
+marked test version starts = map (λ (s : Start). (s.0, cond (test s.0) version s.1)) starts
+
+-- the key has a version
+abbrev pub is_written : (starts : List Start) (key : Key) → Bool
+is_written starts key = nat_lt 0 (last_from 0 starts key)
+
+-- each key that passes the test has the version, each other one its own, and past the last start
+-- there is still none
+pub record AreOver
+    (test : Key → Bool) (version : Version) (old new : List Start) : Type 0 where
+  pub at : (key : Key)
+      → last_from 0 new key ≡ cond (test key) version (last_from 0 old key)
+  pub past : last_of_all 0 old ≡ 0 → last_of_all 0 new ≡ 0
+
+-- once the starts at the keys have a version, each key that is written in `over` has it
+abbrev pub TakeOver : (over starts : List Start) (keys : List Key) → Type 0
+TakeOver over starts keys =
+    (version : Version) → AreOver (is_written over) version starts (marked (is_listed keys) version starts)
+
+-- ---- what is listed
+
+-- the key at which a start of a version begins a range, or none where it ends one
+abbrev pub begin_at : (s : Start) → Option Key
+begin_at s = cond (nat_eq s.1 0) None (Some s.0)
+
+-- the keys of the starts from `begin` up to `end`, and none without a begin
+abbrev pub keys_between : (begin : Option Key) (end : Key) (starts : List Start) → List Key
+keys_between None end starts = []
+keys_between (Some begin) end starts =
+    keys_of (filter (λ (s : Start). holds (record { begin = begin; end = end }) s.0) starts)
+
+-- the keys of the starts in the ranges of `over`, the first of which begins at `begin` if that is
+-- given
+abbrev pub keys_in : (begin : Option Key) (over starts : List Start) → List Key
+keys_in begin [] starts = []
+keys_in begin (o ∷ over) starts = keys_between begin o.0 starts ++ keys_in (begin_at o) over starts
+
+-- the begin, if there is one, is below each start
+abbrev pub IsBeginBefore : (begin : Option Key) (starts : List Start) → Type 0
+IsBeginBefore None starts = Unit {0}
+IsBeginBefore (Some begin) starts = IsBefore begin starts
+
+-- ---- what is reached
+
+-- some key of the range has a version above the bound
+pub record IsReached (bound : Version) (last : Key → Version) (range : Range) : Type 0 where
+  pub key : Key
+  pub inside : IsTrue (holds range key)
+  pub above : bound < last key
+
+-- some start in the range has a version above the bound
+abbrev pub has_start_above : (bound : Version) (starts : List Start) (range : Range) → Bool
+has_start_above bound starts range =
+    list_any (λ (s : Start). nat_lt bound s.1) (filter (λ (s : Start). holds range s.0) starts)
+
+-- the test of `IsReached`: the range is not empty, and its begin or some start in it has a version
+-- above the bound
+abbrev pub is_reached : (bound : Version) (starts : List Start) (range : Range) → Bool
+is_reached bound starts range =
+    is_key_below range.begin range.end
+    && (nat_lt bound (last_from 0 starts range.begin) || has_start_above bound starts range)
+
+-- ---- counting
+
+-- a range can end and the next one begin at the key
+abbrev pub is_counted : (key : Key) → Bool
+is_counted key = is_key_below [] key && is_key_below key key_space_end
+
+-- how many of the starts begin a step with another version than the one before
+abbrev pub changes_from : (dropped last : Version) (starts : List Start) → ℕ
+changes_from dropped last [] = 0
+changes_from dropped last (s ∷ starts) =
+    let version = unless_forgotten dropped s.1 in
+    cond (is_counted s.0 && not (nat_eq version last)) 1 0 + changes_from dropped version starts

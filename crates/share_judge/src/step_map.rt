@@ -1,0 +1,342 @@
+//! The version of every key, kept as steps.
+
+ghost use Rattle.std.specs.Prelude.{◌≡◌, ◌<◌, ◌+◌, ◌++◌, ◌∷◌, [], IfOk, OnOk, IsTrue};
+ghost use Rattle.std.specs.Prelude.{true, nat_lt, nat_eq, not, None, Some, option_map, IfSome};
+ghost use Rattle.system_keys.specs.Keys.{Key, Range, holds, is_key_below};
+ghost use Rattle.model.specs.WriteHistories.{unless_forgotten};
+ghost use Rattle.share_judge.specs.Steps.{last_from, last_before, last_of_all, settled, AreRising};
+ghost use Rattle.share_judge.specs.Steps.{HasStart, TellTheSame, AreOver, TakeOver, marked};
+ghost use Rattle.share_judge.specs.Steps.{starts_of, bytes_of_keys, is_listed, is_same_key};
+ghost use Rattle.share_judge.specs.Steps.{is_reached, has_start_above, is_written, keys_between, is_counted, changes_from};
+
+use model::Version;
+use std::alloc::{AllocError, Global};
+use std::collections::BTreeMap;
+use std::collections::btree_map::Iter;
+use std::marker::Model;
+use std::ops::Bound;
+use system_keys::{KEY_SPACE_END, KeyRange, OutOfMemory};
+
+/// A version for every key, or none, which is 0. Contracts see the list of its starts, in the order
+/// of their keys: each gives its version to the keys from it on, up to the next one. Keys before
+/// the first start have none.
+#[derive(Debug, Drop)]
+pub(crate) struct StepMap {
+    alloc: Global,
+    versions: BTreeMap<Vec<u8>, Version>,
+}
+
+impl Model for StepMap {
+    ghost use Rattle.std.specs.Prelude.{List};
+    ghost use Rattle.share_judge.specs.Steps.{Start, starts_of, AreRising};
+
+    ghost Value = { List Start };
+
+    ghost view = { λ map. starts_of map.versions.entries };
+
+    ghost invariant = { λ map. AreRising (starts_of map.versions.entries) };
+}
+
+impl StepMap {
+    /// No key has a version. Does not allocate.
+    pub(crate) fn new(alloc: Global) -> StepMap
+        ensures { result ≡ [] }
+    {
+        StepMap {
+            alloc,
+            versions: BTreeMap::new(alloc),
+        }
+    }
+
+    /// The keys of the range have the version, and no others.
+    fn of_range(alloc: Global, range: &KeyRange, version: Version) -> Result<StepMap, OutOfMemory>
+        ensures { IfOk result
+            (λ map. map ≡ (range.now.begin, version) ∷ (range.now.end, 0) ∷ []) }
+    {
+        let begin = Vec::from_slice(alloc, range.begin())?;
+        let end = Vec::from_slice(alloc, range.end())?;
+        let mut versions = BTreeMap::new(alloc);
+        versions.insert(begin, version)?;
+        versions.insert(end, 0)?;
+        Ok(StepMap { alloc, versions })
+    }
+
+    /// The allocator of the map.
+    pub(crate) fn alloc(&self) -> Global {
+        self.alloc
+    }
+
+    /// How many starts there are.
+    pub(crate) fn len(&self) -> usize {
+        self.versions.len()
+    }
+
+    /// The starts in the order of their keys. Does not allocate.
+    fn iter(&self) -> Iter<'_, Vec<u8>, Version>
+        ensures starts { starts_of result ≡ self.now }
+        ensures rising { AreRising self.now }
+    {
+        self.versions.iter()
+    }
+
+    /// The version at a key. Does not allocate.
+    fn at(&self, key: &Vec<u8>) -> Version
+        ensures { result ≡ last_from 0 self.now key.now.items }
+    {
+        match self.versions.range(..=key).next_back() {
+            Some((_, version)) => *version,
+            None => 0,
+        }
+    }
+
+    /// The version just before a key. Does not allocate.
+    fn before(&self, key: &Vec<u8>) -> Version
+        ensures { result ≡ last_before 0 self.now key.now.items }
+    {
+        match self.versions.range(..key).next_back() {
+            Some((_, version)) => *version,
+            None => 0,
+        }
+    }
+
+    /// Whether some key from `begin` up to `end` has a version above the bound. Does not allocate.
+    pub(crate) fn reaches(&self, begin: &Vec<u8>, end: &Vec<u8>, bound: Version) -> bool
+        requires { IsTrue (is_key_below begin.now.items end.now.items) }
+        ensures { let range : Range = record { begin = begin.now.items; end = end.now.items } in
+            result ≡ is_reached bound self.now range }
+    {
+        bound < self.at(begin) || self.has_start_above(begin, end, bound)
+    }
+
+    /// Whether a start from `begin` up to `end` has a version above the bound.
+    fn has_start_above(&self, begin: &Vec<u8>, end: &Vec<u8>, bound: Version) -> bool
+        requires { IsTrue (is_key_below begin.now.items end.now.items) }
+        ensures { let range : Range = record { begin = begin.now.items; end = end.now.items } in
+            result ≡ has_start_above bound self.now range }
+    {
+        for (_, version) in self
+            .versions
+            .range((Bound::Included(begin), Bound::Excluded(end)))
+        {
+            if bound < *version {
+                return true;
+            }
+        }
+        false
+    }
+
+    /// Gives each key of the range the version. If it fails, which is only with `OutOfMemory`, no
+    /// key has another version.
+    pub(crate) fn overwrite(
+        &mut self,
+        range: &KeyRange,
+        version: Version,
+    ) -> Result<(), OutOfMemory>
+        requires { 0 < version }
+        ensures over { OnOk result (AreOver (holds range.now) version self.old self.new) }
+        ensures rising { AreRising self.new }
+    {
+        let over = StepMap::of_range(self.alloc, range, version)?;
+        let keys = self.make_room(&over)?;
+        self.fill(&keys, version);
+        Ok(())
+    }
+
+    /// Puts a start at each start of the other map, and lists the keys of those at which the other
+    /// map has a version. No key has another version, also if it fails, which is only with
+    /// `OutOfMemory`.
+    pub(crate) fn make_room(&mut self, over: &StepMap) -> Result<Vec<Vec<u8>>, OutOfMemory>
+        requires { last_of_all 0 over.now ≡ 0 }
+        ensures same { TellTheSame self.old self.new }
+        ensures rising { AreRising self.old → AreRising self.new }
+        ensures over { IfOk result (λ keys. TakeOver over.now self.new (bytes_of_keys keys.items)) }
+    {
+        self.put_edges(over)?;
+        self.list_written(over)
+    }
+
+    /// Puts a start at each start of the other map. No key has another version, also if it fails.
+    fn put_edges(&mut self, over: &StepMap) -> Result<(), OutOfMemory>
+        ensures same { TellTheSame self.old self.new }
+        ensures rising { AreRising self.old → AreRising self.new }
+        ensures there { OnOk result ((key : Key) → HasStart over.now key → HasStart self.new key) }
+    {
+        for (key, _) in over.iter() {
+            self.put_edge(key)?;
+        }
+        Ok(())
+    }
+
+    /// Puts a start at the key, with the version that the key has.
+    fn put_edge(&mut self, key: &Vec<u8>) -> Result<(), OutOfMemory>
+        ensures same { TellTheSame self.old self.new }
+        ensures rising { AreRising self.new }
+        ensures there { OnOk result (HasStart self.new key.now.items) }
+        ensures others { (other : Key) → HasStart self.old other → HasStart self.new other }
+    {
+        let copy = Vec::from_slice(self.alloc, key.as_slice())?;
+        let version = self.at(key);
+        self.versions.insert(copy, version)?;
+        Ok(())
+    }
+
+    /// Lists the keys of the starts at which the other map has a version.
+    fn list_written(&self, over: &StepMap) -> Result<Vec<Vec<u8>>, OutOfMemory>
+        requires { last_of_all 0 over.now ≡ 0 }
+        ensures listed { IfOk result (λ keys. (key : Key) → HasStart self.now key
+            → is_listed (bytes_of_keys keys.items) key ≡ is_written over.now key) }
+        ensures rising { AreRising self.now }
+    {
+        let mut keys = Vec::new(self.alloc);
+        let mut begin: Option<&Vec<u8>> = None;
+        for (key, version) in over.iter() {
+            self.list_between(begin, key, &mut keys)?;
+            begin = if *version == 0 { None } else { Some(key) };
+        }
+        Ok(keys)
+    }
+
+    /// Lists the keys of the starts from `begin` up to `end`, or of none if there is no begin.
+    fn list_between(
+        &self,
+        begin: Option<&Vec<u8>>,
+        end: &Vec<u8>,
+        keys: &mut Vec<Vec<u8>>,
+    ) -> Result<(), OutOfMemory>
+        requires { IfSome begin (λ key. is_key_below key.now.items end.now.items ≡ true) }
+        ensures { let begin = option_map (λ key. key.now.items) begin.entry in
+            OnOk result (bytes_of_keys keys.new.items
+            ≡ bytes_of_keys keys.old.items ++ keys_between begin end.now.items self.now) }
+    {
+        let Some(begin) = begin else {
+            return Ok(());
+        };
+        for (key, _) in self
+            .versions
+            .range((Bound::Included(begin), Bound::Excluded(end)))
+        {
+            keys.push(Vec::from_slice(self.alloc, key.as_slice())?)?;
+        }
+        Ok(())
+    }
+
+    /// Gives the starts at the keys the version, and takes out those at which it then does not
+    /// change. Does not allocate.
+    pub(crate) fn fill(&mut self, keys: &[Vec<u8>], version: Version)
+        ensures same { TellTheSame (marked (is_listed (bytes_of_keys keys.now)) version self.old) self.new }
+        ensures rising { AreRising self.old → AreRising self.new }
+    {
+        self.mark(keys, version);
+        self.take_out_repeated(keys);
+    }
+
+    /// Gives the starts at the keys the version.
+    fn mark(&mut self, keys: &[Vec<u8>], version: Version)
+        ensures { self.new ≡ marked (is_listed (bytes_of_keys keys.now)) version self.old }
+    {
+        for key in keys {
+            self.mark_one(key, version);
+        }
+    }
+
+    /// Gives the start at the key the version, if there is one.
+    fn mark_one(&mut self, key: &Vec<u8>, version: Version)
+        ensures { self.new ≡ marked (is_same_key key.now.items) version self.old }
+    {
+        let Some(place) = self.versions.get_mut(key.as_slice()) else {
+            return;
+        };
+        *place = version;
+    }
+
+    /// Takes out the starts at the keys that have the version of the step before.
+    fn take_out_repeated(&mut self, keys: &[Vec<u8>])
+        ensures same { TellTheSame self.old self.new }
+        ensures rising { AreRising self.old → AreRising self.new }
+    {
+        for key in keys {
+            self.take_out_if_repeated(key);
+        }
+    }
+
+    /// Takes out the start at the key, if it has the version of the step before.
+    fn take_out_if_repeated(&mut self, key: &Vec<u8>)
+        ensures same { TellTheSame self.old self.new }
+        ensures rising { AreRising self.new }
+    {
+        if self.at(key) == self.before(key) {
+            self.versions.remove(key.as_slice());
+        }
+    }
+
+    /// Versions up to the bound become none, and of steps with one version only the first start
+    /// stays. Does not allocate.
+    pub(crate) fn sweep(&mut self, bound: Version)
+        ensures starts { self.new ≡ settled bound 0 self.old }
+        ensures rising { AreRising self.new }
+    {
+        let mut last = 0;
+        self.versions.retain(
+            |_, version| -> bool
+                ensures { (version.new ≡ unless_forgotten bound version.old)
+                    × (result ≡ not (nat_eq version.new last.entry)) × (last.exit ≡ version.new) }
+            {
+                *version = unless_dropped(bound, *version);
+                let is_new = *version != last;
+                last = *version;
+                is_new
+            },
+        );
+    }
+
+    /// How many greatest ranges of keys there are with one version, from the empty key up to
+    /// `\xff\xff`, where versions up to the bound count as none. Does not allocate.
+    pub(crate) fn count(&self, dropped: Version) -> usize
+        ensures { result ≡ 1 + changes_from dropped 0 self.now }
+    {
+        let _length = self.versions.len();
+        let mut count = 1;
+        let mut last = 0;
+        for (key, version) in &self.versions {
+            let version = unless_dropped(dropped, *version);
+            if is_counted(key) && version != last {
+                count += 1;
+            }
+            last = version;
+        }
+        count
+    }
+}
+
+impl Clone for StepMap {
+    ghost is_clone = { λ map copy. copy ≡ map };
+
+    fn clone(&self) -> Result<StepMap, AllocError> {
+        Ok(StepMap {
+            alloc: self.alloc,
+            versions: self.versions.clone()?,
+        })
+    }
+}
+
+/// The version, or 0 if it is at or below the bound.
+pub(crate) fn unless_dropped(bound: Version, version: Version) -> Version
+    ensures { result ≡ unless_forgotten bound version }
+{
+    if version <= bound { 0 } else { version }
+}
+
+/// Whether a range can end and the next one begin at the key: it is above the empty key, and below
+/// `\xff\xff`.
+fn is_counted(key: &[u8]) -> bool
+    ensures { result ≡ is_counted key.now }
+{
+    precedes(b"", key) && precedes(key, KEY_SPACE_END)
+}
+
+/// Whether the key `a` is below the key `b`.
+fn precedes(a: &[u8], b: &[u8]) -> bool
+    ensures { result ≡ is_key_below a.now b.now }
+{
+    a.cmp(b).is_lt()
+}

@@ -1,5 +1,0 @@
-//! The tests of inboxes, by its public calls.
-#![tactic(auto)]
-
-#[cfg(test)]
-mod tests;

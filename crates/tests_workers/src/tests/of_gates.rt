@@ -1,0 +1,135 @@
+//! The test of a gate: a request is judged by a resolver only once its gate lets it, and a proxy sends
+//! to all resolvers before it waits for any.
+
+ghost use Rattle.std.specs.Prelude.{◌≡◌};
+
+use crate::tests::serving::{Parts, commit_empty, serve, sides};
+use crate::tests::starting::{Cluster, blank};
+use agreed_ledger::{BlankLedger, Ledger, Naming};
+use inboxes::{BlankInboxes, Channels, FreshEnd, InboxRoom};
+use std::alloc::Global;
+use std::marker::Brand;
+use std::sync::Wait;
+use std::sync::atomic::{AtomicU64, Ordering};
+use std::test::Fail;
+use std::thread;
+use std::thread::Threads;
+use workers::{Gate, Place, ProxyInboxes, ResolverWorker};
+
+/// How often the gate looks before the test fails.
+const TURNS: usize = 10_000_000;
+
+/// What the threads of the test tell.
+#[derive(Drop)]
+struct Told {
+    /// How often a gate has looked in vain.
+    missed: AtomicU64,
+    /// The version of the batch, or 0.
+    version: AtomicU64,
+}
+
+/// Holds resolver 0 back until resolver 1 has judged row 0.
+#[derive(Drop)]
+struct Looks<'x, N: Naming> {
+    ledger: &'x Ledger<N>,
+    told: &'x Told,
+}
+
+impl<'x, N: Naming> Gate for Looks<'x, N> {
+    fn enter(&self, place: Place) {
+        if place.resolver != 0 {
+            return;
+        }
+        for _turn in 0..TURNS {
+            if has_judged(self.ledger) {
+                return;
+            }
+            thread::yield_now();
+        }
+        let _ = self.told.missed.fetch_add(1, Ordering::SeqCst);
+    }
+}
+
+/// Whether the verdict cell of row 0 and resolver 1 is filled, by a new note.
+fn has_judged<N: Naming>(ledger: &Ledger<N>) -> bool {
+    let Some(mut note) = ledger.verdict_note(0, 1) else {
+        return false;
+    };
+    ledger.verdicts_at(0, 1, &mut note).is_some()
+}
+
+/// A worker for each resolver, with the gate, and a proxy with one empty batch.
+#[derive(Drop)]
+struct Gated<'a, 'l, N: Naming> {
+    cluster: &'a Cluster<'l, N>,
+    told: &'a Told,
+}
+
+impl<'a, 'l, N: Naming, M: Channels> Parts<FreshEnd<N, M>, ProxyInboxes<N, M>>
+    for Gated<'a, 'l, N> {
+    fn work<R: Wait>(&self, rt: &R, alloc: Global, end: FreshEnd<N, M>) {
+        let Some(resolver) = self.cluster.resolvers.as_slice().get(end.resolver()) else {
+            return;
+        };
+        let gate = Looks {
+            ledger: self.cluster.ledger,
+            told: self.told,
+        };
+        if let Ok(worker) = ResolverWorker::new(alloc, resolver, end, gate) {
+            let _ended = worker.run(rt);
+        }
+    }
+
+    fn commit<R: Wait>(&self, rt: &R, alloc: Global, side: ProxyInboxes<N, M>) {
+        if let Ok(version) = commit_empty(rt, alloc, self.cluster, &side) {
+            self.told.version.store(version, Ordering::SeqCst);
+        }
+        let _senders = side.end(rt);
+    }
+}
+
+/// Runs the threads. Returns the version of the batch, and how often a gate has looked in vain.
+fn run<N: Naming + Send + Sync, M: Channels + Send + Sync, R: Threads + Wait + Sync>(
+    rt: &R,
+    alloc: Global,
+    ledger: &Ledger<N>,
+    blank: BlankInboxes<N>,
+) -> Result<(u64, u64), Fail>
+    requires { blank ≡ M.places }
+{
+    let room = InboxRoom::new(alloc, ledger)?;
+    let (senders, ends) = blank.named::<M>(room);
+    let sides = sides(alloc, ledger, senders)?;
+    let cluster = Cluster::new(alloc, ledger)?;
+    let told = Told {
+        missed: AtomicU64::new(0),
+        version: AtomicU64::new(0),
+    };
+    let gated = Gated {
+        cluster: &cluster,
+        told: &told,
+    };
+    serve(rt, alloc, &gated, ends, sides);
+    let missed = told.missed.load(Ordering::SeqCst);
+    Ok((told.version.load(Ordering::SeqCst), missed))
+}
+
+fn begin<N: Naming + Send + Sync, R: Threads + Wait + Sync>(
+    rt: &R,
+    alloc: Global,
+    blank: BlankLedger,
+) -> Result<(u64, u64), Fail>
+    requires { blank ≡ N.cells }
+{
+    let ledger = blank.named::<N>();
+    let inboxes = BlankInboxes::new(alloc, &ledger)?;
+    run::<N, Brand, _>(rt, alloc, &ledger, inboxes)
+}
+
+#[test]
+fn resolver_1_answers_while_the_gate_holds_resolver_0(rt: HostRuntime) -> Result<(), Fail> {
+    let alloc = rt.alloc();
+    let told = begin::<Brand, _>(&rt, alloc, blank(alloc, 1, 1, 2)?)?;
+    assert!(&rt; told == (10, 0));
+    Ok(())
+}

@@ -1,0 +1,25 @@
+-- What was served so far is served.
+use Rattle.std.proofs.Common.{sym, ◌∙◌, subst, ℕ, max, length}
+use Rattle.facts.specs.Stretches.{end_of}
+use Rattle.agreed_ledger.specs.Cells.{ColumnView}
+use Rattle.workers.specs.Desks.{IsNoneDue, next_row}
+use Rattle.workers.proofs.DeskLemmas.{keeps_trans}
+use Rattle.workers.proofs.desk.Desk.offer_due.Goals as goal
+
+pub loop-place-preserved : goal.loop-place-preserved
+loop-place-preserved g c =
+    record {
+      keeps = keeps_trans _ _ _ c.loop-place.invariant.keeps c.judge_at.ensures.keeps;
+      own = c.judge_at.ensures.keeps.resolver ∙ c.loop-place.invariant.own ∙ sym c.judge_at.ensures.own;
+    }
+
+pub returns-clause-keeps : goal.returns-clause-keeps
+returns-clause-keeps g c = keeps_trans _ _ _ c.loop-place.invariant.keeps c.let_go_if_closed.ensures.keeps
+
+pub returns-clause-none_due : goal.returns-clause-none_due
+returns-clause-none_due g c =
+    let before = c.loop-place.self in
+    let guard = c.loop-place.guard in
+    let after = c.let_go_if_closed.new.self in
+    let none : IsNoneDue before (next_row before guard) = subst (λ (n : ℕ). IsNoneDue before n) c.next_row.ensures c.in_default.ensures in
+    subst (λ (col : ColumnView). IsNoneDue after (max (end_of col.rows) (length guard.column))) (sym c.let_go_if_closed.ensures.column) (c.let_go_if_closed.ensures.none_due (next_row before guard) none)

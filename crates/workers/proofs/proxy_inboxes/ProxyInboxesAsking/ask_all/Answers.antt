@@ -1,0 +1,13 @@
+-- Some resolver of the cluster that is closed refuses another proxy's request.
+use Rattle.std.proofs.lemmas.Option.{slice_get_within}
+use Rattle.workers.proofs.AskLemmas.{one_closed}
+use Rattle.workers.proofs.DeskLemmas.{got}
+use Rattle.workers.proofs.proxy_inboxes.ProxyInboxesAsking.ask_all.Goals as goal
+
+pub returns-in-Some-clause-refused : goal.returns-in-Some-clause-refused
+returns-in-Some-clause-refused g c =
+    let requests = c.args.requests.now in
+    let k = c.in-Some.place in
+    let q = c.index-requests-place.result in
+    let at = got requests k q (slice_get_within requests k c.in-Some.ensures.0 c.in-Some.ensures.1) c.index-requests-place.is in
+    one_closed g.N.Naming.cells.config requests k q at c.self.invariant c.plain-plain.ensures.kept.resolver

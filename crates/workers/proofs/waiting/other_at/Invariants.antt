@@ -1,0 +1,7 @@
+-- The requests so far are the proxy's.
+use Rattle.std.proofs.Common.{◌≡◌, ◌<◌, ℕ, slice_get, Some}
+use Rattle.shared_cluster.specs.Requests.{RequestView}
+use Rattle.workers.proofs.waiting.other_at.Given as goal
+
+abbrev pub invariant-loop-place : goal.invariant-loop-place
+invariant-loop-place g l = (k : ℕ) (q : RequestView) → k < l.place → slice_get l.requests k ≡ Some q → q.plain.proxy ≡ l.proxy
