@@ -3,7 +3,7 @@
 
 ghost use Rattle.std.specs.Prelude.{◌≡◌};
 
-use crate::tests::serving::{Parts, commit_empty, serve, sides};
+use crate::tests::serving::{Parts, commit_or_close, serve, sides};
 use crate::tests::starting::{Cluster, blank};
 use agreed_ledger::{BlankLedger, Ledger, Naming};
 use inboxes::{BlankInboxes, Channels, FreshEnd, InboxRoom};
@@ -14,6 +14,7 @@ use std::sync::atomic::{AtomicU64, Ordering};
 use std::test::Fail;
 use std::thread;
 use std::thread::Threads;
+use system_keys::OutOfMemory;
 use workers::{Gate, Place, ProxyInboxes, ResolverWorker};
 
 /// How often the gate looks before the test fails.
@@ -80,10 +81,13 @@ impl<'a, 'l, N: Naming, M: Channels> Parts<FreshEnd<N, M>, ProxyInboxes<N, M>>
         }
     }
 
-    fn commit<R: Wait>(&self, rt: &R, alloc: Global, side: ProxyInboxes<N, M>) {
-        if let Ok(version) = commit_empty(rt, alloc, self.cluster, &side) {
+    fn commit<R: Wait>(&self, rt: &R, alloc: Global, side: &ProxyInboxes<N, M>) {
+        if let Ok(version) = commit_or_close(rt, alloc, self.cluster, side) {
             self.told.version.store(version, Ordering::SeqCst);
         }
+    }
+
+    fn end<R: Wait>(&self, rt: &R, side: ProxyInboxes<N, M>) {
         let _senders = side.end(rt);
     }
 }
@@ -127,9 +131,15 @@ fn begin<N: Naming + Send + Sync, R: Threads + Wait + Sync>(
 }
 
 #[test]
-fn resolver_1_answers_while_the_gate_holds_resolver_0(rt: HostRuntime) -> Result<(), Fail> {
+fn of_two_threads_resolver_1_answers_while_the_gate_holds_resolver_0(
+    rt: HostRuntime,
+) -> Result<(), Fail> {
     let alloc = rt.alloc();
     let told = begin::<Brand, _>(&rt, alloc, blank(alloc, 1, 1, 2)?)?;
+    // (the batch is refused only if an allocation failed)
+    if told.0 == 0 {
+        return Err(Fail::from(OutOfMemory));
+    }
     assert!(&rt; told == (10, 0));
     Ok(())
 }

@@ -2,7 +2,7 @@
 
 ghost use Rattle.std.specs.Prelude.{◌≡◌};
 
-use crate::tests::serving::{Parts, commit_empty, serve, sides};
+use crate::tests::serving::{Parts, commit_or_close, serve, sides};
 use crate::tests::starting::{Cluster, blank};
 use crate::tests::summing::{Left, Summary, Wanted, summed_up};
 use agreed_ledger::{BlankLedger, Ledger, Naming};
@@ -12,6 +12,7 @@ use std::marker::Brand;
 use std::sync::Wait;
 use std::test::Fail;
 use std::thread::Threads;
+use system_keys::OutOfMemory;
 use workers::{Open, ProxyInboxes, ResolverWorker};
 
 /// What each proxy does before it ends.
@@ -52,22 +53,25 @@ impl<'a, 'l, N: Naming, M: Channels> Parts<FreshEnd<N, M>, ProxyInboxes<N, M>>
         }
     }
 
-    fn commit<R: Wait>(&self, rt: &R, alloc: Global, side: ProxyInboxes<N, M>) {
+    fn commit<R: Wait>(&self, rt: &R, alloc: Global, side: &ProxyInboxes<N, M>) {
         for _close in 0..self.plan.closes {
             side.close(rt);
         }
         for _batch in 0..self.plan.batches {
-            if let Err(number) = commit_empty(rt, alloc, self.cluster, &side) {
+            if let Err(number) = commit_or_close(rt, alloc, self.cluster, side) {
                 let _ = self.left.refusals.lock(rt).push(number);
             }
         }
+    }
+
+    fn end<R: Wait>(&self, rt: &R, side: ProxyInboxes<N, M>) {
         for sender in side.end(rt) {
             let _ = self.left.senders.lock(rt).push(sender);
         }
     }
 }
 
-/// Runs the threads, and sums up what is left of them.
+/// Runs the threads, and sums up what is left of them. Fails if an allocation failed.
 fn run<N: Naming + Send + Sync, M: Channels + Send + Sync, R: Threads + Wait + Sync>(
     rt: &R,
     alloc: Global,
@@ -91,8 +95,13 @@ fn run<N: Naming + Send + Sync, M: Channels + Send + Sync, R: Threads + Wait + S
         plan: trial.plan,
         left: &left,
     };
+    let started = ends.len();
     serve(rt, alloc, &planned, ends, sides);
-    Ok(summed_up(left, trial.wanted))
+    let sum = summed_up(left, trial.wanted);
+    if sum.lacks_memory(started) {
+        return Err(Fail::from(OutOfMemory));
+    }
+    Ok(sum)
 }
 
 fn begin<N: Naming + Send + Sync, R: Threads + Wait + Sync>(
@@ -122,7 +131,9 @@ const THREE: Trial = Trial {
 };
 
 #[test]
-fn three_proxies_and_two_workers_sent_what_was_taken(rt: HostRuntime) -> Result<(), Fail> {
+fn the_threads_of_three_proxies_sent_what_those_of_two_workers_took(
+    rt: HostRuntime,
+) -> Result<(), Fail> {
     let alloc = rt.alloc();
     let sum = begin::<Brand, _>(&rt, alloc, blank(alloc, 30, 3, 2)?, THREE)?;
     assert!(&rt;
@@ -154,7 +165,7 @@ const FULL: Trial = Trial {
 };
 
 #[test]
-fn closed_resolvers_judge_nothing_and_their_inboxes_do_not_overflow(
+fn threads_of_closed_resolvers_judge_nothing_and_take_what_overflows(
     rt: HostRuntime,
 ) -> Result<(), Fail> {
     let alloc = rt.alloc();
@@ -188,7 +199,7 @@ const EARLY: Trial = Trial {
 };
 
 #[test]
-fn proxies_are_told_of_a_worker_that_has_gone(rt: HostRuntime) -> Result<(), Fail> {
+fn the_threads_of_proxies_are_told_of_a_worker_that_has_gone(rt: HostRuntime) -> Result<(), Fail> {
     let alloc = rt.alloc();
     let sum = begin::<Brand, _>(&rt, alloc, blank(alloc, 6, 3, 2)?, EARLY)?;
     assert!(&rt;

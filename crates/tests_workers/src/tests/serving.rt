@@ -18,34 +18,63 @@ pub(crate) trait Parts<E, S> {
     /// Serves the inbox of a resolver.
     fn work<R: Wait>(&self, rt: &R, alloc: Global, end: E);
 
-    /// Commits by a proxy, and then ends.
-    fn commit<R: Wait>(&self, rt: &R, alloc: Global, side: S);
+    /// Commits by a proxy.
+    fn commit<R: Wait>(&self, rt: &R, alloc: Global, side: &S);
+
+    /// Ends a proxy.
+    fn end<R: Wait>(&self, rt: &R, side: S);
 }
 
-/// Runs a thread for each worker, and one for each proxy. Returns when all have ended.
+/// Runs a thread for each worker, and one for each proxy, and then ends the proxies. Returns when all
+/// threads have ended.
 pub(crate) fn serve<
     E: Send + Drop,
-    S: Send + Drop,
+    S: Sync + Drop,
     P: Parts<E, S> + Sync,
     R: Threads + Wait + Sync,
 >(rt: &R, alloc: Global, parts: &P, ends: Vec<E>, sides: Vec<S>) {
     thread::scope(thread::scope_env(), rt, |scope| {
-        start(scope, rt, alloc, parts, ends, sides);
+        start_workers(scope, rt, alloc, parts, ends);
+        commit_in_threads(rt, alloc, parts, sides.as_slice());
+        for side in sides {
+            parts.end(rt, side);
+        }
     });
 }
 
-/// Starts the threads, those of the workers first.
-fn start<
+/// Starts a thread for each worker. The end of one that cannot be started is dropped.
+fn start_workers<
     's,
     X,
     E: Send + Drop + 's,
-    S: Send + Drop + 's,
+    S: 's,
     P: Parts<E, S> + Sync,
     R: Threads + Wait + Sync,
->(scope: &'s Scope<'s, X>, rt: &'s R, alloc: Global, parts: &'s P, ends: Vec<E>, sides: Vec<S>) {
+>(scope: &'s Scope<'s, X>, rt: &'s R, alloc: Global, parts: &'s P, ends: Vec<E>) {
     for end in ends {
         let _ = scope.spawn(move || parts.work(rt, alloc, end));
     }
+}
+
+/// Runs a thread for each proxy. Returns when these have ended.
+fn commit_in_threads<E, S: Sync, P: Parts<E, S> + Sync, R: Threads + Wait + Sync>(
+    rt: &R,
+    alloc: Global,
+    parts: &P,
+    sides: &[S],
+) {
+    thread::scope(thread::scope_env(), rt, |scope| {
+        start_proxies(scope, rt, alloc, parts, sides);
+    });
+}
+
+fn start_proxies<'s, X, E: 's, S: Sync + 's, P: Parts<E, S> + Sync, R: Threads + Wait + Sync>(
+    scope: &'s Scope<'s, X>,
+    rt: &'s R,
+    alloc: Global,
+    parts: &'s P,
+    sides: &'s [S],
+) {
     for side in sides {
         let _ = scope.spawn(move || parts.commit(rt, alloc, side));
     }
@@ -64,8 +93,28 @@ pub(crate) fn sides<N: Naming, M: Channels>(
     Ok(made)
 }
 
+/// The number of the refusal of a closed resolver.
+pub(crate) const CLOSED: u32 = 60;
+
+/// Commits an empty batch, and returns its version, or the number of the refusal. If it is refused
+/// otherwise than by a closed resolver, closes all resolvers: nobody waits for the row then.
+pub(crate) fn commit_or_close<N: Naming, M: Channels, R: Wait>(
+    rt: &R,
+    alloc: Global,
+    cluster: &Cluster<'_, N>,
+    side: &ProxyInboxes<N, M>,
+) -> Result<u64, u32> {
+    let committed = commit_empty(rt, alloc, cluster, side);
+    if let Err(number) = committed {
+        if number != CLOSED {
+            side.close(rt);
+        }
+    }
+    committed
+}
+
 /// Commits an empty batch, and returns its version, or the number of the refusal.
-pub(crate) fn commit_empty<N: Naming, M: Channels, R: Wait>(
+fn commit_empty<N: Naming, M: Channels, R: Wait>(
     rt: &R,
     alloc: Global,
     cluster: &Cluster<'_, N>,

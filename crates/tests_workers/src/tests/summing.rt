@@ -1,5 +1,6 @@
 //! What is left of the threads of a run, summed up.
 
+use crate::tests::serving::CLOSED;
 use agreed_ledger::Naming;
 use inboxes::{Channels, Counts, EndedSender};
 use std::alloc::Global;
@@ -81,11 +82,19 @@ pub(crate) fn summed_up<N: Naming, M: Channels>(left: Left<N, M>, wanted: Wanted
 /// Counts the refusals of commits.
 fn count_refusals(sum: &mut Summary, refusals: Vec<u32>) {
     for number in refusals {
-        if number == 60 {
+        if number == CLOSED {
             sum.refused = sum.refused.saturating_add(1);
         } else {
             sum.failed = sum.failed.saturating_add(1);
         }
+    }
+}
+
+impl Summary {
+    /// Whether an allocation failed: the thread of a worker was not started, or a worker or a commit
+    /// tells so.
+    pub(crate) fn lacks_memory(&self, started: usize) -> bool {
+        self.workers < started || 0 < self.wanted_memory || 0 < self.failed
     }
 }
 
