@@ -12,7 +12,7 @@ use Rattle.system_keys.specs.Families.{is_kept}
 use Rattle.model.proofs.Members.{Contains-from_Has}
 use Rattle.model.proofs.Metadata.Entries.{filter_in_order}
 use Rattle.metadata.specs.Overwrites.{is_same_key, is_listed, has_entry, entries_without, IsPutOver, IsOverwritten}
-use Rattle.metadata.specs.CachedTags.{Values, TagLists, KeyTags, tag_by, tags_by, AreTags, tags_written, tags_there, displaced_tags, values_over, names_server, names_put, is_row_named, row_tags, chosen_tags, puts_server, changed_tags, may_tag, may_tag_some, TagsTakeBack, IsBlanked}
+use Rattle.metadata.specs.CachedTags.{Values, TagLists, KeyTags, tag_by, tags_by, AreTags, tags_written, displaced_tags, values_over, names_server, names_put, is_row_named, row_tags, chosen_tags, puts_server, changed_tags, may_tag, may_tag_some, TagsTakeBack, IsBlanked}
 use Rattle.metadata.proofs.KeyValues.{same_key, same_itself, same_entries, none_behind, first_behind, rest_in_order}
 use Rattle.metadata.proofs.EntriesLeft.{value_without, value_kept}
 
@@ -72,7 +72,7 @@ untouched : (puts entries : Entries) (value : List ℕ) → names_put puts value
 unfolding tags_by
 untouched puts entries value none = ap sorted_tags (untouched_servers puts entries (servers_of value) none)
 
-begins : (id : Id) → names_server (server_tag_family.prefix ++ id) ≡ true
+pub begins : (id : Id) → names_server (server_tag_family.prefix ++ id) ≡ true
 begins id = refl
 
 either : (a b : Bool) → (a || b) ≡ false → (a ≡ false) × (b ≡ false)

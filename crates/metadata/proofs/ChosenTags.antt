@@ -1,5 +1,5 @@
 -- The tags of entries, one entry after another.
-use Rattle.std.proofs.Common.{◌≡◌, refl, sym, ap, ◌∙◌, List, [], ◌∷◌, ◌++◌, append_assoc, map, filter, Bool, true, false, cond}
+use Rattle.std.proofs.Common.{◌≡◌, refl, ap, ◌∙◌, List, [], ◌∷◌, ◌++◌, append_assoc, map, filter, Bool, true, false, cond}
 use Rattle.model.specs.Metadata.{Entry, Entries}
 use Rattle.metadata.specs.CachedTags.{Values, KeyTags, row_tags, chosen_tags}
 

@@ -1,11 +1,11 @@
 -- The tags that are looked up are those of the rows that serve a key, or that a range holds.
-use Rattle.std.proofs.Common.{◌≡◌, refl, sym, ap, ◌∙◌, subst, ℕ, ◌-◌, length, take, drop, length-drop, List, [], ◌∷◌, ◌++◌, append-nil, map, flat_map, Bool, true, false, cond, if◌then◌else◌, not, ◌&&◌, Option, Some, None, option_map, option_to_list, filter, inl, inr}
+use Rattle.std.proofs.Common.{◌≡◌, refl, sym, ap, ◌∙◌, subst, ℕ, ◌-◌, length, take, drop, length-drop, List, [], ◌∷◌, ◌++◌, append-nil, flat_map, Bool, true, false, cond, if◌then◌else◌, ◌&&◌, Option, Some, None, option_map, option_to_list, filter, inl, inr}
 use Rattle.std.specs.Global.{Vec}
 use Rattle.std.proofs.Math.Seq.{take-length}
 use Rattle.system_keys.specs.declared.tag.Tag.{Tag}
-use Rattle.system_keys.specs.Keys.{Key, Range}
+use Rattle.system_keys.specs.Keys.{Key}
 use Rattle.system_keys.specs.Families.{key_servers_family, is_in}
-use Rattle.model.specs.Metadata.{Entry, Entries, IsInOrder, entry_value, key_servers_entries, is_key_servers, behind_prefix, serving_entry, entry_tags, server_tags, servers_of, sorted_tags, tags, tags_of_key}
+use Rattle.model.specs.Metadata.{Entry, Entries, IsInOrder, entry_value, key_servers_entries, is_key_servers, behind_prefix, serving_entry, entry_tags, server_tags, sorted_tags, tags, tags_of_key}
 use Rattle.model.proofs.Members.{Has, Has-from_filter, Has-filter, Has-map, Has-append_left, Has-append_right}
 use Rattle.model.specs.declared.routing.Route.{Route}
 use Rattle.std.specs.Prelude.{slice_get}
@@ -13,7 +13,7 @@ use Rattle.metadata.proofs.RouteEntries.{same_route}
 use Rattle.metadata.specs.OwnRoutes.{own_routes}
 use Rattle.metadata.specs.MapEntries.{entry_from, entries_of}
 use Rattle.metadata.specs.Overwrites.{is_same_key, is_listed, entries_without}
-use Rattle.metadata.specs.CachedTags.{TagLists, AreTags, tags_by, tag_by}
+use Rattle.metadata.specs.CachedTags.{TagLists, AreTags, tags_by}
 use Rattle.metadata.proofs.KeyValues.{same_key, none_behind, first_behind, rest_in_order, first_value}
 use Rattle.metadata.proofs.EntriesLeft.{value_without}
 use Rattle.metadata.proofs.Tags.{added}

@@ -15,6 +15,7 @@ pub mod OverwrittenEntries
 pub mod PutEntries
 pub mod RangeEntries
 pub mod RouteEntries
+pub mod ServerEntries
 pub mod ServingEntries
 pub mod SortedTags
 pub mod StagedChanges

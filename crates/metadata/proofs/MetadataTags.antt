@@ -1,13 +1,14 @@
 -- The tags that a metadata keeps, when it is made, when entries are put over it, and when some are removed.
-use Rattle.std.proofs.Common.{◌≡◌, refl, sym, ap, ◌∙◌, subst, ℕ, List, [], Bool, true, false, Option, Some, None}
-use Rattle.std.specs.Option.{is_some, option_or}
+use Rattle.std.proofs.Common.{◌≡◌, refl, sym, ap, ◌∙◌, subst, List, [], ◌++◌, if◌then◌else◌, Bool, true, false, Some, None}
+use Rattle.std.specs.Option.{is_some}
 use Rattle.std.specs.Map.{keys_of}
 use Rattle.system_keys.specs.Keys.{Key}
-use Rattle.model.specs.Metadata.{Entries, IsInOrder, entry_value}
+use Rattle.model.specs.Metadata.{Entry, Entries, IsInOrder, entry_value, is_key_servers}
 use Rattle.metadata.specs.Overwrites.{is_listed, entries_without, IsPutOver}
-use Rattle.metadata.specs.CachedTags.{Values, TagLists, KeyTags, AreTags, tags_written, displaced_tags, values_over, changed_tags, may_tag_some, TagsTakeBack}
+use Rattle.metadata.specs.CachedTags.{Values, TagLists, KeyTags, AreTags, tags_at, tags_written, displaced_tags, values_over, changed_tags, chosen_tags, is_row_named, puts_server, may_tag_some, TagsTakeBack}
 use Rattle.metadata.proofs.KeptInOrder.{none_kept_in_order}
 use Rattle.metadata.proofs.EntriesLeft.{without_none}
+use Rattle.metadata.proofs.ServerEntries.{or_none}
 use Rattle.metadata.proofs.TagEntries.{reserved_are_tags}
 use Rattle.metadata.proofs.CachedTags.{changed_are_tags, changed_after, displaced_take_back, removed_are_tags}
 
@@ -28,17 +29,20 @@ put_at : (lists reserved written : TagLists) (rows : List KeyTags) → ArePut li
 put_at lists reserved written rows calls =
     let path : written ≡ tags_written reserved rows = λ i key. calls.put calls.there key i in sym path
 
-or_none : (found : Option (List ℕ)) → option_or found None ≡ found
-or_none None = refl
-or_none (Some value) = refl
+nothing_named : (values : Values) (p : Entry → Bool) (t : Bool) (rest : List KeyTags) → (if t then chosen_tags values p [] else []) ++ rest ≡ rest
+nothing_named values p true rest = refl
+nothing_named values p false rest = refl
 
 -- the tags of a metadata that is made of entries
-pub made_tags : (entries none : Entries) (lists reserved written : TagLists) (rows : List KeyTags) → IsInOrder entries → none ≡ [] → rows ≡ changed_tags entries none → ArePut lists reserved written rows → AreTags written (entry_value entries)
-made_tags entries none lists reserved written rows s empty is calls =
-    subst (AreTags written) (λ i key. (ap (λ (rest : Entries). option_or (entry_value entries key) (entry_value rest key)) empty ∙ or_none (entry_value entries key)) i)
-    (subst (λ (found : TagLists). AreTags found (values_over entries none)) (put_at lists reserved written rows calls)
-    (subst (λ (changed : List KeyTags). AreTags (tags_written reserved changed) (values_over entries none)) (sym is)
-    (changed_are_tags entries none reserved s (none_kept_in_order none empty).0 (no_rows none reserved empty))))
+pub made_tags : (entries : Entries) (written : TagLists) (rows : List KeyTags) → IsInOrder entries → rows ≡ chosen_tags (entry_value entries) is_key_servers entries → ((key : Key) → written key ≡ tags_written (tags_at []) rows key) → AreTags written (entry_value entries)
+made_tags entries written rows s is put =
+    let over : values_over entries [] ≡ entry_value entries = λ i key. or_none (entry_value entries key) i in
+    let changed : changed_tags entries [] ≡ rows = nothing_named (values_over entries []) (is_row_named entries) (puts_server entries) (chosen_tags (values_over entries []) is_key_servers entries) ∙ ap (λ (values : Values). chosen_tags values is_key_servers entries) over ∙ sym is in
+    let path : tags_written (tags_at []) rows ≡ written = λ i key. sym (put key) i in
+    subst (AreTags written) over
+    (subst (λ (found : TagLists). AreTags found (values_over entries [])) path
+    (subst (λ (list : List KeyTags). AreTags (tags_written (tags_at []) list) (values_over entries [])) changed
+    (changed_are_tags entries [] (tags_at []) s (none_kept_in_order [] refl).0 (no_rows [] (tags_at []) refl))))
 
 -- the tags after entries are put
 pub tags_put_over : (puts old new : Entries) (lists reserved written : TagLists) (rows : List KeyTags) → IsInOrder puts → IsInOrder old → IsPutOver puts old new → rows ≡ changed_tags puts old → ArePut lists reserved written rows

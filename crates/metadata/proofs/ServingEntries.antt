@@ -13,7 +13,7 @@ use Rattle.std.proofs.lemmas.Map.Lookups.{exact_unsigned}
 use Rattle.system_keys.specs.Keys.{Key, Range, is_key_below, is_key_up_to}
 use Rattle.system_keys.specs.declared.tag.Tag.{Tag}
 use Rattle.system_keys.specs.Families.{key_servers_family, is_in}
-use Rattle.model.specs.Metadata.{Entry, Entries, key_servers_entries, is_key_servers, behind_prefix, is_entry_up_to, is_entry_inside, serving_entry, entry_tags, server_tags, servers_of}
+use Rattle.model.specs.Metadata.{Entry, Entries, key_servers_entries, is_key_servers, behind_prefix, is_entry_up_to, is_entry_inside, serving_entry, entry_tags}
 use Rattle.metadata.proofs.Tags.{added, next_tags}
 use Rattle.system_keys.proofs.KeyOrder.{up_to_is}
 use Rattle.system_keys.proofs.KeyLaws.{begins_below}

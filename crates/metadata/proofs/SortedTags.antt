@@ -1,5 +1,5 @@
 -- Tags that are sorted first, and then added, give what they give unsorted.
-use Rattle.std.proofs.Common.{◌≡◌, refl, sym, ap, ◌∙◌, ℕ, List, [], ◌∷◌, ◌++◌, fold, flat_map, append-nil, Ordering, Less, Equal, Greater, nat_cmp, is_eq, eqb-true}
+use Rattle.std.proofs.Common.{◌≡◌, refl, sym, ap, ◌∙◌, ℕ, List, [], ◌∷◌, Ordering, Less, Equal, Greater, nat_cmp, is_eq, eqb-true}
 use Rattle.std.specs.BTreeSet.{insert_key}
 use Rattle.std.specs.Cmp.{IsTotalOrder, on_total, then_total, nat_cmp_total, unsigned_ties}
 use Rattle.std.specs.Ordering.{ordering_reverse, ordering_then, match_ordering}

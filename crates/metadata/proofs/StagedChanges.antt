@@ -1,5 +1,5 @@
 -- What one change puts and clears.
-use Rattle.std.proofs.Common.{◌≡◌, refl, sym, ap, ◌∙◌, ℕ, List, [], Bool, true, false, if◌then◌else◌, ◌&&◌, ◌||◌, filter, Option, Some, None}
+use Rattle.std.proofs.Common.{◌≡◌, refl, sym, ap, ◌∙◌, ℕ, List, [], Bool, true, false, if◌then◌else◌, ◌&&◌, ◌||◌, filter, None}
 use Rattle.std.specs.Option.{option_or}
 use Rattle.std.specs.Map.{keys_of}
 use Rattle.system_keys.specs.declared.change.Change.TheVariants.{Set, Clear}

@@ -1,5 +1,5 @@
 -- What the calls of the map to tags do to the tags at each key.
-use Rattle.std.proofs.Common.{◌≡◌, refl, sym, ap, ◌∙◌, Result, Ok, Err, OnOk, OnErr, ℕ, ◌+◌, ◌<◌, ◌≤◌, length, drop, get_or, add-one, List, [], ◌∷◌, ◌++◌, Bool, true, false, cond, if◌then◌else◌, ◌||◌, Option, Some, None, option_map, Ordering, Less, Equal, Greater, nat_cmp}
+use Rattle.std.proofs.Common.{◌≡◌, refl, sym, ap, ◌∙◌, Result, Ok, Err, OnOk, OnErr, ℕ, ◌+◌, ◌<◌, length, drop, get_or, add-one, List, [], ◌∷◌, Bool, true, false, cond, if◌then◌else◌, ◌||◌, Option, Some, None, option_map, Ordering, Less, Equal, Greater, nat_cmp}
 use Rattle.std.specs.Global.{Vec}
 use Rattle.std.specs.Option.{is_some}
 use Rattle.std.specs.Ordering.{match_ordering}
@@ -70,6 +70,10 @@ tags_filled (Err e) es new key tags ok absent there other =
     let two : false ≡ true = sym (ap is_some (sym (looked_up key.items es) ∙ absent)) ∙ there in absurd (cc)
 
 -- ---- several keys
+
+-- the first row put, and then the others
+pub written_next : (now next : TagLists) (row : KeyTags) (left : List KeyTags) → ((key : Key) → next key ≡ (if is_same_key key row.0 then Some row.1 else now key)) → (key : Key) → tags_written next left key ≡ tags_written now (row ∷ left) key
+written_next now next row left put key = let path : next ≡ (λ (other : Key). if is_same_key other row.0 then Some row.1 else now other) = λ i other. put other i in ap (λ (found : TagLists). tags_written found left key) path
 
 -- what is left to put gives what all give, at keys that have tags
 pub record IsPutting (old : TagLists) (rows : List KeyTags) (now : TagLists) (left : List KeyTags) : Type 0 where

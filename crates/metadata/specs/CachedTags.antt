@@ -1,6 +1,6 @@
 -- The tags that are kept beside the entries, one list for each keyServers row, and what brings them
 -- up to date.
-use Rattle.std.specs.Prelude.{◌≡◌, ℕ, List, [], ◌∷◌, ◌++◌, map, Bool, true, false, ◌&&◌, Option, None}
+use Rattle.std.specs.Prelude.{◌≡◌, ℕ, List, [], ◌∷◌, ◌++◌, map, Bool, true, ◌&&◌, Option}
 use Rattle.std.specs.Prelude.{Some, if◌then◌else◌, filter, flat_map, option_map, option_to_list}
 use Rattle.std.specs.Prelude.{nat_eq}
 use Rattle.std.specs.Option.{is_some, option_or}

@@ -1,7 +1,7 @@
 //! Which tags change when entries are put over others.
 
 ghost use Rattle.std.specs.Prelude.{◌≡◌, ◌++◌, ◌∷◌, [], IfOk, OnOk};
-ghost use Rattle.model.specs.Metadata.{is_key_servers};
+ghost use Rattle.model.specs.Metadata.{entry_value, is_key_servers};
 ghost use Rattle.metadata.specs.CachedTags.{changed_tags, chosen_tags, is_row_named, puts_server};
 ghost use Rattle.metadata.specs.CachedTags.{values_over};
 
@@ -20,7 +20,24 @@ pub(crate) fn changed_tags(puts: &EntryMap, entries: &EntryMap) -> Result<Vec<Ta
     if puts_server(puts) {
         add_named(puts, entries, &mut rows)?;
     }
-    add_tags(puts, entries, &mut rows)?;
+    add_tags(puts, puts, entries, &mut rows)?;
+    Ok(rows)
+}
+
+/// The tags of all keyServers entries. Fails only with `OutOfMemory`.
+pub(crate) fn all_tags(entries: &EntryMap) -> Result<Vec<TagRow>, OutOfMemory>
+    ensures { IfOk result (λ rows. rows.items
+        ≡ chosen_tags (entry_value entries.now) is_key_servers entries.now) }
+{
+    // (a server is found sooner among few entries)
+    let servers = entries.servers()?;
+    let mut rows = Vec::new(entries.alloc());
+    add_tags(
+        entries,
+        &servers,
+        &EntryMap::new(entries.alloc()),
+        &mut rows,
+    )?;
     Ok(rows)
 }
 
@@ -36,13 +53,19 @@ fn puts_server(puts: &EntryMap) -> bool
     false
 }
 
-/// Adds the tags of the keyServers entries that are put. Fails only with `OutOfMemory`.
-fn add_tags(puts: &EntryMap, entries: &EntryMap, rows: &mut Vec<TagRow>) -> Result<(), OutOfMemory>
+/// Adds the tags of the keyServers entries in a list, by the servers of the entries that are put
+/// over others. Fails only with `OutOfMemory`.
+fn add_tags(
+    list: &EntryMap,
+    puts: &EntryMap,
+    entries: &EntryMap,
+    rows: &mut Vec<TagRow>,
+) -> Result<(), OutOfMemory>
     ensures { OnOk result (rows.new.items
         ≡ rows.old.items
-        ++ chosen_tags (values_over puts.now entries.now) is_key_servers puts.now) }
+        ++ chosen_tags (values_over puts.now entries.now) is_key_servers list.now) }
 {
-    for (key, value) in puts.iter() {
+    for (key, value) in list.iter() {
         add_row(puts, entries, key.as_slice(), value.as_slice(), rows)?;
     }
     Ok(())

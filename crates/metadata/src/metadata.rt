@@ -15,8 +15,7 @@ ghost use Rattle.metadata.specs.Overwrites.{entries_without};
 ghost use Rattle.metadata.specs.Started.{after_rows, IsStarted, HasStarted};
 
 use crate::applying::{any_applied, only_change};
-use crate::changing::changed_tags;
-use crate::entry_map::EntryMap;
+use crate::changing::{all_tags, changed_tags};
 use crate::entry_view::EntryView;
 use crate::kept_entries::KeptEntries;
 use crate::key_set::KeySet;
@@ -70,10 +69,8 @@ impl Metadata {
         ensures { IfOk result (λ made. made ≡ entries) }
     {
         let alloc = entries.map().alloc();
-        let rows = changed_tags(entries.map(), &EntryMap::new(alloc))?;
-        let mut tags = TagMap::new(alloc);
-        tags.reserve(&rows)?;
-        tags.write(rows);
+        let rows = all_tags(entries.map())?;
+        let tags = TagMap::of(alloc, rows)?;
         Ok(Metadata {
             entries,
             tags,

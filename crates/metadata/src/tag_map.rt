@@ -73,6 +73,19 @@ impl TagMap {
         }
     }
 
+    /// The map of the tags in these rows: at a key those of its last row. Fails only with
+    /// `OutOfMemory`.
+    pub(crate) fn of(alloc: Global, rows: Vec<TagRow>) -> Result<TagMap, OutOfMemory>
+        ensures { IfOk result (λ map. (key : Key)
+            → tags_at map key ≡ tags_written (tags_at []) rows.items key) }
+    {
+        let mut map = TagMap::new(alloc);
+        for row in rows {
+            map.insert(row)?;
+        }
+        Ok(map)
+    }
+
     /// The tags at a key. Does not allocate.
     pub(crate) fn get(&self, key: &[u8]) -> Option<&[Tag]>
         ensures { option_map (λ tags. tags.now) result ≡ tags_at self.now key.now }

@@ -6,4 +6,4 @@ use Rattle.metadata.specs.CachedTags.{chosen_tags, values_over}
 use Rattle.metadata.proofs.changing.add_tags.Given as goal
 
 abbrev pub invariant-loop-key : goal.invariant-loop-key
-invariant-loop-key l = l.rows.items ++ chosen_tags (values_over l.puts l.entries) is_key_servers (entries_of l.key-iterator) ≡ l.fn.rows.items ++ chosen_tags (values_over l.puts l.entries) is_key_servers l.puts
+invariant-loop-key l = l.rows.items ++ chosen_tags (values_over l.puts l.entries) is_key_servers (entries_of l.key-iterator) ≡ l.fn.rows.items ++ chosen_tags (values_over l.puts l.entries) is_key_servers l.list

@@ -1,5 +1,5 @@
 -- At the end the routes are the own routes of all entries, which are their routes, as the entries are in order.
-use Rattle.std.proofs.Common.{◌∙◌, ◌++◌, sym, ap, append-nil, refl, Some, ℕ, List}
+use Rattle.std.proofs.Common.{◌∙◌, ◌++◌, sym, ap, append-nil, Some, ℕ, List}
 use Rattle.std.specs.Global.{Vec}
 use Rattle.model.specs.Metadata.{Entries, entry_value}
 use Rattle.metadata.specs.MapEntries.{entry_from, entries_of}

@@ -1,7 +1,5 @@
 -- A turn of the loop adds one tag.
-use Rattle.std.proofs.Common.{◌∙◌, ap, arith}
-use Rattle.std.specs.BTreeSet.{insert_key}
-use Rattle.model.specs.Metadata.{tag_cmp}
+use Rattle.std.proofs.Common.{arith}
 use Rattle.metadata.proofs.Tags.{next_tag}
 use Rattle.metadata.proofs.tagging.add_tags.Goals as goal
 

@@ -1,12 +1,12 @@
 -- A turn of the loop adds the tags kept for a row, unless it is hidden.
-use Rattle.std.proofs.Common.{◌≡◌, ◌∙◌, ap, sym, subst, true, false, inl, inr, refl, Some, flat_map, filter, ℕ, List, rules}
+use Rattle.std.proofs.Common.{◌∙◌, ap, sym, Some, flat_map, filter, ℕ, List}
 use Rattle.std.specs.Global.{Vec}
-use Rattle.model.specs.Metadata.{Entries, entry_value, entry_tags, key_servers_entries, is_entry_inside}
+use Rattle.model.specs.Metadata.{Entries, entry_value, entry_tags}
 use Rattle.metadata.specs.MapEntries.{entry_from, entries_of, is_serving_inside}
 use Rattle.metadata.specs.Overwrites.{is_listed}
 use Rattle.metadata.specs.CachedTags.{tags_at, tags_by}
 use Rattle.metadata.proofs.Tags.{added}
-use Rattle.metadata.proofs.KeptTags.{AreRows, AreKeyServers, rows_passing, key_servers_passing, row_first, own_first, rows_rest, own_rest, tags_shown_at, row_added}
+use Rattle.metadata.proofs.KeptTags.{rows_passing, key_servers_passing, row_first, own_first, rows_rest, own_rest, tags_shown_at, row_added}
 use Rattle.metadata.proofs.ServingEntries.{is_left, tags_left, inside_next}
 use Rattle.metadata.proofs.tagging.add_tags_inside.Goals as goal
 

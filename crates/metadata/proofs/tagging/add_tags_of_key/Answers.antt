@@ -1,8 +1,8 @@
 -- The tags kept for the row that serves the key are added.
-use Rattle.std.proofs.Common.{◌≡◌, ◌∙◌, ap, sym, Some, None, List}
+use Rattle.std.proofs.Common.{◌∙◌, ap, sym, List}
 use Rattle.std.specs.Option.{option_map}
 use Rattle.metadata.proofs.Outcomes.{on_ok}
-use Rattle.model.specs.Metadata.{Entry, entry_value, serving_entry, key_servers_entries}
+use Rattle.model.specs.Metadata.{serving_entry, key_servers_entries}
 use Rattle.system_keys.specs.declared.tag.Tag.{Tag}
 use Rattle.std.proofs.Common.{Option}
 use Rattle.metadata.proofs.Tags.{added}

@@ -1,5 +1,5 @@
 -- The tags kept for the row that serves the key.
-use Rattle.std.proofs.Common.{◌∙◌, ap, sym, Some, None, List}
+use Rattle.std.proofs.Common.{◌∙◌, ap, sym, Some, None}
 use Rattle.std.specs.Option.{option_map}
 use Rattle.std.proofs.lemmas.Result.{IfOk-weaker}
 use Rattle.metadata.proofs.KeptTags.{tags_known}

@@ -1,8 +1,8 @@
 -- The last entry up to the key that is not hidden serves it, and its tags are kept.
-use Rattle.std.proofs.Common.{◌≡◌, ◌∙◌, ap, sym, subst, true, false, [], ◌∷◌, ◌++◌, Some, None, ℕ, List, rules}
+use Rattle.std.proofs.Common.{◌≡◌, ◌∙◌, ap, sym, subst, true, false, [], ◌∷◌, None, ℕ, List, rules}
 use Rattle.std.specs.Global.{Vec}
 use Rattle.std.specs.Option.{option_map}
-use Rattle.model.specs.Metadata.{Entry, Entries, entry_value, serving_entry, key_servers_entries, behind_prefix}
+use Rattle.model.specs.Metadata.{Entry, Entries, entry_value, serving_entry, key_servers_entries}
 use Rattle.metadata.specs.MapEntries.{entry_from, is_serving_up_to}
 use Rattle.metadata.specs.Overwrites.{is_listed, entries_without}
 use Rattle.metadata.specs.CachedTags.{tags_at, tags_by}

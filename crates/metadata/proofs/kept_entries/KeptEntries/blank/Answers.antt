@@ -1,5 +1,5 @@
 -- A turn of the loop blanks one key, and after the last none is left.
-use Rattle.std.proofs.Common.{◌≡◌, ◌∙◌, ap, sym, refl, subst, ◌&&◌, Some, [], ℕ, List, if◌then◌else◌}
+use Rattle.std.proofs.Common.{◌∙◌, ap, subst, ◌&&◌, Some, [], ℕ, List, if◌then◌else◌}
 use Rattle.std.specs.Global.{Vec}
 use Rattle.system_keys.specs.Keys.{Key}
 use Rattle.system_keys.specs.Families.{is_kept}

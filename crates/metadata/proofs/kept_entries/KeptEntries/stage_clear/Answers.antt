@@ -1,5 +1,5 @@
 -- The keys of the range are cleared.
-use Rattle.std.proofs.Common.{◌∙◌, ◌++◌, ap, filter, subst}
+use Rattle.std.proofs.Common.{◌∙◌, ◌++◌, ap, filter}
 use Rattle.std.specs.Map.{keys_of}
 use Rattle.system_keys.specs.Keys.{holds}
 use Rattle.model.specs.Metadata.{Entry, Entries}

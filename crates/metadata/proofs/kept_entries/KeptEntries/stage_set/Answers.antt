@@ -1,8 +1,4 @@
 -- The entry that is put, over no entries.
-use Rattle.std.proofs.Common.{subst}
-use Rattle.system_keys.specs.declared.change.Change.TheVariants.{Set}
-use Rattle.model.specs.Metadata.{Entries, after_change}
-use Rattle.metadata.specs.Overwrites.{IsOverwritten}
 use Rattle.metadata.proofs.StagedChanges.{set_staged}
 use Rattle.metadata.proofs.kept_entries.KeptEntries.stage_set.Goals as goal
 

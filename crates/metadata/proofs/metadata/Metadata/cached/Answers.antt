@@ -1,11 +1,11 @@
 -- The row at the place has its tags kept, which are those of its key.
-use Rattle.std.proofs.Common.{◌≡◌, ◌∙◌, ap, sym, subst, Some, Option, true, ℕ, List, rules, arith}
+use Rattle.std.proofs.Common.{◌≡◌, ◌∙◌, ap, sym, Some, true, ℕ, List, rules, arith}
 use Rattle.std.specs.Global.{Vec}
 use Rattle.std.specs.Prelude.{slice_get, option_map}
-use Rattle.model.specs.Metadata.{Entry, Entries, IsInOrder, entry_value, is_key_servers, key_servers_entries, behind_prefix, tags_of_key}
+use Rattle.model.specs.Metadata.{Entry, Entries, is_key_servers, key_servers_entries, tags_of_key}
 use Rattle.metadata.specs.MapEntries.{entry_from, entries_of}
 use Rattle.metadata.specs.CachedTags.{tags_at}
-use Rattle.metadata.proofs.KeptTags.{all_rows, row_first, rows_rest, row_at, row_key_tags}
+use Rattle.metadata.proofs.KeptTags.{all_rows, row_first, row_at, row_key_tags}
 use Rattle.metadata.proofs.metadata.Metadata.cached.Goals as goal
 
 pub loop-key-init : goal.loop-key-init

@@ -1,5 +1,5 @@
 -- None of what is still to be removed gives a tag.
-use Rattle.std.proofs.Common.{◌≡◌, ◌∙◌, refl, sym, ap, subst, true, false, rules}
+use Rattle.std.proofs.Common.{◌∙◌, refl, sym, ap, subst}
 use Rattle.model.specs.Metadata.{Entries, entry_value}
 use Rattle.metadata.specs.Overwrites.{entries_without}
 use Rattle.metadata.specs.CachedTags.{AreTags, tags_at, may_tag_some}

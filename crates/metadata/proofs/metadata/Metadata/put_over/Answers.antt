@@ -1,11 +1,11 @@
 -- The tags that change are put after the entries.
-use Rattle.std.proofs.Common.{◌≡◌, ◌∙◌, sym, ap, subst, List}
+use Rattle.std.proofs.Common.{◌∙◌, ap, subst, List}
 use Rattle.std.specs.Map.{keys_of}
 use Rattle.model.specs.Metadata.{Entries, IsInOrder, AreKept, entry_value}
-use Rattle.metadata.specs.CachedTags.{KeyTags, AreTags, tags_at, changed_tags, displaced_tags, TagsTakeBack}
-use Rattle.metadata.specs.Overwrites.{is_listed, IsPutOver}
+use Rattle.metadata.specs.CachedTags.{KeyTags, tags_at, changed_tags, displaced_tags, TagsTakeBack}
+use Rattle.metadata.specs.Overwrites.{is_listed}
 use Rattle.metadata.proofs.TagEntries.{reserved_are_tags}
-use Rattle.metadata.proofs.MetadataTags.{ArePut, tags_put_over, tags_displaced}
+use Rattle.metadata.proofs.MetadataTags.{tags_put_over, tags_displaced}
 use Rattle.metadata.proofs.metadata.Metadata.put_over.Goals as goal
 
 pub invariant_of-self : goal.invariant_of-self

@@ -1,5 +1,5 @@
 -- What is removed gives no tag.
-use Rattle.std.proofs.Common.{◌∙◌, sym, ap}
+use Rattle.std.proofs.Common.{◌∙◌, ap}
 use Rattle.model.specs.Metadata.{Entries}
 use Rattle.metadata.specs.CachedTags.{tags_at, may_tag_some}
 use Rattle.metadata.proofs.MetadataTags.{tags_left_over}

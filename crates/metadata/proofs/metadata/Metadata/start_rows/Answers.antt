@@ -1,5 +1,5 @@
 -- What the rows change is what is staged.
-use Rattle.std.proofs.Common.{◌≡◌, ◌∙◌, subst, ap}
+use Rattle.std.proofs.Common.{◌∙◌, subst, ap}
 use Rattle.std.proofs.lemmas.Result.{IfOk-weaker}
 use Rattle.model.specs.Metadata.{Entries, IsInOrder, is_locked, after_journal_row}
 use Rattle.metadata.specs.Overwrites.{IsOverwritten}

@@ -1,5 +1,5 @@
 -- The entries and the tags are those before.
-use Rattle.std.proofs.Common.{◌≡◌, ◌∙◌, sym, ap, subst, List}
+use Rattle.std.proofs.Common.{sym, subst}
 use Rattle.model.specs.Metadata.{Entries, entry_value}
 use Rattle.metadata.specs.Started.{Started}
 use Rattle.metadata.specs.Overwrites.{TakesBack}

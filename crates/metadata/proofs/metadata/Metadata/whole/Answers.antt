@@ -1,5 +1,5 @@
 -- No entry is hidden.
-use Rattle.std.proofs.Common.{◌∙◌, sym, ap, subst}
+use Rattle.std.proofs.Common.{◌∙◌, sym, subst}
 use Rattle.model.specs.Metadata.{Entries, entry_value}
 use Rattle.metadata.specs.Overwrites.{entries_without}
 use Rattle.metadata.specs.CachedTags.{AreTags, tags_at}

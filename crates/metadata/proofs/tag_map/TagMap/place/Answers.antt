@@ -1,8 +1,7 @@
 -- No tags are put at the key.
 use Rattle.std.proofs.Common.{◌∙◌, Some, if◌then◌else◌}
-use Rattle.system_keys.specs.declared.tag.Tag.{Tag}
 use Rattle.metadata.specs.Overwrites.{is_same_key}
-use Rattle.metadata.specs.CachedTags.{KeyTags, tags_at}
+use Rattle.metadata.specs.CachedTags.{tags_at}
 use Rattle.metadata.proofs.tag_map.TagMap.place.Goals as goal
 
 pub returns-clause-ok : goal.returns-clause-ok

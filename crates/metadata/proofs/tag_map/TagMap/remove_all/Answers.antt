@@ -1,5 +1,5 @@
 -- A turn of the loop removes what one key has.
-use Rattle.std.proofs.Common.{◌≡◌, ◌∙◌, ap, sym, refl, subst, false, ℕ, List}
+use Rattle.std.proofs.Common.{◌∙◌, ap, refl, subst, ℕ, List}
 use Rattle.std.specs.Global.{Vec}
 use Rattle.system_keys.specs.Keys.{Key}
 use Rattle.metadata.specs.MapEntries.{bytes_of_keys}

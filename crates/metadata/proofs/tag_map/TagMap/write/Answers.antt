@@ -1,5 +1,5 @@
 -- A turn of the loop puts the tags of one key, and after the last all are put.
-use Rattle.std.proofs.Common.{◌≡◌, ◌∙◌, sym, ap, subst, length, refl, arith, List}
+use Rattle.std.proofs.Common.{◌∙◌, sym, ap, subst, length, arith, List}
 use Rattle.std.specs.Vec.Iter.{into_iter_items}
 use Rattle.metadata.specs.CachedTags.{KeyTags, tags_at}
 use Rattle.metadata.proofs.TagEntries.{IsPutting, putting_next, putting_last, none_left}
