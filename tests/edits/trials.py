@@ -8,7 +8,7 @@ from batch import Batch, batches
 from verdict import Said, judge
 
 # How often a run looks whether the process that it runs beside has ended, in seconds.
-LOOK = 5
+LOOK = 1
 
 
 class Trials:

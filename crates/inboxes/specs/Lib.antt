@@ -1,7 +1,5 @@
 -- The definitions, in reading order.
 
--- what a worker answers
-pub mod Answers
 -- the views that a pass may have
 pub mod Views
 -- what contracts see of a message

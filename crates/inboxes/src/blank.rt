@@ -10,22 +10,23 @@ ghost use Rattle.inboxes.specs.Places.{known, place_at, place_of};
 use crate::channels::Channels;
 use crate::ended_sender::EndedSender;
 use crate::inbox_end::FreshEnd;
+use crate::question::Question;
 use crate::rule::{Hand, Inbox, Post, admit, make};
 use crate::taker::Taker;
 use agreed_ledger::Naming;
 use model::{ProxyNumber, ResolverNumber};
 use std::alloc::{AllocError, Global};
-use std::marker::Model;
+use std::marker::{Model, PhantomData};
 
 /// The channel of one inbox, with the worker's pass.
 #[derive(Drop)]
-pub(crate) struct BlankInbox<N: Naming> {
-    post: Post<N>,
-    inbox: Inbox<N>,
-    hand: Hand<N>,
+pub(crate) struct BlankInbox<C: Question> {
+    post: Post<C>,
+    inbox: Inbox<C>,
+    hand: Hand<C>,
 }
 
-impl<N: Naming> Model for BlankInbox<N> {
+impl<C: Question> Model for BlankInbox<C> {
     ghost use Rattle.std.specs.Prelude.{◌≡◌, [], true};
     ghost use Rattle.crossbeam_channel.specs.Claims.{IsSeatAt};
     ghost use Rattle.crossbeam_channel.specs.Ends.{receives_on, sends_on};
@@ -41,9 +42,9 @@ impl<N: Naming> Model for BlankInbox<N> {
         × ((known b.hand).gets ≡ true) × ((known b.hand).got ≡ []) };
 }
 
-impl<N: Naming> BlankInbox<N> {
+impl<C: Question> BlankInbox<C> {
     /// A new channel, which holds up to 64 messages.
-    pub(crate) fn new(alloc: Global) -> Result<BlankInbox<N>, AllocError>
+    pub(crate) fn new(alloc: Global) -> Result<BlankInbox<C>, AllocError>
         ensures { IfOk result (λ made. made.made ≡ 0) }
     {
         let (post, inbox, hand) = make(alloc)?;
@@ -51,7 +52,7 @@ impl<N: Naming> BlankInbox<N> {
     }
 
     /// The sending end of the next proxy, which has the number `proxy`.
-    pub(crate) fn admit(&mut self, proxy: ProxyNumber) -> Result<BlankSender<N>, AllocError>
+    pub(crate) fn admit(&mut self, proxy: ProxyNumber) -> Result<BlankSender<C>, AllocError>
         requires { proxy ≡ self.old.made }
         ensures { IfOk result (λ sender. (sender ≡ record { place = self.old.place; proxy = proxy })
             × (self.new ≡ record { place = self.old.place; made = proxy + 1 })) }
@@ -62,7 +63,7 @@ impl<N: Naming> BlankInbox<N> {
     }
 
     /// The receiving end, with a count of 0 for each proxy.
-    pub(crate) fn into_end(self, counts: Vec<u64>) -> BlankEnd<N>
+    pub(crate) fn into_end<N: Naming>(self, counts: Vec<u64>) -> BlankEnd<N, C>
         requires { counts.items ≡ replicate N.cells.config.proxies 0 }
         ensures { result ≡ self.place }
     {
@@ -75,19 +76,20 @@ impl<N: Naming> BlankInbox<N> {
             inbox,
             hand,
             counts,
+            of: PhantomData,
         }
     }
 }
 
 /// A sending end of a proxy that has sent nothing.
 #[derive(Drop)]
-pub(crate) struct BlankSender<N: Naming> {
+pub(crate) struct BlankSender<C: Question> {
     proxy: ProxyNumber,
-    post: Post<N>,
-    hand: Hand<N>,
+    post: Post<C>,
+    hand: Hand<C>,
 }
 
-impl<N: Naming> Model for BlankSender<N> {
+impl<C: Question> Model for BlankSender<C> {
     ghost use Rattle.std.specs.Prelude.{◌≡◌, [], true};
     ghost use Rattle.crossbeam_channel.specs.Claims.{IsSeatAt};
     ghost use Rattle.crossbeam_channel.specs.Ends.{sends_on};
@@ -103,9 +105,12 @@ impl<N: Naming> Model for BlankSender<N> {
         × ((known b.hand).put ≡ []) };
 }
 
-impl<N: Naming> BlankSender<N> {
+impl<C: Question> BlankSender<C> {
     /// The end to this resolver, whose channel it is of.
-    pub(crate) fn named<M: Channels>(self, resolver: ResolverNumber) -> EndedSender<N, M>
+    pub(crate) fn named<N: Naming, M: Channels>(
+        self,
+        resolver: ResolverNumber,
+    ) -> EndedSender<N, C, M>
         requires place { self.place ≡ place_at M.places resolver }
         requires proxy { self.proxy < N.cells.config.proxies }
         ensures { result ≡ fresh_sender self.proxy resolver }
@@ -116,13 +121,14 @@ impl<N: Naming> BlankSender<N> {
 
 /// The receiving end of an inbox, of which nothing was taken.
 #[derive(Drop)]
-pub(crate) struct BlankEnd<N: Naming> {
-    inbox: Inbox<N>,
-    hand: Hand<N>,
+pub(crate) struct BlankEnd<N: Naming, C: Question> {
+    inbox: Inbox<C>,
+    hand: Hand<C>,
     counts: Vec<u64>,
+    of: PhantomData<N>,
 }
 
-impl<N: Naming> Model for BlankEnd<N> {
+impl<N: Naming, C: Question> Model for BlankEnd<N, C> {
     ghost use Rattle.std.specs.Prelude.{◌≡◌, [], true, replicate};
     ghost use Rattle.crossbeam_channel.specs.Claims.{IsSeatAt};
     ghost use Rattle.crossbeam_channel.specs.Ends.{receives_on};
@@ -137,9 +143,9 @@ impl<N: Naming> Model for BlankEnd<N> {
         × (b.counts.items ≡ replicate N.cells.config.proxies 0) };
 }
 
-impl<N: Naming> BlankEnd<N> {
+impl<N: Naming, C: Question> BlankEnd<N, C> {
     /// The end of this resolver's inbox, whose channel it is of.
-    pub(crate) fn named<M: Channels>(self, resolver: ResolverNumber) -> FreshEnd<N, M>
+    pub(crate) fn named<M: Channels>(self, resolver: ResolverNumber) -> FreshEnd<N, C, M>
         requires { self ≡ place_at M.places resolver }
         ensures { result ≡ resolver }
     {
@@ -147,6 +153,7 @@ impl<N: Naming> BlankEnd<N> {
             inbox,
             hand,
             counts,
+            of: _,
         } = self;
         FreshEnd::new(inbox, Taker::new(resolver, hand, counts))
     }
@@ -154,12 +161,12 @@ impl<N: Naming> BlankEnd<N> {
 
 /// The sending ends of one proxy, in the order of the resolvers.
 #[derive(Drop)]
-pub(crate) struct BlankSenders<N: Naming> {
+pub(crate) struct BlankSenders<C: Question> {
     proxy: ProxyNumber,
-    senders: Vec<BlankSender<N>>,
+    senders: Vec<BlankSender<C>>,
 }
 
-impl<N: Naming> Model for BlankSenders<N> {
+impl<C: Question> Model for BlankSenders<C> {
     ghost use Rattle.std.specs.Prelude.{◌≡◌, All, map};
     ghost use Rattle.inboxes.specs.Blanks.{BlankRow};
 
@@ -173,13 +180,13 @@ impl<N: Naming> Model for BlankSenders<N> {
     ghost invariant = { λ b. All (λ sender. sender.proxy ≡ b.proxy) b.senders.items };
 }
 
-impl<N: Naming> BlankSenders<N> {
+impl<C: Question> BlankSenders<C> {
     /// No ends, with room for so many.
     pub(crate) fn new(
         alloc: Global,
         proxy: ProxyNumber,
         room: usize,
-    ) -> Result<BlankSenders<N>, AllocError>
+    ) -> Result<BlankSenders<C>, AllocError>
         ensures { IfOk result (λ row. row ≡ record { proxy = proxy; places = [] }) }
     {
         let senders = Vec::with_capacity(alloc, room)?;
@@ -187,7 +194,7 @@ impl<N: Naming> BlankSenders<N> {
     }
 
     /// Appends the proxy's end to the next resolver.
-    pub(crate) fn push(&mut self, sender: BlankSender<N>) -> Result<(), AllocError>
+    pub(crate) fn push(&mut self, sender: BlankSender<C>) -> Result<(), AllocError>
         requires { sender.proxy ≡ self.old.proxy }
         ensures { IfOk result (λ _. self.new
             ≡ record self.old { places = self.old.places ++ sender.place ∷ [] }) }
@@ -197,7 +204,7 @@ impl<N: Naming> BlankSenders<N> {
     }
 
     /// The proxy's number and ends.
-    pub(crate) fn into_parts(self) -> (ProxyNumber, Vec<BlankSender<N>>)
+    pub(crate) fn into_parts(self) -> (ProxyNumber, Vec<BlankSender<C>>)
         ensures proxy { result.0 ≡ self.proxy }
         ensures places { map (λ sender. sender.place) result.1.items ≡ self.places }
         ensures mine { All (λ sender. sender.proxy ≡ self.proxy) result.1.items }

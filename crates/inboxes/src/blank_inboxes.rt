@@ -9,6 +9,7 @@ use crate::blank::{BlankEnd, BlankInbox, BlankSenders};
 use crate::channels::Channels;
 use crate::inbox_end::FreshEnd;
 use crate::proxy_senders::ProxySenders;
+use crate::question::Question;
 use crate::room::{InboxRoom, SenderRoom};
 use agreed_ledger::{Ledger, Naming};
 use std::alloc::{AllocError, Global};
@@ -18,12 +19,12 @@ use system_keys::OutOfMemory;
 /// The inboxes of a run, one for each resolver, whose channels have no names yet. Contracts see the
 /// channels, by the numbers of their resolvers.
 #[derive(Drop)]
-pub struct BlankInboxes<N: Naming> {
-    rows: Vec<BlankSenders<N>>,
-    ends: Vec<BlankEnd<N>>,
+pub struct BlankInboxes<N: Naming, C: Question> {
+    rows: Vec<BlankSenders<C>>,
+    ends: Vec<BlankEnd<N, C>>,
 }
 
-impl<N: Naming> Model for BlankInboxes<N> {
+impl<N: Naming, C: Question> Model for BlankInboxes<N, C> {
     ghost use Rattle.std.specs.Prelude.{◌≡◌, List, length};
     ghost use Rattle.inboxes.specs.Blanks.{AreRows};
     ghost use Rattle.inboxes.specs.Places.{Place};
@@ -36,10 +37,10 @@ impl<N: Naming> Model for BlankInboxes<N> {
         × AreRows N.cells.config.proxies b.ends.items b.rows.items };
 }
 
-impl<N: Naming> BlankInboxes<N> {
+impl<N: Naming, C: Question> BlankInboxes<N, C> {
     /// Makes an inbox for each resolver of the ledger's cluster, each for up to 64 messages, with a
     /// sending end for each proxy. Fails only with `OutOfMemory`.
-    pub fn new(alloc: Global, ledger: &Ledger<N>) -> Result<BlankInboxes<N>, OutOfMemory> {
+    pub fn new(alloc: Global, ledger: &Ledger<N>) -> Result<BlankInboxes<N, C>, OutOfMemory> {
         let proxies = ledger.config().proxies();
         let resolvers = ledger.config().resolvers();
         let mut rows = empty_rows(alloc, proxies, resolvers)?;
@@ -55,8 +56,8 @@ impl<N: Naming> BlankInboxes<N> {
     /// the worker's end, in order. It allocates nothing, since the room was made before.
     pub fn named<M: Channels>(
         self,
-        room: InboxRoom<N, M>,
-    ) -> (Vec<ProxySenders<N, M>>, Vec<FreshEnd<N, M>>)
+        room: InboxRoom<N, C, M>,
+    ) -> (Vec<ProxySenders<N, C, M>>, Vec<FreshEnd<N, C, M>>)
         requires { self ≡ M.places }
         ensures senders { AreSides N.cells.config.proxies N.cells.config.resolvers result.0.items }
         ensures ends { IsEach (λ resolver. resolver) N.cells.config.resolvers result.1.items }
@@ -72,11 +73,11 @@ impl<N: Naming> BlankInboxes<N> {
 }
 
 /// For each proxy a row with no ends.
-fn empty_rows<N: Naming>(
+fn empty_rows<C: Question>(
     alloc: Global,
     proxies: usize,
     resolvers: usize,
-) -> Result<Vec<BlankSenders<N>>, AllocError>
+) -> Result<Vec<BlankSenders<C>>, AllocError>
     ensures { IfOk result (λ rows. AreRows proxies [] rows.items) }
 {
     let mut rows = Vec::with_capacity(alloc, proxies)?;
@@ -87,10 +88,10 @@ fn empty_rows<N: Naming>(
 }
 
 /// Adds an inbox, with a sending end for each proxy.
-fn add_inbox<N: Naming>(
+fn add_inbox<N: Naming, C: Question>(
     alloc: Global,
-    rows: &mut Vec<BlankSenders<N>>,
-    ends: &mut Vec<BlankEnd<N>>,
+    rows: &mut Vec<BlankSenders<C>>,
+    ends: &mut Vec<BlankEnd<N, C>>,
 ) -> Result<(), AllocError>
     requires { AreRows N.cells.config.proxies ends.old.items rows.old.items }
     ensures rows { OnOk result (AreRows N.cells.config.proxies ends.new.items rows.new.items) }
@@ -107,11 +108,11 @@ fn add_inbox<N: Naming>(
 }
 
 /// Names the ends of all proxies.
-fn named_rows<N: Naming, M: Channels>(
-    rows: Vec<BlankSenders<N>>,
-    mut rooms: Vec<SenderRoom<N, M>>,
-    mut sides: Vec<ProxySenders<N, M>>,
-) -> Vec<ProxySenders<N, M>>
+fn named_rows<N: Naming, C: Question, M: Channels>(
+    rows: Vec<BlankSenders<C>>,
+    mut rooms: Vec<SenderRoom<N, C, M>>,
+    mut sides: Vec<ProxySenders<N, C, M>>,
+) -> Vec<ProxySenders<N, C, M>>
     requires rows { AreRows N.cells.config.proxies M.places rows.items }
     requires all { length M.places ≡ N.cells.config.resolvers }
     requires rooms { length rooms.items ≡ N.cells.config.proxies }
@@ -129,10 +130,10 @@ fn named_rows<N: Naming, M: Channels>(
 }
 
 /// Names the ends of one proxy.
-fn named_row<N: Naming, M: Channels>(
-    row: BlankSenders<N>,
-    room: SenderRoom<N, M>,
-) -> ProxySenders<N, M>
+fn named_row<N: Naming, C: Question, M: Channels>(
+    row: BlankSenders<C>,
+    room: SenderRoom<N, C, M>,
+) -> ProxySenders<N, C, M>
     requires places { row.places ≡ M.places }
     requires all { length M.places ≡ N.cells.config.resolvers }
     requires proxy { row.proxy < N.cells.config.proxies }
@@ -148,10 +149,10 @@ fn named_row<N: Naming, M: Channels>(
 }
 
 /// Names the receiving ends.
-fn named_ends<N: Naming, M: Channels>(
-    blank: Vec<BlankEnd<N>>,
-    mut ends: Vec<FreshEnd<N, M>>,
-) -> Vec<FreshEnd<N, M>>
+fn named_ends<N: Naming, C: Question, M: Channels>(
+    blank: Vec<BlankEnd<N, C>>,
+    mut ends: Vec<FreshEnd<N, C, M>>,
+) -> Vec<FreshEnd<N, C, M>>
     requires places { blank.items ≡ M.places }
     requires empty { ends.items ≡ [] }
     requires room { length M.places ≤ vec_capacity ends }

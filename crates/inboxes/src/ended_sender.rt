@@ -9,6 +9,7 @@ ghost use Rattle.inboxes.specs.Sending.{with_gone, with_sent};
 
 use crate::channels::Channels;
 use crate::message::Message;
+use crate::question::Question;
 use crate::rule::{Hand, Post, send};
 use agreed_ledger::Naming;
 use model::{ProxyNumber, ResolverNumber};
@@ -18,17 +19,17 @@ use std::sync::Wait;
 /// A proxy's sending end to the inbox of one resolver, with the pass that knows what was sent. When
 /// the proxy sends no more, it is what [`compare`](crate::Taker::compare) takes.
 #[derive(Drop)]
-pub struct EndedSender<N: Naming, M: Channels> {
+pub struct EndedSender<N: Naming, C: Question, M: Channels> {
     pub(crate) resolver: ResolverNumber,
     pub(crate) proxy: ProxyNumber,
-    pub(crate) post: Post<N>,
-    pub(crate) hand: Hand<N>,
+    pub(crate) post: Post<C>,
+    pub(crate) hand: Hand<C>,
     pub(crate) sent: u64,
     pub(crate) gone: bool,
-    pub(crate) of: PhantomData<M>,
+    pub(crate) of: PhantomData<(N, M)>,
 }
 
-impl<N: Naming, M: Channels> Model for EndedSender<N, M> {
+impl<N: Naming, C: Question, M: Channels> Model for EndedSender<N, C, M> {
     ghost use Rattle.std.specs.Prelude.{◌≡◌, ◌<◌, true};
     ghost use Rattle.crossbeam_channel.specs.Claims.{IsSeatAt};
     ghost use Rattle.crossbeam_channel.specs.Ends.{sends_on};
@@ -53,14 +54,14 @@ impl<N: Naming, M: Channels> Model for EndedSender<N, M> {
         × (e.sent ≡ counted (known e.hand).put) };
 }
 
-impl<N: Naming, M: Channels> EndedSender<N, M> {
+impl<N: Naming, C: Question, M: Channels> EndedSender<N, C, M> {
     /// The end of the proxy to this resolver, with a pass that has sent nothing.
     pub(crate) fn new(
         resolver: ResolverNumber,
         proxy: ProxyNumber,
-        post: Post<N>,
-        hand: Hand<N>,
-    ) -> EndedSender<N, M>
+        post: Post<C>,
+        hand: Hand<C>,
+    ) -> EndedSender<N, C, M>
         requires proxy { proxy < N.cells.config.proxies }
         requires place { place_of (sends_on post) ≡ place_at M.places resolver }
         requires pass { IsSeatAt (sends_on post) hand }
@@ -103,7 +104,7 @@ impl<N: Naming, M: Channels> EndedSender<N, M> {
 
     /// Sends a message of the proxy, and waits while the inbox is full. If the worker's end is
     /// gone, the message comes back, and nothing was sent.
-    pub(crate) fn send<R: Wait>(&mut self, rt: &R, message: Message<N>) -> Result<(), Message<N>>
+    pub(crate) fn send<R: Wait>(&mut self, rt: &R, message: Message<C>) -> Result<(), Message<C>>
         requires { message.proxy ≡ self.old.proxy }
         ensures sent { IfOk result (λ _. self.new ≡ with_sent message self.old) }
         ensures refused { IfErr result (λ back.

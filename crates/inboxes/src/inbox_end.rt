@@ -8,6 +8,7 @@ ghost use Rattle.inboxes.specs.Places.{place_at, place_of};
 
 use crate::channels::Channels;
 use crate::message::Message;
+use crate::question::Question;
 use crate::rule::Inbox;
 use crate::taker::Taker;
 use agreed_ledger::Naming;
@@ -18,12 +19,12 @@ use std::sync::Wait;
 
 /// The worker's end of the inbox of one resolver, and the messages that it took, of all proxies.
 #[derive(Drop)]
-pub struct InboxEnd<N: Naming, M: Channels> {
-    inbox: Inbox<N>,
-    taker: Taker<N, M>,
+pub struct InboxEnd<N: Naming, C: Question, M: Channels> {
+    inbox: Inbox<C>,
+    taker: Taker<N, C, M>,
 }
 
-impl<N: Naming, M: Channels> Model for InboxEnd<N, M> {
+impl<N: Naming, C: Question, M: Channels> Model for InboxEnd<N, C, M> {
     ghost use Rattle.std.specs.Prelude.{◌≡◌};
     ghost use Rattle.crossbeam_channel.specs.Claims.{IsKeyed};
     ghost use Rattle.crossbeam_channel.specs.Ends.{receives_on};
@@ -38,7 +39,7 @@ impl<N: Naming, M: Channels> Model for InboxEnd<N, M> {
         × IsKeyed (receives_on e.inbox) };
 }
 
-impl<N: Naming, M: Channels> InboxEnd<N, M> {
+impl<N: Naming, C: Question, M: Channels> InboxEnd<N, C, M> {
     /// The number of the resolver whose inbox it is.
     pub fn resolver(&self) -> ResolverNumber
         ensures { result ≡ self.now.resolver }
@@ -55,7 +56,7 @@ impl<N: Naming, M: Channels> InboxEnd<N, M> {
 
     /// Takes the message at the front of the inbox, and waits while there is none. Fails, and takes
     /// nothing, if no sending end is left (no clause says when it fails).
-    pub fn take<R: Wait>(&mut self, rt: &R) -> Result<Message<N>, RecvError>
+    pub fn take<R: Wait>(&mut self, rt: &R) -> Result<Message<C>, RecvError>
         ensures taken { IfOk result (λ message. self.new
             ≡ record self.old { got = self.old.got ++ message ∷ [] }) }
         ensures none { OnErr result (self.new ≡ self.old) }
@@ -64,7 +65,7 @@ impl<N: Naming, M: Channels> InboxEnd<N, M> {
     }
 
     /// The worker's pass alone. The receiving end is let go, so that later sends are refused.
-    pub fn into_taker(self) -> Taker<N, M>
+    pub fn into_taker(self) -> Taker<N, C, M>
         ensures { result ≡ self }
     {
         self.taker
@@ -74,11 +75,11 @@ impl<N: Naming, M: Channels> InboxEnd<N, M> {
 /// The worker's end of the inbox of one resolver, of which nothing was taken yet. Contracts see it
 /// as the number of the resolver.
 #[derive(Drop)]
-pub struct FreshEnd<N: Naming, M: Channels> {
-    end: InboxEnd<N, M>,
+pub struct FreshEnd<N: Naming, C: Question, M: Channels> {
+    end: InboxEnd<N, C, M>,
 }
 
-impl<N: Naming, M: Channels> Model for FreshEnd<N, M> {
+impl<N: Naming, C: Question, M: Channels> Model for FreshEnd<N, C, M> {
     ghost use Rattle.std.specs.Prelude.{◌≡◌, ℕ, []};
 
     ghost Value = { ℕ };
@@ -88,9 +89,9 @@ impl<N: Naming, M: Channels> Model for FreshEnd<N, M> {
     ghost invariant = { λ f. f.end.got ≡ [] };
 }
 
-impl<N: Naming, M: Channels> FreshEnd<N, M> {
+impl<N: Naming, C: Question, M: Channels> FreshEnd<N, C, M> {
     /// The end of this inbox, by a pass that took nothing.
-    pub(crate) fn new(inbox: Inbox<N>, taker: Taker<N, M>) -> FreshEnd<N, M>
+    pub(crate) fn new(inbox: Inbox<C>, taker: Taker<N, C, M>) -> FreshEnd<N, C, M>
         requires place { place_of (receives_on inbox) ≡ place_at M.places taker.resolver }
         requires keyed { IsKeyed (receives_on inbox) }
         requires empty { taker.got ≡ [] }
@@ -116,7 +117,7 @@ impl<N: Naming, M: Channels> FreshEnd<N, M> {
     }
 
     /// The end that takes messages.
-    pub fn into_end(self) -> InboxEnd<N, M>
+    pub fn into_end(self) -> InboxEnd<N, C, M>
         ensures { result ≡ record { resolver = self; got = [] } }
     {
         self.end

@@ -12,7 +12,6 @@
 //! the network (`ResolverInterface.h`).
 #![tactic(auto)]
 
-mod answer;
 mod blank;
 mod blank_inboxes;
 mod channels;
@@ -20,19 +19,20 @@ mod ended_sender;
 mod inbox_end;
 mod message;
 mod proxy_senders;
+mod question;
 mod refusal;
 mod room;
 mod rule;
 mod tag;
 mod taker;
 
-pub use answer::{Answer, RefusedRequest};
 pub use blank_inboxes::BlankInboxes;
 pub use channels::Channels;
 pub use ended_sender::EndedSender;
 pub use inbox_end::{FreshEnd, InboxEnd};
 pub use message::{Body, Message};
 pub use proxy_senders::ProxySenders;
+pub use question::Question;
 pub use refusal::Refusal;
 pub use room::InboxRoom;
 pub use tag::{Kind, Tag};

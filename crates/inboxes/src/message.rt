@@ -3,18 +3,15 @@
 ghost use Rattle.std.specs.Prelude.{◌≡◌};
 ghost use Rattle.inboxes.specs.Tags.{close_tag, end_tag, request_tag, tag};
 
-use crate::answer::Answer;
-use agreed_ledger::Naming;
-use crossbeam_channel::Sender;
+use crate::question::Question;
 use model::ProxyNumber;
-use shared_cluster::Request;
 use std::marker::Model;
 
 /// What a message says.
 #[derive(Drop)]
-pub enum Body<N: Naming> {
-    /// A request, and where its answer goes: the sender of a plain channel.
-    Request(Request<N>, Sender<Answer<N>>),
+pub enum Body<C: Question> {
+    /// A request, with where its answer goes.
+    Request(C),
     /// The resolver is to be closed.
     Close,
     /// The proxy sends no more.
@@ -23,37 +20,33 @@ pub enum Body<N: Naming> {
 
 /// A message of a proxy. Contracts see its tag.
 #[derive(Drop)]
-pub struct Message<N: Naming> {
+pub struct Message<C: Question> {
     proxy: ProxyNumber,
-    body: Body<N>,
+    body: Body<C>,
 }
 
-impl<N: Naming> Model for Message<N> {
+impl<C: Question> Model for Message<C> {
     ghost use Rattle.inboxes.specs.Tags.{tag};
     ghost use Rattle.inboxes.specs.declared.tag.Tag.{Tag};
 
     ghost Value = { Tag };
 
-    ghost view = { λ m. tag m.proxy m.body };
+    ghost view = { λ m. tag C.resolver_of C.row_of m.proxy m.body };
 }
 
-impl<N: Naming> Message<N> {
-    /// The proxy's request, with the sender of the channel that its answer goes to.
-    pub fn request(
-        proxy: ProxyNumber,
-        request: Request<N>,
-        answers: Sender<Answer<N>>,
-    ) -> Message<N>
-        ensures { result ≡ request_tag proxy request }
+impl<C: Question> Message<C> {
+    /// The proxy's request, with where its answer goes.
+    pub fn request(proxy: ProxyNumber, question: C) -> Message<C>
+        ensures { result ≡ request_tag proxy (C.resolver_of question) (C.row_of question) }
     {
         Message {
             proxy,
-            body: Body::Request(request, answers),
+            body: Body::Request(question),
         }
     }
 
     /// The proxy asks that the resolver be closed.
-    pub fn close(proxy: ProxyNumber) -> Message<N>
+    pub fn close(proxy: ProxyNumber) -> Message<C>
         ensures { result ≡ close_tag proxy }
     {
         Message {
@@ -63,7 +56,7 @@ impl<N: Naming> Message<N> {
     }
 
     /// The last message of the proxy.
-    pub fn end(proxy: ProxyNumber) -> Message<N>
+    pub fn end(proxy: ProxyNumber) -> Message<C>
         ensures { result ≡ end_tag proxy }
     {
         Message {
@@ -80,8 +73,8 @@ impl<N: Naming> Message<N> {
     }
 
     /// What the message says.
-    pub fn into_body(self) -> Body<N>
-        ensures { tag self.proxy result ≡ self }
+    pub fn into_body(self) -> Body<C>
+        ensures { tag C.resolver_of C.row_of self.proxy result ≡ self }
     {
         self.body
     }

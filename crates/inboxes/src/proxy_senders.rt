@@ -9,6 +9,7 @@ ghost use Rattle.inboxes.specs.Tags.{end_tag};
 use crate::channels::Channels;
 use crate::ended_sender::EndedSender;
 use crate::message::Message;
+use crate::question::Question;
 use agreed_ledger::Naming;
 use model::{ProxyNumber, ResolverNumber};
 use std::marker::Model;
@@ -17,12 +18,12 @@ use std::sync::Wait;
 /// The sending ends of one proxy: one for each resolver, in order. Its last message was sent through
 /// none of them.
 #[derive(Drop)]
-pub struct ProxySenders<N: Naming, M: Channels> {
+pub struct ProxySenders<N: Naming, C: Question, M: Channels> {
     proxy: ProxyNumber,
-    ends: Vec<EndedSender<N, M>>,
+    ends: Vec<EndedSender<N, C, M>>,
 }
 
-impl<N: Naming, M: Channels> Model for ProxySenders<N, M> {
+impl<N: Naming, C: Question, M: Channels> Model for ProxySenders<N, C, M> {
     ghost use Rattle.inboxes.specs.Ends.{AreSenders, ProxyView};
     ghost use Rattle.inboxes.specs.Sending.{AreOpen};
 
@@ -34,9 +35,9 @@ impl<N: Naming, M: Channels> Model for ProxySenders<N, M> {
         × AreOpen s.ends.items };
 }
 
-impl<N: Naming, M: Channels> ProxySenders<N, M> {
+impl<N: Naming, C: Question, M: Channels> ProxySenders<N, C, M> {
     /// The proxy's ends, one for each resolver.
-    pub(crate) fn new(proxy: ProxyNumber, ends: Vec<EndedSender<N, M>>) -> ProxySenders<N, M>
+    pub(crate) fn new(proxy: ProxyNumber, ends: Vec<EndedSender<N, C, M>>) -> ProxySenders<N, C, M>
         requires senders { AreSenders proxy N.cells.config.resolvers ends.items }
         requires not_ended { AreOpen ends.items }
         ensures { result ≡ record { proxy = proxy; ends = ends.items } }
@@ -66,8 +67,8 @@ impl<N: Naming, M: Channels> ProxySenders<N, M> {
         &mut self,
         rt: &R,
         resolver: ResolverNumber,
-        message: Message<N>,
-    ) -> Result<(), Message<N>>
+        message: Message<C>,
+    ) -> Result<(), Message<C>>
         requires resolver { resolver < length self.old.ends }
         requires mine { message.proxy ≡ self.old.proxy }
         requires to_it { IsFor resolver message }
@@ -82,7 +83,7 @@ impl<N: Naming, M: Channels> ProxySenders<N, M> {
     /// Sends the last message of the proxy to each resolver, and waits while an inbox is full.
     /// Returns the ends, in the order of the resolvers, through which nothing more can be sent.
     /// Allocates nothing.
-    pub fn into_ended<R: Wait>(self, rt: &R) -> Vec<EndedSender<N, M>>
+    pub fn into_ended<R: Wait>(self, rt: &R) -> Vec<EndedSender<N, C, M>>
         ensures senders { AreSenders self.proxy N.cells.config.resolvers result.items }
         ensures sent { AreSent (end_tag self.proxy) self.ends result.items }
         ensures ended { AreEndedSenders self.proxy result.items }
@@ -95,10 +96,10 @@ impl<N: Naming, M: Channels> ProxySenders<N, M> {
 }
 
 /// Sends the last message of the proxy through each of its ends.
-fn send_ends<N: Naming, M: Channels, R: Wait>(
+fn send_ends<N: Naming, C: Question, M: Channels, R: Wait>(
     rt: &R,
     proxy: ProxyNumber,
-    ends: &mut Vec<EndedSender<N, M>>,
+    ends: &mut Vec<EndedSender<N, C, M>>,
 )
     requires { AreSenders proxy (length ends.old.items) ends.old.items }
     ensures { AreSent (end_tag proxy) ends.old.items ends.new.items }

@@ -6,6 +6,7 @@ use crate::channels::Channels;
 use crate::ended_sender::EndedSender;
 use crate::inbox_end::FreshEnd;
 use crate::proxy_senders::ProxySenders;
+use crate::question::Question;
 use agreed_ledger::{Ledger, Naming};
 use std::alloc::{AllocError, Global};
 use std::marker::Model;
@@ -13,11 +14,11 @@ use system_keys::OutOfMemory;
 
 /// Room for the sending ends of one proxy.
 #[derive(Drop)]
-pub(crate) struct SenderRoom<N: Naming, M: Channels> {
-    pub(crate) ends: Vec<EndedSender<N, M>>,
+pub(crate) struct SenderRoom<N: Naming, C: Question, M: Channels> {
+    pub(crate) ends: Vec<EndedSender<N, C, M>>,
 }
 
-impl<N: Naming, M: Channels> Model for SenderRoom<N, M> {
+impl<N: Naming, C: Question, M: Channels> Model for SenderRoom<N, C, M> {
     ghost use Rattle.std.specs.Prelude.{◌≡◌, ◌≤◌, [], ⊤};
     ghost use Rattle.std.specs.Vec.{vec_capacity};
 
@@ -32,13 +33,13 @@ impl<N: Naming, M: Channels> Model for SenderRoom<N, M> {
 /// Room for what [`named`](crate::BlankInboxes::named) returns: made before it, so that it
 /// allocates nothing.
 #[derive(Drop)]
-pub struct InboxRoom<N: Naming, M: Channels> {
-    pub(crate) rooms: Vec<SenderRoom<N, M>>,
-    pub(crate) sides: Vec<ProxySenders<N, M>>,
-    pub(crate) fresh: Vec<FreshEnd<N, M>>,
+pub struct InboxRoom<N: Naming, C: Question, M: Channels> {
+    pub(crate) rooms: Vec<SenderRoom<N, C, M>>,
+    pub(crate) sides: Vec<ProxySenders<N, C, M>>,
+    pub(crate) fresh: Vec<FreshEnd<N, C, M>>,
 }
 
-impl<N: Naming, M: Channels> Model for InboxRoom<N, M> {
+impl<N: Naming, C: Question, M: Channels> Model for InboxRoom<N, C, M> {
     ghost use Rattle.std.specs.Prelude.{◌≡◌, ◌≤◌, [], length, ⊤};
     ghost use Rattle.std.specs.Vec.{vec_capacity};
 
@@ -51,9 +52,9 @@ impl<N: Naming, M: Channels> Model for InboxRoom<N, M> {
         × (r.fresh.items ≡ []) × (N.cells.config.resolvers ≤ vec_capacity r.fresh) };
 }
 
-impl<N: Naming, M: Channels> InboxRoom<N, M> {
+impl<N: Naming, C: Question, M: Channels> InboxRoom<N, C, M> {
     /// Makes room for the inboxes of the ledger's cluster. Fails only with `OutOfMemory`.
-    pub fn new(alloc: Global, ledger: &Ledger<N>) -> Result<InboxRoom<N, M>, OutOfMemory> {
+    pub fn new(alloc: Global, ledger: &Ledger<N>) -> Result<InboxRoom<N, C, M>, OutOfMemory> {
         let proxies = ledger.config().proxies();
         let resolvers = ledger.config().resolvers();
         Ok(InboxRoom {
@@ -65,11 +66,11 @@ impl<N: Naming, M: Channels> InboxRoom<N, M> {
 }
 
 /// For each proxy room for the ends to all resolvers.
-fn sender_rooms<N: Naming, M: Channels>(
+fn sender_rooms<N: Naming, C: Question, M: Channels>(
     alloc: Global,
     proxies: usize,
     resolvers: usize,
-) -> Result<Vec<SenderRoom<N, M>>, AllocError>
+) -> Result<Vec<SenderRoom<N, C, M>>, AllocError>
     requires { resolvers ≡ N.cells.config.resolvers }
     ensures { IfOk result (λ rooms. length rooms.items ≡ proxies) }
 {

@@ -12,8 +12,8 @@ ghost use Rattle.inboxes.specs.Views.{sender, worker};
 ghost use Rattle.inboxes.specs.declared.tag.Tag.{Tag};
 
 use crate::message::Message;
+use crate::question::Question;
 use crate::tag::{Tag, View};
-use agreed_ledger::Naming;
 use crossbeam_channel::protocol::{Join, Lesson, Outcome, Protocol, Split};
 use crossbeam_channel::{Pass, RecvError, RuledReceiver, RuledSender, bounded_with};
 use std::alloc::{AllocError, Global};
@@ -25,7 +25,7 @@ const INBOX_LIMIT: usize = 64;
 /// The rule: what the worker took of a proxy, and then what is queued of it, is what it sent.
 pub struct InOrder;
 
-impl<N: Naming> Protocol<Message<N>, View> for InOrder {
+impl<C: Question> Protocol<Message<C>, View> for InOrder {
     ghost use Rattle.std.specs.Prelude.{[], None};
     ghost use Rattle.inboxes.specs.Delivers.{Delivers};
     ghost use Rattle.inboxes.specs.Views.{worker};
@@ -38,14 +38,14 @@ impl<N: Naming> Protocol<Message<N>, View> for InOrder {
 /// A message goes to the back of the queue, and its proxy's pass knows that it was sent.
 pub(crate) struct Sends;
 
-impl<N: Naming> Outcome<Message<N>, View> for Sends {
+impl<C: Question> Outcome<Message<C>, View> for Sends {
     ghost use Rattle.std.specs.Prelude.{◌≡◌, [], ◌∷◌, ◌++◌};
     ghost use Rattle.inboxes.specs.Views.{sender};
 
     ghost then = { λ v message w. w ≡ sender v.from (v.put ++ message ∷ []) };
 }
 
-impl<N: Naming> Lesson<Message<N>, View> for Sends {
+impl<C: Question> Lesson<Message<C>, View> for Sends {
     ghost use Rattle.std.specs.Prelude.{⊤};
 
     ghost fact = { λ v items. ⊤ };
@@ -54,14 +54,14 @@ impl<N: Naming> Lesson<Message<N>, View> for Sends {
 /// The message at the front of the queue is taken, and the worker's pass knows it.
 pub(crate) struct Takes;
 
-impl<N: Naming> Outcome<Message<N>, View> for Takes {
+impl<C: Question> Outcome<Message<C>, View> for Takes {
     ghost use Rattle.std.specs.Prelude.{◌≡◌, [], ◌∷◌, ◌++◌};
     ghost use Rattle.inboxes.specs.Views.{worker};
 
     ghost then = { λ v message w. w ≡ worker v.made (v.got ++ message ∷ []) v.told };
 }
 
-impl<N: Naming> Lesson<Message<N>, View> for Takes {
+impl<C: Question> Lesson<Message<C>, View> for Takes {
     ghost use Rattle.std.specs.Prelude.{⊤};
 
     ghost fact = { λ v items. ⊤ };
@@ -94,38 +94,38 @@ impl Join<View> for Ends {
 /// What was taken of the proxy whose pass was joined last begins what it sent.
 pub(crate) struct Compares;
 
-impl<N: Naming> Lesson<Message<N>, View> for Compares {
+impl<C: Question> Lesson<Message<C>, View> for Compares {
     ghost use Rattle.inboxes.specs.Delivers.{IsToldMore};
 
     ghost fact = { λ v items. IsToldMore v };
 }
 
 /// A sending end of an inbox.
-pub(crate) type Post<N> = RuledSender<Message<N>, View, InOrder>;
+pub(crate) type Post<C> = RuledSender<Message<C>, View, InOrder>;
 
 /// The receiving end of an inbox.
-pub(crate) type Inbox<N> = RuledReceiver<Message<N>, View, InOrder>;
+pub(crate) type Inbox<C> = RuledReceiver<Message<C>, View, InOrder>;
 
 /// A pass of an inbox.
-pub(crate) type Hand<N> = Pass<Message<N>, View>;
+pub(crate) type Hand<C> = Pass<Message<C>, View>;
 
 /// The two ends of a new inbox, and the worker's pass.
-pub(crate) fn make<N: Naming>(alloc: Global) -> Result<(Post<N>, Inbox<N>, Hand<N>), AllocError>
+pub(crate) fn make<C: Question>(alloc: Global) -> Result<(Post<C>, Inbox<C>, Hand<C>), AllocError>
     ensures channel { IfOk result (λ r. (receives_on r.1 ≡ sends_on r.0)
         × (ruled_capacity (sends_on r.0) ≡ inbox_limit)) }
     ensures pass { IfOk result (λ r. IsSeatAt (sends_on r.0) r.2 × (known r.2 ≡ worker 0 [] None)) }
 {
-    bounded_with::<Message<N>, View, InOrder, Global>(alloc, INBOX_LIMIT)
+    bounded_with::<Message<C>, View, InOrder, Global>(alloc, INBOX_LIMIT)
 }
 
 /// Sends a message of the proxy whose pass it is. If the receiving end is gone, the message comes
 /// back.
-pub(crate) fn send<N: Naming, R: Wait>(
+pub(crate) fn send<C: Question, R: Wait>(
     rt: &R,
-    post: &Post<N>,
-    hand: &mut Hand<N>,
-    message: Message<N>,
-) -> Result<(), Message<N>>
+    post: &Post<C>,
+    hand: &mut Hand<C>,
+    message: Message<C>,
+) -> Result<(), Message<C>>
     requires place { IsSeatAt (sends_on post.now) hand.old }
     requires sender { (known hand.old).sends ≡ true }
     requires mine { message.proxy ≡ (known hand.old).from }
@@ -141,11 +141,11 @@ pub(crate) fn send<N: Naming, R: Wait>(
 }
 
 /// Takes the message at the front, and waits while there is none. Fails if no sending end is left.
-pub(crate) fn take_one<N: Naming, R: Wait>(
+pub(crate) fn take_one<C: Question, R: Wait>(
     rt: &R,
-    inbox: &Inbox<N>,
-    hand: &mut Hand<N>,
-) -> Result<Message<N>, RecvError>
+    inbox: &Inbox<C>,
+    hand: &mut Hand<C>,
+) -> Result<Message<C>, RecvError>
     requires place { IsSeatAt (receives_on inbox.now) hand.old }
     requires worker { (known hand.old).gets ≡ true }
     ensures place { IsSeatAt (receives_on inbox.now) hand.new }
@@ -158,7 +158,7 @@ pub(crate) fn take_one<N: Naming, R: Wait>(
 }
 
 /// Makes the pass of the next proxy.
-pub(crate) fn admit<N: Naming>(post: &Post<N>, hand: &mut Hand<N>) -> Hand<N>
+pub(crate) fn admit<C: Question>(post: &Post<C>, hand: &mut Hand<C>) -> Hand<C>
     requires place { IsSeatAt (sends_on post.now) hand.old }
     requires worker { (known hand.old).gets ≡ true }
     ensures place { IsSeatAt (sends_on post.now) hand.new }
@@ -170,7 +170,7 @@ pub(crate) fn admit<N: Naming>(post: &Post<N>, hand: &mut Hand<N>) -> Hand<N>
 }
 
 /// Joins the pass of a proxy to the worker's. What the worker took of it begins what it sent.
-pub(crate) fn join<N: Naming>(post: &Post<N>, hand: &mut Hand<N>, ended: Hand<N>)
+pub(crate) fn join<C: Question>(post: &Post<C>, hand: &mut Hand<C>, ended: Hand<C>)
     requires place { IsSeatAt (sends_on post.now) hand.old }
     requires other { IsSeatAt (sends_on post.now) ended }
     requires worker { (known hand.old).gets ≡ true }

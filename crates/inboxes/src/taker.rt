@@ -13,6 +13,7 @@ ghost use Rattle.inboxes.specs.declared.refusal.Refusal.TheVariants as refusals;
 use crate::channels::Channels;
 use crate::ended_sender::EndedSender;
 use crate::message::Message;
+use crate::question::Question;
 use crate::refusal::Refusal;
 use crate::rule::{Hand, Inbox, join, take_one};
 use agreed_ledger::Naming;
@@ -33,14 +34,14 @@ pub struct Counts {
 
 /// The worker's pass of the inbox of one resolver: it knows all messages that the worker took.
 #[derive(Drop)]
-pub struct Taker<N: Naming, M: Channels> {
+pub struct Taker<N: Naming, C: Question, M: Channels> {
     resolver: ResolverNumber,
-    hand: Hand<N>,
+    hand: Hand<C>,
     counts: Vec<u64>,
-    of: PhantomData<M>,
+    of: PhantomData<(N, M)>,
 }
 
-impl<N: Naming, M: Channels> Model for Taker<N, M> {
+impl<N: Naming, C: Question, M: Channels> Model for Taker<N, C, M> {
     ghost use Rattle.std.specs.Prelude.{◌≡◌, true};
     ghost use Rattle.inboxes.specs.Counts.{AreCounts};
     ghost use Rattle.inboxes.specs.Ends.{TakerView};
@@ -55,9 +56,9 @@ impl<N: Naming, M: Channels> Model for Taker<N, M> {
         × AreCounts N.cells.config.proxies (known t.hand).got t.counts.items };
 }
 
-impl<N: Naming, M: Channels> Taker<N, M> {
+impl<N: Naming, C: Question, M: Channels> Taker<N, C, M> {
     /// The worker's pass, which took nothing, with a count of 0 for each proxy.
-    pub(crate) fn new(resolver: ResolverNumber, hand: Hand<N>, counts: Vec<u64>) -> Taker<N, M>
+    pub(crate) fn new(resolver: ResolverNumber, hand: Hand<C>, counts: Vec<u64>) -> Taker<N, C, M>
         requires place { IsHandOf (place_at M.places resolver) hand }
         requires worker { ((known hand).gets ≡ true) × ((known hand).got ≡ []) }
         requires counts { AreCounts N.cells.config.proxies [] counts.items }
@@ -90,8 +91,8 @@ impl<N: Naming, M: Channels> Taker<N, M> {
     pub(crate) fn take_from<R: Wait>(
         &mut self,
         rt: &R,
-        inbox: &Inbox<N>,
-    ) -> Result<Message<N>, RecvError>
+        inbox: &Inbox<C>,
+    ) -> Result<Message<C>, RecvError>
         requires place { place_of (receives_on inbox.now) ≡ place_at M.places self.old.resolver }
         requires keyed { IsKeyed (receives_on inbox.now) }
         ensures taken { IfOk result (λ message. self.new
@@ -109,8 +110,8 @@ impl<N: Naming, M: Channels> Taker<N, M> {
     /// which comes back.
     pub fn compare(
         &mut self,
-        ended: EndedSender<N, M>,
-    ) -> Result<Counts, (Refusal, EndedSender<N, M>)>
+        ended: EndedSender<N, C, M>,
+    ) -> Result<Counts, (Refusal, EndedSender<N, C, M>)>
         ensures kept { self.new ≡ self.old }
         ensures resolver { IfOk result (λ counts. ended.resolver ≡ self.old.resolver) }
         ensures begins { IfOk result (λ counts. IsBeginning self.old ended) }

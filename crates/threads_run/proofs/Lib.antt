@@ -1,7 +1,2 @@
-pub mod AnswerLemmas
-pub mod EndLemmas
-pub mod LimitLemmas
-pub mod MeetingLemmas
-pub mod PartLemmas
+pub mod EndsBelow
 pub mod RunLemmas
-pub mod ThreadLemmas

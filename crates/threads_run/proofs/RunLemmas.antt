@@ -14,7 +14,7 @@ use Rattle.scripts.specs.declared.status.RunStatus.{RunStatus}
 use Rattle.scripts.specs.declared.status.RunStatus.TheVariants.{Done, ScriptRefused, DeviceFailed}
 use Rattle.scripts.specs.declared.status.RunStatus.TheVariants.{OutOfMemory, ClusterRefused}
 use Rattle.threads_run.specs.Runs.{Answers, IsAnswerTo, WritesAnswer, answer_in}
-use Rattle.threads_run.specs.declared.script.ThreadsScript.{ThreadsScript}
+use Rattle.threads_scripts.specs.declared.script.ThreadsScript.{ThreadsScript}
 
 -- an output of two right parts is the answer
 is_answer : (answer : Answer) (output : Output) → IsOutput answer output → answer_in output ≡ answer

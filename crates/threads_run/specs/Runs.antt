@@ -12,9 +12,9 @@ use Rattle.scripts.specs.declared.script_fault.ScriptFault.{ScriptFault}
 use Rattle.scripts.specs.declared.status.RunStatus.{RunStatus}
 use Rattle.scripts.specs.declared.status.RunStatus.TheVariants.{Done, ScriptRefused}
 use Rattle.scripts.specs.declared.status.RunStatus.TheVariants.{DeviceFailed, OutOfMemory, ClusterRefused}
-use Rattle.threads_run.specs.Scripts.{script_of}
+use Rattle.threads_scripts.specs.Scripts.{script_of}
 use Rattle.threads_run.specs.Text.{IsThreadsText}
-use Rattle.threads_run.specs.declared.script.ThreadsScript.{ThreadsScript}
+use Rattle.threads_scripts.specs.declared.script.ThreadsScript.{ThreadsScript}
 
 -- a script is answered by a text of it, and one with a fault by its refusal
 abbrev pub Answers : Result ThreadsScript ScriptFault → Answer → Type 0

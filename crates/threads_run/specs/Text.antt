@@ -6,10 +6,10 @@ use Rattle.model.specs.Metadata.{metadata}
 use Rattle.model.specs.Numbers.{ProxyNumber}
 use Rattle.cluster_lines.specs.MetadataLines.{metadata_text, proxy_line}
 use Rattle.shared_cluster.specs.Proxies.{LockedProxyView, IsLockedProxy}
-use Rattle.threads_run.specs.Answers.{AreBatchLines, AreLinesOfProxy, IsClosingLine}
-use Rattle.threads_run.specs.Meetings.{AreMeetingsOf, IsAuditLine}
-use Rattle.threads_run.specs.Parts.{IsInParts}
-use Rattle.threads_run.specs.declared.script.ThreadsScript.{ThreadsScript}
+use Rattle.threads_lines.specs.Answers.{AreBatchLines, AreLinesOfProxy, IsClosingLine}
+use Rattle.threads_lines.specs.Meetings.{AreMeetingsOf, IsAuditLine}
+use Rattle.threads_lines.specs.Parts.{IsInParts}
+use Rattle.threads_scripts.specs.declared.script.ThreadsScript.{ThreadsScript}
 
 -- a proxy: its number, its routing at its version, and the tags of the asked keys, by the metadata of
 -- its journal

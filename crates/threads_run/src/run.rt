@@ -3,16 +3,16 @@
 ghost use Rattle.std.specs.Prelude.{◌≡◌, ◌-◌, ◌^◌, ◌<◌, IfOk, IsOk, IsErrOf};
 ghost use Rattle.scripts.specs.Statuses.{IsAnswered};
 ghost use Rattle.threads_run.specs.Runs.{IsAnswerTo, RunsThreads, answer_in};
-ghost use Rattle.threads_run.specs.Scripts.{script_of};
-ghost use Rattle.threads_run.specs.declared.faults.RunFault.TheVariants as faults;
+ghost use Rattle.threads_scripts.specs.Scripts.{script_of};
+ghost use Rattle.threads_lines.specs.declared.faults.RunFault.TheVariants as faults;
 
-use crate::faults::RunFault;
-use crate::reading::read_threads;
 use crate::text::threads_text;
 use scripts::{Failed, Output, ReadFault, RunStatus, Sink, Source, read_all, refused, write_all};
 use std::alloc::Global;
 use std::sync::Wait;
 use std::thread::Threads;
+use threads_lines::RunFault;
+use threads_scripts::read_threads;
 
 /// Reads a threads script from the source to its end, commits its batches in a thread for each
 /// proxy, and writes the text that it comes to. Nothing is written before all threads have ended,

@@ -2,16 +2,11 @@
 
 ghost use Rattle.std.specs.Prelude.{◌≡◌, ◌<◌, [], length, IfOk, OnOk, string_bytes};
 ghost use Rattle.std.specs.List.{list_any};
-ghost use Rattle.threads_run.specs.Answers.{AreBatchLines, IsClosingLine};
-ghost use Rattle.threads_run.specs.Faults.{lines_beside, was_refused_memory};
-ghost use Rattle.threads_run.specs.Parts.{GrowsBy, IsInParts};
-ghost use Rattle.threads_run.specs.Threads.{AreInPlace};
+ghost use Rattle.threads_lines.specs.Answers.{AreBatchLines, IsClosingLine};
+ghost use Rattle.threads_run.specs.Beside.{lines_beside, was_refused_memory};
+ghost use Rattle.threads_lines.specs.Parts.{GrowsBy, IsInParts};
+ghost use Rattle.threads_lines.specs.Threads.{AreInPlace};
 
-use crate::cluster::Cluster;
-use crate::committer::Committer;
-use crate::faults::RunFault;
-use crate::serving::{RunOutcome, ServesInbox};
-use crate::threads::CommitsBatches;
 use agreed_ledger::Naming;
 use inboxes::{Channels, FreshEnd};
 use model::{ProxyNumber, ResolverNumber};
@@ -20,7 +15,8 @@ use shared_cluster::SharedResolver;
 use std::alloc::Global;
 use std::sync::Wait;
 use system_keys::OutOfMemory;
-use workers::{EndedWorker, Open, ProxyInboxes, ResolverWorker};
+use threads_lines::{Cluster, CommitsBatches, Committer, RunFault, RunOutcome, ServesInbox};
+use workers::{AskedRequest, EndedWorker, Open, ProxyInboxes, ResolverWorker};
 
 /// The resolvers of the cluster, which workers ask for the proxies.
 #[derive(Drop)]
@@ -42,11 +38,16 @@ impl<'a, 'l, N: Naming> Serving<'a, 'l, N> {
 /// What is left of the worker of an inbox.
 pub(crate) type Ended<N, M> = EndedWorker<N, M, Open>;
 
-impl<'a, 'l, N: Naming, M: Channels> ServesInbox<FreshEnd<N, M>, Ended<N, M>>
+impl<'a, 'l, N: Naming, M: Channels> ServesInbox<FreshEnd<N, AskedRequest<N>, M>, Ended<N, M>>
     for Serving<'a, 'l, N> {
     ghost can_serve = { λ serving end. end < length serving.resolvers.now };
 
-    fn serve<R: Wait>(&self, rt: &R, alloc: Global, end: FreshEnd<N, M>) -> Ended<N, M> {
+    fn serve<R: Wait>(
+        &self,
+        rt: &R,
+        alloc: Global,
+        end: FreshEnd<N, AskedRequest<N>, M>,
+    ) -> Ended<N, M> {
         let resolver = self.resolver(end.resolver());
         let Ok(worker) = ResolverWorker::new(alloc, resolver, end, Open) else {
             unreachable!();
@@ -88,7 +89,7 @@ pub(crate) struct Running<'a, 'l, N: Naming, M: Channels> {
 
 impl<'a, 'l, N: Naming, M: Channels> Running<'a, 'l, N, M> {
     /// The proxy of this number, with what it commits by.
-    fn committer(&self, number: ProxyNumber) -> Committer<'_, 'l, N, M>
+    fn committer(&self, number: ProxyNumber) -> Committer<'_, 'l, N, ProxyInboxes<N, M>>
         requires { number < length self.now.cluster.now.proxies.items }
         ensures { result.number ≡ number }
     {
@@ -96,7 +97,7 @@ impl<'a, 'l, N: Naming, M: Channels> Running<'a, 'l, N, M> {
             number,
             proxy: self.cluster.proxy(number),
             sequencer: &self.cluster.sequencer,
-            inboxes: &self.inboxes[number],
+            asking: &self.inboxes[number],
         }
     }
 }
@@ -116,7 +117,12 @@ impl<'a, 'l, N: Naming, M: Channels> CommitsBatches for Running<'a, 'l, N, M> {
         number: ProxyNumber,
         batches: &[Batch],
     ) -> Result<String, RunFault> {
-        self.committer(number).run(rt, alloc, batches)
+        let lines = self.committer(number).run(rt, alloc, batches);
+        if lines.is_err() {
+            // (so that no other proxy waits for this one)
+            self.inboxes[number].close(rt);
+        }
+        lines
     }
 
     fn print_closings<R: Wait>(

@@ -1,18 +1,13 @@
 //! What a threads script comes to.
 
 ghost use Rattle.std.specs.Prelude.{◌≡◌, length, IfOk, OnOk, string_bytes};
-ghost use Rattle.threads_run.specs.Answers.{AreBatchLines, IsClosingLine};
-ghost use Rattle.threads_run.specs.Parts.{GrowsBy, IsInParts};
-ghost use Rattle.threads_run.specs.Runnable.{IsRunnable};
-ghost use Rattle.threads_run.specs.Threads.{AreAnswerLines};
+ghost use Rattle.threads_lines.specs.Answers.{AreBatchLines, IsClosingLine};
+ghost use Rattle.threads_lines.specs.Parts.{GrowsBy, IsInParts};
+ghost use Rattle.threads_scripts.specs.Runnable.{IsRunnable};
+ghost use Rattle.threads_lines.specs.Threads.{AreAnswerLines};
 ghost use Rattle.threads_run.specs.Text.{IsProxyText, IsThreadsText};
 
-use crate::cluster::Cluster;
-use crate::faults::{RunFault, ledger_fault};
-use crate::meetings::{print_audits, print_meetings};
 use crate::running::{Running, Serving, lines_of};
-use crate::script::ThreadsScript;
-use crate::serving::commit_over_workers;
 use agreed_ledger::{BlankLedger, Ledger, Naming};
 use cluster_lines::print_proxy_metadata;
 use inboxes::{BlankInboxes, Channels, InboxRoom, ProxySenders};
@@ -24,7 +19,11 @@ use std::marker::Brand;
 use std::sync::Wait;
 use std::thread::Threads;
 use system_keys::{Bytes, Items, OutOfMemory};
-use workers::ProxyInboxes;
+use threads_lines::{
+    Cluster, RunFault, commit_over_workers, ledger_fault, print_audits, print_meetings,
+};
+use threads_scripts::ThreadsScript;
+use workers::{AskedRequest, ProxyInboxes};
 
 /// Returns what a threads script comes to (this project's profile): the lines of its batches, which
 /// each proxy's own thread commits, of the closings, of each proxy, of each two proxies that meet, and
@@ -78,7 +77,7 @@ fn answers_over<N: Naming + Send + Sync, M: Channels + Send + Sync, R: Threads +
     alloc: Global,
     ledger: &Ledger<N>,
     cluster: &Cluster<'_, N>,
-    blank: BlankInboxes<N>,
+    blank: BlankInboxes<N, AskedRequest<N>>,
     work: &[Items<Batch>],
 ) -> Result<String, RunFault>
     requires places { blank ≡ M.places }
@@ -90,7 +89,7 @@ fn answers_over<N: Naming + Send + Sync, M: Channels + Send + Sync, R: Threads +
         IfOk result (λ text. AreAnswerLines (AreBatchLines N.cells.config rows) closings
         work.now (string_bytes text)) }
 {
-    let room = InboxRoom::<N, M>::new(alloc, ledger)?;
+    let room = InboxRoom::<N, AskedRequest<N>, M>::new(alloc, ledger)?;
     let (senders, ends) = blank.named::<M>(room);
     let serving = Serving {
         resolvers: cluster.resolvers.as_slice(),
@@ -106,7 +105,7 @@ fn answers_over<N: Naming + Send + Sync, M: Channels + Send + Sync, R: Threads +
 fn inboxes_of<N: Naming, M: Channels>(
     alloc: Global,
     ledger: &Ledger<N>,
-    senders: Vec<ProxySenders<N, M>>,
+    senders: Vec<ProxySenders<N, AskedRequest<N>, M>>,
 ) -> Result<Vec<ProxyInboxes<N, M>>, OutOfMemory>
     ensures { IfOk result (λ inboxes. length inboxes.items ≡ length senders.items) }
 {

@@ -1,5 +1,5 @@
 -- Requests that are asked, and what is answered to them.
-use Rattle.std.proofs.Common.{◌≡◌, refl, sym, ap, ◌∙◌, subst, ℕ, zero, suc, ◌+◌, ◌<◌, ◌≤◌, ◌⊎◌, inl, inr, List, [], ◌∷◌, ◌++◌, length, take, slice_get, Some, length-append, Bool, eqb, eq-eqb, ne_eqb, arith}
+use Rattle.std.proofs.Common.{◌≡◌, sym, ap, ◌∙◌, subst, ℕ, zero, suc, ◌+◌, ◌<◌, ◌⊎◌, inl, inr, List, [], ◌∷◌, ◌++◌, length, take, slice_get, Some, length-append, Bool, eqb, eq-eqb, ne_eqb, arith}
 use Rattle.std.specs.Prelude.{MatchBool}
 use Rattle.std.proofs.lemmas.Bool.{cases_eq}
 use Rattle.facts.specs.Stretches.{Agree}
@@ -20,12 +20,6 @@ take_next (y ∷ ys) zero x at = let same : y ≡ x = cc in ap (λ z. z ∷ []) 
 take_next (y ∷ ys) (suc k) x at =
     let more : suc k + 1 ≡ suc (k + 1) = omega arith in
     ap (λ n. take n (y ∷ ys)) more ∙ ap (λ zs. y ∷ zs) (take_next ys k x at)
-
-pub take_all : {X : Type 0} (xs : List X) (n : ℕ) → length xs ≤ n → take n xs ≡ xs
-take_all [] zero within = refl
-take_all [] (suc n) within = refl
-take_all (x ∷ xs) zero within = absurd (omega (arith, within))
-take_all (x ∷ xs) (suc n) within = ap (λ ys. x ∷ ys) (take_all xs n (omega (arith, within)))
 
 -- one reply more, to the next request
 pub order_next : (requests : List RequestView) (k : ℕ) (q : RequestView) (replies : List NotedReplyView) (noted : NotedReplyView) → slice_get requests k ≡ Some q → AreRepliesInOrder (take k requests) replies → IsReplyToRequest q.plain noted.reply → AreRepliesInOrder (take (k + 1) requests) (replies ++ noted ∷ [])

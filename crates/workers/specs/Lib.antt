@@ -1,5 +1,7 @@
 -- The definitions, in reading order.
 
+-- what a worker answers
+pub mod Answers
 -- what a resolver refuses of the requests that its worker offers
 pub mod Refusing
 -- what a worker keeps of the requests that it took

@@ -9,12 +9,12 @@ ghost use Rattle.workers.specs.Desks.{KeepsServing, OnlyFails, Serves, has_faile
 ghost use Rattle.workers.specs.Desks.{next_row};
 ghost use Rattle.shared_cluster.specs.declared.refusal.Refusal.TheVariants as refusals;
 
+use crate::answer::{Answer, RefusedRequest};
+use crate::asked_request::AskedRequest;
 use crate::gate::{Gate, Place};
-use crate::held::Held;
 use crate::refusing::{refused_as_closed, refused_by_offer};
 use agreed_ledger::{Column, Naming};
 use crossbeam_channel::{SendError, Sender};
-use inboxes::{Answer, RefusedRequest};
 use model::{ResolverNumber, RowNumber};
 use shared_cluster::{Refusal, Request, ResolverGuard, SharedResolver};
 use std::alloc::Global;
@@ -27,7 +27,7 @@ use std::sync::Wait;
 #[derive(Drop)]
 pub(crate) struct Desk<N: Naming> {
     column: Column<N>,
-    held: Vec<Held<N>>,
+    held: Vec<AskedRequest<N>>,
     closed: bool,
     wanted: bool,
 }
@@ -66,7 +66,7 @@ impl<N: Naming> Desk<N> {
         rt: &R,
         shared: &SharedResolver<'_, N>,
         gate: &G,
-        held: Held<N>,
+        held: AskedRequest<N>,
     )
         requires own { self.old.column.resolver ≡ shared.now }
         requires settled { IsSettled self.old }
@@ -134,7 +134,7 @@ impl<N: Naming> Desk<N> {
     }
 
     /// Answers that the resolver is closed.
-    fn refuse<R: Wait>(&mut self, rt: &R, guard: &ResolverGuard<'_, N>, held: Held<N>)
+    fn refuse<R: Wait>(&mut self, rt: &R, guard: &ResolverGuard<'_, N>, held: AskedRequest<N>)
         ensures fails { OnlyFails self.old self.new }
         ensures closed { self.new.closed ≡ self.old.closed }
     {
@@ -148,7 +148,7 @@ impl<N: Naming> Desk<N> {
 
     /// Appends the request to those that are held back. If the allocation fails, answers it with
     /// `OutOfMemory`.
-    fn hold<R: Wait>(&mut self, rt: &R, held: Held<N>)
+    fn hold<R: Wait>(&mut self, rt: &R, held: AskedRequest<N>)
         ensures keeps { KeepsServing self.old self.new }
         ensures held { IsFalse (has_failed self.new) → HasRow self.new.held held.plain.row }
     {

@@ -7,6 +7,7 @@ ghost use Rattle.inboxes.specs.Ends.{IsBeginning};
 ghost use Rattle.inboxes.specs.declared.refusal.Refusal.TheVariants as refusals;
 ghost use Rattle.workers.specs.Workers.{IsEnded};
 
+use crate::asked_request::AskedRequest;
 use crate::gate::Gate;
 use agreed_ledger::{Column, Naming};
 use inboxes::{Channels, Counts, EndedSender, Refusal, Taker};
@@ -19,7 +20,7 @@ use std::marker::Model;
 /// closed. It took an End of each proxy, unless its inbox had no sender left.
 #[derive(Drop)]
 pub struct EndedWorker<N: Naming, M: Channels, G: Gate + Drop> {
-    taker: Taker<N, M>,
+    taker: Taker<N, AskedRequest<N>, M>,
     column: Column<N>,
     closed: bool,
     wanted: bool,
@@ -52,7 +53,7 @@ impl<N: Naming, M: Channels, G: Gate + Drop> Model for EndedWorker<N, M, G> {
 impl<N: Naming, M: Channels, G: Gate + Drop> EndedWorker<N, M, G> {
     /// The worker that has ended, of these parts.
     pub(crate) fn of(
-        taker: Taker<N, M>,
+        taker: Taker<N, AskedRequest<N>, M>,
         column: Column<N>,
         closed: bool,
         wanted: bool,
@@ -123,8 +124,8 @@ impl<N: Naming, M: Channels, G: Gate + Drop> EndedWorker<N, M, G> {
     /// Fails with `NotSender` if the sender is to another resolver, and returns the sender.
     pub fn compare(
         &mut self,
-        ended: EndedSender<N, M>,
-    ) -> Result<Counts, (Refusal, EndedSender<N, M>)>
+        ended: EndedSender<N, AskedRequest<N>, M>,
+    ) -> Result<Counts, (Refusal, EndedSender<N, AskedRequest<N>, M>)>
         ensures kept { self.new ≡ self.old }
         ensures resolver { IfOk result (λ counts. ended.resolver ≡ self.old.taken.resolver) }
         ensures begins { IfOk result (λ counts. IsBeginning self.old.taken ended) }

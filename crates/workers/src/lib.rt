@@ -6,15 +6,18 @@
 //! back until the batch before it is resolved (`Resolver.actor.cpp`, resolveBatch).
 #![tactic(auto)]
 
+mod answer;
+mod asked_request;
 mod desk;
 mod ended;
 mod gate;
-mod held;
 mod proxy_inboxes;
 mod refusing;
 mod waiting;
 mod worker;
 
+pub use answer::{Answer, RefusedRequest};
+pub use asked_request::AskedRequest;
 pub use ended::EndedWorker;
 pub use gate::{Gate, Open, Place};
 pub use proxy_inboxes::ProxyInboxes;

@@ -8,7 +8,7 @@ ghost use Rattle.inboxes.specs.Tags.{close_tag, request_tag};
 ghost use Rattle.shared_cluster.specs.Commits.{AreOfOneRecord, AreRepliesInOrder, IsAskAllRefusal};
 ghost use Rattle.workers.specs.Asking.{AreOwn, IsInboxRefusal};
 
-use crate::held::Held;
+use crate::asked_request::AskedRequest;
 use crate::waiting::{Prepared, collect, other_at, prepare};
 use agreed_ledger::{Ledger, Naming};
 use inboxes::{Channels, EndedSender, Message, ProxySenders};
@@ -23,7 +23,7 @@ use std::sync::{Mutex, Wait};
 #[derive(Drop)]
 pub struct ProxyInboxes<N: Naming, M: Channels> {
     proxy: ProxyNumber,
-    lock: Mutex<ProxySenders<N, M>>,
+    lock: Mutex<ProxySenders<N, AskedRequest<N>, M>>,
 }
 
 impl<N: Naming, M: Channels> Model for ProxyInboxes<N, M> {
@@ -39,7 +39,10 @@ impl<N: Naming, M: Channels> Model for ProxyInboxes<N, M> {
 
 impl<N: Naming, M: Channels> ProxyInboxes<N, M> {
     /// The proxy that has these sending ends, in the cluster that the ledger is of.
-    pub fn new(ledger: &Ledger<N>, senders: ProxySenders<N, M>) -> ProxyInboxes<N, M>
+    pub fn new(
+        ledger: &Ledger<N>,
+        senders: ProxySenders<N, AskedRequest<N>, M>,
+    ) -> ProxyInboxes<N, M>
         ensures { result ≡ senders.proxy }
     {
         // (its contract says that the numbers of the cluster are within their limits)
@@ -82,7 +85,7 @@ impl<N: Naming, M: Channels> ProxyInboxes<N, M> {
 
     /// Sends the last message of the proxy to each resolver's inbox. Returns the sending ends, in the
     /// order of the resolvers, through which nothing more can be sent. Allocates nothing.
-    pub fn end<R: Wait>(self, rt: &R) -> Vec<EndedSender<N, M>>
+    pub fn end<R: Wait>(self, rt: &R) -> Vec<EndedSender<N, AskedRequest<N>, M>>
         ensures senders { AreSenders self N.cells.config.resolvers result.items }
         ensures ended { AreEndedSenders self result.items }
     {
@@ -122,7 +125,7 @@ impl<N: Naming, M: Channels> ProxyInboxes<N, M> {
     }
 
     /// Sends the requests. One whose worker has gone is dropped, and nobody answers it.
-    fn send_all<R: Wait>(&self, rt: &R, messages: Vec<Held<N>>) {
+    fn send_all<R: Wait>(&self, rt: &R, messages: Vec<AskedRequest<N>>) {
         let mut senders = self.lock.lock(rt);
         for held in messages {
             send_request(rt, &mut senders, held);
@@ -153,7 +156,7 @@ impl<N: Naming, M: Channels> Asking<N> for ProxyInboxes<N, M> {
 fn await_own<N: Naming, M: Channels, R: Wait>(
     rt: &R,
     proxy: ProxyNumber,
-    senders: &ProxySenders<N, M>,
+    senders: &ProxySenders<N, AskedRequest<N>, M>,
 )
     ensures { senders.now.proxy ≡ proxy }
 {
@@ -168,23 +171,26 @@ fn await_own<N: Naming, M: Channels, R: Wait>(
 /// Sends a request to the inbox of its resolver.
 fn send_request<N: Naming, M: Channels, R: Wait>(
     rt: &R,
-    senders: &mut ProxySenders<N, M>,
-    held: Held<N>,
+    senders: &mut ProxySenders<N, AskedRequest<N>, M>,
+    held: AskedRequest<N>,
 )
-    ensures { IsSentTo held.plain.resolver (request_tag senders.old.proxy held)
+    ensures { IsSentTo held.plain.resolver
+        (request_tag senders.old.proxy held.plain.resolver held.plain.row)
         senders.old senders.new }
 {
-    let (request, answers) = held.into_parts();
     // (their contracts say that there is an end to the resolver)
-    let _plain = request.plain();
+    let _plain = held.request.plain();
     let _ends = senders.ends();
-    let resolver = request.resolver();
-    let message = Message::request(senders.proxy(), request, answers);
+    let resolver = held.request.resolver();
+    let message = Message::request(senders.proxy(), held);
     let _sent = senders.send(rt, resolver, message);
 }
 
 /// Tells each worker to close its resolver.
-fn send_closes<N: Naming, M: Channels, R: Wait>(rt: &R, senders: &mut ProxySenders<N, M>)
+fn send_closes<N: Naming, M: Channels, R: Wait>(
+    rt: &R,
+    senders: &mut ProxySenders<N, AskedRequest<N>, M>,
+)
     ensures { AreSent (close_tag senders.old.proxy) senders.old.ends senders.new.ends }
 {
     for resolver in 0..senders.ends() {

@@ -6,8 +6,8 @@ ghost use Rattle.shared_cluster.specs.Resolvers.{IsNotEarly};
 ghost use Rattle.shared_cluster.specs.declared.refusal.Refusal.TheVariants as refusals;
 ghost use Rattle.workers.specs.Refusing.{WasRefusedBy};
 
+use crate::answer::RefusedRequest;
 use agreed_ledger::Naming;
-use inboxes::RefusedRequest;
 use shared_cluster::{Refusal, Refused, Request, ResolverGuard};
 
 /// The request was refused by its resolver, which is closed. The guard of any resolver shows what the

@@ -7,10 +7,10 @@ ghost use Rattle.shared_cluster.specs.Commits.{AreRepliesInOrder, IsAskAllRefusa
 ghost use Rattle.shared_cluster.specs.NotedReplies.{IsReplyToRequest};
 ghost use Rattle.workers.specs.Asking.{AreOwn, IsOtherAt};
 
-use crate::held::Held;
+use crate::answer::{Answer, RefusedRequest};
+use crate::asked_request::AskedRequest;
 use agreed_ledger::Naming;
 use crossbeam_channel::{Receiver, bounded};
-use inboxes::{Answer, RefusedRequest};
 use model::ProxyNumber;
 use shared_cluster::{NotedReply, Refusal, Request};
 use std::alloc::Global;
@@ -34,7 +34,7 @@ pub(crate) fn other_at<N: Naming>(proxy: ProxyNumber, requests: &[Request<N>]) -
 /// room for the replies.
 #[derive(Drop)]
 pub(crate) struct Prepared<N: Naming> {
-    pub(crate) messages: Vec<Held<N>>,
+    pub(crate) messages: Vec<AskedRequest<N>>,
     pub(crate) waiting: Vec<Receiver<Answer<N>>>,
     pub(crate) replies: Vec<NotedReply<N>>,
 }
@@ -55,7 +55,7 @@ pub(crate) fn prepare<N: Naming>(
     let mut waiting = Vec::with_capacity(alloc, requests.len())?;
     for request in requests {
         let (answers, answered) = bounded(alloc, 1)?;
-        messages.push(Held::new(request.copy()?, answers))?;
+        messages.push(AskedRequest::new(request.copy()?, answers))?;
         waiting.push(answered)?;
     }
     Ok(Prepared {

@@ -4,10 +4,10 @@ ghost use Rattle.std.specs.Prelude.{◌≡◌, ◌≢◌, ◌<◌, ◌⊎◌, Is
 ghost use Rattle.workers.specs.Workers.{HasTakenMore, IsWorkerOf, TakesOne, new_worker};
 ghost use Rattle.shared_cluster.specs.declared.refusal.Refusal.TheVariants as refusals;
 
+use crate::asked_request::AskedRequest;
 use crate::desk::Desk;
 use crate::ended::EndedWorker;
 use crate::gate::Gate;
-use crate::held::Held;
 use agreed_ledger::Naming;
 use inboxes::{Body, Channels, FreshEnd, InboxEnd};
 use shared_cluster::{Refusal, SharedResolver};
@@ -19,7 +19,7 @@ use std::sync::Wait;
 #[derive(Drop)]
 pub struct ResolverWorker<'a, 'l, N: Naming, M: Channels, G: Gate + Drop> {
     shared: &'a SharedResolver<'l, N>,
-    end: InboxEnd<N, M>,
+    end: InboxEnd<N, AskedRequest<N>, M>,
     desk: Desk<N>,
     gate: G,
     proxies_left: usize,
@@ -52,9 +52,9 @@ impl<'a, 'l, N: Naming, M: Channels, G: Gate + Drop> ResolverWorker<'a, 'l, N, M
     pub fn new(
         alloc: Global,
         shared: &'a SharedResolver<'l, N>,
-        end: FreshEnd<N, M>,
+        end: FreshEnd<N, AskedRequest<N>, M>,
         gate: G,
-    ) -> Result<ResolverWorker<'a, 'l, N, M, G>, (Refusal, FreshEnd<N, M>, G)>
+    ) -> Result<ResolverWorker<'a, 'l, N, M, G>, (Refusal, FreshEnd<N, AskedRequest<N>, M>, G)>
         ensures { MatchResult result
             (λ worker. worker ≡ new_worker shared.now N.cells.config.proxies)
             (λ refused. (end ≢ shared.now) × (refused.0 ≡ refusals.WrongResolver)
@@ -110,10 +110,7 @@ impl<'a, 'l, N: Naming, M: Channels, G: Gate + Drop> ResolverWorker<'a, 'l, N, M
             return;
         };
         match message.into_body() {
-            Body::Request(request, reply) => {
-                let held = Held::new(request, reply);
-                self.desk.take(rt, self.shared, &self.gate, held);
-            }
+            Body::Request(held) => self.desk.take(rt, self.shared, &self.gate, held),
             Body::Close => self.desk.close(rt, self.shared),
             Body::End => self.proxies_left -= 1,
         }

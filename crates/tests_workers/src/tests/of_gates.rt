@@ -15,10 +15,11 @@ use std::test::Fail;
 use std::thread;
 use std::thread::Threads;
 use system_keys::OutOfMemory;
-use workers::{Gate, Place, ProxyInboxes, ResolverWorker};
+use workers::{AskedRequest, Gate, Place, ProxyInboxes, ResolverWorker};
 
-/// How often the gate looks before the test fails.
-const TURNS: usize = 10_000_000;
+/// How often the gate looks before it gives up. Then the test fails, unless resolver 1 was refused
+/// memory, which nobody can see before resolver 0 has answered.
+const TURNS: usize = 1_000_000;
 
 /// What the threads of the test tell.
 #[derive(Drop)]
@@ -66,9 +67,9 @@ struct Gated<'a, 'l, N: Naming> {
     told: &'a Told,
 }
 
-impl<'a, 'l, N: Naming, M: Channels> Parts<FreshEnd<N, M>, ProxyInboxes<N, M>>
+impl<'a, 'l, N: Naming, M: Channels> Parts<FreshEnd<N, AskedRequest<N>, M>, ProxyInboxes<N, M>>
     for Gated<'a, 'l, N> {
-    fn work<R: Wait>(&self, rt: &R, alloc: Global, end: FreshEnd<N, M>) {
+    fn work<R: Wait>(&self, rt: &R, alloc: Global, end: FreshEnd<N, AskedRequest<N>, M>) {
         let Some(resolver) = self.cluster.resolvers.as_slice().get(end.resolver()) else {
             return;
         };
@@ -97,7 +98,7 @@ fn run<N: Naming + Send + Sync, M: Channels + Send + Sync, R: Threads + Wait + S
     rt: &R,
     alloc: Global,
     ledger: &Ledger<N>,
-    blank: BlankInboxes<N>,
+    blank: BlankInboxes<N, AskedRequest<N>>,
 ) -> Result<(u64, u64), Fail>
     requires { blank ≡ M.places }
 {
@@ -113,7 +114,9 @@ fn run<N: Naming + Send + Sync, M: Channels + Send + Sync, R: Threads + Wait + S
         cluster: &cluster,
         told: &told,
     };
-    serve(rt, alloc, &gated, ends, sides);
+    if !serve(rt, alloc, &gated, ends, sides) {
+        return Err(Fail::from(OutOfMemory));
+    }
     let missed = told.missed.load(Ordering::SeqCst);
     Ok((told.version.load(Ordering::SeqCst), missed))
 }

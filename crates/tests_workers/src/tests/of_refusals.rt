@@ -12,7 +12,7 @@ use std::marker::Brand;
 use std::sync::Wait;
 use std::test::Fail;
 use testing::batch;
-use workers::{Open, ProxyInboxes, ResolverWorker};
+use workers::{AskedRequest, Open, ProxyInboxes, ResolverWorker};
 
 /// What the calls are refused with.
 type Refused = (Option<Refusal>, Option<Refusal>, Option<Refusal>);
@@ -24,15 +24,16 @@ fn begun<N: Naming, R: Wait>(
     cluster: &Cluster<'_, N>,
 ) -> Result<Begun<N>, Fail> {
     let empty = batch(alloc, &[])?;
-    let Ok(ticket) = cluster.sequencer.lock(rt).sequence(0, empty) else {
-        return Err(Fail::from("the batch got no record"));
+    let ticket = match cluster.sequencer.lock(rt).sequence(0, empty) {
+        Ok(ticket) => ticket,
+        Err((refusal, _batch)) => return Err(Fail::from(refusal)),
     };
     let Some(proxy) = cluster.proxies.as_slice().first() else {
         return Err(Fail::from("there is no proxy"));
     };
     match proxy.lock(rt).begin(ticket) {
         Ok(begun) => Ok(begun),
-        Err(_) => Err(Fail::from("the record was not begun")),
+        Err((refusal, _ticket)) => Err(Fail::from(refusal)),
     }
 }
 
@@ -40,7 +41,7 @@ fn begun<N: Naming, R: Wait>(
 fn misplaced<N: Naming, M: Channels>(
     alloc: Global,
     cluster: &Cluster<'_, N>,
-    end: Option<FreshEnd<N, M>>,
+    end: Option<FreshEnd<N, AskedRequest<N>, M>>,
 ) -> Option<Refusal> {
     let resolver = cluster.resolvers.as_slice().first()?;
     match ResolverWorker::new(alloc, resolver, end?, Open) {
@@ -72,7 +73,7 @@ fn run<N: Naming, M: Channels, R: Wait>(
     rt: &R,
     alloc: Global,
     ledger: &Ledger<N>,
-    blank: BlankInboxes<N>,
+    blank: BlankInboxes<N, AskedRequest<N>>,
 ) -> Result<Refused, Fail>
     requires { blank ≡ M.places }
 {

@@ -13,7 +13,7 @@ use std::sync::Wait;
 use std::test::Fail;
 use std::thread::Threads;
 use system_keys::OutOfMemory;
-use workers::{Open, ProxyInboxes, ResolverWorker};
+use workers::{AskedRequest, Open, ProxyInboxes, ResolverWorker};
 
 /// What each proxy does before it ends.
 #[derive(Clone, Copy, Debug, PartialEq, Eq)]
@@ -41,9 +41,9 @@ struct Planned<'a, 'l, N: Naming, M: Channels> {
     left: &'a Left<N, M>,
 }
 
-impl<'a, 'l, N: Naming, M: Channels> Parts<FreshEnd<N, M>, ProxyInboxes<N, M>>
+impl<'a, 'l, N: Naming, M: Channels> Parts<FreshEnd<N, AskedRequest<N>, M>, ProxyInboxes<N, M>>
     for Planned<'a, 'l, N, M> {
-    fn work<R: Wait>(&self, rt: &R, alloc: Global, end: FreshEnd<N, M>) {
+    fn work<R: Wait>(&self, rt: &R, alloc: Global, end: FreshEnd<N, AskedRequest<N>, M>) {
         let Some(resolver) = self.cluster.resolvers.as_slice().get(end.resolver()) else {
             return;
         };
@@ -76,7 +76,7 @@ fn run<N: Naming + Send + Sync, M: Channels + Send + Sync, R: Threads + Wait + S
     rt: &R,
     alloc: Global,
     ledger: &Ledger<N>,
-    blank: BlankInboxes<N>,
+    blank: BlankInboxes<N, AskedRequest<N>>,
     trial: Trial,
 ) -> Result<Summary, Fail>
     requires { blank ≡ M.places }
@@ -95,10 +95,9 @@ fn run<N: Naming + Send + Sync, M: Channels + Send + Sync, R: Threads + Wait + S
         plan: trial.plan,
         left: &left,
     };
-    let started = ends.len();
-    serve(rt, alloc, &planned, ends, sides);
+    let started = serve(rt, alloc, &planned, ends, sides);
     let sum = summed_up(left, trial.wanted);
-    if sum.lacks_memory(started) {
+    if !started || sum.lacks_memory() {
         return Err(Fail::from(OutOfMemory));
     }
     Ok(sum)

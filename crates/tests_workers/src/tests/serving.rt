@@ -11,7 +11,7 @@ use std::test::Fail;
 use std::thread;
 use std::thread::{Scope, Threads};
 use testing::room;
-use workers::ProxyInboxes;
+use workers::{AskedRequest, ProxyInboxes};
 
 /// What the threads of a test do: `E` is what the worker of a resolver gets, and `S` what a proxy gets.
 pub(crate) trait Parts<E, S> {
@@ -26,23 +26,25 @@ pub(crate) trait Parts<E, S> {
 }
 
 /// Runs a thread for each worker, and one for each proxy, and then ends the proxies. Returns when all
-/// threads have ended.
+/// threads have ended: whether each was started.
 pub(crate) fn serve<
     E: Send + Drop,
     S: Sync + Drop,
     P: Parts<E, S> + Sync,
     R: Threads + Wait + Sync,
->(rt: &R, alloc: Global, parts: &P, ends: Vec<E>, sides: Vec<S>) {
+>(rt: &R, alloc: Global, parts: &P, ends: Vec<E>, sides: Vec<S>) -> bool {
     thread::scope(thread::scope_env(), rt, |scope| {
-        start_workers(scope, rt, alloc, parts, ends);
-        commit_in_threads(rt, alloc, parts, sides.as_slice());
+        let served = start_workers(scope, rt, alloc, parts, ends);
+        let committed = commit_in_threads(rt, alloc, parts, sides.as_slice());
         for side in sides {
             parts.end(rt, side);
         }
-    });
+        served && committed
+    })
 }
 
-/// Starts a thread for each worker. The end of one that cannot be started is dropped.
+/// Starts a thread for each worker, and returns whether each was started. The end of one that cannot
+/// be started is dropped.
 fn start_workers<
     's,
     X,
@@ -50,22 +52,25 @@ fn start_workers<
     S: 's,
     P: Parts<E, S> + Sync,
     R: Threads + Wait + Sync,
->(scope: &'s Scope<'s, X>, rt: &'s R, alloc: Global, parts: &'s P, ends: Vec<E>) {
+>(scope: &'s Scope<'s, X>, rt: &'s R, alloc: Global, parts: &'s P, ends: Vec<E>) -> bool {
+    let mut all = true;
     for end in ends {
-        let _ = scope.spawn(move || parts.work(rt, alloc, end));
+        let started = scope.spawn(move || parts.work(rt, alloc, end));
+        all = all && started.is_ok();
     }
+    all
 }
 
-/// Runs a thread for each proxy. Returns when these have ended.
+/// Runs a thread for each proxy. Returns when these have ended: whether each was started.
 fn commit_in_threads<E, S: Sync, P: Parts<E, S> + Sync, R: Threads + Wait + Sync>(
     rt: &R,
     alloc: Global,
     parts: &P,
     sides: &[S],
-) {
+) -> bool {
     thread::scope(thread::scope_env(), rt, |scope| {
-        start_proxies(scope, rt, alloc, parts, sides);
-    });
+        start_proxies(scope, rt, alloc, parts, sides)
+    })
 }
 
 fn start_proxies<'s, X, E: 's, S: Sync + 's, P: Parts<E, S> + Sync, R: Threads + Wait + Sync>(
@@ -74,17 +79,20 @@ fn start_proxies<'s, X, E: 's, S: Sync + 's, P: Parts<E, S> + Sync, R: Threads +
     alloc: Global,
     parts: &'s P,
     sides: &'s [S],
-) {
+) -> bool {
+    let mut all = true;
     for side in sides {
-        let _ = scope.spawn(move || parts.commit(rt, alloc, side));
+        let started = scope.spawn(move || parts.commit(rt, alloc, side));
+        all = all && started.is_ok();
     }
+    all
 }
 
 /// The inboxes of each proxy.
 pub(crate) fn sides<N: Naming, M: Channels>(
     alloc: Global,
     ledger: &Ledger<N>,
-    senders: Vec<ProxySenders<N, M>>,
+    senders: Vec<ProxySenders<N, AskedRequest<N>, M>>,
 ) -> Result<Vec<ProxyInboxes<N, M>>, Fail> {
     let mut made = room(alloc, senders.len())?;
     for one in senders {

@@ -7,14 +7,14 @@ use std::alloc::Global;
 use std::sync::Mutex;
 use std::test::Fail;
 use testing::room;
-use workers::{EndedWorker, Open};
+use workers::{AskedRequest, EndedWorker, Open};
 
 /// What is left of the threads of a run: the workers, the sending ends, and the number of each refusal
 /// of a commit, 0 for want of memory.
 #[derive(Drop)]
 pub(crate) struct Left<N: Naming, M: Channels> {
     pub(crate) workers: Mutex<Vec<EndedWorker<N, M, Open>>>,
-    pub(crate) senders: Mutex<Vec<EndedSender<N, M>>>,
+    pub(crate) senders: Mutex<Vec<EndedSender<N, AskedRequest<N>, M>>>,
     pub(crate) refusals: Mutex<Vec<u32>>,
 }
 
@@ -91,10 +91,9 @@ fn count_refusals(sum: &mut Summary, refusals: Vec<u32>) {
 }
 
 impl Summary {
-    /// Whether an allocation failed: the thread of a worker was not started, or a worker or a commit
-    /// tells so.
-    pub(crate) fn lacks_memory(&self, started: usize) -> bool {
-        self.workers < started || 0 < self.wanted_memory || 0 < self.failed
+    /// Whether an allocation failed, as a worker or a commit tells.
+    pub(crate) fn lacks_memory(&self) -> bool {
+        0 < self.wanted_memory || 0 < self.failed
     }
 }
 
@@ -135,7 +134,7 @@ fn of_workers<N: Naming, M: Channels>(
 /// Compares the sender with the worker of its resolver, if there is one.
 fn compare<N: Naming, M: Channels>(
     workers: &mut [EndedWorker<N, M, Open>],
-    sender: EndedSender<N, M>,
+    sender: EndedSender<N, AskedRequest<N>, M>,
 ) -> Option<Counts> {
     let mut sender = sender;
     for place in 0..workers.len() {

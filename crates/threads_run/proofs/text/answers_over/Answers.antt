@@ -1,6 +1,6 @@
 -- Each end of an inbox is of a resolver of the cluster.
 use Rattle.std.proofs.Common.{◌∙◌, ap, length}
-use Rattle.threads_run.proofs.ThreadLemmas.{ends_below}
+use Rattle.threads_run.proofs.EndsBelow.{ends_below}
 use Rattle.threads_run.proofs.text.answers_over.Goals as goal
 
 pub commit_over_workers-requires-clause-ends : goal.commit_over_workers-requires-clause-ends

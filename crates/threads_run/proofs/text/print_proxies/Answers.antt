@@ -1,7 +1,7 @@
 -- One more proxy is printed.
 use Rattle.std.specs.Prelude.{string_bytes}
 use Rattle.threads_run.specs.Text.{IsProxyText}
-use Rattle.threads_run.proofs.PartLemmas.{one_more_part}
+use Rattle.threads_lines.proofs.PartLemmas.{one_more_part}
 use Rattle.threads_run.proofs.text.print_proxies.Goals as goal
 
 pub loop-number-preserved : goal.loop-number-preserved

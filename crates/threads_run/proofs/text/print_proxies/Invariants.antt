@@ -1,6 +1,6 @@
 -- The lines so far are those of the proxies so far.
 use Rattle.std.specs.Prelude.{string_bytes}
-use Rattle.threads_run.specs.Parts.{GrowsBy, IsInParts}
+use Rattle.threads_lines.specs.Parts.{GrowsBy, IsInParts}
 use Rattle.threads_run.specs.Text.{IsProxyText}
 use Rattle.threads_run.proofs.text.print_proxies.Given as goal
 

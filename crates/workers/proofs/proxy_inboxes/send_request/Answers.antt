@@ -9,18 +9,22 @@ use Rattle.workers.proofs.proxy_inboxes.send_request.Goals as goal
 
 pub send-sent-requires-clause-to_it : goal.send-sent-requires-clause-to_it
 send-sent-requires-clause-to_it g c =
-    inr (ap (λ (t : Tag). t.kind) c.request-message.ensures, ap (λ (t : Tag). t.to) c.request-message.ensures ∙ sym c.resolver-resolver.ensures)
+    inr (
+      ap (λ (t : Tag). t.kind) c.request-message.ensures,
+      ap (λ (t : Tag). t.to) c.request-message.ensures
+          ∙ sym (c.resolver-resolver.ensures ∙ ap (λ (q : RequestView). q.plain.resolver) c.held.view_is),
+    )
 
 pub returns : goal.returns
 returns g c =
     let held = c.args.held in
     let before = c.args.senders.now in
     let after = c.send-sent.new.self in
-    let to : c.resolver-resolver.result ≡ held.plain.resolver = c.resolver-resolver.ensures ∙ ap (λ (q : RequestView). q.plain.resolver) c.into_parts-request.ensures in
-    let is : c.request-message.result ≡ request_tag before.proxy held =
+    let to : c.resolver-resolver.result ≡ held.plain.resolver =
+    c.resolver-resolver.ensures ∙ ap (λ (q : RequestView). q.plain.resolver) c.held.view_is in
+    let is : c.request-message.result ≡ request_tag before.proxy held.plain.resolver held.plain.row =
     c.request-message.ensures
-    ∙ ap (λ (p : ℕ). request_tag p c.into_parts-request.result.0) c.proxy.ensures
-    ∙ ap (λ (q : RequestView). request_tag before.proxy q) c.into_parts-request.ensures in
-    subst (λ (r : ℕ). IsSentTo r (request_tag before.proxy held) before after) to
+    ∙ ap (λ (p : ℕ). request_tag p held.plain.resolver held.plain.row) c.proxy.ensures in
+    subst (λ (r : ℕ). IsSentTo r (request_tag before.proxy held.plain.resolver held.plain.row) before after) to
     (subst (λ (t : Tag). IsSentTo c.resolver-resolver.result t before after) is
     (changed c.send-sent.result c.resolver-resolver.result c.request-message.result before after c.send-sent.ensures.sent c.send-sent.ensures.refused))

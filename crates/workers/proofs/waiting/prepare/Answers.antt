@@ -1,7 +1,8 @@
 -- One message more, with the next request.
 use Rattle.std.proofs.Common.{◌∙◌, ◌+◌, ◌++◌, [], ◌∷◌, List, length, length-append, sym, ap, arith}
+use Rattle.std.proofs.lemmas.List.{take_all}
 use Rattle.shared_cluster.specs.Requests.{RequestView}
-use Rattle.workers.proofs.AskLemmas.{take_all, take_next}
+use Rattle.workers.proofs.AskLemmas.{take_next}
 use Rattle.workers.proofs.DeskLemmas.{got}
 use Rattle.workers.proofs.waiting.prepare.Goals as goal
 
@@ -24,4 +25,4 @@ pub returns-clause-messages : goal.returns-clause-messages
 returns-clause-messages g c =
     let requests = c.args.requests.now in
     let k = c.loop-request.request-index in
-    c.loop-request.invariant.messages ∙ take_all requests k (omega arith)
+    c.loop-request.invariant.messages ∙ take_all k requests (omega arith)

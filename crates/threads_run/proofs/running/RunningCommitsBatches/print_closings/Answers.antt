@@ -1,9 +1,9 @@
 -- One more closing is printed.
 use Rattle.std.proofs.Common.{ℕ, length, subst}
 use Rattle.std.specs.Prelude.{string_bytes}
-use Rattle.threads_run.specs.Answers.{IsClosingLine}
-use Rattle.threads_run.specs.Parts.{GrowsBy}
-use Rattle.threads_run.proofs.PartLemmas.{one_more_part}
+use Rattle.threads_lines.specs.Answers.{IsClosingLine}
+use Rattle.threads_lines.specs.Parts.{GrowsBy}
+use Rattle.threads_lines.proofs.PartLemmas.{one_more_part}
 use Rattle.threads_run.proofs.running.RunningCommitsBatches.print_closings.Goals as goal
 
 pub loop-number-preserved : goal.loop-number-preserved

@@ -1,7 +1,7 @@
 -- The lines so far are those of the proxies so far.
 use Rattle.std.specs.Prelude.{length, string_bytes}
-use Rattle.threads_run.specs.Answers.{IsClosingLine}
-use Rattle.threads_run.specs.Parts.{GrowsBy, IsInParts}
+use Rattle.threads_lines.specs.Answers.{IsClosingLine}
+use Rattle.threads_lines.specs.Parts.{GrowsBy, IsInParts}
 use Rattle.threads_run.proofs.running.RunningCommitsBatches.print_closings.Given as goal
 
 abbrev pub invariant-loop-number : goal.invariant-loop-number

@@ -1,6 +1,5 @@
 -- A message more was taken: a request, which is served, a Close, or the last of a proxy.
 use Rattle.std.proofs.Common.{◌≡◌, refl, ap, sym, ◌∙◌, subst, ℕ, ◌+◌, ◌-◌, true, false, arith}
-use Rattle.shared_cluster.specs.Requests.{RequestView}
 use Rattle.inboxes.specs.Sending.{is_end}
 use Rattle.inboxes.specs.Tags.{close_tag, end_tag, request_tag}
 use Rattle.inboxes.specs.declared.tag.Kind.TheVariants as kinds
@@ -18,13 +17,13 @@ invariant_of-self-in-Request g c =
     let before : WorkerView = record { taken = inside.end; desk = inside.desk; proxies_left = inside.proxies_left; cut_off = inside.cut_off } in
     let after : WorkerView = record before { taken = c.take.new.self; desk = c.take-in-Request.new.self } in
     let message = c.in-Ok.message in
-    let told : request_tag message.proxy c.in-Request.request ≡ message = c.in-Request.ensures in
+    let held = c.in-Request.held in
+    let told : request_tag message.proxy held.plain.resolver held.plain.row ≡ message = c.in-Request.ensures in
     let other : is_end message ≡ false = ap is_end (sym told) in
     worker_next inside.shared.now g.N.Naming.cells.config.proxies before after message c.self.invariant c.in-Ok.ensures.taken c.take-in-Request.ensures.keeps c.take-in-Request.ensures.settled
     (λ row is sound.
-    let own : c.new-held.result.plain.resolver ≡ inside.desk.column.resolver =
-    ap (λ (q : RequestView). q.plain.resolver) c.new-held.ensures ∙ ap (λ (t : Tag). t.to) told ∙ is.to ∙ sym c.self.invariant.resolver in
-    let of : c.new-held.result.plain.row ≡ row = ap (λ (q : RequestView). q.plain.row) c.new-held.ensures ∙ ap (λ (t : Tag). t.row) told ∙ is.row_is in
+    let own : held.plain.resolver ≡ inside.desk.column.resolver = ap (λ (t : Tag). t.to) told ∙ is.to ∙ sym c.self.invariant.resolver in
+    let of : held.plain.row ≡ row = ap (λ (t : Tag). t.row) told ∙ is.row_is in
     subst (Serves after.desk) of (c.take-in-Request.ensures.served own sound))
     (λ closes. let not : kinds.Request ≡ kinds.Close = ap (λ (t : Tag). t.kind) told ∙ closes in absurd (cc))
     (ap (λ (n : ℕ). before.proxies_left + n) (no_end before.taken.got message other))

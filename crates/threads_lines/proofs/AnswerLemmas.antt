@@ -1,0 +1,21 @@
+-- What a commit came to, and the line of it.
+use Rattle.std.proofs.Common.{◌≡◌, ◌++◌, ℕ, List, refl}
+use Rattle.std.specs.Prelude.{Ok, Err}
+use Rattle.model.specs.Configs.{Config}
+use Rattle.model.specs.Stamps.{Given}
+use Rattle.model.specs.declared.outcome.Finished.{Finished}
+use Rattle.agreed_ledger.specs.declared.refusal.Refusal.{Refusal}
+use Rattle.shared_cluster.specs.Answers.{NotedFinishedView}
+use Rattle.threads_lines.specs.Answers.{FinishesBatch, IsEnd, IsLineOf}
+use Rattle.threads_lines.specs.Lines.{Answer}
+use Rattle.threads_lines.specs.Parts.{GrowsBy}
+
+-- the line of a finished batch
+pub finished_line : (config : Config) (rows p : ℕ) (line : Answer → List ℕ) (batch : List Given) (noted : NotedFinishedView) (finished : Finished) (old new : List ℕ)
+    → FinishesBatch config p batch noted → finished ≡ noted.finished → new ≡ old ++ line (Ok finished) → GrowsBy (IsLineOf config rows p line batch) old new
+finished_line config rows p line batch noted finished old new finishes same is = (line (Ok finished), (Ok finished, (noted, finishes, same), refl), is)
+
+-- the line of a batch without record
+pub refused_line : (config : Config) (rows p : ℕ) (line : Answer → List ℕ) (batch : List Given) (refusal : Refusal) (old new : List ℕ)
+    → IsEnd config rows refusal → new ≡ old ++ line (Err refusal) → GrowsBy (IsLineOf config rows p line batch) old new
+refused_line config rows p line batch refusal old new ends is = (line (Err refusal), (Err refusal, ends, refl), is)

@@ -1,0 +1,15 @@
+-- One more resolver stands in the place of its number.
+use Rattle.std.proofs.Common.{◌≡◌, ◌∙◌, ◌++◌, ◌∷◌, [], rules, subst, sym}
+use Rattle.threads_lines.specs.Threads.{AreInPlace}
+use Rattle.threads_lines.proofs.ThreadLemmas.{one_more_in_place}
+use Rattle.threads_lines.proofs.cluster.shared_resolvers.Goals as goal
+
+pub loop-number-preserved : goal.loop-number-preserved
+loop-number-preserved g c =
+    let l = c.loop-number in
+    let numbered : c.in-Ok.resolver ≡ l.number = search rules in
+    let items : c.push.new.self.items ≡ l.resolvers.items ++ c.in-Ok.resolver ∷ [] = search rules in
+    record {
+      count = search rules;
+      in_place = subst AreInPlace (sym items) (one_more_in_place l.resolvers.items c.in-Ok.resolver (numbered ∙ sym l.invariant.count) l.invariant.in_place);
+    }

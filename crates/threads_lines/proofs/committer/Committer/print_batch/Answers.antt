@@ -1,0 +1,21 @@
+-- The line is that of the answer.
+use Rattle.std.proofs.Common.{length, subst}
+use Rattle.std.specs.Prelude.{string_bytes}
+use Rattle.threads_lines.specs.Answers.{IsCommitOf}
+use Rattle.threads_lines.specs.Lines.{batch_line}
+use Rattle.threads_lines.proofs.AnswerLemmas.{finished_line, refused_line}
+use Rattle.threads_lines.proofs.committer.Committer.print_batch.Goals as goal
+
+pub returns-in_ok-print_finished_batch-in-Finished : goal.returns-in_ok-print_finished_batch-in-Finished
+returns-in_ok-print_finished_batch-in-Finished g c =
+    let config = g.N.Naming.cells.config in
+    let rows = length g.N.Naming.cells.records in
+    finished_line config rows c.args.self.now.number (batch_line c.args.self.now.number c.args.place) c.args.batch.now c.in-Finished.noted c.value.result.now (string_bytes c.args.text.now) (string_bytes c.print_finished_batch.new.text)
+    (subst (IsCommitOf config rows c.args.self.now.number c.args.batch.now) c.in-Finished.is c.in_ok-noted.ensures) c.value.ensures.value c.in_ok-print_finished_batch-in-Finished.ensures
+
+pub returns-in_ok-print_refused_batch-in-NoRecord : goal.returns-in_ok-print_refused_batch-in-NoRecord
+returns-in_ok-print_refused_batch-in-NoRecord g c =
+    let config = g.N.Naming.cells.config in
+    let rows = length g.N.Naming.cells.records in
+    refused_line config rows c.args.self.now.number (batch_line c.args.self.now.number c.args.place) c.args.batch.now c.in-NoRecord.refusal (string_bytes c.args.text.now) (string_bytes c.print_refused_batch.new.text)
+    (subst (IsCommitOf config rows c.args.self.now.number c.args.batch.now) c.in-NoRecord.is c.in_ok-noted.ensures) c.in_ok-print_refused_batch-in-NoRecord.ensures

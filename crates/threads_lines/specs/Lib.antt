@@ -1,0 +1,14 @@
+-- The definitions, in reading order.
+
+-- what a batch may be answered, and the texts of such answers
+pub mod Answers
+-- threads that are started and joined
+pub mod Threads
+-- texts of several parts
+pub mod Parts
+-- the lines that are printed of batches and closings
+pub mod Lines
+-- the lines that are printed of two proxies that meet, and of audits
+pub mod Meetings
+-- how a run fails, and which refusals are printed
+pub mod Faults

@@ -1,0 +1,136 @@
+//! A proxy that commits batches, and prints their answers.
+
+ghost use Rattle.std.specs.Prelude.{◌≡◌, [], length, IfOk, OnOk, string_bytes};
+ghost use Rattle.threads_lines.specs.Answers.{AreBatchLines, IsClosingLine, IsCommitOf, IsLineOf};
+ghost use Rattle.threads_lines.specs.Lines.{batch_line};
+ghost use Rattle.threads_lines.specs.Parts.{GrowsBy};
+
+use crate::faults::{RunFault, printed_refusal};
+use crate::lines::{
+    print_closing_version, print_finished_batch, print_refused_batch, print_refused_closing,
+};
+use agreed_ledger::{Naming, Refusal, Sequencer};
+use model::ProxyNumber;
+use mutation::Batch;
+use shared_cluster::{Asking, NotedFinished, SharedProxy};
+use std::alloc::Global;
+use std::sync::Wait;
+
+/// A proxy of a cluster, and what it commits by.
+#[derive(Drop)]
+pub struct Committer<'a, 'l, N: Naming, A: Asking<N>> {
+    /// The number of the proxy.
+    pub number: ProxyNumber,
+    /// The proxy.
+    pub proxy: &'a SharedProxy<'l, N>,
+    /// The sequencer of its cluster.
+    pub sequencer: &'a Sequencer<'l, N>,
+    /// How it asks the resolvers.
+    pub asking: &'a A,
+    ghost own: { proxy.now ≡ number },
+}
+
+/// What a commit came to that does not end the run.
+#[derive(Drop)]
+enum Committed<N: Naming> {
+    /// The batch is finished.
+    Finished(NotedFinished<N>),
+    /// The batch got no record: the ledger is full, or there are no more versions.
+    NoRecord(Refusal),
+}
+
+impl<'a, 'l, N: Naming, A: Asking<N>> Committer<'a, 'l, N, A> {
+    /// Commits the batches in order, and returns the lines of their answers. If it fails, other
+    /// proxies may wait for this one until its resolvers are closed.
+    pub fn run<R: Wait>(&self, rt: &R, alloc: Global, batches: &[Batch]) -> Result<String, RunFault>
+        ensures { IfOk result (λ text.
+            AreBatchLines N.cells.config (length N.cells.records) self.now.number
+            batches.now (string_bytes text)) }
+    {
+        let mut text = String::new(alloc);
+        self.print_batches(rt, &mut text, batches)?;
+        Ok(text)
+    }
+
+    fn print_batches<R: Wait>(
+        &self,
+        rt: &R,
+        text: &mut String,
+        batches: &[Batch],
+    ) -> Result<(), RunFault>
+        ensures { OnOk result
+            (GrowsBy
+            (AreBatchLines N.cells.config (length N.cells.records) self.now.number batches.now)
+            (string_bytes text.old) (string_bytes text.new)) }
+    {
+        for (place, batch) in batches.iter().enumerate() {
+            self.print_batch(rt, text, place, batch)?;
+        }
+        Ok(())
+    }
+
+    /// Commits a batch, and prints its answer.
+    fn print_batch<R: Wait>(
+        &self,
+        rt: &R,
+        text: &mut String,
+        place: usize,
+        batch: &Batch,
+    ) -> Result<(), RunFault>
+        ensures { OnOk result
+            (GrowsBy (IsLineOf N.cells.config (length N.cells.records) self.now.number
+            (batch_line self.now.number place) batch.now)
+            (string_bytes text.old) (string_bytes text.new)) }
+    {
+        match self.commit(rt, batch)? {
+            Committed::Finished(noted) => print_finished_batch(
+                text,
+                self.number,
+                place,
+                noted.value(),
+            )?,
+            Committed::NoRecord(refusal) => print_refused_batch(
+                text,
+                self.number,
+                place,
+                &refusal,
+            )?,
+        }
+        Ok(())
+    }
+
+    /// Commits an empty batch, by which the proxy closes, and prints its answer.
+    pub fn print_closing<R: Wait>(
+        &self,
+        rt: &R,
+        text: &mut String,
+        empty: &Batch,
+    ) -> Result<(), RunFault>
+        requires { empty.now ≡ [] }
+        ensures { OnOk result
+            (GrowsBy (IsClosingLine N.cells.config (length N.cells.records) self.now.number)
+            (string_bytes text.old) (string_bytes text.new)) }
+    {
+        match self.commit(rt, empty)? {
+            Committed::Finished(noted) => print_closing_version(text, self.number, noted.value())?,
+            Committed::NoRecord(refusal) => print_refused_closing(text, self.number, &refusal)?,
+        }
+        Ok(())
+    }
+
+    /// Commits a copy of the batch.
+    fn commit<R: Wait>(&self, rt: &R, batch: &Batch) -> Result<Committed<N>, RunFault>
+        ensures { IfOk result
+            (IsCommitOf N.cells.config (length N.cells.records) self.now.number batch.now) }
+    {
+        let copy = batch.copy()?;
+        match self.proxy.commit(rt, self.sequencer, self.asking, copy) {
+            Ok((noted, _guard)) => {
+                // (its contract says what the type keeps of the outcomes)
+                let _finished = noted.value();
+                Ok(Committed::Finished(noted))
+            }
+            Err(fault) => Ok(Committed::NoRecord(printed_refusal(&fault)?)),
+        }
+    }
+}

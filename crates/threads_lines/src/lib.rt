@@ -1,0 +1,23 @@
+//! The threads that commit batches and those that serve inboxes, and the lines that are written of
+//! their answers, of proxies that meet, and of audits.
+//!
+//! Facts cross from a thread to the one that joins it by a promise: what a thread returns is known to
+//! be the lines of answers to the batches that it was given.
+//!
+//! Source: this project's profile (lines and statuses).
+#![tactic(auto)]
+
+mod cluster;
+mod committer;
+mod faults;
+mod lines;
+mod meetings;
+mod serving;
+mod threads;
+
+pub use cluster::Cluster;
+pub use committer::Committer;
+pub use faults::{RunFault, ledger_fault, status_of};
+pub use meetings::{print_audits, print_meetings};
+pub use serving::{RunOutcome, ServesInbox, commit_over_workers};
+pub use threads::CommitsBatches;

@@ -1,0 +1,151 @@
+//! The lines that are printed of batches and closings.
+
+ghost use Rattle.std.specs.Prelude.{◌≡◌, ◌++◌, OnOk, Ok, Err, string_bytes, map, flat_map};
+ghost use Rattle.scripts.specs.Lines.{list_text, spaced};
+ghost use Rattle.cluster_lines.specs.Names.{outcome_name};
+ghost use Rattle.threads_lines.specs.Lines.{batch_line, batch_text, closing_line, closing_text};
+ghost use Rattle.threads_lines.specs.Lines.{refusal_text, refusal_value, version_text};
+
+use agreed_ledger::Refusal;
+use cluster_lines::{outcome_name, push_refused};
+use model::{Finished, Outcome, ProxyNumber, Version};
+use std::fmt::Write;
+use system_keys::OutOfMemory;
+
+/// Prints the outcomes of a batch, which stands at this place among those of the proxy. Fails only
+/// with `OutOfMemory`.
+pub(crate) fn print_finished_batch(
+    text: &mut String,
+    proxy: ProxyNumber,
+    place: usize,
+    finished: &Finished,
+) -> Result<(), OutOfMemory>
+    ensures { OnOk result (string_bytes text.new
+        ≡ string_bytes text.old ++ batch_line proxy place (Ok finished.now)) }
+{
+    push_batch(text, proxy, place)?;
+    push_outcomes(text, finished.outcomes.as_slice())?;
+    text.push_str("\n")?;
+    Ok(())
+}
+
+/// Prints that a batch got no record. Fails only with `OutOfMemory`.
+pub(crate) fn print_refused_batch(
+    text: &mut String,
+    proxy: ProxyNumber,
+    place: usize,
+    refusal: &Refusal,
+) -> Result<(), OutOfMemory>
+    ensures { OnOk result (string_bytes text.new
+        ≡ string_bytes text.old ++ batch_line proxy place (Err refusal.now)) }
+{
+    push_batch(text, proxy, place)?;
+    push_refusal(text, refusal)?;
+    text.push_str("\n")?;
+    Ok(())
+}
+
+/// Prints the version of the batch by which a proxy closes. Fails only with `OutOfMemory`.
+pub(crate) fn print_closing_version(
+    text: &mut String,
+    proxy: ProxyNumber,
+    finished: &Finished,
+) -> Result<(), OutOfMemory>
+    ensures { OnOk result (string_bytes text.new
+        ≡ string_bytes text.old ++ closing_line proxy (Ok finished.now)) }
+{
+    push_closing(text, proxy)?;
+    push_version(text, finished.version)?;
+    text.push_str("\n")?;
+    Ok(())
+}
+
+/// Prints that the batch by which a proxy closes got no record. Fails only with `OutOfMemory`.
+pub(crate) fn print_refused_closing(
+    text: &mut String,
+    proxy: ProxyNumber,
+    refusal: &Refusal,
+) -> Result<(), OutOfMemory>
+    ensures { OnOk result (string_bytes text.new
+        ≡ string_bytes text.old ++ closing_line proxy (Err refusal.now)) }
+{
+    push_closing(text, proxy)?;
+    push_refusal(text, refusal)?;
+    text.push_str("\n")?;
+    Ok(())
+}
+
+fn push_batch(text: &mut String, proxy: ProxyNumber, place: usize) -> Result<(), OutOfMemory>
+    ensures { OnOk result (string_bytes text.new
+        ≡ string_bytes text.old ++ batch_text proxy place) }
+{
+    write!(text, "batch {proxy} {place} ")?;
+    Ok(())
+}
+
+fn push_closing(text: &mut String, proxy: ProxyNumber) -> Result<(), OutOfMemory>
+    ensures { OnOk result (string_bytes text.new ≡ string_bytes text.old ++ closing_text proxy) }
+{
+    write!(text, "closing {proxy} ")?;
+    Ok(())
+}
+
+fn push_version(text: &mut String, version: Version) -> Result<(), OutOfMemory>
+    ensures { OnOk result (string_bytes text.new ≡ string_bytes text.old ++ version_text version) }
+{
+    write!(text, "version {version}")?;
+    Ok(())
+}
+
+fn push_outcomes(text: &mut String, outcomes: &[Outcome]) -> Result<(), OutOfMemory>
+    ensures { OnOk result (string_bytes text.new
+        ≡ string_bytes text.old ++ list_text (map outcome_name outcomes.now)) }
+{
+    match outcomes.split_first() {
+        Some((first, rest)) => {
+            text.push_str(outcome_name(*first))?;
+            push_spaced_outcomes(text, rest)
+        }
+        None => {
+            text.push_str("none")?;
+            Ok(())
+        }
+    }
+}
+
+fn push_spaced_outcomes(text: &mut String, outcomes: &[Outcome]) -> Result<(), OutOfMemory>
+    ensures { OnOk result (string_bytes text.new
+        ≡ string_bytes text.old ++ flat_map spaced (map outcome_name outcomes.now)) }
+{
+    for outcome in outcomes {
+        text.push_str(" ")?;
+        text.push_str(outcome_name(*outcome))?;
+    }
+    Ok(())
+}
+
+// Fails also for the refusal `OutOfMemory`, which has no number.
+fn push_refusal(text: &mut String, refusal: &Refusal) -> Result<(), OutOfMemory>
+    ensures { OnOk result (string_bytes text.new
+        ≡ string_bytes text.old ++ refusal_text refusal.now) }
+{
+    let number = refusal.number().ok_or(OutOfMemory)?;
+    push_refused(text, number, refusal.name())?;
+    push_refusal_value(text, refusal)
+}
+
+fn push_refusal_value(text: &mut String, refusal: &Refusal) -> Result<(), OutOfMemory>
+    ensures { OnOk result (string_bytes text.new
+        ≡ string_bytes text.old ++ refusal_value refusal.now) }
+{
+    match refusal {
+        Refusal::LedgerFull { rows } => write!(text, " {rows}")?,
+        Refusal::BadConfig
+        | Refusal::NoSuchResolver
+        | Refusal::NoSuchProxy
+        | Refusal::VersionsEnd
+        | Refusal::CellTaken
+        | Refusal::OutOfMemory => {}
+    }
+    Ok(())
+}

@@ -1,0 +1,215 @@
+//! The threads that serve the inboxes of the resolvers, one for each, while those of the proxies run.
+
+ghost use Rattle.std.specs.Prelude.{◌≡◌, ◌≤◌, [], length, All, IfOk, string_bytes};
+ghost use Rattle.std.specs.Vec.{vec_capacity};
+ghost use Rattle.threads_lines.specs.Threads.{AreAnswerLines};
+
+use crate::faults::RunFault;
+use crate::threads::{CommitsBatches, commit_in_threads};
+use mutation::Batch;
+use std::alloc::Global;
+use std::sync::Wait;
+use std::thread;
+use std::thread::{JoinHandle, Scope, Threads};
+use system_keys::{Items, OutOfMemory};
+
+/// Serves the inboxes of the resolvers, each by a worker. `E` is the worker's end of an inbox, and `L`
+/// what is left of a worker that has ended.
+pub trait ServesInbox<E, L> {
+    ghost can_serve: { Self → E → Type 0 };
+
+    /// Takes what the proxies send to this inbox, until each of them has ended. Returns what is left
+    /// of the worker.
+    fn serve<R: Wait>(&self, rt: &R, alloc: Global, end: E) -> L
+        requires { can_serve self.now end };
+}
+
+/// What a run over workers came to.
+#[derive(Drop)]
+pub struct RunOutcome<L: Drop> {
+    /// The lines of the answers, or why there are none, as far as the proxies know.
+    pub lines: Result<String, RunFault>,
+    /// What is left of the workers.
+    pub workers: Vec<L>,
+}
+
+/// Serves each inbox in a thread of its own. Meanwhile commits the batches of each proxy, again in
+/// a thread for each, and lets the proxies close, in order. Returns the lines of all answers, and what
+/// is left of each worker, when all threads have ended.
+///
+/// Fails with `OutOfMemory` if the thread of an inbox could not be started, or was refused memory
+/// before. Then no proxy commits anything.
+pub fn commit_over_workers<
+    E: Send + Drop,
+    L: Send + Drop,
+    S: ServesInbox<E, L> + Sync,
+    C: CommitsBatches + Sync + Drop,
+    R: Threads + Wait + Sync,
+>(
+    rt: &R,
+    alloc: Global,
+    serving: &S,
+    ends: Vec<E>,
+    committing: C,
+    work: &[Items<Batch>],
+) -> Result<RunOutcome<L>, OutOfMemory>
+    requires ends { All (S.can_serve serving.now) ends.items }
+    requires work { length work.now ≤ C.proxies committing }
+    ensures lines { IfOk result (λ outcome. IfOk outcome.lines (λ text. AreAnswerLines C.are_lines
+        (C.are_closings (C.proxies committing)) work.now (string_bytes text))) }
+    ensures workers { IfOk result (λ outcome.
+        length outcome.workers.items ≡ length ends.items) }
+{
+    thread::scope(
+        thread::scope_env(),
+        rt,
+        |scope| -> Result<RunOutcome<L>, OutOfMemory>
+            requires ends { All (S.can_serve serving.now) ends.items }
+            requires work { length work.now ≤ C.proxies committing }
+            ensures lines { IfOk result (λ outcome. IfOk outcome.lines (λ text.
+                AreAnswerLines C.are_lines (C.are_closings (C.proxies committing))
+                work.entry.now (string_bytes text))) }
+            ensures workers { IfOk result (λ outcome.
+                length outcome.workers.items ≡ length ends.items) }
+        { commit_beside_workers(scope, rt, alloc, serving, ends, committing, work) },
+    )
+}
+
+/// Starts a thread for each inbox, lets the proxies commit, lets them end, and then waits for the
+/// workers.
+fn commit_beside_workers<
+    's,
+    X,
+    E: Send + Drop + 's,
+    L: Send + Drop + 's,
+    S: ServesInbox<E, L> + Sync,
+    C: CommitsBatches + Sync + Drop,
+    R: Threads + Wait + Sync,
+>(
+    scope: &'s Scope<'s, X>,
+    rt: &'s R,
+    alloc: Global,
+    serving: &'s S,
+    ends: Vec<E>,
+    committing: C,
+    work: &'s [Items<Batch>],
+) -> Result<RunOutcome<L>, OutOfMemory>
+    requires ends { All (S.can_serve serving.now) ends.items }
+    requires work { length work.now ≤ C.proxies committing }
+    ensures lines { IfOk result (λ outcome. IfOk outcome.lines (λ text. AreAnswerLines C.are_lines
+        (C.are_closings (C.proxies committing)) work.now (string_bytes text))) }
+    ensures workers { IfOk result (λ outcome.
+        length outcome.workers.items ≡ length ends.items) }
+{
+    let left = Vec::with_capacity(alloc, ends.len())?;
+    let handles = match start_workers(scope, rt, alloc, serving, ends) {
+        Ok(handles) => handles,
+        Err(started) => {
+            committing.end(rt);
+            await_workers(rt, started);
+            return Err(OutOfMemory);
+        }
+    };
+    let lines = answer_lines(rt, alloc, &committing, work);
+    committing.end(rt);
+    Ok(RunOutcome {
+        lines,
+        workers: join_workers(rt, handles, left),
+    })
+}
+
+/// Starts a thread for each inbox. If one cannot be started, or an allocation failed, returns the
+/// threads that were started in `Err`.
+fn start_workers<
+    's,
+    X,
+    E: Send + Drop + 's,
+    L: Send + Drop + 's,
+    S: ServesInbox<E, L> + Sync,
+    R: Threads + Wait + Sync,
+>(
+    scope: &'s Scope<'s, X>,
+    rt: &'s R,
+    alloc: Global,
+    serving: &'s S,
+    ends: Vec<E>,
+) -> Result<Vec<JoinHandle<L>>, Vec<JoinHandle<L>>>
+    requires { All (S.can_serve serving.now) ends.items }
+    ensures { IfOk result (λ handles. length handles.items ≡ length ends.items) }
+{
+    let Ok(mut handles) = Vec::with_capacity(alloc, ends.len()) else {
+        return Err(Vec::new(alloc));
+    };
+    for end in ends {
+        let Ok(handle) = start_worker(scope, rt, alloc, serving, end) else {
+            return Err(handles);
+        };
+        handles.push_reserved(handle);
+    }
+    Ok(handles)
+}
+
+/// Starts the thread of an inbox. Fails if it cannot be started.
+fn start_worker<
+    's,
+    X,
+    E: Send + Drop + 's,
+    L: Send + Drop + 's,
+    S: ServesInbox<E, L> + Sync,
+    R: Threads + Wait + Sync,
+>(
+    scope: &'s Scope<'s, X>,
+    rt: &'s R,
+    alloc: Global,
+    serving: &'s S,
+    end: E,
+) -> Result<JoinHandle<L>, OutOfMemory>
+    requires { S.can_serve serving.now end }
+{
+    let run = move || -> L
+        requires { S.can_serve serving.now end }
+    { serving.serve(rt, alloc, end) };
+    match scope.spawn(run) {
+        Ok(handle) => Ok(handle),
+        Err(_refused) => Err(OutOfMemory),
+    }
+}
+
+/// Waits for the workers to end.
+fn await_workers<L: Drop, R: Threads>(rt: &R, handles: Vec<JoinHandle<L>>) {
+    for handle in handles {
+        let _left = handle.join(rt);
+    }
+}
+
+/// Waits for the workers to end, and returns what is left of each. `left` is the room for it.
+fn join_workers<L: Drop, R: Threads>(
+    rt: &R,
+    handles: Vec<JoinHandle<L>>,
+    mut left: Vec<L>,
+) -> Vec<L>
+    requires empty { left.items ≡ [] }
+    requires room { length handles.items ≤ vec_capacity left }
+    ensures { length result.items ≡ length handles.items }
+{
+    for handle in handles {
+        left.push_reserved(handle.join(rt));
+    }
+    left
+}
+
+/// The lines of the answers to all batches, and to the closings after them.
+fn answer_lines<C: CommitsBatches + Sync + Drop, R: Threads + Wait + Sync>(
+    rt: &R,
+    alloc: Global,
+    committing: &C,
+    work: &[Items<Batch>],
+) -> Result<String, RunFault>
+    requires { length work.now ≤ C.proxies committing.now }
+    ensures { IfOk result (λ text. AreAnswerLines C.are_lines
+        (C.are_closings (C.proxies committing.now)) work.now (string_bytes text)) }
+{
+    let mut text = commit_in_threads(rt, alloc, committing, work)?;
+    committing.print_closings(rt, alloc, &mut text)?;
+    Ok(text)
+}

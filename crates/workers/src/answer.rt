@@ -1,0 +1,74 @@
+//! What a worker answers to a request.
+
+ghost use Rattle.std.specs.Prelude.{◌≡◌};
+ghost use Rattle.shared_cluster.specs.Commits.{IsAskRefusal};
+ghost use Rattle.shared_cluster.specs.declared.refusal.Refusal.TheVariants as refusals;
+
+use agreed_ledger::Naming;
+use shared_cluster::{NotedReply, Refusal, Request};
+use std::marker::Model;
+
+/// What a worker answers to a request, through a plain channel: the reply of its resolver, or why
+/// there is none.
+#[derive(Drop)]
+pub enum Answer<N: Naming> {
+    /// The reply.
+    Replied(NotedReply<N>),
+    /// Why there is none.
+    Refused(RefusedRequest<N>),
+}
+
+/// Why a request got no reply, and the request.
+///
+/// By its type an allocation failed, or the resolver that the request names refused it so.
+#[derive(Drop)]
+pub struct RefusedRequest<N: Naming> {
+    refusal: Refusal,
+    request: Request<N>,
+}
+
+impl<N: Naming> Model for RefusedRequest<N> {
+    ghost use Rattle.workers.specs.Answers.{RefusedRequestView};
+    ghost use Rattle.shared_cluster.specs.Commits.{IsAskRefusal};
+
+    ghost Value = { RefusedRequestView };
+
+    ghost view = { λ r. record { refusal = r.refusal; request = r.request } };
+
+    ghost invariant = { λ r. IsAskRefusal N.cells.config r.request r.refusal };
+}
+
+impl<N: Naming> RefusedRequest<N> {
+    /// The request was refused so.
+    pub fn new(refusal: Refusal, request: Request<N>) -> RefusedRequest<N>
+        requires { IsAskRefusal N.cells.config request refusal }
+        ensures { result ≡ record { refusal = refusal; request = request } }
+    {
+        RefusedRequest { refusal, request }
+    }
+
+    /// The request was refused with `OutOfMemory`: an allocation failed.
+    pub fn out_of_memory(request: Request<N>) -> RefusedRequest<N>
+        ensures { result ≡ record { refusal = refusals.OutOfMemory; request = request } }
+    {
+        RefusedRequest {
+            refusal: Refusal::OutOfMemory,
+            request,
+        }
+    }
+
+    /// Returns the refusal.
+    pub fn refusal(&self) -> Refusal
+        ensures value { result ≡ self.now.refusal }
+        ensures kept { IsAskRefusal N.cells.config self.now.request self.now.refusal }
+    {
+        self.refusal
+    }
+
+    /// Returns the request that was refused.
+    pub fn request(&self) -> &Request<N>
+        ensures { result.now ≡ self.now.request }
+    {
+        &self.request
+    }
+}
