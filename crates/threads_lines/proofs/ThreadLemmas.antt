@@ -1,8 +1,8 @@
 -- Threads that are started and joined, one for each proxy.
-use Rattle.std.proofs.Common.{◌≡◌, ◌++◌, ◌+◌, ◌∙◌, [], ◌∷◌, ℕ, List, sym, ap, subst, length, inl, inr, add-one, String, Global}
+use Rattle.std.proofs.Common.{◌≡◌, ◌++◌, ◌+◌, ◌∙◌, ◌<◌, [], ◌∷◌, ℕ, zero, suc, List, sym, ap, subst, drop, length, inl, inr, add-one, arith, String, Global}
 use Rattle.std.specs.Prelude.{◌⊎◌, ⊤, slice_get, Some, Result, Ok, Err, IfOk, IsOk, OnOk, MatchResult, string_bytes}
 use Rattle.model.specs.Stamps.{Given}
-use Rattle.inboxes.proofs.Each.{get_more}
+use Rattle.model.proofs.History.Growth.{push_cases}
 use Rattle.threads_lines.specs.Answers.{AreLinesOfProxy}
 use Rattle.threads_lines.specs.Faults.{join_results}
 use Rattle.threads_lines.specs.Parts.{GrowsBy, IsInParts}
@@ -10,21 +10,31 @@ use Rattle.threads_lines.specs.Threads.{AreInOrder, AreInPlace, AreLinesOfThread
 use Rattle.threads_lines.specs.declared.faults.RunFault.{RunFault}
 use Rattle.threads_lines.proofs.PartLemmas.{parts_weaker}
 
+-- the first of those that are left
+pub drop_next : {X : Type 0} (xs : List X) (k : ℕ) (x : X) (rest : List X) → drop k xs ≡ x ∷ rest → (slice_get xs k ≡ Some x) × (drop (k + 1) xs ≡ rest)
+drop_next [] zero x rest is = absurd (cc)
+drop_next [] (suc k) x rest is = absurd (cc)
+drop_next (y ∷ ys) zero x rest is = (cc, let one : zero + 1 ≡ suc zero = omega arith in let tail : ys ≡ rest = cc in ap (λ n. drop n (y ∷ ys)) one ∙ tail)
+drop_next (y ∷ ys) (suc k) x rest is =
+    let (at, later) = drop_next ys k x rest is in
+    let more : suc k + 1 ≡ suc (k + 1) = omega arith in
+    (at, ap (λ n. drop n (y ∷ ys)) more ∙ later)
+
 -- a number was put in its place
 pub one_more_in_place : (numbers : List ℕ) (number : ℕ) → number ≡ length numbers → AreInPlace numbers → AreInPlace (numbers ++ number ∷ [])
-one_more_in_place numbers number is before p found at = by (get_more numbers number found p at) where
-  by : ((p ≡ length numbers) × (number ≡ found)) ⊎ (slice_get numbers p ≡ Some found) → found ≡ p
+one_more_in_place numbers number is before p found at = by (push_cases numbers number p found at) where
+  by : ((p ≡ length numbers) × (number ≡ found)) ⊎ ((p < length numbers) × (slice_get numbers p ≡ Some found)) → found ≡ p
   by (inl (last, same)) = sym same ∙ is ∙ sym last
-  by (inr earlier) = before p found earlier
+  by (inr (within, earlier)) = before p found earlier
 
 -- one more thread was started
 pub one_more_thread : {X : Type 0} (threads : List X) (number : X → ℕ) (batches : X → List (List Given)) (work : List (List (List Given))) (thread : X)
     → number thread ≡ length threads → slice_get work (length threads) ≡ Some (batches thread)
     → AreInOrder threads number batches work → AreInOrder (threads ++ thread ∷ []) number batches work
-one_more_thread threads number batches work thread is there before p found at = by (get_more threads thread found p at) where
-  by : ((p ≡ length threads) × (thread ≡ found)) ⊎ (slice_get threads p ≡ Some found) → (number found ≡ p) × (slice_get work p ≡ Some (batches found))
+one_more_thread threads number batches work thread is there before p found at = by (push_cases threads thread p found at) where
+  by : ((p ≡ length threads) × (thread ≡ found)) ⊎ ((p < length threads) × (slice_get threads p ≡ Some found)) → (number found ≡ p) × (slice_get work p ≡ Some (batches found))
   by (inl (last, same)) = (ap number (sym same) ∙ is ∙ sym last, ap (slice_get work) last ∙ there ∙ ap (λ t. Some (batches t)) same)
-  by (inr earlier) = before p found earlier
+  by (inr (within, earlier)) = before p found earlier
 
 -- what the threads promise is what the proxies are answered
 pub lines_of_proxies : {X : Type 0} (threads : List X) (number : X → ℕ) (batches : X → List (List Given)) (AreLines : ℕ → List (List Given) → List ℕ → Type 0) (work : List (List (List Given))) (text : List ℕ)

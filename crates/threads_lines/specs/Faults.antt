@@ -17,8 +17,7 @@ abbrev pub graver : RunFault → RunFault → RunFault
 graver faults.OutOfMemory other = faults.OutOfMemory
 graver faults.Refused other = other
 
--- the fault of a run whose proxies came to this one, and one of whose workers was refused memory, or
--- none was
+-- the fault of a run: that of its proxies, but `OutOfMemory` if a worker was refused memory
 abbrev pub fault_beside : RunFault → (refused_memory : Bool) → RunFault
 fault_beside fault true = faults.OutOfMemory
 fault_beside fault false = fault

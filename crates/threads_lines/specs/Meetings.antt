@@ -1,13 +1,14 @@
 -- The lines that are printed of two proxies that meet, and of audits (this project's profile).
-use Rattle.std.specs.Prelude.{◌≡◌, ◌+◌, ◌-◌, ⊤, ℕ, List, ◌++◌, length, codes, MatchResult, Result, Ok, Err}
+use Rattle.std.specs.Prelude.{◌≡◌, ◌+◌, ◌-◌, ⊤, ℕ, List, ◌++◌, length, slice_get, Some, codes}
+use Rattle.std.specs.Prelude.{MatchResult, Result, Ok, Err}
 use Rattle.std.specs.Fmt.{decimal}
 use Rattle.model.specs.Configs.{Config}
-use Rattle.model.specs.Numbers.{ProxyNumber}
+use Rattle.model.specs.Numbers.{ProxyNumber, ResolverNumber}
 use Rattle.scripts.specs.Lines.{line, spaced}
 use Rattle.shared_cluster.specs.Audits.{HaveReached, IsAudited, IsFirstBehind}
 use Rattle.shared_cluster.specs.Meetings.{Met}
 use Rattle.shared_cluster.specs.Proxies.{LockedProxyView, IsLockedProxy}
-use Rattle.shared_cluster.specs.Resolvers.{LockedResolverView}
+use Rattle.shared_cluster.specs.Resolvers.{LockedResolverView, IsLockedResolver}
 use Rattle.shared_cluster.specs.declared.audits.behind_by.BehindBy.{BehindBy}
 use Rattle.shared_cluster.specs.declared.proxies.meeting.Meeting.{Meeting}
 use Rattle.shared_cluster.specs.declared.proxies.meeting.Meeting.TheVariants as meetings
@@ -53,11 +54,25 @@ audit_text (Err behind) =
 abbrev pub audit_line : ProxyNumber → Result ⊤ BehindBy → List ℕ
 audit_line p audited = line (codes "audit " ++ decimal p ++ spaced (audit_text audited))
 
--- the line of an audit of a proxy that its lock keeps, by all resolvers
+-- the locks of the resolvers of these numbers keep these, in their order
+abbrev pub AreKept : Config → (numbers : List ResolverNumber) → List LockedResolverView → Type 0
+AreKept config numbers resolvers =
+    (place : ℕ) (w : LockedResolverView) → slice_get resolvers place ≡ Some w
+    → IsLockedResolver config w × (slice_get numbers place ≡ Some w.memory.number)
+
+-- resolvers that their locks keep, each at the place of its number
+abbrev pub AreKeptInPlace : Config → List LockedResolverView → Type 0
+AreKeptInPlace config resolvers =
+    (place : ℕ) (w : LockedResolverView) → slice_get resolvers place ≡ Some w
+    → IsLockedResolver config w × (w.memory.number ≡ place)
+
+-- the line of an audit of a proxy that its lock keeps, by all resolvers, in order, as their locks keep
+-- them
 abbrev pub IsAuditLine : Config → ProxyNumber → (text : List ℕ) → Type 0
 IsAuditLine config p text =
     (audited : Result ⊤ BehindBy) × (v : LockedProxyView) × (resolvers : List LockedResolverView)
     × IsAudited config v × (v.proxy.number ≡ p) × (length resolvers ≡ config.resolvers)
+    × AreKeptInPlace config resolvers
     × MatchResult audited
     (λ _. HaveReached config v resolvers) (IsFirstBehind config v resolvers)
     × (text ≡ audit_line p audited)

@@ -42,7 +42,7 @@ impl RunFault {
         }
     }
 
-    /// The fault of a run whose proxies came to this one: `OutOfMemory` also if a worker was refused
+    /// The fault of a run whose proxies failed with this one: `OutOfMemory` if a worker was refused
     /// memory, of which a proxy may have seen only that a resolver was closed.
     pub fn beside(self, refused_memory: bool) -> RunFault
         ensures { result ≡ fault_beside self refused_memory }

@@ -1,5 +1,5 @@
-//! The threads that commit batches and those that serve inboxes, and the lines that are written of
-//! their answers, of proxies that meet, and of audits.
+//! The threads that commit batches and those that serve them, and the lines that are written of the
+//! answers, of proxies that meet, and of audits.
 //!
 //! Facts cross from a thread to the one that joins it by a promise: what a thread returns is known to
 //! be the lines of answers to the batches that it was given.

@@ -1,7 +1,7 @@
 //! Each two proxies of a cluster meet, and each proxy is audited.
 
 ghost use Rattle.std.specs.Prelude.{◌≡◌, ◌<◌, ◌-◌, ◌+◌, ◌++◌, length, IfOk, OnOk, string_bytes};
-ghost use Rattle.threads_lines.specs.Meetings.{AreMeetingLines, AreMeetingsOf, IsAuditLine};
+ghost use Rattle.threads_lines.specs.Meetings.{AreKept, AreMeetingLines, AreMeetingsOf, IsAuditLine};
 ghost use Rattle.threads_lines.specs.Meetings.{audit_line, audit_text, meeting_line};
 ghost use Rattle.threads_lines.specs.Parts.{GrowsBy, IsInParts};
 
@@ -95,7 +95,8 @@ fn lock_resolvers<'a, N: Naming, R: Wait>(
     alloc: Global,
     resolvers: &'a [SharedResolver<'_, N>],
 ) -> Result<Vec<ResolverGuard<'a, N>>, OutOfMemory>
-    ensures { IfOk result (λ guards. length guards.items ≡ length resolvers.now) }
+    ensures count { IfOk result (λ guards. length guards.items ≡ length resolvers.now) }
+    ensures kept { IfOk result (λ guards. AreKept N.cells.config resolvers.now guards.items) }
 {
     let mut guards = Vec::with_capacity(alloc, resolvers.len())?;
     for resolver in resolvers {

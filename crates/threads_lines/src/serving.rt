@@ -1,4 +1,5 @@
-//! The threads that serve the inboxes of the resolvers, one for each, while those of the proxies run.
+//! The threads that serve the proxies, one for each end that requests come from, while those of the
+//! proxies run. In a run each end is a worker's end of an inbox, and a worker serves it.
 
 ghost use Rattle.std.specs.Prelude.{◌≡◌, ◌≤◌, [], length, All, IfOk, string_bytes};
 ghost use Rattle.std.specs.Vec.{vec_capacity};
@@ -13,31 +14,31 @@ use std::thread;
 use std::thread::{JoinHandle, Scope, Threads};
 use system_keys::{Items, OutOfMemory};
 
-/// Serves the inboxes of the resolvers, each by a worker. `E` is the worker's end of an inbox, and `L`
-/// what is left of a worker that has ended.
+/// Serves the proxies. `E` is an end that a thread takes messages from, and `L` what that thread leaves
+/// when it has ended.
 pub trait ServesInbox<E, L> {
     ghost can_serve: { Self → E → Type 0 };
 
-    /// Takes what the proxies send to this inbox, until each of them has ended. Returns what is left
-    /// of the worker.
+    /// Takes what the proxies send to this end, until each of them has ended. Returns what is left
+    /// then.
     fn serve<R: Wait>(&self, rt: &R, alloc: Global, end: E) -> L
         requires { can_serve self.now end };
 }
 
-/// What a run over workers came to.
+/// What proxies and those who served them came to.
 #[derive(Drop)]
 pub struct RunOutcome<L: Drop> {
     /// The lines of the answers, or why there are none, as far as the proxies know.
     pub lines: Result<String, RunFault>,
-    /// What is left of the workers.
+    /// What each thread that served left.
     pub workers: Vec<L>,
 }
 
-/// Serves each inbox in a thread of its own. Meanwhile commits the batches of each proxy, again in
-/// a thread for each, and lets the proxies close, in order. Returns the lines of all answers, and what
-/// is left of each worker, when all threads have ended.
+/// Serves each end in a thread of its own. Meanwhile commits the batches of each proxy, again in a
+/// thread for each, and lets the proxies close, in order. Returns the lines of all answers, and what
+/// each thread that served left, when all threads have ended.
 ///
-/// Fails with `OutOfMemory` if the thread of an inbox could not be started, or was refused memory
+/// Fails with `OutOfMemory` if the thread of an end could not be started, or an allocation failed
 /// before. Then no proxy commits anything.
 pub fn commit_over_workers<
     E: Send + Drop,
@@ -75,8 +76,8 @@ pub fn commit_over_workers<
     )
 }
 
-/// Starts a thread for each inbox, lets the proxies commit, lets them end, and then waits for the
-/// workers.
+/// Starts a thread for each end, lets the proxies commit, lets them end, and then waits for the threads
+/// that serve.
 fn commit_beside_workers<
     's,
     X,
@@ -118,8 +119,8 @@ fn commit_beside_workers<
     })
 }
 
-/// Starts a thread for each inbox. If one cannot be started, or an allocation failed, returns the
-/// threads that were started in `Err`.
+/// Starts a thread for each end. If one cannot be started, or an allocation failed, returns the threads
+/// that were started in `Err`.
 fn start_workers<
     's,
     X,
@@ -149,7 +150,7 @@ fn start_workers<
     Ok(handles)
 }
 
-/// Starts the thread of an inbox. Fails if it cannot be started.
+/// Starts the thread of an end. Fails if it cannot be started.
 fn start_worker<
     's,
     X,
@@ -175,14 +176,14 @@ fn start_worker<
     }
 }
 
-/// Waits for the workers to end.
+/// Waits for the threads that serve to end.
 fn await_workers<L: Drop, R: Threads>(rt: &R, handles: Vec<JoinHandle<L>>) {
     for handle in handles {
         let _left = handle.join(rt);
     }
 }
 
-/// Waits for the workers to end, and returns what is left of each. `left` is the room for it.
+/// Waits for the threads that serve to end, and returns what each left. `left` is the room for it.
 fn join_workers<L: Drop, R: Threads>(
     rt: &R,
     handles: Vec<JoinHandle<L>>,

@@ -1,2 +1,3 @@
 pub mod EndsBelow
 pub mod RunLemmas
+pub mod SidesInPlace

@@ -85,13 +85,15 @@ pub(crate) struct Running<'a, 'l, N: Naming, M: Channels> {
     pub(crate) cluster: &'a Cluster<'l, N>,
     pub(crate) inboxes: Vec<ProxyInboxes<N, M>>,
     ghost as_many: { length inboxes.items ≡ length cluster.now.proxies.items },
+    ghost inboxes_in_place: { AreInPlace inboxes.items },
 }
 
 impl<'a, 'l, N: Naming, M: Channels> Running<'a, 'l, N, M> {
     /// The proxy of this number, with what it commits by.
     fn committer(&self, number: ProxyNumber) -> Committer<'_, 'l, N, ProxyInboxes<N, M>>
         requires { number < length self.now.cluster.now.proxies.items }
-        ensures { result.number ≡ number }
+        ensures number { result.number ≡ number }
+        ensures asking { result.asking.now ≡ number }
     {
         Committer {
             number,

@@ -1,10 +1,11 @@
 //! What a threads script comes to.
 
 ghost use Rattle.std.specs.Prelude.{◌≡◌, length, IfOk, OnOk, string_bytes};
+ghost use Rattle.inboxes.specs.Blanks.{AreSides};
 ghost use Rattle.threads_lines.specs.Answers.{AreBatchLines, IsClosingLine};
 ghost use Rattle.threads_lines.specs.Parts.{GrowsBy, IsInParts};
 ghost use Rattle.threads_scripts.specs.Runnable.{IsRunnable};
-ghost use Rattle.threads_lines.specs.Threads.{AreAnswerLines};
+ghost use Rattle.threads_lines.specs.Threads.{AreAnswerLines, AreInPlace};
 ghost use Rattle.threads_run.specs.Text.{IsProxyText, IsThreadsText};
 
 use crate::running::{Running, Serving, lines_of};
@@ -107,7 +108,10 @@ fn inboxes_of<N: Naming, M: Channels>(
     ledger: &Ledger<N>,
     senders: Vec<ProxySenders<N, AskedRequest<N>, M>>,
 ) -> Result<Vec<ProxyInboxes<N, M>>, OutOfMemory>
-    ensures { IfOk result (λ inboxes. length inboxes.items ≡ length senders.items) }
+    ensures count { IfOk result (λ inboxes. length inboxes.items ≡ length senders.items) }
+    ensures in_place { IfOk result (λ inboxes.
+        AreSides N.cells.config.proxies N.cells.config.resolvers senders.items
+        → AreInPlace inboxes.items) }
 {
     let mut inboxes = Vec::with_capacity(alloc, senders.len())?;
     for one in senders {

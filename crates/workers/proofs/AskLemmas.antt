@@ -1,5 +1,5 @@
 -- Requests that are asked, and what is answered to them.
-use Rattle.std.proofs.Common.{◌≡◌, sym, ap, ◌∙◌, subst, ℕ, zero, suc, ◌+◌, ◌<◌, ◌⊎◌, inl, inr, List, [], ◌∷◌, ◌++◌, length, take, slice_get, Some, length-append, Bool, eqb, eq-eqb, ne_eqb, arith}
+use Rattle.std.proofs.Common.{◌≡◌, refl, sym, ap, ◌∙◌, subst, ℕ, zero, suc, ◌+◌, ◌<◌, ◌⊎◌, inl, inr, List, [], ◌∷◌, ◌++◌, length, take, slice_get, Some, length-append, Bool, eqb, eq-eqb, ne_eqb, arith}
 use Rattle.std.specs.Prelude.{MatchBool}
 use Rattle.std.proofs.lemmas.Bool.{cases_eq}
 use Rattle.facts.specs.Stretches.{Agree}
@@ -12,6 +12,8 @@ use Rattle.shared_cluster.specs.Commits.{AreRepliesInOrder, IsAskAllRefusal, IsA
 use Rattle.shared_cluster.specs.Resolvers.{IsResolveRefusal}
 use Rattle.shared_cluster.specs.declared.refusal.Refusal.{Refusal}
 use Rattle.shared_cluster.specs.declared.refusal.Refusal.TheVariants as refusals
+use Rattle.inboxes.specs.Ends.{ProxyView}
+use Rattle.workers.specs.Asking.{AreRequestsSent, IsRequestSent}
 use Rattle.workers.proofs.RefusedLemmas.{closed_refuses}
 
 pub take_next : {X : Type 0} (xs : List X) (k : ℕ) (x : X) → slice_get xs k ≡ Some x → take (k + 1) xs ≡ take k xs ++ x ∷ []
@@ -48,6 +50,13 @@ one_closed config requests k q at limits there = inr (k, q, at, closed_refuses c
 pub one_refused : (config : Config) (requests : List RequestView) (k : ℕ) (q : RequestView) (refusal : Refusal) → slice_get requests k ≡ Some q → IsAskRefusal config q refusal → IsAskAllRefusal config requests refusal
 one_refused config requests k q refusal at (inl memory) = inl memory
 one_refused config requests k q refusal at (inr refused) = inr (k, q, at, refused)
+
+-- ---- requests that are sent
+
+-- one request more was sent
+pub sent_more : (sent : List RequestView) (q : RequestView) (first before after : ProxyView) → AreRequestsSent sent first before → IsRequestSent q.plain before after → AreRequestsSent (sent ++ q ∷ []) first after
+sent_more [] q first before after none more = (after, subst (λ (v : ProxyView). IsRequestSent q.plain v after) none more, refl)
+sent_more (p ∷ sent) q first before after (between, one, others) more = (between, one, sent_more sent q between before after others more)
 
 -- ---- a request that came back
 

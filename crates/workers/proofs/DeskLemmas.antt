@@ -1,15 +1,20 @@
 -- What a worker keeps serving.
-use Rattle.std.proofs.Common.{◌≡◌, refl, sym, ap, ◌∙◌, subst, ℕ, zero, suc, ◌+◌, ◌<◌, ◌⊎◌, inl, inr, List, [], ◌∷◌, ◌++◌, length, slice_get, Some, true, ◌||◌, get_or, length-append, arith}
-use Rattle.std.specs.Prelude.{IsFalse, remove}
+use Rattle.std.proofs.Common.{◌≡◌, ◌≢◌, refl, sym, ap, ◌∙◌, subst, ℕ, zero, suc, ◌+◌, ◌<◌, ◌⊎◌, inl, inr, List, [], ◌∷◌, ◌++◌, length, slice_get, Some, Bool, true, ◌||◌, get_or, length-append, arith}
+use Rattle.std.specs.Prelude.{IsFalse, IsTrue, remove}
+use Rattle.std.proofs.lemmas.Bool.{cases_eq}
 use Rattle.facts.specs.Stretches.{end_of}
 use Rattle.model.specs.Configs.{Config}
+use Rattle.model.specs.Offers.{OfferFault}
+use Rattle.model.specs.Offers as offers
+use Rattle.model.specs.Requests.{Request}
 use Rattle.agreed_ledger.specs.Cells.{ColumnView}
 use Rattle.shared_cluster.specs.Requests.{RequestView}
 use Rattle.shared_cluster.specs.NotedReplies.{NotedReplyView}
-use Rattle.shared_cluster.specs.Resolvers.{HasOffered, HasJudged, HasRepeated, IsLockedResolver, LockedResolverView, after_refusal}
+use Rattle.shared_cluster.specs.Resolvers.{HasOffered, HasJudged, HasRepeated, IsFault, IsLockedResolver, IsNotEarly, IsOfferRefusal, LockedResolverView, after_refusal}
 use Rattle.shared_cluster.specs.declared.refusal.Refusal.{Refusal}
 use Rattle.shared_cluster.specs.declared.refusal.Refusal.TheVariants as refusals
-use Rattle.workers.specs.Desks.{DeskView, HasLetGo, HasRow, IsNoneDue, IsSettled, KeepsServing, OnlyFails, Serves, has_failed, next_row}
+use Rattle.workers.specs.Desks.{ClosesByCause, DeskView, HasLetGo, HasRow, IsNoneDue, IsSettled, KeepsServing, OnlyFails, Serves, has_failed, next_row}
+use Rattle.workers.specs.Refusing.{IsToldRefusal}
 
 -- ---- one after another
 
@@ -173,6 +178,55 @@ number_refused v (refusals.NotReached version) = refl
 number_refused v refusals.CellTaken = refl
 number_refused v refusals.Closed = refl
 number_refused v refusals.OutOfMemory = refl
+
+-- what a worker that closes was closed by
+pub closed_for : (asked : LockedResolverView) (q : Request) (refusal : Refusal) (was is : Bool) → IsOfferRefusal asked q refusal → (refusal ≡ refusals.OutOfMemory → is ≡ was) → IsTrue is
+    → IsTrue was ⊎ (IsTrue (after_refusal asked refusal).closed ⊎ ((fault : OfferFault) × IsFault asked q fault))
+closed_for asked q (refusals.Early version) was is refused memory closed = inr (inr (offers.Early version, refused))
+closed_for asked q (refusals.GivenUp acknowledged) was is refused memory closed = inr (inr (offers.GivenUp acknowledged, refused))
+closed_for asked q refusals.NoSuchProxy was is refused memory closed = inr (inr (offers.NoSuchProxy, refused))
+closed_for asked q refusals.WrongResolver was is refused memory closed = inr (inr (offers.WrongResolver, refused))
+closed_for asked q (refusals.OutsideChain version) was is refused memory closed = inr (inr (offers.OutsideChain version, refused))
+closed_for asked q refusals.NotMine was is refused memory closed = absurd refused
+closed_for asked q (refusals.OutOfOrder expected) was is refused memory closed = absurd refused
+closed_for asked q (refusals.OutOfTurn expected) was is refused memory closed = absurd refused
+closed_for asked q (refusals.NotReached version) was is refused memory closed = absurd refused
+closed_for asked q refusals.CellTaken was is refused memory closed = inr (inl refl)
+closed_for asked q refusals.Closed was is refused memory closed = inr (inl refused)
+closed_for asked q refusals.OutOfMemory was is refused memory closed = inl (sym (memory refl) ∙ closed)
+
+-- of a desk that was as open before, and the same request
+pub cause_moved : (a b after : DeskView) (q r : RequestView) (asked left : LockedResolverView) → a.closed ≡ b.closed → q ≡ r
+    → ClosesByCause a after q.plain asked left → ClosesByCause b after r.plain asked left
+cause_moved a b after q r asked left open_alike same cause closed =
+    subst (λ (t : Bool). IsTrue t ⊎ (IsTrue left.closed ⊎ ((fault : OfferFault) × IsFault asked r.plain fault))) open_alike
+    (subst (λ (s : RequestView). IsTrue a.closed ⊎ (IsTrue left.closed ⊎ ((fault : OfferFault) × IsFault asked s.plain fault))) same (cause closed))
+
+-- a refusal is not that of an early request, or is
+late_or_early : (refusal : Refusal) → IsNotEarly refusal ⊎ ((version : ℕ) × (refusal ≡ refusals.Early version))
+late_or_early (refusals.Early version) = inr (version, refl)
+late_or_early (refusals.GivenUp acknowledged) = inl tt
+late_or_early refusals.NoSuchProxy = inl tt
+late_or_early refusals.WrongResolver = inl tt
+late_or_early (refusals.OutsideChain version) = inl tt
+late_or_early refusals.NotMine = inl tt
+late_or_early (refusals.OutOfOrder expected) = inl tt
+late_or_early (refusals.OutOfTurn expected) = inl tt
+late_or_early (refusals.NotReached version) = inl tt
+late_or_early refusals.CellTaken = inl tt
+late_or_early refusals.Closed = inl tt
+late_or_early refusals.OutOfMemory = inl tt
+
+-- what is told of a refusal of the resolver of this number
+pub told_refusal : (asked : LockedResolverView) (number : ℕ) (q : Request) (given told : Refusal) → number ≡ asked.memory.number → IsOfferRefusal asked q given
+    → (q.resolver ≡ number → IsNotEarly given → told ≡ given) → (q.resolver ≢ number → told ≡ refusals.Closed)
+    → ((version : ℕ) → given ≡ refusals.Early version → told ≡ refusals.Closed) → IsToldRefusal asked q told
+told_refusal asked number q given told of refused own other early = by (late_or_early given) (cases_eq q.resolver number)
+  where
+    by : IsNotEarly given ⊎ ((version : ℕ) × (given ≡ refusals.Early version)) → (q.resolver ≡ number) ⊎ (q.resolver ≡ number → ⊥) → IsToldRefusal asked q told
+    by (inr (version, is)) decided = inr (early version is, inr (version, subst (IsOfferRefusal asked q) is refused))
+    by (inl late) (inr apart) = inr (other apart, inl (λ same. apart (same ∙ sym of)))
+    by (inl late) (inl same) = inl (same ∙ of, subst IsNotEarly (sym (own same late)) late, subst (IsOfferRefusal asked q) (sym (own same late)) refused)
 
 -- ---- an element of a list
 

@@ -1,7 +1,11 @@
--- What a proxy's inboxes refuse. *Profile*: all of it.
-use Rattle.std.specs.Prelude.{◌≡◌, ◌≢◌, ◌⊎◌, ℕ, List, slice_get, Some}
+-- What a proxy's inboxes send and refuse. *Profile*: all of it.
+use Rattle.std.specs.Prelude.{◌≡◌, ◌≢◌, ◌⊎◌, ℕ, List, [], ◌∷◌, slice_get, Some}
 use Rattle.model.specs.Numbers.{ProxyNumber}
 use Rattle.model.specs.Configs.{Config}
+use Rattle.model.specs.Requests.{Request}
+use Rattle.inboxes.specs.Ends.{ProxyView}
+use Rattle.inboxes.specs.Sending.{IsSentTo}
+use Rattle.inboxes.specs.Tags.{request_tag}
 use Rattle.shared_cluster.specs.Requests.{RequestView}
 use Rattle.shared_cluster.specs.Commits.{IsAskAllRefusal}
 use Rattle.shared_cluster.specs.declared.refusal.Refusal.{Refusal}
@@ -27,3 +31,15 @@ abbrev pub IsInboxRefusal : Config → ProxyNumber → List RequestView → Refu
 IsInboxRefusal config p requests refusal =
     (HasOthers p requests × (refusal ≡ refusals.NotMine))
     ⊎ (AreOwn p requests × IsAskAllRefusal config requests refusal)
+
+-- the request was sent to its resolver, as one of the proxy whose ends these are
+abbrev pub IsRequestSent : Request → (before after : ProxyView) → Type 0
+IsRequestSent q before after =
+    IsSentTo q.resolver (request_tag before.proxy q.resolver q.row) before after
+
+-- the requests were sent so, one after the other
+abbrev pub AreRequestsSent : List RequestView → (before after : ProxyView) → Type 0
+AreRequestsSent [] before after = after ≡ before
+AreRequestsSent (q ∷ requests) before after =
+    (between : ProxyView)
+    × IsRequestSent q.plain before between × AreRequestsSent requests between after

@@ -3,9 +3,11 @@ use Rattle.std.specs.Prelude.{◌≡◌, ◌⊎◌, ℕ, ◌<◌, ◌≤◌, max
 use Rattle.std.specs.Prelude.{Bool, false, ◌||◌, IsFalse, IsTrue}
 use Rattle.facts.specs.Stretches.{end_of}
 use Rattle.model.specs.Numbers.{ResolverNumber, RowNumber}
+use Rattle.model.specs.Offers.{OfferFault}
+use Rattle.model.specs.Requests.{Request}
 use Rattle.agreed_ledger.specs.Cells.{ColumnView}
 use Rattle.shared_cluster.specs.Requests.{RequestView}
-use Rattle.shared_cluster.specs.Resolvers.{LockedResolverView}
+use Rattle.shared_cluster.specs.Resolvers.{LockedResolverView, IsFault}
 
 -- The verdict cells of the rows that the resolver judged, as far as the worker knows them; the
 -- requests that it holds back; whether it is closed; and whether it was refused memory.
@@ -79,3 +81,12 @@ pub record HasLetGo (before after : DeskView) : Type 0 where
   pub held : after.held ≡ []
   pub closed : after.closed ≡ before.closed
   pub failed : IsFalse (has_failed after) → IsFalse (has_failed before)
+
+-- An offer leaves the worker closed only if it was closed before, or the resolver is closed
+-- afterwards, or the resolver was open and the definition refuses the request.
+abbrev pub ClosesByCause :
+    (before after : DeskView) → Request → (asked left : LockedResolverView) → Type 0
+ClosesByCause before after q asked left =
+    IsTrue after.closed
+    → IsTrue before.closed
+    ⊎ (IsTrue left.closed ⊎ ((fault : OfferFault) × IsFault asked q fault))

@@ -2,11 +2,11 @@
 
 -- what a worker answers
 pub mod Answers
--- what a resolver refuses of the requests that its worker offers
+-- what a resolver answers to the requests that its worker offers
 pub mod Refusing
 -- what a worker keeps of the requests that it took
 pub mod Desks
 -- what a worker serves of the messages that it took
 pub mod Workers
--- what a proxy's inboxes refuse
+-- what a proxy's inboxes send and refuse
 pub mod Asking

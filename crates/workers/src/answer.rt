@@ -11,7 +11,7 @@ use std::marker::Model;
 /// What a worker answers to a request, through a plain channel: the reply of its resolver, or why
 /// there is none.
 #[derive(Drop)]
-pub enum Answer<N: Naming> {
+pub(crate) enum Answer<N: Naming> {
     /// The reply.
     Replied(NotedReply<N>),
     /// Why there is none.
@@ -20,9 +20,10 @@ pub enum Answer<N: Naming> {
 
 /// Why a request got no reply, and the request.
 ///
-/// By its type an allocation failed, or the resolver that the request names refused it so.
+/// By its type an allocation failed, or the resolver that the request names can refuse it so. (As
+/// closed it can refuse any request.)
 #[derive(Drop)]
-pub struct RefusedRequest<N: Naming> {
+pub(crate) struct RefusedRequest<N: Naming> {
     refusal: Refusal,
     request: Request<N>,
 }
@@ -40,7 +41,7 @@ impl<N: Naming> Model for RefusedRequest<N> {
 
 impl<N: Naming> RefusedRequest<N> {
     /// The request was refused so.
-    pub fn new(refusal: Refusal, request: Request<N>) -> RefusedRequest<N>
+    pub(crate) fn new(refusal: Refusal, request: Request<N>) -> RefusedRequest<N>
         requires { IsAskRefusal N.cells.config request refusal }
         ensures { result ≡ record { refusal = refusal; request = request } }
     {
@@ -48,7 +49,7 @@ impl<N: Naming> RefusedRequest<N> {
     }
 
     /// The request was refused with `OutOfMemory`: an allocation failed.
-    pub fn out_of_memory(request: Request<N>) -> RefusedRequest<N>
+    pub(crate) fn out_of_memory(request: Request<N>) -> RefusedRequest<N>
         ensures { result ≡ record { refusal = refusals.OutOfMemory; request = request } }
     {
         RefusedRequest {
@@ -58,7 +59,7 @@ impl<N: Naming> RefusedRequest<N> {
     }
 
     /// Returns the refusal.
-    pub fn refusal(&self) -> Refusal
+    pub(crate) fn refusal(&self) -> Refusal
         ensures value { result ≡ self.now.refusal }
         ensures kept { IsAskRefusal N.cells.config self.now.request self.now.refusal }
     {
@@ -66,7 +67,7 @@ impl<N: Naming> RefusedRequest<N> {
     }
 
     /// Returns the request that was refused.
-    pub fn request(&self) -> &Request<N>
+    pub(crate) fn request(&self) -> &Request<N>
         ensures { result.now ≡ self.now.request }
     {
         &self.request

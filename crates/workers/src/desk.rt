@@ -4,10 +4,14 @@ ghost use Rattle.std.specs.Prelude.{◌≡◌, ◌≢◌, ◌<◌, ◌≤◌, �
 ghost use Rattle.std.specs.Prelude.{[], true, MatchOption};
 ghost use Rattle.facts.specs.Stretches.{end_of};
 ghost use Rattle.model.specs.Numbers.{RowNumber, Version};
-ghost use Rattle.workers.specs.Desks.{HasLetGo, HasRow, IsDueAt, IsNoneDue, IsSettled};
+ghost use Rattle.workers.specs.Desks.{ClosesByCause, HasLetGo, HasRow, IsDueAt, IsNoneDue, IsSettled};
 ghost use Rattle.workers.specs.Desks.{KeepsServing, OnlyFails, Serves, has_failed, new_desk};
 ghost use Rattle.workers.specs.Desks.{next_row};
+ghost use Rattle.workers.specs.Refusing.{IsAnswerOf};
+ghost use Rattle.shared_cluster.specs.Requests.{RequestView};
+ghost use Rattle.shared_cluster.specs.Resolvers.{closed_resolver};
 ghost use Rattle.shared_cluster.specs.declared.refusal.Refusal.TheVariants as refusals;
+ghost use Rattle.crossbeam_channel.specs.declared.err.SendError.TheVariants as sends;
 
 use crate::answer::{Answer, RefusedRequest};
 use crate::asked_request::AskedRequest;
@@ -75,6 +79,7 @@ impl<N: Naming> Desk<N> {
         ensures served { held.plain.resolver ≡ self.old.column.resolver → IsFalse (has_failed self.new)
             → Serves self.new held.plain.row }
         ensures other { held.plain.resolver ≢ self.old.column.resolver → self.new ≡ self.old }
+        ensures late { IsTrue self.old.closed → OnlyFails self.old self.new }
     {
         if held.request.resolver() != self.column.resolver() {
             return;
@@ -93,10 +98,20 @@ impl<N: Naming> Desk<N> {
         ensures column { self.new.column ≡ self.old.column }
         ensures closed { self.new.closed ≡ true }
     {
-        let mut guard = shared.lock(rt);
+        self.close_under(rt, &mut shared.lock(rt));
+    }
+
+    /// Closes the resolver under the guard, and answers all requests that are held back that it is
+    /// closed.
+    fn close_under<R: Wait>(&mut self, rt: &R, guard: &mut ResolverGuard<'_, N>)
+        ensures resolver { guard.new ≡ closed_resolver guard.old }
+        ensures column { self.new.column ≡ self.old.column }
+        ensures held { self.new.held ≡ [] }
+        ensures closed { self.new.closed ≡ true }
+    {
         guard.close();
         self.closed = true;
-        self.let_go(rt, &guard);
+        self.let_go(rt, guard);
     }
 
     /// Answers all requests that are held back that the resolver is closed.
@@ -128,8 +143,20 @@ impl<N: Naming> Desk<N> {
         ensures fails { OnlyFails self.old self.new }
         ensures closed { self.new.closed ≡ self.old.closed }
     {
-        if let Err(SendError::OutOfMemory(_answer)) = reply.send(rt, answer) {
-            self.wanted = true;
+        self.note(reply.send(rt, answer));
+    }
+
+    /// Takes up how the sending of an answer ended.
+    fn note(&mut self, sent: Result<(), SendError<Answer<N>>>)
+        ensures fails { OnlyFails self.old self.new }
+        ensures closed { self.new.closed ≡ self.old.closed }
+        ensures memory { (answer : _) → sent ≡ Err (sends.OutOfMemory answer)
+            → IsTrue self.new.wanted }
+    {
+        match sent {
+            Ok(()) => {}
+            Err(SendError::Disconnected(_answer)) => {}
+            Err(SendError::OutOfMemory(_answer)) => self.wanted = true,
         }
     }
 
@@ -150,6 +177,7 @@ impl<N: Naming> Desk<N> {
     /// `OutOfMemory`.
     fn hold<R: Wait>(&mut self, rt: &R, held: AskedRequest<N>)
         ensures keeps { KeepsServing self.old self.new }
+        ensures closed { self.new.closed ≡ self.old.closed }
         ensures held { IsFalse (has_failed self.new) → HasRow self.new.held held.plain.row }
     {
         let Err(failed) = self.held.push(held) else {
@@ -221,6 +249,8 @@ impl<N: Naming> Desk<N> {
         ensures keeps { KeepsServing self.old self.new }
         ensures fewer { length self.new.held < length self.old.held }
         ensures own { guard.new.memory.number ≡ guard.old.memory.number }
+        ensures closed { (q : RequestView) → slice_get self.old.held place ≡ Some q
+            → ClosesByCause self.old self.new q.plain guard.old guard.new }
     {
         let (request, reply) = self.held.remove(place).into_parts();
         gate.enter(Place {
@@ -244,18 +274,34 @@ impl<N: Naming> Desk<N> {
         ensures served { IsFalse (has_failed self.new)
             → request.plain.row < end_of self.new.column.rows }
         ensures own { guard.new.memory.number ≡ guard.old.memory.number }
+        ensures closed { ClosesByCause self.old self.new request.plain guard.old guard.new }
+    {
+        let answer = self.offered(guard, request);
+        self.tell(rt, reply, answer);
+    }
+
+    /// Offers the request to the resolver. Returns the answer: the reply, or why there is none.
+    fn offered(&mut self, guard: &mut ResolverGuard<'_, N>, request: Request<N>) -> Answer<N>
+        requires { self.old.column.resolver ≡ guard.old.memory.number }
+        ensures keeps { KeepsServing self.old self.new }
+        ensures held { self.new.held ≡ self.old.held }
+        ensures served { IsFalse (has_failed self.new)
+            → request.plain.row < end_of self.new.column.rows }
+        ensures own { guard.new.memory.number ≡ guard.old.memory.number }
+        ensures closed { ClosesByCause self.old self.new request.plain guard.old guard.new }
+        ensures answer { IsAnswerOf guard.old request guard.new result }
     {
         // (its contract says what the type keeps)
         let _number = guard.number();
         match guard.offer(request) {
             Ok(noted) => {
                 self.catch_up(guard.column());
-                self.tell(rt, reply, Answer::Replied(noted));
+                Answer::Replied(noted)
             }
             Err(refused) => {
                 self.catch_up(guard.column());
                 self.fail(refused.refusal, refused.request.row());
-                self.tell(rt, reply, Answer::Refused(refused_by_offer(guard, refused)));
+                Answer::Refused(refused_by_offer(guard, refused))
             }
         }
     }
@@ -266,6 +312,7 @@ impl<N: Naming> Desk<N> {
         requires first { other.now.rows.first ≡ 0 }
         ensures keeps { KeepsServing self.old self.new }
         ensures held { self.new.held ≡ self.old.held }
+        ensures closed { self.new.closed ≡ self.old.closed }
         ensures reached { IsFalse (has_failed self.new)
             → end_of other.now.rows ≤ end_of self.new.column.rows }
     {

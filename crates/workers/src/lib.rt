@@ -16,7 +16,6 @@ mod refusing;
 mod waiting;
 mod worker;
 
-pub use answer::{Answer, RefusedRequest};
 pub use asked_request::AskedRequest;
 pub use ended::EndedWorker;
 pub use gate::{Gate, Open, Place};

@@ -6,7 +6,8 @@ ghost use Rattle.inboxes.specs.Ends.{AreSenders};
 ghost use Rattle.inboxes.specs.Sending.{AreEndedSenders, AreSent, IsSentTo};
 ghost use Rattle.inboxes.specs.Tags.{close_tag, request_tag};
 ghost use Rattle.shared_cluster.specs.Commits.{AreOfOneRecord, AreRepliesInOrder, IsAskAllRefusal};
-ghost use Rattle.workers.specs.Asking.{AreOwn, IsInboxRefusal};
+ghost use Rattle.shared_cluster.specs.declared.refusal.Refusal.TheVariants as refusals;
+ghost use Rattle.workers.specs.Asking.{AreOwn, AreRequestsSent, HasOthers, IsInboxRefusal};
 
 use crate::asked_request::AskedRequest;
 use crate::waiting::{Prepared, collect, other_at, prepare};
@@ -100,13 +101,34 @@ impl<N: Naming, M: Channels> ProxyInboxes<N, M> {
         send_closes(rt, &mut self.lock.lock(rt));
     }
 
-    /// Asks each resolver its request.
+    /// Asks each resolver its request. If one is of another proxy, fails with `Closed` before
+    /// anything is sent.
+    fn asked<R: Wait>(
+        &self,
+        rt: &R,
+        alloc: Global,
+        requests: &[Request<N>],
+    ) -> Result<Vec<NotedReply<N>>, Refusal>
+        ensures replied { IfOk result (λ replies. AreRepliesInOrder requests.now replies.items) }
+        ensures refused { IfErr result (IsAskAllRefusal N.cells.config requests.now) }
+        ensures others { HasOthers self.now requests.now → result ≡ Err refusals.Closed }
+    {
+        if let Some(place) = other_at(self.proxy, requests) {
+            // (its contract says that the cluster has the resolver)
+            let _plain = requests[place].plain();
+            return Err(Refusal::Closed);
+        }
+        self.ask_own(rt, alloc, requests)
+    }
+
+    /// Asks each resolver its request, which is of this proxy.
     fn ask_own<R: Wait>(
         &self,
         rt: &R,
         alloc: Global,
         requests: &[Request<N>],
     ) -> Result<Vec<NotedReply<N>>, Refusal>
+        requires { AreOwn self.now requests.now }
         ensures replied { IfOk result (λ replies. AreRepliesInOrder requests.now replies.items) }
         ensures refused { IfErr result (IsAskAllRefusal N.cells.config requests.now) }
     {
@@ -124,12 +146,9 @@ impl<N: Naming, M: Channels> ProxyInboxes<N, M> {
         collect(rt, requests, &waiting, replies)
     }
 
-    /// Sends the requests. One whose worker has gone is dropped, and nobody answers it.
+    /// Sends the requests.
     fn send_all<R: Wait>(&self, rt: &R, messages: Vec<AskedRequest<N>>) {
-        let mut senders = self.lock.lock(rt);
-        for held in messages {
-            send_request(rt, &mut senders, held);
-        }
+        send_requests(rt, &mut self.lock.lock(rt), messages);
     }
 }
 
@@ -142,12 +161,7 @@ impl<N: Naming, M: Channels> Asking<N> for ProxyInboxes<N, M> {
         alloc: Global,
         requests: &[Request<N>],
     ) -> Result<Vec<NotedReply<N>>, Refusal> {
-        if let Some(place) = other_at(self.proxy, requests) {
-            // (its contract says that the cluster has the resolver)
-            let _plain = requests[place].plain();
-            return Err(Refusal::Closed);
-        }
-        self.ask_own(rt, alloc, requests)
+        self.asked(rt, alloc, requests)
     }
 }
 
@@ -166,6 +180,20 @@ fn await_own<N: Naming, M: Channels, R: Wait>(
         }
     }
     unreachable!()
+}
+
+/// Sends each request to the inbox of its resolver, in order. One whose worker has gone is dropped,
+/// and nobody answers it.
+fn send_requests<N: Naming, M: Channels, R: Wait>(
+    rt: &R,
+    senders: &mut ProxySenders<N, AskedRequest<N>, M>,
+    messages: Vec<AskedRequest<N>>,
+)
+    ensures { AreRequestsSent messages.items senders.old senders.new }
+{
+    for held in messages {
+        send_request(rt, senders, held);
+    }
 }
 
 /// Sends a request to the inbox of its resolver.

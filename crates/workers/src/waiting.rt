@@ -132,7 +132,9 @@ fn is_reply_to<N: Naming>(noted: &NotedReply<N>, request: &Request<N>) -> bool
 
 /// Why the request was refused, if it is the one that was.
 fn refusal_of<N: Naming>(refused: &RefusedRequest<N>, request: &Request<N>) -> Option<Refusal>
-    ensures { IfSome result (IsAskRefusal N.cells.config request.now) }
+    ensures given { MatchOption result (refused.now.request.plain ≢ request.now.plain)
+        (λ refusal. refusal ≡ refused.now.refusal) }
+    ensures kept { IfSome result (IsAskRefusal N.cells.config request.now) }
 {
     if is_same(refused.request(), request) {
         Some(refused.refusal())

@@ -7,6 +7,7 @@ use crate::tests::starting::{Cluster, blank};
 use crate::tests::summing::{Left, Summary, Wanted, summed_up};
 use agreed_ledger::{BlankLedger, Ledger, Naming};
 use inboxes::{BlankInboxes, Channels, FreshEnd, InboxRoom};
+use shared_cluster::SharedResolver;
 use std::alloc::Global;
 use std::marker::Brand;
 use std::sync::Wait;
@@ -96,11 +97,22 @@ fn run<N: Naming + Send + Sync, M: Channels + Send + Sync, R: Threads + Wait + S
         left: &left,
     };
     let started = serve(rt, alloc, &planned, ends, sides);
-    let sum = summed_up(left, trial.wanted);
+    let mut sum = summed_up(left, trial.wanted);
+    sum.closed_resolvers = closed_among(rt, cluster.resolvers.as_slice());
     if !started || sum.lacks_memory() {
         return Err(Fail::from(OutOfMemory));
     }
     Ok(sum)
+}
+
+/// How many of the resolvers are closed.
+fn closed_among<N: Naming, R: Wait>(rt: &R, resolvers: &[SharedResolver<'_, N>]) -> usize {
+    let mut closed = 0_usize;
+    for resolver in resolvers {
+        let is_closed = resolver.lock(rt).is_closed();
+        closed = closed.saturating_add(usize::from(is_closed));
+    }
+    closed
 }
 
 fn begin<N: Naming + Send + Sync, R: Threads + Wait + Sync>(
@@ -140,6 +152,7 @@ fn the_threads_of_three_proxies_sent_what_those_of_two_workers_took(
             workers: 2,
             with_rows: 2,
             closed: 0,
+            closed_resolvers: 0,
             wanted_memory: 0,
             pairs: 6,
             others: 0,
@@ -174,6 +187,7 @@ fn threads_of_closed_resolvers_judge_nothing_and_take_what_overflows(
             workers: 2,
             with_rows: 2,
             closed: 2,
+            closed_resolvers: 2,
             wanted_memory: 0,
             pairs: 6,
             others: 0,
@@ -206,6 +220,7 @@ fn the_threads_of_proxies_are_told_of_a_worker_that_has_gone(rt: HostRuntime) ->
             workers: 1,
             with_rows: 1,
             closed: 0,
+            closed_resolvers: 0,
             wanted_memory: 0,
             pairs: 3,
             others: 3,

@@ -46,7 +46,9 @@ pub(crate) struct Summary {
     pub(crate) with_rows: usize,
     /// How many of them were closed.
     pub(crate) closed: usize,
-    /// How many of them were refused memory.
+    /// How many resolvers are closed.
+    pub(crate) closed_resolvers: usize,
+    /// How many workers were refused memory.
     pub(crate) wanted_memory: usize,
     /// How many sending ends were compared with a worker, with the counts that are wanted.
     pub(crate) pairs: usize,
@@ -115,6 +117,7 @@ fn of_workers<N: Naming, M: Channels>(
         workers: workers.len(),
         with_rows: 0,
         closed: 0,
+        closed_resolvers: 0,
         wanted_memory: 0,
         pairs: 0,
         others: 0,

@@ -1,6 +1,10 @@
--- As many are locked as were looked at.
+-- Those that were looked at are locked.
 use Rattle.std.proofs.Common.{◌≡◌, length}
+use Rattle.threads_lines.specs.Meetings.{AreKept}
 use Rattle.threads_lines.proofs.meetings.lock_resolvers.Given as goal
 
 abbrev pub invariant-loop-resolver : goal.invariant-loop-resolver
-invariant-loop-resolver g l = length l.guards.items ≡ l.resolver-index
+invariant-loop-resolver g l = record {
+  count : length l.guards.items ≡ l.resolver-index;
+  kept : AreKept g.N.Naming.cells.config l.resolvers l.guards.items;
+}

@@ -2,10 +2,9 @@
 use Rattle.std.proofs.Common.{◌≡◌, ◌∙◌, ◌+◌, [], ◌∷◌, ◌++◌, ℕ, sym, ap, subst, length, length-append, drop, arith}
 use Rattle.std.specs.Prelude.{IsOk, string_bytes}
 use Rattle.std.specs.Vec.Iter.{into_iter_items}
-use Rattle.inboxes.proofs.Each.{drop_next}
 use Rattle.threads_lines.specs.Parts.{IsInParts}
 use Rattle.threads_lines.specs.Threads.{AreLinesOfThread}
-use Rattle.threads_lines.proofs.ThreadLemmas.{both_ok, one_more_joined, returned_lines}
+use Rattle.threads_lines.proofs.ThreadLemmas.{both_ok, drop_next, one_more_joined, returned_lines}
 use Rattle.threads_lines.proofs.threads.join_proxy_threads.Goals as goal
 
 pub loop-handle-preserved : goal.loop-handle-preserved

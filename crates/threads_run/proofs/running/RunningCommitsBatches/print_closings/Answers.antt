@@ -12,4 +12,4 @@ loop-number-preserved g c =
     let config = g.N.Naming.cells.config in
     let rows = length g.N.Naming.cells.records in
     one_more_part (IsClosingLine config rows) l.number (string_bytes c.args.text.now) (string_bytes l.text) (string_bytes c.print_closing.new.text) l.invariant
-    (subst (λ (p : ℕ). GrowsBy (IsClosingLine config rows p) (string_bytes l.text) (string_bytes c.print_closing.new.text)) c.committer.ensures c.in_ok-print_closing.ensures)
+    (subst (λ (p : ℕ). GrowsBy (IsClosingLine config rows p) (string_bytes l.text) (string_bytes c.print_closing.new.text)) c.committer.ensures.number c.in_ok-print_closing.ensures)

@@ -1,11 +1,11 @@
 -- The request that was taken out is of a row that was judged since.
-use Rattle.std.proofs.Common.{ap, subst, ◌<◌, List, length, arith}
+use Rattle.std.proofs.Common.{ap, sym, ◌∙◌, subst, ◌<◌, List, length, slice_get, arith}
 use Rattle.std.specs.Prelude.{IsFalse}
-use Rattle.std.proofs.lemmas.Option.{slice_get_within}
+use Rattle.std.proofs.lemmas.Option.{same_Some, slice_get_within}
 use Rattle.facts.specs.Stretches.{end_of}
 use Rattle.shared_cluster.specs.Requests.{RequestView}
 use Rattle.workers.specs.Desks.{DeskView, KeepsServing, has_failed}
-use Rattle.workers.proofs.DeskLemmas.{got, taken_out}
+use Rattle.workers.proofs.DeskLemmas.{cause_moved, got, taken_out}
 use Rattle.workers.proofs.desk.Desk.judge_at.Goals as goal
 
 pub returns-clause-keeps : goal.returns-clause-keeps
@@ -20,3 +20,16 @@ returns-clause-keeps g c =
     λ sound. subst (λ (r : RequestView). r.plain.row < end_of c.offer.new.self.column.rows) c.into_parts-request.ensures (c.offer.ensures.served sound) in
     subst (λ (v : DeskView). KeepsServing v c.offer.new.self) c.self.view_is
     (taken_out (desk c.self.inside.held.items) (desk c.remove.new.self.items) c.offer.new.self place q (got c.self.inside.held.items place q within c.remove.ensures.value) (ap desk c.remove.ensures.items) c.offer.ensures.keeps judged)
+
+pub returns-clause-closed : goal.returns-clause-closed
+returns-clause-closed g c =
+    let desk : List RequestView → DeskView = λ held. record { column = c.self.inside.column; held = held; closed = c.self.inside.closed; wanted = c.self.inside.wanted } in
+    let q = c.remove.result in
+    let place = c.args.place in
+    let due = c.requires.due in
+    let same = ap (λ (v : DeskView). length v.held) c.self.view_is in
+    let within : place < length c.self.inside.held.items = omega (arith, same, slice_get_within c.args.self.now.held place due.0 due.1) in
+    let at = got c.self.inside.held.items place q within c.remove.ensures.value in
+    λ r there.
+    let is = same_Some q r (sym at ∙ ap (λ (v : DeskView). slice_get v.held place) c.self.view_is ∙ there) in
+    cause_moved (desk c.remove.new.self.items) c.args.self.now c.offer.new.self _ r c.args.guard.now c.offer.new.guard (ap (λ (v : DeskView). v.closed) c.self.view_is) (c.into_parts-request.ensures ∙ is) c.offer.ensures.closed

@@ -1,21 +1,16 @@
--- What the guard showed before is what refused the request.
-use Rattle.std.proofs.Common.{sym, ap, ◌∙◌, subst}
-use Rattle.shared_cluster.specs.Requests.{RequestView}
-use Rattle.shared_cluster.specs.Resolvers.{IsOfferRefusal, LockedResolverView}
-use Rattle.workers.proofs.DeskLemmas.{fails_keeps, keeps_trans, number_refused}
+-- The answer is told, and nothing else changes, but that the worker may have failed.
+use Rattle.std.proofs.Common.{sym, ◌∙◌, subst, ◌<◌}
+use Rattle.facts.specs.Stretches.{end_of}
+use Rattle.agreed_ledger.specs.Cells.{ColumnView}
+use Rattle.workers.proofs.DeskLemmas.{fails_keeps, keeps_trans}
 use Rattle.workers.proofs.desk.Desk.offer.Goals as goal
 
-pub refused_by_offer-requires : goal.refused_by_offer-requires
-refused_by_offer-requires g c = (
-  c.args.guard.now,
-  c.number-number.ensures.kept,
-  sym (ap (λ (v : LockedResolverView). v.memory.number) c.in-Err.ensures.left ∙ number_refused c.args.guard.now c.in-Err.refused.refusal),
-  subst (λ (q : RequestView). IsOfferRefusal c.args.guard.now q.plain c.in-Err.refused.refusal) (sym c.in-Err.ensures.back) c.in-Err.ensures.refused,
-)
+pub returns-clause-keeps : goal.returns-clause-keeps
+returns-clause-keeps g c = keeps_trans _ _ _ c.offered-answer.ensures.keeps (fails_keeps _ _ c.tell.ensures.fails)
 
-pub returns-in-Ok-clause-keeps : goal.returns-in-Ok-clause-keeps
-returns-in-Ok-clause-keeps g c = keeps_trans _ _ _ c.catch_up.ensures.keeps (fails_keeps _ _ c.tell.ensures.fails)
+pub returns-clause-served : goal.returns-clause-served
+returns-clause-served g c =
+    λ sound. subst (λ (col : ColumnView). c.args.request.plain.row < end_of col.rows) (sym c.tell.ensures.fails.column) (c.offered-answer.ensures.served (c.tell.ensures.fails.failed sound))
 
-pub returns-in-Err-clause-keeps : goal.returns-in-Err-clause-keeps
-returns-in-Err-clause-keeps g c =
-    keeps_trans _ _ _ c.catch_up-in-Err.ensures.keeps (keeps_trans _ _ _ (fails_keeps _ _ c.fail.ensures.fails) (fails_keeps _ _ c.tell-in-Err.ensures.fails))
+pub returns-clause-closed : goal.returns-clause-closed
+returns-clause-closed g c = λ closed. c.offered-answer.ensures.closed (sym c.tell.ensures.closed ∙ closed)

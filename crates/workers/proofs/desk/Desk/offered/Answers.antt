@@ -1,0 +1,43 @@
+-- What the guard showed before is what refused the request.
+use Rattle.std.proofs.Common.{sym, ap, ◌∙◌, ◌⊎◌, subst, inl}
+use Rattle.std.specs.Prelude.{IsTrue}
+use Rattle.model.specs.Offers.{OfferFault}
+use Rattle.shared_cluster.specs.Requests.{RequestView}
+use Rattle.shared_cluster.specs.Resolvers.{IsFault, IsOfferRefusal, LockedResolverView}
+use Rattle.workers.specs.Refusing.{IsToldRefusal}
+use Rattle.workers.proofs.DeskLemmas.{closed_for, fails_keeps, keeps_trans, number_refused, told_refusal}
+use Rattle.workers.proofs.desk.Desk.offered.Goals as goal
+
+pub refused_by_offer-requires : goal.refused_by_offer-requires
+refused_by_offer-requires g c = (
+  c.args.guard.now,
+  c.number-number.ensures.kept,
+  sym (ap (λ (v : LockedResolverView). v.memory.number) c.in-Err.ensures.left ∙ number_refused c.args.guard.now c.in-Err.refused.refusal),
+  subst (λ (q : RequestView). IsOfferRefusal c.args.guard.now q.plain c.in-Err.refused.refusal) (sym c.in-Err.ensures.back) c.in-Err.ensures.refused,
+)
+
+pub returns-in-Ok-clause-closed : goal.returns-in-Ok-clause-closed
+returns-in-Ok-clause-closed g c = λ closed. inl (sym c.catch_up.ensures.closed ∙ closed)
+
+pub returns-in-Err-clause-keeps : goal.returns-in-Err-clause-keeps
+returns-in-Err-clause-keeps g c = keeps_trans _ _ _ c.catch_up-in-Err.ensures.keeps (fails_keeps _ _ c.fail.ensures.fails)
+
+pub returns-in-Err-clause-closed : goal.returns-in-Err-clause-closed
+returns-in-Err-clause-closed g c =
+    let asked = c.args.guard.now in
+    let q = c.args.request.plain in
+    let was = c.args.self.now.closed in
+    λ closed. subst (λ (v : LockedResolverView). IsTrue was ⊎ (IsTrue v.closed ⊎ ((fault : OfferFault) × IsFault asked q fault))) (sym c.in-Err.ensures.left)
+    (closed_for asked q c.in-Err.refused.refusal was c.fail.new.self.closed c.in-Err.ensures.refused (λ same. c.fail.ensures.memory same ∙ c.catch_up-in-Err.ensures.closed) closed)
+
+pub returns-in-Err-clause-answer : goal.returns-in-Err-clause-answer
+returns-in-Err-clause-answer g c =
+    let asked = c.args.guard.now in
+    let given = c.in-Err.refused in
+    let told = c.refused_by_offer.result in
+    let refused = subst (λ (q : RequestView). IsOfferRefusal asked q.plain given.refusal) (sym c.in-Err.ensures.back) c.in-Err.ensures.refused in
+    let number = ap (λ (v : LockedResolverView). v.memory.number) c.in-Err.ensures.left ∙ number_refused asked given.refusal in (
+      c.refused_by_offer.ensures.request ∙ c.in-Err.ensures.back,
+      subst (λ (q : RequestView). IsToldRefusal asked q.plain told.refusal) c.in-Err.ensures.back
+          (told_refusal asked _ given.request.plain given.refusal told.refusal number refused c.refused_by_offer.ensures.refusal c.refused_by_offer.ensures.other c.refused_by_offer.ensures.early),
+    )
