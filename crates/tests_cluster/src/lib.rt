@@ -1,4 +1,4 @@
-//! The tests of shared_cluster, by its public calls.
+//! The tests of locked_cluster, by its public calls.
 #![tactic(auto)]
 
 #[cfg(test)]

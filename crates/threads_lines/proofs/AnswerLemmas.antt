@@ -5,7 +5,7 @@ use Rattle.model.specs.Configs.{Config}
 use Rattle.model.specs.Stamps.{Given}
 use Rattle.model.specs.declared.outcome.Finished.{Finished}
 use Rattle.agreed_ledger.specs.declared.refusal.Refusal.{Refusal}
-use Rattle.shared_cluster.specs.Answers.{NotedFinishedView}
+use Rattle.locked_cluster.specs.Answers.{NotedFinishedView}
 use Rattle.threads_lines.specs.Answers.{FinishesBatch, IsEnd, IsLineOf}
 use Rattle.threads_lines.specs.Lines.{Answer}
 use Rattle.threads_lines.specs.Parts.{GrowsBy}

@@ -8,9 +8,9 @@ use Rattle.model.specs.Stamps.{Given}
 use Rattle.agreed_ledger.specs.Cells.{Cells}
 use Rattle.agreed_ledger.specs.declared.refusal.Refusal.{Refusal}
 use Rattle.agreed_ledger.specs.declared.refusal.Refusal.TheVariants as refusals
-use Rattle.shared_cluster.specs.Commits.{HandsBack, WasSequenceRefused}
-use Rattle.shared_cluster.specs.declared.commits.commit_fault.CommitFault.{CommitFault}
-use Rattle.shared_cluster.specs.declared.commits.commit_fault.CommitFault.TheVariants as phases
+use Rattle.locked_cluster.specs.Commits.{HandsBack, WasSequenceRefused}
+use Rattle.locked_cluster.specs.declared.commits.commit_fault.CommitFault.{CommitFault}
+use Rattle.locked_cluster.specs.declared.commits.commit_fault.CommitFault.TheVariants as phases
 use Rattle.threads_lines.specs.Answers.{IsEnd}
 use Rattle.threads_lines.specs.Faults.{printed_of_ledger, printed_refusal}
 

@@ -7,8 +7,8 @@ use Rattle.model.specs.Records.{Record, IsHistory, last_version}
 use Rattle.model.specs.Stamps.{Given}
 use Rattle.agreed_ledger.specs.declared.refusal.Refusal.{Refusal}
 use Rattle.agreed_ledger.specs.declared.refusal.Refusal.TheVariants as refusals
-use Rattle.shared_cluster.specs.Answers.{NotedFinishedView, IsNotedFinished}
-use Rattle.shared_cluster.specs.Commits.{HoldsBatch}
+use Rattle.locked_cluster.specs.Answers.{NotedFinishedView, IsNotedFinished}
+use Rattle.locked_cluster.specs.Commits.{HoldsBatch}
 use Rattle.threads_lines.specs.Lines.{Answer, batch_line, closing_line}
 use Rattle.threads_lines.specs.Parts.{IsInParts}
 use Rattle.threads_lines.specs.declared.committer.Committed.{Committed}

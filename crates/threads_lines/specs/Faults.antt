@@ -5,10 +5,10 @@ use Rattle.agreed_ledger.specs.declared.refusal.Refusal.{Refusal as LedgerRefusa
 use Rattle.agreed_ledger.specs.declared.refusal.Refusal.TheVariants as ledger
 use Rattle.scripts.specs.declared.status.RunStatus.{RunStatus}
 use Rattle.scripts.specs.declared.status.RunStatus.TheVariants as statuses
-use Rattle.shared_cluster.specs.declared.commits.commit_fault.CommitFault.{CommitFault}
-use Rattle.shared_cluster.specs.declared.commits.commit_fault.CommitFault.TheVariants as phases
-use Rattle.shared_cluster.specs.declared.refusal.Refusal.{Refusal}
-use Rattle.shared_cluster.specs.declared.refusal.Refusal.TheVariants as refusals
+use Rattle.locked_cluster.specs.declared.commits.commit_fault.CommitFault.{CommitFault}
+use Rattle.locked_cluster.specs.declared.commits.commit_fault.CommitFault.TheVariants as phases
+use Rattle.locked_cluster.specs.declared.refusal.Refusal.{Refusal}
+use Rattle.locked_cluster.specs.declared.refusal.Refusal.TheVariants as refusals
 use Rattle.threads_lines.specs.declared.faults.RunFault.{RunFault}
 use Rattle.threads_lines.specs.declared.faults.RunFault.TheVariants as faults
 

@@ -5,13 +5,13 @@ use Rattle.std.specs.Fmt.{decimal}
 use Rattle.model.specs.Configs.{Config}
 use Rattle.model.specs.Numbers.{ProxyNumber, ResolverNumber}
 use Rattle.scripts.specs.Lines.{line, spaced}
-use Rattle.shared_cluster.specs.Audits.{HaveReached, IsAudited, IsFirstBehind}
-use Rattle.shared_cluster.specs.Meetings.{Met}
-use Rattle.shared_cluster.specs.Proxies.{LockedProxyView, IsLockedProxy}
-use Rattle.shared_cluster.specs.Resolvers.{LockedResolverView, IsLockedResolver}
-use Rattle.shared_cluster.specs.declared.audits.behind_by.BehindBy.{BehindBy}
-use Rattle.shared_cluster.specs.declared.proxies.meeting.Meeting.{Meeting}
-use Rattle.shared_cluster.specs.declared.proxies.meeting.Meeting.TheVariants as meetings
+use Rattle.locked_cluster.specs.Audits.{HaveReached, IsAudited, IsFirstBehind}
+use Rattle.locked_cluster.specs.Meetings.{Met}
+use Rattle.locked_cluster.specs.Proxies.{LockedProxyView, IsLockedProxy}
+use Rattle.locked_cluster.specs.Resolvers.{LockedResolverView, IsLockedResolver}
+use Rattle.locked_cluster.specs.declared.audits.behind_by.BehindBy.{BehindBy}
+use Rattle.locked_cluster.specs.declared.proxies.meeting.Meeting.{Meeting}
+use Rattle.locked_cluster.specs.declared.proxies.meeting.Meeting.TheVariants as meetings
 use Rattle.threads_lines.specs.Parts.{IsInParts}
 
 -- ---- two proxies

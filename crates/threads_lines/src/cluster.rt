@@ -5,8 +5,8 @@ ghost use Rattle.threads_lines.specs.Threads.{AreInPlace};
 
 use crate::faults::{RunFault, ledger_fault};
 use agreed_ledger::{Ledger, Naming, Sequencer};
+use locked_cluster::{SharedProxy, SharedResolver};
 use model::ProxyNumber;
-use shared_cluster::{SharedProxy, SharedResolver};
 use std::alloc::Global;
 use std::sync::Wait;
 use system_keys::OutOfMemory;

@@ -10,9 +10,9 @@ use crate::lines::{
     print_closing_version, print_finished_batch, print_refused_batch, print_refused_closing,
 };
 use agreed_ledger::{Naming, Refusal, Sequencer};
+use locked_cluster::{Asking, NotedFinished, SharedProxy};
 use model::ProxyNumber;
 use mutation::Batch;
-use shared_cluster::{Asking, NotedFinished, SharedProxy};
 use std::alloc::Global;
 use std::sync::Wait;
 

@@ -6,8 +6,8 @@ ghost use Rattle.threads_lines.specs.Faults.{status_of};
 ghost use Rattle.threads_lines.specs.declared.faults.RunFault.TheVariants as faults;
 
 use agreed_ledger::{Naming, Refusal as LedgerRefusal};
+use locked_cluster::{CommitFault, Refusal};
 use scripts::RunStatus;
-use shared_cluster::{CommitFault, Refusal};
 use system_keys::OutOfMemory;
 
 /// Why a run has no text (this project's profile).

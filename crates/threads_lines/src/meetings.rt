@@ -7,8 +7,8 @@ ghost use Rattle.threads_lines.specs.Parts.{GrowsBy, IsInParts};
 
 use crate::cluster::Cluster;
 use agreed_ledger::Naming;
+use locked_cluster::{BehindBy, Meeting, ResolverGuard, SharedResolver, audit, meet};
 use model::ProxyNumber;
-use shared_cluster::{BehindBy, Meeting, ResolverGuard, SharedResolver, audit, meet};
 use std::alloc::Global;
 use std::fmt::Write;
 use std::sync::Wait;

@@ -5,7 +5,7 @@ use Rattle.model.specs.Configs.{Config}
 use Rattle.model.specs.Metadata.{metadata}
 use Rattle.model.specs.Numbers.{ProxyNumber}
 use Rattle.cluster_lines.specs.MetadataLines.{metadata_text, proxy_line}
-use Rattle.shared_cluster.specs.Proxies.{LockedProxyView, IsLockedProxy}
+use Rattle.locked_cluster.specs.Proxies.{LockedProxyView, IsLockedProxy}
 use Rattle.threads_lines.specs.Answers.{AreBatchLines, AreLinesOfProxy, IsClosingLine}
 use Rattle.threads_lines.specs.Meetings.{AreMeetingsOf, IsAuditLine}
 use Rattle.threads_lines.specs.Parts.{IsInParts}

@@ -9,9 +9,9 @@ ghost use Rattle.threads_lines.specs.Threads.{AreInPlace};
 
 use agreed_ledger::Naming;
 use inboxes::{Channels, FreshEnd};
+use locked_cluster::SharedResolver;
 use model::{ProxyNumber, ResolverNumber};
 use mutation::Batch;
-use shared_cluster::SharedResolver;
 use std::alloc::Global;
 use std::sync::Wait;
 use system_keys::OutOfMemory;

@@ -6,11 +6,11 @@ use Rattle.model.specs.Stamps.{Given}
 use Rattle.model.specs.Finishing.{ProxyView}
 use Rattle.model.specs.Laws.History.{OwnVersionsAreNoLater}
 use Rattle.model.proofs.Verdicts.Places.{slice_get-take_back}
-use Rattle.shared_cluster.specs.Begun.{BegunView}
-use Rattle.shared_cluster.specs.Ready.{ReadyView}
-use Rattle.shared_cluster.specs.Answers.{NotedFinishedView}
-use Rattle.shared_cluster.specs.Commits.{HoldsBatch}
-use Rattle.shared_cluster.specs.Proxies.{LockedProxyView, IsLockedProxy, FinishesReady, FollowOneAnother, IsOfProxy, first_row}
+use Rattle.locked_cluster.specs.Begun.{BegunView}
+use Rattle.locked_cluster.specs.Ready.{ReadyView}
+use Rattle.locked_cluster.specs.Answers.{NotedFinishedView}
+use Rattle.locked_cluster.specs.Commits.{HoldsBatch}
+use Rattle.locked_cluster.specs.Proxies.{LockedProxyView, IsLockedProxy, FinishesReady, FollowOneAnother, IsOfProxy, first_row}
 use Rattle.uses.specs.Finishing.{AnswerInOrder, FinishesBoth, IsAnswerTo}
 
 same_row : (rec row : ℕ) → Some rec ≡ Some row → rec ≡ row

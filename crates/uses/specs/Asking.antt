@@ -4,8 +4,8 @@ use Rattle.model.specs.Numbers.{ResolverNumber}
 use Rattle.model.specs.Configs.{Config}
 use Rattle.model.specs.Records.{Record}
 use Rattle.model.specs.declared.reply.Reply.{Reply}
-use Rattle.shared_cluster.specs.Begun.{BegunView}
-use Rattle.shared_cluster.specs.NotedReplies.{NotedReplyView}
+use Rattle.locked_cluster.specs.Begun.{BegunView}
+use Rattle.locked_cluster.specs.NotedReplies.{NotedReplyView}
 
 -- the reply is of this resolver, to this record
 pub record IsReplyOf (r : ResolverNumber) (rec : Record) (reply : Reply) : Type 0 where

@@ -1,6 +1,6 @@
 -- Why a commit failed, whichever its phase.
-use Rattle.shared_cluster.specs.declared.commits.commit_fault.CommitFault.{CommitFault}
-use Rattle.shared_cluster.specs.declared.commits.commit_fault.CommitFault.TheVariants as faults
+use Rattle.locked_cluster.specs.declared.commits.commit_fault.CommitFault.{CommitFault}
+use Rattle.locked_cluster.specs.declared.commits.commit_fault.CommitFault.TheVariants as faults
 use Rattle.uses.specs.declared.refused.Refused.{Refused}
 use Rattle.uses.specs.declared.refused.Refused.TheVariants.{ByCluster, ByLedger}
 

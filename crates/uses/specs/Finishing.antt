@@ -3,10 +3,10 @@ use Rattle.std.specs.Prelude.{◌≡◌, ◌<◌, List, ◌∷◌, slice_get, So
 use Rattle.model.specs.Numbers.{ProxyNumber}
 use Rattle.model.specs.Records.{Record}
 use Rattle.model.specs.Stamps.{Given}
-use Rattle.shared_cluster.specs.Ready.{ReadyView}
-use Rattle.shared_cluster.specs.Answers.{NotedFinishedView}
-use Rattle.shared_cluster.specs.Commits.{HoldsBatch}
-use Rattle.shared_cluster.specs.Proxies.{LockedProxyView, IsOfProxy}
+use Rattle.locked_cluster.specs.Ready.{ReadyView}
+use Rattle.locked_cluster.specs.Answers.{NotedFinishedView}
+use Rattle.locked_cluster.specs.Commits.{HoldsBatch}
+use Rattle.locked_cluster.specs.Proxies.{LockedProxyView, IsOfProxy}
 
 -- The answer is to the record of the replies: it is of the same row, with the same records and cells,
 -- and in this row stands the record that was begun.

@@ -4,11 +4,11 @@ use Rattle.model.specs.Configs.{Config}
 use Rattle.model.specs.Stamps.{Given}
 use Rattle.model.specs.Metadata.{Entries}
 use Rattle.model.specs.declared.outcome.Finished.{Finished}
-use Rattle.shared_cluster.specs.Answers.{NotedFinishedView}
+use Rattle.locked_cluster.specs.Answers.{NotedFinishedView}
 use Rattle.model.specs.Numbers.{ProxyNumber}
-use Rattle.shared_cluster.specs.Commits.{IsCommitted}
-use Rattle.shared_cluster.specs.Headline.{Headline}
-use Rattle.shared_cluster.specs.Proxies.{LockedProxyView}
+use Rattle.locked_cluster.specs.Commits.{IsCommitted}
+use Rattle.locked_cluster.specs.Headline.{Headline}
+use Rattle.locked_cluster.specs.Proxies.{LockedProxyView}
 
 -- These are the metadata of two locked proxies, and the finished batches of two answers. The promise
 -- holds of the proxies with each of the answers.

@@ -1,7 +1,7 @@
 //! A batch is committed, also after one failure.
 
 ghost use Rattle.std.specs.Prelude.{◌≡◌, IfOk};
-ghost use Rattle.shared_cluster.specs.Commits.{HoldsBatch};
+ghost use Rattle.locked_cluster.specs.Commits.{HoldsBatch};
 
 use crate::refused::Refused;
 use agreed_ledger::{Naming, Sequencer, Ticket};

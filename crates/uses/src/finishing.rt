@@ -1,8 +1,8 @@
 //! A proxy finishes two records, one after the other.
 
 ghost use Rattle.std.specs.Prelude.{◌≡◌, IfOk};
-ghost use Rattle.shared_cluster.specs.Commits.{HoldsBatch};
-ghost use Rattle.shared_cluster.specs.Proxies.{FinishesReady};
+ghost use Rattle.locked_cluster.specs.Commits.{HoldsBatch};
+ghost use Rattle.locked_cluster.specs.Proxies.{FinishesReady};
 ghost use Rattle.uses.specs.Finishing.{AnswerInOrder, FinishesBoth};
 
 use crate::refused::Refused;

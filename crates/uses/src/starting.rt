@@ -2,7 +2,7 @@
 
 ghost use Rattle.std.specs.Prelude.{◌≡◌, ◌<◌, IfOk};
 ghost use Rattle.model.specs.Shares.{each_below};
-ghost use Rattle.shared_cluster.specs.Commits.{IsCommitted};
+ghost use Rattle.locked_cluster.specs.Commits.{IsCommitted};
 ghost use Rattle.uses.specs.Starting.{KeepsPromise, ShowsPromise};
 
 use crate::refused::Refused;

@@ -6,8 +6,8 @@ use crate::answer::Answer;
 use agreed_ledger::Naming;
 use crossbeam_channel::Sender;
 use inboxes::Question;
+use locked_cluster::Request;
 use model::RowNumber;
-use shared_cluster::Request;
 use std::marker::Model;
 
 /// A request, and where its answer goes: the sender of a plain channel. Contracts see the request.
@@ -18,7 +18,7 @@ pub struct AskedRequest<N: Naming> {
 }
 
 impl<N: Naming> Model for AskedRequest<N> {
-    ghost use Rattle.shared_cluster.specs.Requests.{RequestView};
+    ghost use Rattle.locked_cluster.specs.Requests.{RequestView};
 
     ghost Value = { RequestView };
 

@@ -8,9 +8,9 @@ ghost use Rattle.workers.specs.Desks.{ClosesByCause, HasLetGo, HasRow, IsDueAt, 
 ghost use Rattle.workers.specs.Desks.{KeepsServing, OnlyFails, Serves, has_failed, new_desk};
 ghost use Rattle.workers.specs.Desks.{next_row};
 ghost use Rattle.workers.specs.Refusing.{IsAnswerOf};
-ghost use Rattle.shared_cluster.specs.Requests.{RequestView};
-ghost use Rattle.shared_cluster.specs.Resolvers.{closed_resolver};
-ghost use Rattle.shared_cluster.specs.declared.refusal.Refusal.TheVariants as refusals;
+ghost use Rattle.locked_cluster.specs.Requests.{RequestView};
+ghost use Rattle.locked_cluster.specs.Resolvers.{closed_resolver};
+ghost use Rattle.locked_cluster.specs.declared.refusal.Refusal.TheVariants as refusals;
 ghost use Rattle.crossbeam_channel.specs.declared.err.SendError.TheVariants as sends;
 
 use crate::answer::{Answer, RefusedRequest};
@@ -19,8 +19,8 @@ use crate::gate::{Gate, Place};
 use crate::refusing::{refused_as_closed, refused_by_offer};
 use agreed_ledger::{Column, Naming};
 use crossbeam_channel::{SendError, Sender};
+use locked_cluster::{Refusal, Request, ResolverGuard, SharedResolver};
 use model::{ResolverNumber, RowNumber};
-use shared_cluster::{Refusal, Request, ResolverGuard, SharedResolver};
 use std::alloc::Global;
 use std::marker::Model;
 use std::sync::Wait;

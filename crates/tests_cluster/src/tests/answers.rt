@@ -2,8 +2,8 @@
 
 use crate::tests::phases::Phase;
 use agreed_ledger::Naming;
+use locked_cluster::{NotedReply, Refusal, Refused, Request, SharedResolver};
 use model::{Reply, Verdict};
-use shared_cluster::{NotedReply, Refusal, Refused, Request, SharedResolver};
 use std::sync::Wait;
 use testing::twice;
 

@@ -3,9 +3,9 @@
 use crate::tests::phases::{Phase, step_once};
 use crate::tests::starting::Cluster;
 use agreed_ledger::Naming;
+use locked_cluster::{AllResolvers, CommitFault, SharedProxy};
 use model::{Finished, Outcome};
 use mutation::Batch;
-use shared_cluster::{AllResolvers, CommitFault, SharedProxy};
 use std::sync::Wait;
 use system_keys::Tag;
 

@@ -6,10 +6,10 @@ use crate::tests::phases::{Phase, Step, answer, first_wrong};
 use crate::tests::routings::{Routed, last_routed, routed_at};
 use crate::tests::starting::{Cluster, Line, blank, tickets};
 use agreed_ledger::{BlankLedger, Naming};
-use proxy_state::Metadata;
-use shared_cluster::{
+use locked_cluster::{
     BehindBy, Meeting, ProxyGuard, Refusal, SharedResolver, audit, meet, metadata_of_two,
 };
+use proxy_state::Metadata;
 use std::alloc::Global;
 use std::marker::Brand;
 use std::sync::Wait;

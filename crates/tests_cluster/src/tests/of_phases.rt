@@ -5,7 +5,7 @@ ghost use Rattle.std.specs.Prelude.{◌≡◌};
 use crate::tests::phases::{Phase, Step, answer, first_wrong};
 use crate::tests::starting::{Cluster, Line, blank, tickets};
 use agreed_ledger::{BlankLedger, Naming};
-use shared_cluster::Refusal;
+use locked_cluster::Refusal;
 use std::alloc::Global;
 use std::marker::Brand;
 use std::sync::Wait;

@@ -2,7 +2,7 @@
 
 use crate::tests::starting::Cluster;
 use agreed_ledger::{Naming, Ticket};
-use shared_cluster::{AllResolvers, Begun, NotedFinished, Ready, Refusal, SharedProxy};
+use locked_cluster::{AllResolvers, Begun, NotedFinished, Ready, Refusal, SharedProxy};
 use std::mem;
 use std::sync::Wait;
 

@@ -2,8 +2,8 @@
 
 use crate::tests::starting::Cluster;
 use agreed_ledger::Naming;
+use locked_cluster::{Refusal, SharedProxy};
 use model::{Route, Routing};
-use shared_cluster::{Refusal, SharedProxy};
 use std::sync::Wait;
 use system_keys::Tag;
 use testing::twice;

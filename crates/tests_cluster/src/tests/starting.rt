@@ -2,8 +2,8 @@
 
 use crate::tests::phases::Phase;
 use agreed_ledger::{BlankLedger, Ledger, Naming, Sequencer, Ticket};
+use locked_cluster::{SharedProxy, SharedResolver};
 use model::Config;
-use shared_cluster::{SharedProxy, SharedResolver};
 use std::alloc::Global;
 use std::sync::Wait;
 use std::test::Fail;

@@ -6,7 +6,7 @@ use crate::tests::serving::sides;
 use crate::tests::starting::{Cluster, blank};
 use agreed_ledger::{BlankLedger, Ledger, Naming};
 use inboxes::{BlankInboxes, Channels, FreshEnd, InboxRoom};
-use shared_cluster::{Begun, Refusal};
+use locked_cluster::{Begun, Refusal};
 use std::alloc::Global;
 use std::marker::Brand;
 use std::sync::Wait;

@@ -7,7 +7,7 @@ use crate::tests::starting::{Cluster, blank};
 use crate::tests::summing::{Left, Summary, Wanted, summed_up};
 use agreed_ledger::{BlankLedger, Ledger, Naming};
 use inboxes::{BlankInboxes, Channels, FreshEnd, InboxRoom};
-use shared_cluster::SharedResolver;
+use locked_cluster::SharedResolver;
 use std::alloc::Global;
 use std::marker::Brand;
 use std::sync::Wait;

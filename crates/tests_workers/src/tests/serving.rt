@@ -3,8 +3,8 @@
 use crate::tests::starting::Cluster;
 use agreed_ledger::{Ledger, Naming};
 use inboxes::{Channels, ProxySenders};
+use locked_cluster::CommitFault;
 use mutation::Batch;
-use shared_cluster::CommitFault;
 use std::alloc::Global;
 use std::sync::Wait;
 use std::test::Fail;

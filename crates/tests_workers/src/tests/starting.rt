@@ -1,8 +1,8 @@
 //! What the tests start from: a ledger, and the parts of a cluster.
 
 use agreed_ledger::{BlankLedger, Ledger, Naming, Sequencer};
+use locked_cluster::{SharedProxy, SharedResolver};
 use model::Config;
-use shared_cluster::{SharedProxy, SharedResolver};
 use std::alloc::Global;
 use std::test::Fail;
 use testing::room;

@@ -1,0 +1,24 @@
+-- The requests are of one record, and the replies are those of all resolvers.
+use Rattle.std.proofs.Common.{sym, ap, subst, ℕ, List}
+use Rattle.facts.specs.Stretches.{Stretch}
+use Rattle.model.specs.Records.{Record, IsHistory}
+use Rattle.locked_cluster.specs.Requests.{RequestView}
+use Rattle.locked_cluster.specs.NotedReplies.{NotedReplyView}
+use Rattle.locked_cluster.specs.Ready.{AreRepliesOfAll}
+use Rattle.locked_cluster.specs.Commits.{AreOfOneRecord, AreRepliesInOrder}
+use Rattle.locked_cluster.proofs.CommitRequests.{of_one_record, replies_of_all}
+use Rattle.locked_cluster.proofs.commits.shared_proxy.SharedProxy.resolve_all.Goals as goal
+
+pub ask_all-requires : goal.ask_all-requires
+ask_all-requires g c = subst (λ (qs : List RequestView). AreOfOneRecord qs) (sym c.requests.ensures.value) (of_one_record g.N.Naming.cells.config c.args.begun c.requests.ensures.kept)
+
+pub collect_replies-made-requires-clause-history : goal.collect_replies-made-requires-clause-history
+collect_replies-made-requires-clause-history g c = subst (λ (rs : List Record). IsHistory g.N.Naming.cells.config rs) (sym (ap (λ (t : Stretch Record). t.known) c.records.ensures.value)) c.records.ensures.kept.history
+
+pub collect_replies-made-requires-clause-replied : goal.collect_replies-made-requires-clause-replied
+collect_replies-made-requires-clause-replied g c =
+    let config = g.N.Naming.cells.config in
+    let answered : AreRepliesInOrder c.args.begun.requests c.in-Ok.replies.items = subst (λ (qs : List RequestView). AreRepliesInOrder qs c.in-Ok.replies.items) c.requests.ensures.value c.in-Ok.ensures.replied in
+    subst (λ (rs : List NotedReplyView). AreRepliesOfAll config c.row-row.result rs) (sym c.as_slice.ensures.value)
+    (subst (λ (row : ℕ). AreRepliesOfAll config row c.in-Ok.replies.items) (sym c.row-row.ensures.value)
+    (replies_of_all config c.args.begun c.in-Ok.replies.items c.requests.ensures.kept answered))

@@ -1,0 +1,108 @@
+-- What is asked of all resolvers, and what a commit does. *Profile*: all of it.
+use Rattle.std.specs.Prelude.{◌≡◌, ◌⊎◌, ℕ, List, length, slice_get, Some, IsFalse}
+use Rattle.model.specs.Numbers.{ProxyNumber, RowNumber}
+use Rattle.model.specs.Configs.{Config}
+use Rattle.model.specs.Records.{Record, MovesFollow}
+use Rattle.model.specs.Stamps.{Given, stamped_from}
+use Rattle.agreed_ledger.specs.Cells.{Cells}
+use Rattle.agreed_ledger.specs.Refusals.{refusal_fault}
+use Rattle.agreed_ledger.specs.Sequencing.{SequencedView, TicketView, sequence_fault}
+use Rattle.agreed_ledger.specs.declared.refusal.Refusal.{Refusal as LedgerRefusal}
+use Rattle.locked_cluster.specs.Requests.{RequestView}
+use Rattle.locked_cluster.specs.NotedReplies.{NotedReplyView, IsReplyToRequest}
+use Rattle.locked_cluster.specs.Resolvers.{IsResolveRefusal}
+use Rattle.locked_cluster.specs.Answers.{NotedFinishedView}
+use Rattle.locked_cluster.specs.Ready.{ReadyView}
+use Rattle.locked_cluster.specs.Proxies.{LockedProxyView, IsLockedProxy, ShowsFinished}
+use Rattle.locked_cluster.specs.Proxies.{IsBeginRefusal, IsFinishRefusal, awaits_before}
+use Rattle.locked_cluster.specs.declared.refusal.Refusal.{Refusal}
+use Rattle.locked_cluster.specs.declared.refusal.Refusal.TheVariants as refusals
+use Rattle.locked_cluster.specs.declared.commits.commit_fault.CommitFault.{CommitFault}
+use Rattle.locked_cluster.specs.declared.commits.commit_fault.CommitFault.TheVariants as faults
+
+-- the requests are of one record, each to a resolver of its own
+pub record AreOfOneRecord (requests : List RequestView) : Type 0 where
+  pub one_row :
+      (i j : ℕ) (q other : RequestView)
+      → slice_get requests i ≡ Some q → slice_get requests j ≡ Some other
+      → q.plain.row ≡ other.plain.row
+  pub own_resolvers :
+      (i j : ℕ) (q other : RequestView)
+      → slice_get requests i ≡ Some q → slice_get requests j ≡ Some other
+      → q.plain.resolver ≡ other.plain.resolver → i ≡ j
+
+-- the replies stand in the order of the requests, each of its request's row, proxy and resolver
+pub record AreRepliesInOrder
+    (requests : List RequestView) (replies : List NotedReplyView) : Type 0 where
+  pub count : length replies ≡ length requests
+  pub each :
+      (place : ℕ) (q : RequestView) (noted : NotedReplyView)
+      → slice_get requests place ≡ Some q → slice_get replies place ≡ Some noted
+      → IsReplyToRequest q.plain noted.reply
+
+-- an allocation failed, or the resolver that the request names, as its lock kept it then, refused it
+-- so
+abbrev pub IsAskRefusal : Config → RequestView → Refusal → Type 0
+IsAskRefusal config q refusal =
+    (refusal ≡ refusals.OutOfMemory) ⊎ IsResolveRefusal config q.plain.resolver q.plain refusal
+
+-- an allocation failed, or the resolver that one of the requests names refused it so
+abbrev pub IsAskAllRefusal : Config → List RequestView → Refusal → Type 0
+IsAskAllRefusal config requests refusal =
+    (refusal ≡ refusals.OutOfMemory)
+    ⊎ ((place : ℕ) × (q : RequestView)
+    × (slice_get requests place ≡ Some q)
+    × IsResolveRefusal config q.plain.resolver q.plain refusal)
+
+-- the record of the row is of this proxy, and holds the batch with the stamps of its version
+pub record HoldsBatch
+    (p : ProxyNumber) (row : RowNumber) (records : List Record) (batch : List Given) :
+    Type 0 where
+  pub rec : Record
+  pub there : slice_get records row ≡ Some rec
+  pub own : rec.proxy ≡ p
+  pub batch_is : rec.batch ≡ stamped_from rec.version 0 batch
+
+-- the finished record is of this proxy and holds the batch, and this proxy is shown and has just
+-- finished it
+pub record IsCommitted
+    (p : ProxyNumber) (batch : List Given) (noted : NotedFinishedView) (v : LockedProxyView) :
+    Type 0 where
+  pub holds : HoldsBatch p noted.finished.row noted.records batch
+  pub number : v.proxy.number ≡ p
+  pub shown : ShowsFinished noted v
+
+-- The sequencer, as its lock kept it then, refused a batch of this proxy so: with its first fault, or
+-- for want of memory or a taken cell where there was none.
+abbrev pub WasSequenceRefused : Cells → ProxyNumber → LedgerRefusal → Type 0
+WasSequenceRefused cells p refusal =
+    (s : SequencedView) × MovesFollow cells.config s.records s.moves
+    × (refusal_fault refusal ≡ sequence_fault cells s p)
+
+-- the proxy of this number, as its lock kept it then, refused to begin the ticket so
+abbrev pub WasBeginRefused : Config → ProxyNumber → TicketView → Refusal → Type 0
+WasBeginRefused config p ticket refusal =
+    (v : LockedProxyView) × IsLockedProxy config v
+    × (v.proxy.number ≡ p) × IsBeginRefusal v ticket refusal
+
+-- the proxy of this number, as its lock kept it then, awaited no earlier record and refused to finish
+-- this one so
+abbrev pub WasFinishRefused : Config → ProxyNumber → ReadyView → Refusal → Type 0
+WasFinishRefused config p ready refusal =
+    (v : LockedProxyView) × IsLockedProxy config v × (v.proxy.number ≡ p)
+    × IsFalse (awaits_before v.proxy.begun ready.row) × IsFinishRefusal v ready refusal
+
+-- Each fault of a commit of a proxy returns what its phase was given, the batch or what holds it, and
+-- its refusal is one of that phase.
+abbrev pub HandsBack : {N : Type 0} → Cells → ProxyNumber → List Given → CommitFault N → Type 0
+HandsBack cells p batch (faults.Sequencing refusal returned) =
+    (returned ≡ batch) × WasSequenceRefused cells p refusal
+HandsBack cells p batch (faults.Beginning refusal ticket) =
+    HoldsBatch p ticket.row ticket.records batch
+    × WasBeginRefused cells.config p ticket refusal
+HandsBack cells p batch (faults.Resolving refusal begun) =
+    HoldsBatch p begun.row begun.records batch
+    × IsAskAllRefusal cells.config begun.requests refusal
+HandsBack cells p batch (faults.Finishing refusal ready) =
+    HoldsBatch p ready.row ready.records batch
+    × WasFinishRefused cells.config p ready refusal

@@ -1,7 +1,0 @@
--- The resolvers so far have come as far as the proxy.
-use Rattle.std.proofs.Common.{take}
-use Rattle.shared_cluster.specs.Audits.{HaveReached}
-use Rattle.shared_cluster.proofs.audits.auditing.audit.Given as goal
-
-abbrev pub invariant-loop-resolver : goal.invariant-loop-resolver
-invariant-loop-resolver g l = HaveReached g.N.Naming.cells.config l.proxy (take l.resolver-index l.resolvers)
