@@ -3,9 +3,18 @@ use Rattle.std.proofs.Common.{◌≡◌, ◌≢◌, ℕ, ◌+◌, ◌<◌, ◌�
 use Rattle.std.specs.Prelude.{if◌then◌else◌}
 use Rattle.std.proofs.lemmas.Bool.{cases_lt, lt-ltb, le-ltb}
 use Rattle.std.proofs.lemmas.Option.{get_or_from_slice_get}
-use Rattle.inboxes.specs.Blanks.{BlankRow, AreRows, AreRowsTo}
+use Rattle.inboxes.specs.Blanks.{BlankRow, AreRows}
+use Rattle.inboxes.specs.Ends.{IsEach}
 use Rattle.inboxes.specs.Places.{Place, no_place, place_at}
 use Rattle.inboxes.proofs.Each.{each_as, each_set, drop_next}
+
+-- so many proxies, of which the first ones have an end of one channel more
+abbrev pub AreRowsTo : ℕ → ℕ → List Place → Place → List BlankRow → Type 0
+AreRowsTo done proxies places place =
+    IsEach (λ p. record {
+      proxy = p;
+      places = (if nat_lt p done then places ++ place ∷ [] else places);
+    }) proxies
 
 lt_same : (j k : ℕ) → j ≢ k → nat_lt j k ≡ nat_lt j (k + 1)
 lt_same j k apart = by (cases_lt j k)

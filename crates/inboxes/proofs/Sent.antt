@@ -7,9 +7,17 @@ use Rattle.std.proofs.lemmas.Option.{slice_get_within}
 use Rattle.inboxes.specs.declared.tag.Tag.{Tag}
 use Rattle.inboxes.specs.declared.tag.Kind.{Kind}
 use Rattle.inboxes.specs.Ends.{AreSenders, IsEach, ProxyView, SenderView, fresh_sender}
-use Rattle.inboxes.specs.Sending.{AreEndedSenders, AreOpen, AreSent, AreSentTo, ChangesEnd, IsEndedSender, IsFor, IsSent, IsSentTo, ends_in, is_end, is_last_kind, with_gone, with_sent}
+use Rattle.inboxes.specs.Sending.{AreEndedSenders, AreOpen, AreSent, ChangesEnd, IsEndedSender, IsFor, IsSent, IsSentTo, ends_in, is_end, is_last_kind, with_gone, with_sent}
 use Rattle.inboxes.specs.Tags.{end_tag}
 use Rattle.inboxes.proofs.Each.{get_set}
+
+-- through the first of the ends the message was sent so, and nothing through the others
+pub record AreSentTo (done : ℕ) (message : Tag) (before after : List SenderView) : Type 0 where
+  pub count : length after ≡ length before
+  pub each :
+      (k : ℕ) (e : SenderView) → slice_get after k ≡ Some e
+      → (old : SenderView) × (slice_get before k ≡ Some old)
+      × (k < done → IsSent message old e) × (done ≤ k → e ≡ old)
 
 -- ---- how many Ends there are
 

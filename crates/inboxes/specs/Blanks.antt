@@ -23,14 +23,6 @@ pub record BlankRow : Type 0 where
 abbrev pub AreRows : ℕ → List Place → List BlankRow → Type 0
 AreRows proxies places = IsEach (λ p. record { proxy = p; places = places }) proxies
 
--- so many proxies, of which the first ones have an end of one channel more
-abbrev pub AreRowsTo : ℕ → ℕ → List Place → Place → List BlankRow → Type 0
-AreRowsTo done proxies places place =
-    IsEach (λ p. record {
-      proxy = p;
-      places = (if nat_lt p done then places ++ place ∷ [] else places);
-    }) proxies
-
 -- the side of the proxy: an end to each of so many resolvers, in order, through which nothing was sent
 abbrev pub IsFreshSide : (proxy resolvers : ℕ) → ProxyView → Type 0
 IsFreshSide proxy resolvers side =

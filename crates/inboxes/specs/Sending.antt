@@ -76,11 +76,3 @@ pub record AreSent (message : Tag) (before after : List SenderView) : Type 0 whe
   pub each :
       (k : ℕ) (e : SenderView) → slice_get after k ≡ Some e
       → (old : SenderView) × (slice_get before k ≡ Some old) × IsSent message old e
-
--- through the first of the ends the message was sent so, and nothing through the others
-pub record AreSentTo (done : ℕ) (message : Tag) (before after : List SenderView) : Type 0 where
-  pub count : length after ≡ length before
-  pub each :
-      (k : ℕ) (e : SenderView) → slice_get after k ≡ Some e
-      → (old : SenderView) × (slice_get before k ≡ Some old)
-      × (k < done → IsSent message old e) × (done ≤ k → e ≡ old)

@@ -29,8 +29,9 @@ pub(crate) struct BlankInbox<C: Question> {
 impl<C: Question> Model for BlankInbox<C> {
     ghost use Rattle.std.specs.Prelude.{◌≡◌, [], true};
     ghost use Rattle.crossbeam_channel.specs.Claims.{IsSeatAt};
-    ghost use Rattle.crossbeam_channel.specs.Ends.{receives_on, sends_on};
+    ghost use Rattle.crossbeam_channel.specs.Ends.{receives_on, ruled_capacity, sends_on};
     ghost use Rattle.inboxes.specs.Blanks.{BlankInboxView};
+    ghost use Rattle.inboxes.specs.Delivers.{inbox_limit};
     ghost use Rattle.inboxes.specs.Places.{known, place_of};
 
     ghost Value = { BlankInboxView };
@@ -38,6 +39,7 @@ impl<C: Question> Model for BlankInbox<C> {
     ghost view = { λ b. record { place = place_of (sends_on b.post); made = (known b.hand).made } };
 
     ghost invariant = { λ b. (receives_on b.inbox ≡ sends_on b.post)
+        × (ruled_capacity (sends_on b.post) ≡ inbox_limit)
         × IsSeatAt (sends_on b.post) b.hand
         × ((known b.hand).gets ≡ true) × ((known b.hand).got ≡ []) };
 }
@@ -92,8 +94,9 @@ pub(crate) struct BlankSender<C: Question> {
 impl<C: Question> Model for BlankSender<C> {
     ghost use Rattle.std.specs.Prelude.{◌≡◌, [], true};
     ghost use Rattle.crossbeam_channel.specs.Claims.{IsSeatAt};
-    ghost use Rattle.crossbeam_channel.specs.Ends.{sends_on};
+    ghost use Rattle.crossbeam_channel.specs.Ends.{ruled_capacity, sends_on};
     ghost use Rattle.inboxes.specs.Blanks.{BlankSenderView};
+    ghost use Rattle.inboxes.specs.Delivers.{inbox_limit};
     ghost use Rattle.inboxes.specs.Places.{known, place_of};
 
     ghost Value = { BlankSenderView };
@@ -101,6 +104,7 @@ impl<C: Question> Model for BlankSender<C> {
     ghost view = { λ b. record { place = place_of (sends_on b.post); proxy = b.proxy } };
 
     ghost invariant = { λ b. IsSeatAt (sends_on b.post) b.hand
+        × (ruled_capacity (sends_on b.post) ≡ inbox_limit)
         × ((known b.hand).sends ≡ true) × ((known b.hand).from ≡ b.proxy)
         × ((known b.hand).put ≡ []) };
 }
@@ -131,7 +135,8 @@ pub(crate) struct BlankEnd<N: Naming, C: Question> {
 impl<N: Naming, C: Question> Model for BlankEnd<N, C> {
     ghost use Rattle.std.specs.Prelude.{◌≡◌, [], true, replicate};
     ghost use Rattle.crossbeam_channel.specs.Claims.{IsSeatAt};
-    ghost use Rattle.crossbeam_channel.specs.Ends.{receives_on};
+    ghost use Rattle.crossbeam_channel.specs.Ends.{receives_on, ruled_capacity};
+    ghost use Rattle.inboxes.specs.Delivers.{inbox_limit};
     ghost use Rattle.inboxes.specs.Places.{Place, known, place_of};
 
     ghost Value = { Place };
@@ -139,6 +144,7 @@ impl<N: Naming, C: Question> Model for BlankEnd<N, C> {
     ghost view = { λ b. place_of (receives_on b.inbox) };
 
     ghost invariant = { λ b. IsSeatAt (receives_on b.inbox) b.hand
+        × (ruled_capacity (receives_on b.inbox) ≡ inbox_limit)
         × ((known b.hand).gets ≡ true) × ((known b.hand).got ≡ [])
         × (b.counts.items ≡ replicate N.cells.config.proxies 0) };
 }

@@ -2,7 +2,8 @@
 
 ghost use Rattle.std.specs.Prelude.{◌≡◌, ◌<◌, [], true, IfErr, IfOk};
 ghost use Rattle.crossbeam_channel.specs.Claims.{IsSeatAt};
-ghost use Rattle.crossbeam_channel.specs.Ends.{sends_on};
+ghost use Rattle.crossbeam_channel.specs.Ends.{ruled_capacity, sends_on};
+ghost use Rattle.inboxes.specs.Delivers.{inbox_limit};
 ghost use Rattle.inboxes.specs.Ends.{SenderView, fresh_sender};
 ghost use Rattle.inboxes.specs.Places.{known, place_at, place_of};
 ghost use Rattle.inboxes.specs.Sending.{with_gone, with_sent};
@@ -32,8 +33,9 @@ pub struct EndedSender<N: Naming, C: Question, M: Channels> {
 impl<N: Naming, C: Question, M: Channels> Model for EndedSender<N, C, M> {
     ghost use Rattle.std.specs.Prelude.{◌≡◌, ◌<◌, true};
     ghost use Rattle.crossbeam_channel.specs.Claims.{IsSeatAt};
-    ghost use Rattle.crossbeam_channel.specs.Ends.{sends_on};
+    ghost use Rattle.crossbeam_channel.specs.Ends.{ruled_capacity, sends_on};
     ghost use Rattle.inboxes.specs.Counts.{counted};
+    ghost use Rattle.inboxes.specs.Delivers.{inbox_limit};
     ghost use Rattle.inboxes.specs.Ends.{SenderView};
     ghost use Rattle.inboxes.specs.Places.{known, place_at, place_of};
 
@@ -48,6 +50,7 @@ impl<N: Naming, C: Question, M: Channels> Model for EndedSender<N, C, M> {
 
     ghost invariant = { λ e. (e.proxy < N.cells.config.proxies)
         × (place_of (sends_on e.post) ≡ place_at M.places e.resolver)
+        × (ruled_capacity (sends_on e.post) ≡ inbox_limit)
         × IsSeatAt (sends_on e.post) e.hand
         × ((known e.hand).sends ≡ true)
         × ((known e.hand).from ≡ e.proxy)
@@ -64,6 +67,7 @@ impl<N: Naming, C: Question, M: Channels> EndedSender<N, C, M> {
     ) -> EndedSender<N, C, M>
         requires proxy { proxy < N.cells.config.proxies }
         requires place { place_of (sends_on post) ≡ place_at M.places resolver }
+        requires capacity { ruled_capacity (sends_on post) ≡ inbox_limit }
         requires pass { IsSeatAt (sends_on post) hand }
         requires sender { ((known hand).sends ≡ true) × ((known hand).from ≡ proxy) }
         requires empty { (known hand).put ≡ [] }

@@ -2,7 +2,8 @@
 
 ghost use Rattle.std.specs.Prelude.{◌≡◌, ◌∷◌, ◌++◌, [], IfOk, OnErr};
 ghost use Rattle.crossbeam_channel.specs.Claims.{IsKeyed};
-ghost use Rattle.crossbeam_channel.specs.Ends.{receives_on};
+ghost use Rattle.crossbeam_channel.specs.Ends.{receives_on, ruled_capacity};
+ghost use Rattle.inboxes.specs.Delivers.{inbox_limit};
 ghost use Rattle.inboxes.specs.Ends.{TakerView};
 ghost use Rattle.inboxes.specs.Places.{place_at, place_of};
 
@@ -27,7 +28,8 @@ pub struct InboxEnd<N: Naming, C: Question, M: Channels> {
 impl<N: Naming, C: Question, M: Channels> Model for InboxEnd<N, C, M> {
     ghost use Rattle.std.specs.Prelude.{◌≡◌};
     ghost use Rattle.crossbeam_channel.specs.Claims.{IsKeyed};
-    ghost use Rattle.crossbeam_channel.specs.Ends.{receives_on};
+    ghost use Rattle.crossbeam_channel.specs.Ends.{receives_on, ruled_capacity};
+    ghost use Rattle.inboxes.specs.Delivers.{inbox_limit};
     ghost use Rattle.inboxes.specs.Ends.{TakerView};
     ghost use Rattle.inboxes.specs.Places.{place_at, place_of};
 
@@ -36,7 +38,8 @@ impl<N: Naming, C: Question, M: Channels> Model for InboxEnd<N, C, M> {
     ghost view = { λ e. e.taker };
 
     ghost invariant = { λ e. (place_of (receives_on e.inbox) ≡ place_at M.places e.taker.resolver)
-        × IsKeyed (receives_on e.inbox) };
+        × IsKeyed (receives_on e.inbox)
+        × (ruled_capacity (receives_on e.inbox) ≡ inbox_limit) };
 }
 
 impl<N: Naming, C: Question, M: Channels> InboxEnd<N, C, M> {
@@ -94,6 +97,7 @@ impl<N: Naming, C: Question, M: Channels> FreshEnd<N, C, M> {
     pub(crate) fn new(inbox: Inbox<C>, taker: Taker<N, C, M>) -> FreshEnd<N, C, M>
         requires place { place_of (receives_on inbox) ≡ place_at M.places taker.resolver }
         requires keyed { IsKeyed (receives_on inbox) }
+        requires capacity { ruled_capacity (receives_on inbox) ≡ inbox_limit }
         requires empty { taker.got ≡ [] }
         ensures { result ≡ taker.resolver }
     {

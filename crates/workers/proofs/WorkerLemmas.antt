@@ -8,7 +8,7 @@ use Rattle.inboxes.specs.Ends.{TakerView}
 use Rattle.inboxes.specs.declared.tag.Tag.{Tag}
 use Rattle.inboxes.specs.declared.tag.Kind.TheVariants as kinds
 use Rattle.inboxes.specs.Sending.{ends_in}
-use Rattle.workers.specs.Desks.{DeskView, IsSettled, KeepsServing, Serves, has_failed, new_desk}
+use Rattle.workers.specs.Desks.{DeskView, IsEmptyIfClosed, IsSettled, KeepsServing, Serves, has_failed, new_desk}
 use Rattle.workers.specs.Workers.{EndedView, HasClose, HasTakenMore, IsAsked, IsEnded, IsRequestOf, IsWorkerOf, ServesAsked, TakesOne, WorkerView}
 use Rattle.workers.proofs.DeskLemmas.{closed_fails}
 
@@ -29,6 +29,7 @@ starts r proxies v taken desk left =
       served = λ sound row asked. absurd (none_asked r row (subst (λ (t : TakerView). IsAsked r t.got row) taken asked));
       settled = subst IsSettled (sym desk) (λ sound place q at. absurd (cc));
       closed = λ closes. absurd (none_closes (subst (λ (t : TakerView). HasClose t.got) taken closes));
+      emptied = λ closed. ap (λ (d : DeskView). d.held) desk;
       ends = let none : ends_in v.taken.got ≡ 0 = ap (λ (t : TakerView). ends_in t.got) taken in omega (arith, left, none);
     }
 
@@ -49,11 +50,11 @@ closes_before messages tag (place, found, at, is) = by (push_cases messages tag 
     by (inr sooner) = inr (place, found, sooner.1, is)
 
 pub worker_next : (r proxies : ℕ) (before after : WorkerView) (tag : Tag) → IsWorkerOf r proxies before → after.taken ≡ record before.taken { got = before.taken.got ++ tag ∷ [] }
-    → KeepsServing before.desk after.desk → IsSettled after.desk
+    → KeepsServing before.desk after.desk → IsSettled after.desk → IsEmptyIfClosed after.desk
     → ((row : ℕ) → IsRequestOf r row tag → IsFalse (has_failed after.desk) → Serves after.desk row)
     → (tag.kind ≡ kinds.Close → IsTrue after.desk.closed)
     → (after.proxies_left + ends_in (before.taken.got ++ tag ∷ []) ≡ before.proxies_left + ends_in before.taken.got) → IsWorkerOf r proxies after
-worker_next r proxies before after tag is taken keeps settled served closed left =
+worker_next r proxies before after tag is taken keeps settled emptied served closed left =
     record {
       taken = ap (λ (t : TakerView). t.resolver) taken ∙ is.taken;
       resolver = keeps.resolver ∙ is.resolver;
@@ -61,6 +62,7 @@ worker_next r proxies before after tag is taken keeps settled served closed left
       served = λ sound row asked. by sound row (asked_before r row before.taken.got tag (subst (λ (t : TakerView). IsAsked r t.got row) taken asked));
       settled = settled;
       closed = λ closes. close_by (closes_before before.taken.got tag (subst (λ (t : TakerView). HasClose t.got) taken closes));
+      emptied = emptied;
       ends = ap (λ (t : TakerView). after.proxies_left + ends_in t.got) taken ∙ left ∙ is.ends;
     }
   where
@@ -83,6 +85,7 @@ worker_same r proxies before after is taken desk left =
       served = subst (λ (d : DeskView). ServesAsked r after.taken.got d) (sym desk) (subst (λ (t : TakerView). ServesAsked r t.got before.desk) (sym taken) is.served);
       settled = subst IsSettled (sym desk) is.settled;
       closed = λ closes. ap (λ (d : DeskView). d.closed) desk ∙ is.closed (subst (λ (t : TakerView). HasClose t.got) taken closes);
+      emptied = subst IsEmptyIfClosed (sym desk) is.emptied;
       ends = let same = ap (λ (t : TakerView). ends_in t.got) taken in let all = is.ends in omega (arith, left, same, all);
     }
 

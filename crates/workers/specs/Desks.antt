@@ -68,6 +68,10 @@ next_row v resolver = max (end_of v.column.rows) (length resolver.column)
 abbrev pub IsSettled : DeskView → Type 0
 IsSettled v = IsFalse (has_failed v) → IsNoneDue v (end_of v.column.rows)
 
+-- a closed worker holds nothing back
+abbrev pub IsEmptyIfClosed : DeskView → Type 0
+IsEmptyIfClosed v = IsTrue v.closed → v.held ≡ []
+
 -- nothing changes, but that the worker may have failed
 pub record OnlyFails (before after : DeskView) : Type 0 where
   pub column : after.column ≡ before.column

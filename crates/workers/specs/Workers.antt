@@ -8,7 +8,7 @@ use Rattle.inboxes.specs.declared.tag.Tag.{Tag}
 use Rattle.inboxes.specs.declared.tag.Kind.TheVariants as kinds
 use Rattle.inboxes.specs.Ends.{TakerView}
 use Rattle.inboxes.specs.Sending.{ends_in}
-use Rattle.workers.specs.Desks.{DeskView, IsSettled, Serves, has_failed, new_desk}
+use Rattle.workers.specs.Desks.{DeskView, IsEmptyIfClosed, IsSettled, Serves, has_failed, new_desk}
 
 -- the message is a request to resolver r of the row
 pub record IsRequestOf (r : ResolverNumber) (row : RowNumber) (tag : Tag) : Type 0 where
@@ -50,8 +50,8 @@ new_worker r proxies = record {
 }
 
 -- The worker of resolver r serves each row that was asked, and holds back no request whose turn has
--- come. It is closed if it took a Close. It took an End for each of the proxies but those that are
--- left.
+-- come. It is closed if it took a Close, and then holds nothing back. It took an End for each of the
+-- proxies but those that are left.
 pub record IsWorkerOf (r : ResolverNumber) (proxies : ℕ) (v : WorkerView) : Type 0 where
   pub taken : v.taken.resolver ≡ r
   pub resolver : v.desk.column.resolver ≡ r
@@ -59,6 +59,7 @@ pub record IsWorkerOf (r : ResolverNumber) (proxies : ℕ) (v : WorkerView) : Ty
   pub served : ServesAsked r v.taken.got v.desk
   pub settled : IsSettled v.desk
   pub closed : HasClose v.taken.got → IsTrue v.desk.closed
+  pub emptied : IsEmptyIfClosed v.desk
   pub ends : v.proxies_left + ends_in v.taken.got ≡ proxies
 
 -- what was taken before was taken, in order, and perhaps more

@@ -4,7 +4,8 @@ ghost use Rattle.std.specs.Prelude.{◌≡◌, ◌≢◌, ◌<◌, ◌≤◌, �
 ghost use Rattle.std.specs.Prelude.{[], true, MatchOption};
 ghost use Rattle.facts.specs.Stretches.{end_of};
 ghost use Rattle.model.specs.Numbers.{RowNumber, Version};
-ghost use Rattle.workers.specs.Desks.{ClosesByCause, HasLetGo, HasRow, IsDueAt, IsNoneDue, IsSettled};
+ghost use Rattle.workers.specs.Desks.{ClosesByCause, HasLetGo, HasRow, IsDueAt, IsEmptyIfClosed};
+ghost use Rattle.workers.specs.Desks.{IsNoneDue, IsSettled};
 ghost use Rattle.workers.specs.Desks.{KeepsServing, OnlyFails, Serves, has_failed, new_desk};
 ghost use Rattle.workers.specs.Desks.{next_row};
 ghost use Rattle.workers.specs.Refusing.{IsAnswerOf};
@@ -74,8 +75,10 @@ impl<N: Naming> Desk<N> {
     )
         requires own { self.old.column.resolver ≡ shared.now }
         requires settled { IsSettled self.old }
+        requires emptied { IsEmptyIfClosed self.old }
         ensures keeps { KeepsServing self.old self.new }
         ensures settled { IsSettled self.new }
+        ensures emptied { IsEmptyIfClosed self.new }
         ensures served { held.plain.resolver ≡ self.old.column.resolver → IsFalse (has_failed self.new)
             → Serves self.new held.plain.row }
         ensures other { held.plain.resolver ≢ self.old.column.resolver → self.new ≡ self.old }
@@ -96,6 +99,7 @@ impl<N: Naming> Desk<N> {
     /// that it is closed.
     pub(crate) fn close<R: Wait>(&mut self, rt: &R, shared: &SharedResolver<'_, N>)
         ensures column { self.new.column ≡ self.old.column }
+        ensures held { self.new.held ≡ [] }
         ensures closed { self.new.closed ≡ true }
     {
         self.close_under(rt, &mut shared.lock(rt));
@@ -197,6 +201,7 @@ impl<N: Naming> Desk<N> {
         requires { self.old.column.resolver ≡ shared.now }
         ensures keeps { KeepsServing self.old self.new }
         ensures settled { IsSettled self.new }
+        ensures emptied { IsEmptyIfClosed self.new }
     {
         self.offer_due(rt, &mut shared.lock(rt), gate);
     }
@@ -208,6 +213,7 @@ impl<N: Naming> Desk<N> {
         requires { self.old.column.resolver ≡ guard.old.memory.number }
         ensures keeps { KeepsServing self.old self.new }
         ensures settled { IsSettled self.new }
+        ensures emptied { IsEmptyIfClosed self.new }
         ensures none_due { IsNoneDue self.new (next_row self.new guard.new) }
     {
         self.catch_up(guard.column());
@@ -236,7 +242,7 @@ impl<N: Naming> Desk<N> {
         None
     }
 
-    /// Offers the request at this place to the resolver, and answers it.
+    /// Enters the gate, offers the request at this place to the resolver, and answers it.
     fn judge_at<R: Wait, G: Gate>(
         &mut self,
         rt: &R,
@@ -251,6 +257,9 @@ impl<N: Naming> Desk<N> {
         ensures own { guard.new.memory.number ≡ guard.old.memory.number }
         ensures closed { (q : RequestView) → slice_get self.old.held place ≡ Some q
             → ClosesByCause self.old self.new q.plain guard.old guard.new }
+        ensures entered { (q : RequestView) → slice_get self.old.held place ≡ Some q
+            → G.has_entered gate.now
+            (record { resolver = guard.old.memory.number; row = q.plain.row }) }
     {
         let (request, reply) = self.held.remove(place).into_parts();
         gate.enter(Place {
@@ -346,6 +355,7 @@ impl<N: Naming> Desk<N> {
         ensures keeps { KeepsServing self.old self.new }
         ensures settled { IsSettled self.old → IsSettled self.new }
         ensures none_due { (next : RowNumber) → IsNoneDue self.old next → IsNoneDue self.new next }
+        ensures emptied { IsEmptyIfClosed self.new }
         ensures column { self.new.column ≡ self.old.column }
     {
         if !self.closed {

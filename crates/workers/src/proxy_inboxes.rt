@@ -146,8 +146,10 @@ impl<N: Naming, M: Channels> ProxyInboxes<N, M> {
         collect(rt, requests, &waiting, replies)
     }
 
-    /// Sends the requests.
-    fn send_all<R: Wait>(&self, rt: &R, messages: Vec<AskedRequest<N>>) {
+    /// Sends the requests, which are of this proxy.
+    fn send_all<R: Wait>(&self, rt: &R, messages: Vec<AskedRequest<N>>)
+        requires { AreOwn self.now messages.items }
+    {
         send_requests(rt, &mut self.lock.lock(rt), messages);
     }
 }

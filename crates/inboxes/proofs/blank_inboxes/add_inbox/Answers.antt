@@ -1,9 +1,9 @@
 -- One proxy more has an end of the inbox; and when all have one, the inbox is added.
 use Rattle.std.proofs.Common.{◌≡◌, ◌+◌, ◌<◌, ◌++◌, [], ◌∷◌, ℕ, List, length, set, refl, sym, ap, ◌∙◌, subst, arith}
 use Rattle.std.proofs.lemmas.Option.{slice_get_read}
-use Rattle.inboxes.specs.Blanks.{AreRows, AreRowsTo, BlankInboxView, BlankRow, BlankSenderView}
+use Rattle.inboxes.specs.Blanks.{AreRows, BlankInboxView, BlankRow, BlankSenderView}
 use Rattle.inboxes.specs.Places.{Place}
-use Rattle.inboxes.proofs.Rows.{rows_step, rows_end}
+use Rattle.inboxes.proofs.Rows.{AreRowsTo, rows_step, rows_end}
 use Rattle.inboxes.proofs.blank_inboxes.add_inbox.Goals as goal
 
 pub push-requires : goal.push-requires

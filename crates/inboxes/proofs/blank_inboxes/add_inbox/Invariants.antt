@@ -1,6 +1,6 @@
 -- The first proxies have an end of the inbox.
 use Rattle.std.proofs.Common.{◌≡◌}
-use Rattle.inboxes.specs.Blanks.{AreRowsTo}
+use Rattle.inboxes.proofs.Rows.{AreRowsTo}
 use Rattle.inboxes.proofs.blank_inboxes.add_inbox.Given as goal
 
 abbrev pub invariant-loop-proxy : goal.invariant-loop-proxy

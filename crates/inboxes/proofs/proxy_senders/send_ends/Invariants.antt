@@ -1,5 +1,5 @@
 -- The last message was sent through the first ends.
-use Rattle.inboxes.specs.Sending.{AreSentTo}
+use Rattle.inboxes.proofs.Sent.{AreSentTo}
 use Rattle.inboxes.specs.Tags.{end_tag}
 use Rattle.inboxes.proofs.proxy_senders.send_ends.Given as goal
 

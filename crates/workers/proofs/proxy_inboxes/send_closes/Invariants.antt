@@ -1,6 +1,6 @@
 -- A Close was sent through the first ends.
 use Rattle.std.proofs.Common.{◌≡◌}
-use Rattle.inboxes.specs.Sending.{AreSentTo}
+use Rattle.inboxes.proofs.Sent.{AreSentTo}
 use Rattle.inboxes.specs.Tags.{close_tag}
 use Rattle.workers.proofs.proxy_inboxes.send_closes.Given as goal
 

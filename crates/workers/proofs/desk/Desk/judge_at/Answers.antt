@@ -6,6 +6,7 @@ use Rattle.facts.specs.Stretches.{end_of}
 use Rattle.locked_cluster.specs.Requests.{RequestView}
 use Rattle.workers.specs.Desks.{DeskView, KeepsServing, has_failed}
 use Rattle.workers.proofs.DeskLemmas.{cause_moved, got, taken_out}
+use Rattle.workers.specs.declared.gate.Place.{Place}
 use Rattle.workers.proofs.desk.Desk.judge_at.Goals as goal
 
 pub returns-clause-keeps : goal.returns-clause-keeps
@@ -33,3 +34,15 @@ returns-clause-closed g c =
     λ r there.
     let is = same_Some q r (sym at ∙ ap (λ (v : DeskView). slice_get v.held place) c.self.view_is ∙ there) in
     cause_moved (desk c.remove.new.self.items) c.args.self.now c.offer.new.self _ r c.args.guard.now c.offer.new.guard (ap (λ (v : DeskView). v.closed) c.self.view_is) (c.into_parts-request.ensures ∙ is) c.offer.ensures.closed
+
+pub returns-clause-entered : goal.returns-clause-entered
+returns-clause-entered g c =
+    let q = c.remove.result in
+    let place = c.args.place in
+    let due = c.requires.due in
+    let same = ap (λ (v : DeskView). length v.held) c.self.view_is in
+    let within : place < length c.self.inside.held.items = omega (arith, same, slice_get_within c.args.self.now.held place due.0 due.1) in
+    let at = got c.self.inside.held.items place q within c.remove.ensures.value in
+    λ r there.
+    let is = same_Some q r (sym at ∙ ap (λ (v : DeskView). slice_get v.held place) c.self.view_is ∙ there) in
+    ?

@@ -20,7 +20,7 @@ invariant_of-self-in-Request g c =
     let held = c.in-Request.held in
     let told : request_tag message.proxy held.plain.resolver held.plain.row ≡ message = c.in-Request.ensures in
     let other : is_end message ≡ false = ap is_end (sym told) in
-    worker_next inside.shared.now g.N.Naming.cells.config.proxies before after message c.self.invariant c.in-Ok.ensures.taken c.take-in-Request.ensures.keeps c.take-in-Request.ensures.settled
+    worker_next inside.shared.now g.N.Naming.cells.config.proxies before after message c.self.invariant c.in-Ok.ensures.taken c.take-in-Request.ensures.keeps c.take-in-Request.ensures.settled c.take-in-Request.ensures.emptied
     (λ row is sound.
     let own : held.plain.resolver ≡ inside.desk.column.resolver = ap (λ (t : Tag). t.to) told ∙ is.to ∙ sym c.self.invariant.resolver in
     let of : held.plain.row ≡ row = ap (λ (t : Tag). t.row) told ∙ is.row_is in
@@ -37,7 +37,7 @@ invariant_of-self-in-Close g c =
     let told : close_tag message.proxy ≡ message = c.in-Close.ensures in
     let other : is_end message ≡ false = ap is_end (sym told) in
     worker_next inside.shared.now g.N.Naming.cells.config.proxies before after message c.self.invariant c.in-Ok.ensures.taken
-    (closed_keeps inside.desk after.desk c.close.ensures.column c.close.ensures.closed) (closed_settled after.desk c.close.ensures.closed)
+    (closed_keeps inside.desk after.desk c.close.ensures.column c.close.ensures.closed) (closed_settled after.desk c.close.ensures.closed) (λ closed. c.close.ensures.held)
     (λ row is sound. let not : kinds.Close ≡ kinds.Request = ap (λ (t : Tag). t.kind) told ∙ is.kind in absurd (cc))
     (λ closes. c.close.ensures.closed)
     (ap (λ (n : ℕ). before.proxies_left + n) (no_end before.taken.got message other))
@@ -51,7 +51,7 @@ invariant_of-self-in-End g c =
     let told : end_tag message.proxy ≡ message = c.in-End.ensures in
     let last : is_end message ≡ true = ap is_end (sym told) in
     let some = ap (λ (v : WorkerView). v.proxies_left) c.self.view_is in
-    worker_next inside.shared.now g.N.Naming.cells.config.proxies before after message c.self.invariant c.in-Ok.ensures.taken (keeps_same inside.desk) c.self.invariant.settled
+    worker_next inside.shared.now g.N.Naming.cells.config.proxies before after message c.self.invariant c.in-Ok.ensures.taken (keeps_same inside.desk) c.self.invariant.settled c.self.invariant.emptied
     (λ row is sound. let not : kinds.End ≡ kinds.Request = ap (λ (t : Tag). t.kind) told ∙ is.kind in absurd (cc))
     (λ closes. let not : kinds.End ≡ kinds.Close = ap (λ (t : Tag). t.kind) told ∙ closes in absurd (cc))
     (let more = one_end before.taken.got message last in omega (arith, more, some, c.requires))
