@@ -3,6 +3,7 @@
 
 mod of_gates;
 mod of_refusals;
+mod of_repeats;
 mod of_workers;
 mod serving;
 mod starting;

@@ -24,7 +24,9 @@ const TURNS: usize = 1_000_000;
 /// What the threads of the test tell.
 #[derive(Drop)]
 struct Told {
-    /// How often a gate has looked in vain.
+    /// How often a gate was entered.
+    entered: AtomicU64,
+    /// How often a gate has looked in vain, or was entered after its resolver had judged.
     missed: AtomicU64,
     /// The version of the batch, or 0.
     version: AtomicU64,
@@ -38,26 +40,36 @@ struct Looks<'x, N: Naming> {
 }
 
 impl<'x, N: Naming> Gate for Looks<'x, N> {
+    ghost use Rattle.std.specs.Prelude.{⊤};
+
+    ghost has_entered = { λ _ _. ⊤ };
+
     fn enter(&self, place: Place) {
-        if place.resolver != 0 {
-            return;
+        let _ = self.told.entered.fetch_add(1, Ordering::SeqCst);
+        let is_early = !has_judged(self.ledger, place.resolver);
+        if !is_early || place.resolver == 0 && !is_judged_in_time(self.ledger) {
+            let _ = self.told.missed.fetch_add(1, Ordering::SeqCst);
         }
-        for _turn in 0..TURNS {
-            if has_judged(self.ledger) {
-                return;
-            }
-            thread::yield_now();
-        }
-        let _ = self.told.missed.fetch_add(1, Ordering::SeqCst);
     }
 }
 
-/// Whether the verdict cell of row 0 and resolver 1 is filled, by a new note.
-fn has_judged<N: Naming>(ledger: &Ledger<N>) -> bool {
-    let Some(mut note) = ledger.verdict_note(0, 1) else {
+/// Whether resolver 1 judges row 0 while somebody looks.
+fn is_judged_in_time<N: Naming>(ledger: &Ledger<N>) -> bool {
+    for _turn in 0..TURNS {
+        if has_judged(ledger, 1) {
+            return true;
+        }
+        thread::yield_now();
+    }
+    false
+}
+
+/// Whether the verdict cell of row 0 and this resolver is filled, by a new note.
+fn has_judged<N: Naming>(ledger: &Ledger<N>, resolver: usize) -> bool {
+    let Some(mut note) = ledger.verdict_note(0, resolver) else {
         return false;
     };
-    ledger.verdicts_at(0, 1, &mut note).is_some()
+    ledger.verdicts_at(0, resolver, &mut note).is_some()
 }
 
 /// A worker for each resolver, with the gate, and a proxy with one empty batch.
@@ -93,13 +105,14 @@ impl<'a, 'l, N: Naming, M: Channels> Parts<FreshEnd<N, AskedRequest<N>, M>, Prox
     }
 }
 
-/// Runs the threads. Returns the version of the batch, and how often a gate has looked in vain.
+/// Runs the threads. Returns the version of the batch, how often a gate was entered, and how often one
+/// has looked in vain.
 fn run<N: Naming + Send + Sync, M: Channels + Send + Sync, R: Threads + Wait + Sync>(
     rt: &R,
     alloc: Global,
     ledger: &Ledger<N>,
     blank: BlankInboxes<N, AskedRequest<N>>,
-) -> Result<(u64, u64), Fail>
+) -> Result<(u64, u64, u64), Fail>
     requires { blank ≡ M.places }
 {
     let room = InboxRoom::new(alloc, ledger)?;
@@ -107,6 +120,7 @@ fn run<N: Naming + Send + Sync, M: Channels + Send + Sync, R: Threads + Wait + S
     let sides = sides(alloc, ledger, senders)?;
     let cluster = Cluster::new(alloc, ledger)?;
     let told = Told {
+        entered: AtomicU64::new(0),
         missed: AtomicU64::new(0),
         version: AtomicU64::new(0),
     };
@@ -117,15 +131,16 @@ fn run<N: Naming + Send + Sync, M: Channels + Send + Sync, R: Threads + Wait + S
     if !serve(rt, alloc, &gated, ends, sides) {
         return Err(Fail::from(OutOfMemory));
     }
-    let missed = told.missed.load(Ordering::SeqCst);
-    Ok((told.version.load(Ordering::SeqCst), missed))
+    let version = told.version.load(Ordering::SeqCst);
+    let entered = told.entered.load(Ordering::SeqCst);
+    Ok((version, entered, told.missed.load(Ordering::SeqCst)))
 }
 
 fn begin<N: Naming + Send + Sync, R: Threads + Wait + Sync>(
     rt: &R,
     alloc: Global,
     blank: BlankLedger,
-) -> Result<(u64, u64), Fail>
+) -> Result<(u64, u64, u64), Fail>
     requires { blank ≡ N.cells }
 {
     let ledger = blank.named::<N>();
@@ -143,6 +158,6 @@ fn of_two_threads_resolver_1_answers_while_the_gate_holds_resolver_0(
     if told.0 == 0 {
         return Err(Fail::from(OutOfMemory));
     }
-    assert!(&rt; told == (10, 0));
+    assert!(&rt; told == (10, 2, 0));
     Ok(())
 }

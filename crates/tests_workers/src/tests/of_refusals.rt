@@ -3,7 +3,7 @@
 ghost use Rattle.std.specs.Prelude.{◌≡◌};
 
 use crate::tests::serving::sides;
-use crate::tests::starting::{Cluster, blank};
+use crate::tests::starting::{Cluster, begun, blank};
 use agreed_ledger::{BlankLedger, Ledger, Naming};
 use inboxes::{BlankInboxes, Channels, FreshEnd, InboxRoom};
 use locked_cluster::{Begun, Refusal};
@@ -11,31 +11,10 @@ use std::alloc::Global;
 use std::marker::Brand;
 use std::sync::Wait;
 use std::test::Fail;
-use testing::batch;
 use workers::{AskedRequest, Open, ProxyInboxes, ResolverWorker};
 
 /// What the calls are refused with.
 type Refused = (Option<Refusal>, Option<Refusal>, Option<Refusal>);
-
-/// The requests for an empty batch of proxy 0.
-fn begun<N: Naming, R: Wait>(
-    rt: &R,
-    alloc: Global,
-    cluster: &Cluster<'_, N>,
-) -> Result<Begun<N>, Fail> {
-    let empty = batch(alloc, &[])?;
-    let ticket = match cluster.sequencer.lock(rt).sequence(0, empty) {
-        Ok(ticket) => ticket,
-        Err((refusal, _batch)) => return Err(Fail::from(refusal)),
-    };
-    let Some(proxy) = cluster.proxies.as_slice().first() else {
-        return Err(Fail::from("there is no proxy"));
-    };
-    match proxy.lock(rt).begin(ticket) {
-        Ok(begun) => Ok(begun),
-        Err((refusal, _ticket)) => Err(Fail::from(refusal)),
-    }
-}
 
 /// What a worker is refused with that gets this end.
 fn misplaced<N: Naming, M: Channels>(

@@ -1,11 +1,12 @@
 //! What the tests start from: a ledger, and the parts of a cluster.
 
 use agreed_ledger::{BlankLedger, Ledger, Naming, Sequencer};
-use locked_cluster::{SharedProxy, SharedResolver};
+use locked_cluster::{Begun, SharedProxy, SharedResolver};
 use model::Config;
 use std::alloc::Global;
+use std::sync::Wait;
 use std::test::Fail;
-use testing::room;
+use testing::{Given, NOTHING, batch, room};
 
 /// A ledger of so many rows, for so many proxies and resolvers.
 pub(crate) fn blank(
@@ -61,4 +62,30 @@ fn resolvers<'l, N: Naming>(
         made.push(SharedResolver::new(alloc, ledger, number)?)?;
     }
     Ok(made)
+}
+
+/// A transaction that writes one key.
+const WRITES: Given<'static> = Given {
+    writes: &[(b"a", b"b")],
+    ..NOTHING
+};
+
+/// The requests for the next record, a batch with one write, of proxy 0.
+pub(crate) fn begun<N: Naming, R: Wait>(
+    rt: &R,
+    alloc: Global,
+    cluster: &Cluster<'_, N>,
+) -> Result<Begun<N>, Fail> {
+    let batch = batch(alloc, &[WRITES])?;
+    let ticket = match cluster.sequencer.lock(rt).sequence(0, batch) {
+        Ok(ticket) => ticket,
+        Err((refusal, _batch)) => return Err(Fail::from(refusal)),
+    };
+    let Some(proxy) = cluster.proxies.as_slice().first() else {
+        return Err(Fail::from("there is no proxy"));
+    };
+    match proxy.lock(rt).begin(ticket) {
+        Ok(begun) => Ok(begun),
+        Err((refusal, _ticket)) => Err(Fail::from(refusal)),
+    }
 }
