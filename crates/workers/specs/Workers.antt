@@ -76,8 +76,8 @@ TakesOne before after =
     ⊎ ((after.taken ≡ before.taken) × IsTrue after.cut_off)
 
 -- A worker that has ended: what it took, the verdict cells of the rows that its resolver judged, as
--- far as it knows them, whether it was closed, whether it was refused memory, and whether its inbox
--- had no sender left.
+-- far as it knows them, whether it was closed, whether it was refused memory, and whether it was cut
+-- off: its inbox had no sender left.
 pub record EndedView : Type 0 where
   pub taken : TakerView
   pub column : ColumnView
@@ -94,8 +94,7 @@ HasServed v =
     → row < end_of v.column.rows
 
 -- The column is that of the worker's resolver, from row 0, and no request was dropped whose turn came.
--- The worker was closed if it took a Close. It took an End of each of so many proxies, unless its inbox
--- had no sender left.
+-- The worker was closed if it took a Close. It took so many Ends, unless it was cut off.
 pub record IsEnded (proxies : ℕ) (v : EndedView) : Type 0 where
   pub resolver : v.column.resolver ≡ v.taken.resolver
   pub first : v.column.rows.first ≡ 0

@@ -17,7 +17,7 @@ use std::marker::Model;
 ///
 /// By its type, unless it was closed or was refused memory, its column has each row up to which it
 /// took a request of each row: it dropped no request whose turn came. If it took a Close, it was
-/// closed. It took an End of each proxy, unless its inbox had no sender left.
+/// closed. It took as many Ends as there are proxies, unless it was cut off.
 #[derive(Drop)]
 pub struct EndedWorker<N: Naming, M: Channels, G: Gate + Drop> {
     taker: Taker<N, AskedRequest<N>, M>,
@@ -109,7 +109,8 @@ impl<N: Naming, M: Channels, G: Gate + Drop> EndedWorker<N, M, G> {
         self.wanted
     }
 
-    /// Whether it ended since its inbox had no sender left, before it took an End of each proxy.
+    /// Whether it was cut off: it ended since its inbox had no sender left, before it took an End of each
+    /// proxy. No clause gives the cause.
     pub fn cut_off(&self) -> bool
         ensures value { result ≡ self.now.cut_off }
         ensures kept { IsEnded N.cells.config.proxies self.now }
