@@ -32,8 +32,9 @@ class Records:
         for edit in edits:
             self.edits[edit.crate].append(edit)
         files = [it for it in sorted(os.listdir(HERE)) if it == "run" or it.endswith(".py") and it not in OF_NO_VERDICT]
-        kit = run(["rt", "version"], HERE).printed
-        self.runner = [(it, read(f"{HERE}/{it}")) for it in files] + [kit]
+        # (kits of one logic have other names, and refuse the same)
+        logic = run(["rt", "version"], HERE).printed.partition("logic")[2].strip()
+        self.runner = [(it, read(f"{HERE}/{it}")) for it in files] + [logic]
         self.read_kept()
 
     def read_kept(self):
