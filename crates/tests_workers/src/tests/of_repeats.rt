@@ -6,7 +6,7 @@ use crate::tests::serving::{Parts, serve, sides};
 use crate::tests::starting::{Cluster, begun, blank};
 use agreed_ledger::{BlankLedger, Ledger, Naming};
 use inboxes::{BlankInboxes, Channels, FreshEnd, InboxRoom};
-use locked_cluster::{NotedReply, Refusal};
+use locked_cluster::{Begun, NotedReply, Refusal};
 use model::Reply;
 use std::alloc::Global;
 use std::marker::Brand;
@@ -24,6 +24,7 @@ const REFUSED: u64 = 1000;
 #[derive(Drop)]
 struct Repeating<'a, 'l, N: Naming> {
     cluster: &'a Cluster<'l, N>,
+    begun: &'a Begun<N>,
     /// How many replies came twice.
     told: &'a AtomicU64,
 }
@@ -40,7 +41,7 @@ impl<'a, 'l, N: Naming, M: Channels> Parts<FreshEnd<N, AskedRequest<N>, M>, Prox
     }
 
     fn commit<R: Wait>(&self, rt: &R, alloc: Global, side: &ProxyInboxes<N, M>) {
-        let told = match asked_twice(rt, alloc, self.cluster, side) {
+        let told = match asked_twice(rt, alloc, self.begun, side) {
             Ok(count) => count,
             Err(refusal) => told_of(refusal),
         };
@@ -64,12 +65,9 @@ fn told_of(refusal: Refusal) -> u64 {
 fn asked_twice<N: Naming, M: Channels, R: Wait>(
     rt: &R,
     alloc: Global,
-    cluster: &Cluster<'_, N>,
+    begun: &Begun<N>,
     side: &ProxyInboxes<N, M>,
 ) -> Result<u64, Refusal> {
-    let Ok(begun) = begun(rt, alloc, cluster) else {
-        return Err(Refusal::OutOfMemory);
-    };
     let first = side.ask(rt, alloc, begun.requests())?;
     let again = side.ask(rt, alloc, begun.requests())?;
     Ok(count_alike(first.as_slice(), again.as_slice()))
@@ -87,7 +85,7 @@ fn are_alike(one: &Reply, other: &Reply) -> bool {
     one.resolver == other.resolver
         && one.version == 10
         && other.version == 10
-        && one.verdicts.as_slice().len() == 1
+        && one.verdicts.as_slice().len() == usize::from(one.resolver == 0)
         && one.verdicts.as_slice() == other.verdicts.as_slice()
 }
 
@@ -104,9 +102,11 @@ fn run<N: Naming + Send + Sync, M: Channels + Send + Sync, R: Threads + Wait + S
     let (senders, ends) = blank.named::<M>(room);
     let sides = sides(alloc, ledger, senders)?;
     let cluster = Cluster::new(alloc, ledger)?;
+    let begun = begun(rt, alloc, &cluster)?;
     let told = AtomicU64::new(0);
     let repeating = Repeating {
         cluster: &cluster,
+        begun: &begun,
         told: &told,
     };
     if !serve(rt, alloc, &repeating, ends, sides) {

@@ -1,5 +1,5 @@
 -- The request that was taken out is of a row that was judged since.
-use Rattle.std.proofs.Common.{ap, sym, ◌∙◌, subst, ◌<◌, List, length, slice_get, arith}
+use Rattle.std.proofs.Common.{ap, sym, ◌∙◌, subst, ℕ, ◌<◌, List, length, slice_get, arith}
 use Rattle.std.specs.Prelude.{IsFalse}
 use Rattle.std.proofs.lemmas.Option.{same_Some, slice_get_within}
 use Rattle.facts.specs.Stretches.{end_of}
@@ -45,4 +45,6 @@ returns-clause-entered g c =
     let at = got c.self.inside.held.items place q within c.remove.ensures.value in
     λ r there.
     let is = same_Some q r (sym at ∙ ap (λ (v : DeskView). slice_get v.held place) c.self.view_is ∙ there) in
-    ?
+    let entered : ℕ → ℕ → Type 0 = λ to row. let one : Place = record { resolver = to; row = row } in g.G.Gate.has_entered c.args.gate.now one in
+    subst (λ (to : ℕ). entered to r.plain.row) c.number.ensures.value
+    (subst (entered c.number.result) (c.row.ensures ∙ ap (λ (s : RequestView). s.plain.row) (c.into_parts-request.ensures ∙ is)) c.enter.ensures)
