@@ -68,6 +68,43 @@ def moved_ranges():
     )
 
 
+def owners_in_the_window():
+    """A read asks the owners back to its snapshot, or to the window; a range goes whole to each who is asked."""
+    batch = [
+        transaction(20, [["m", "t"]]), transaction(30, [["m", "t"]]), transaction(0, [], [["a", "z"]]), transaction(0, [], [["m", "t"]]),
+    ]
+
+    def moved_twice(window):
+        return turns(
+            [sequence(0)] * 2, move("m", "t", 1), [sequence(0)] * 2, move("p", "q", 2), sequence(0, *batch), offers(*range(5), resolvers=3),
+            [finish(0)] * 5, resolvers=3, proxies=1, window=window,
+        )
+
+    begun = [sequenced(2), "move date 21", sequenced(4)[2:], "move date 41", sequenced(5)[4:]]
+    begun += [offered(row, resolver) for row in range(4) for resolver in range(3)]
+    ended, writes = [finished(0, 10 * number) for number in range(1, 5)], ["txn 2 committed 50 2", "txn 3 committed 50 3"]
+    yield case(
+        "a read from before two moves", moved_twice(100), *begun, offered(4, 0, "committed committed"),
+        *[offered(4, resolver, "committed committed committed committed") for resolver in (1, 2)], *ended,
+        finished(0, 50, "txn 0 committed 50 0", "txn 1 committed 50 1", *writes), shown(0, 50),
+    )
+    yield case(
+        "a read from before a move that left the window", moved_twice(10), *begun, offered(4, 0, "committed"),
+        *[offered(4, resolver, "too_old too_old committed committed") for resolver in (1, 2)], *ended,
+        finished(0, 50, "txn 0 too_old 1007", "txn 1 too_old 1007", *writes), shown(0, 50),
+    )
+    moves = [move("%02d" % number, "z", number) for number in range(1, 64)]
+    reads = [transaction(snapshot, [["63", "z"]]) for snapshot in (1, 2)]
+    yield case(
+        "keys that moved 63 times", turns(
+            moves, sequence(0, *reads, transaction(0, [], [["", "z"]])), offers(0, resolvers=64), finish(0), resolvers=64, proxies=1,
+        ),
+        ["move date 1"] * 63, sequenced(1), [offered(0, resolver, "committed committed") for resolver in range(63)],
+        offered(0, 63, "committed committed committed"), finished(0, 10, *["txn %d committed 10 %d" % (it, it) for it in range(3)]),
+        shown(0, 10),
+    )
+
+
 def verdicts():
     """Too old before the window, and in conflict with what is committed after the snapshot or earlier in the batch."""
     yield case(
@@ -96,6 +133,43 @@ def verdicts():
         finished(0, 20, "txn 0 committed 20 0", "txn 1 conflict 1020", "txn 2 committed 20 2", "txn 3 conflict 1020",
                  "txn 4 committed 20 4", "txn 5 committed 20 5"),
         shown(0, 20),
+    )
+
+
+def many_parts():
+    """Conflicts inside a large share, with writes that have left the window, and at snapshots past the version."""
+    keys = ["%04d" % number for number in range(512)]
+    yield case(
+        "512 writes of a batch and a read of each, and of all by the next batch", turns(
+            sequence(0, *map(written, keys), *map(read, keys)),
+            sequence(0, transaction(0, [["0", "1"]]), transaction(9, [["0", "1"]]), transaction(10, [["0", "1"]])),
+            offers(0, 1, resolvers=1), finish(0), finish(0), proxies=1, resolvers=1,
+        ),
+        sequenced(2), offered(0, 0, "committed " * 512 + "conflict " * 511 + "conflict"), offered(1, 0, "conflict conflict committed"),
+        finished(
+            0, 10, *["txn %d committed 10 %d" % (it, it) for it in range(512)], *["txn %d conflict 1020" % it for it in range(512, 1024)],
+        ),
+        finished(0, 20, "txn 0 conflict 1020", "txn 1 conflict 1020", "txn 2 committed 20 2"), shown(0, 20),
+    )
+    yield case(
+        "writes that have left the window, and one inside", turns(
+            sequence(0, transaction(0, [], [["a", "c"]])), sequence(0, written("d")), sequence(0, written("e")),
+            sequence(0, read("b", 20), read("b", 19), read("d", 20), read("e", 20), read("e", 30)),
+            offers(*range(4), resolvers=1), [finish(0)] * 4, proxies=1, resolvers=1, window=20,
+        ),
+        sequenced(4), [offered(row, 0, "committed") for row in range(3)], offered(3, 0, "committed too_old committed conflict committed"),
+        *[finished(0, 10 * number, "txn 0 committed %d 0" % (10 * number)) for number in range(1, 4)],
+        finished(
+            0, 40, "txn 0 committed 40 0", "txn 1 too_old 1007", "txn 2 committed 40 2", "txn 3 conflict 1020", "txn 4 committed 40 4",
+        ),
+        shown(0, 40),
+    )
+    yield case(
+        "a read past the version behind a write of its batch", turns(
+            sequence(0, written("b", 35), read("b", 35), read("c", 35)), offers(0, resolvers=1), finish(0), proxies=1, resolvers=1,
+        ),
+        sequenced(1), offered(0, 0, "committed conflict committed"),
+        finished(0, 10, "txn 0 committed 10 0", "txn 1 conflict 1020", "txn 2 committed 10 2"), shown(0, 10),
     )
 
 
@@ -240,6 +314,16 @@ def locks_among_rows():
         sequenced(3), offered_to_both(0, "committed"), offered_to_both(1, "committed committed", "10"), offered_to_both(2, "none", "20"),
         finished(0, 10, "txn 0 committed 10 0", "mutation 0 0 tags none"), finished(0, 30, "txn 0 locked 1038"),
         shown(0, 30, locked="yes", metadata_version='"v"'), shown(1, 0),
+    )
+    yield case(
+        "a row of keys that is set under the lock, and that its own proxy and the other one know of",
+        turns(
+            sequence(0, lock), sequence(1, transaction(10, [], [], [put_servers("", SERVER_1)])), sequence(0), offers(0, 1, 2),
+            finish(0), finish(1), finish(0),
+        ),
+        sequenced(3), offered_to_both(0, "committed"), offered_to_both(1, "committed", "10"), offered_to_both(2, "none", "20"),
+        finished(0, 10, "txn 0 committed 10 0", "mutation 0 0 tags none"), finished(1, 20, "txn 0 locked 1038"), finished(0, 30),
+        shown(0, 30, locked="yes"), shown(1, 20, locked="yes"),
     )
     yield case(
         "a lock that one resolver alone committed",
@@ -486,6 +570,6 @@ def many_events():
 
 
 CASES = (
-    small_ones, stamps, moved_ranges, verdicts, refused_writes, state_transactions, locks, outcomes, locks_among_rows, told_rows, tags,
-    clears_and_sets, refused_events, last_numbers, many_events,
+    small_ones, stamps, moved_ranges, owners_in_the_window, verdicts, many_parts, refused_writes, state_transactions, locks, outcomes,
+    locks_among_rows, told_rows, tags, clears_and_sets, refused_events, last_numbers, many_events,
 )

@@ -1,307 +1,137 @@
-//! Tests of model: a copy is an equal value.
+//! Tests of model: a copy is an equal value, and a configuration has its numbers. Each value that is
+//! copied becomes a part of the next.
 
+use super::assert_copied;
 use model::{
-    Carried, Config, Finished, JournalRow, Move, Outcome, Part, Refusal, Reply, Route, Routing,
-    StateMark, StateTxn, Tagged, UnseenRow, UnseenState, Verdict,
+    Config, Finished, JournalRow, Move, Outcome, Refusal, Reply, Route, Routing, StateMark,
+    StateTxn, Tagged, UnseenRow, UnseenState, Verdict,
 };
-use std::alloc::{AllocError, Global};
-use std::fmt::Debug;
-use std::process::Abort;
 use std::test::Fail;
-use system_keys::{Change, Items, KeyRange, OutOfMemory, Tag};
-use testing::{Step, bytes, change, none, one, range, twice};
+use system_keys::Tag;
+use testing::{Content, Step, bytes, carried, change, changes, one, part, range};
 
-fn set_of_a(alloc: Global) -> Result<Change, Fail> {
-    change(alloc, Step::Set(b"a", b"1"))
-}
+const TAG: Tag = Tag {
+    locality: 3,
+    id: 258,
+};
 
-fn range_of_m(alloc: Global) -> Result<KeyRange, Fail> {
-    range(alloc, b"m", b"t")
-}
-
-fn carried(alloc: Global) -> Result<Carried, Fail> {
-    Ok(Carried {
-        mutations: one(alloc, set_of_a(alloc)?)?,
-        lock_aware: true,
-    })
-}
-
-fn unseen_state(alloc: Global) -> Result<UnseenState, Fail> {
-    Ok(UnseenState {
-        verdict: Verdict::TooOld,
-        carried: Some(carried(alloc)?),
-    })
-}
-
-fn unseen_row(alloc: Global) -> Result<UnseenRow, Fail> {
-    Ok(UnseenRow {
-        version: 10,
-        states: one(alloc, unseen_state(alloc)?)?,
-    })
-}
-
-fn state_txn(alloc: Global) -> Result<StateTxn, Fail> {
-    Ok(StateTxn {
-        mutations: one(alloc, Change::clear(range_of_m(alloc)?))?,
-        lock_aware: false,
-        verdicts: one(alloc, Verdict::Conflict)?,
-    })
-}
-
-fn tags(alloc: Global) -> Result<Items<Tag>, AllocError> {
-    one(
-        alloc,
-        Tag {
-            locality: 3,
-            id: 258,
-        },
-    )
-}
-
-fn tagged(alloc: Global) -> Result<Tagged, Fail> {
-    Ok(Tagged {
-        number: 1,
-        place: 2,
-        change: set_of_a(alloc)?,
-        tags: tags(alloc)?,
-    })
-}
-
-fn route(alloc: Global) -> Result<Route, Fail> {
-    Ok(Route {
-        key: bytes(alloc, b"m")?,
-        tags: tags(alloc)?,
-    })
-}
-
-fn printed<T: Debug>(alloc: Global, value: &T) -> Result<String, AllocError> {
-    format!(in alloc; "{value:?}")
-}
-
-/// A copy of the value, made again after a failed allocation, is alike.
-fn assert_copied<T: Debug + Drop, F: Fn(&T) -> Result<T, OutOfMemory>>(
-    rt: &(impl Abort + AllocGlobal),
-    value: Result<T, Fail>,
-    copy: F,
-) -> Result<(), Fail>
-    requires { F.IsAlwaysCallable copy }
-{
-    let value = value?;
-    let made = twice!(copy(&value), OutOfMemory)?;
-    assert_eq!(rt; printed(rt.alloc(), &made)?, printed(rt.alloc(), &value)?);
-    Ok(())
-}
-
-fn is_copied_config(config: &Config) -> Result<bool, OutOfMemory> {
-    Ok(config.copy()? == *config)
-}
-
-fn is_copied_outcome(outcome: &Outcome) -> Result<bool, OutOfMemory> {
-    Ok(outcome.copy()? == *outcome)
-}
+/// A Set and a Clear, lock aware.
+const CONTENT: Content<'static> = (&[Step::Set(b"a", b"1"), Step::Clear(b"m", b"t")], true);
 
 #[test]
-fn numbers_are_copied(rt: HostRuntime) -> Result<(), Fail> {
-    let config = Config::new(2, 3, 100, 10)?;
-    assert!(rt; is_copied_config(&config)?);
-    let outcome = Outcome::Committed {
-        version: 10,
+fn contents_and_their_marks_are_copied(rt: HostRuntime) -> Result<(), Fail> {
+    let carried = carried(rt.alloc(), CONTENT)?;
+    assert_copied(&rt, carried.copy(), &carried)?;
+    let mark = StateMark {
         number: 1,
+        carried: Some(carried),
     };
-    assert!(rt; is_copied_outcome(&outcome)?);
-    Ok(())
-}
-
-/// Numbers of a configuration: proxies, resolvers, window, step.
-type Numbers = (usize, usize, u64, u64);
-
-fn made(numbers: Numbers) -> Result<Config, Refusal> {
-    Config::new(numbers.0, numbers.1, numbers.2, numbers.3)
-}
-
-fn has_numbers(config: &Config, numbers: Numbers) -> bool {
-    config.proxies() == numbers.0
-        && config.resolvers() == numbers.1
-        && config.window() == numbers.2
-        && config.step() == numbers.3
-}
-
-/// Whether there is a configuration of these numbers, and it has them.
-fn are_within(numbers: Numbers) -> bool {
-    match made(numbers) {
-        Ok(config) => has_numbers(&config, numbers),
-        Err(_) => false,
-    }
-}
-
-fn are_refused(numbers: Numbers) -> bool {
-    match made(numbers) {
-        Ok(_) => false,
-        Err(refusal) => refusal == Refusal::BadConfig,
-    }
-}
-
-/// The least numbers of a configuration, and the greatest.
-const WITHIN: [Numbers; 2] = [
-    (1, 1, 1, 1),
-    (64, 64, 1_000_000_000, 9_223_372_036_854_775_807),
-];
-
-/// Numbers of which one is too small or too great.
-const OUTSIDE: [Numbers; 8] = [
-    (0, 1, 1, 1),
-    (65, 1, 1, 1),
-    (1, 0, 1, 1),
-    (1, 65, 1, 1),
-    (1, 1, 0, 1),
-    (1, 1, 1_000_000_001, 1),
-    (1, 1, 1, 0),
-    (1, 1, 1, 9_223_372_036_854_775_808),
-];
-
-#[test]
-fn numbers_outside_their_limits_are_refused(rt: HostRuntime) {
-    for numbers in WITHIN {
-        assert!(rt; are_within(numbers));
-    }
-    for numbers in OUTSIDE {
-        assert!(rt; are_refused(numbers));
-    }
+    assert_copied(&rt, mark.copy(), &mark)
 }
 
 #[test]
-fn a_bad_configuration_has_its_number_and_name(rt: HostRuntime) {
-    assert!(rt; Refusal::BadConfig.number() == Some(17));
-    assert!(rt; Refusal::BadConfig.name() == "BadConfig");
-}
-
-fn moved(alloc: Global) -> Result<Move, Fail> {
-    Ok(Move {
-        range: range_of_m(alloc)?,
-        date: 21,
-        dest: 1,
-    })
-}
-
-#[test]
-fn moves_are_copied(rt: HostRuntime) -> Result<(), Fail> {
-    assert_copied(&rt, moved(rt.alloc()), Move::copy)
-}
-
-fn part(alloc: Global) -> Result<Part, Fail> {
-    let reads = one(alloc, range_of_m(alloc)?)?;
-    Ok(Part {
-        number: 1,
-        snapshot: 20,
-        reads,
-        writes: none(alloc),
-    })
-}
-
-#[test]
-fn parts_are_copied(rt: HostRuntime) -> Result<(), Fail> {
-    assert_copied(&rt, part(rt.alloc()), Part::copy)
-}
-
-#[test]
-fn state_transactions_are_copied(rt: HostRuntime) -> Result<(), Fail> {
-    assert_copied(&rt, state_txn(rt.alloc()), StateTxn::copy)
-}
-
-fn journal_row(alloc: Global) -> Result<JournalRow, Fail> {
-    Ok(JournalRow {
+fn replies_and_their_rows_are_copied(rt: HostRuntime) -> Result<(), Fail> {
+    let carried = carried(rt.alloc(), CONTENT)?;
+    let state = UnseenState {
+        verdict: Verdict::TooOld,
+        carried: Some(carried),
+    };
+    assert_copied(&rt, state.copy(), &state)?;
+    let row = UnseenRow {
         version: 10,
-        states: one(alloc, state_txn(alloc)?)?,
-    })
-}
-
-#[test]
-fn journal_rows_are_copied(rt: HostRuntime) -> Result<(), Fail> {
-    assert_copied(&rt, journal_row(rt.alloc()), JournalRow::copy)
-}
-
-#[test]
-fn carried_changes_are_copied(rt: HostRuntime) -> Result<(), Fail> {
-    assert_copied(&rt, carried(rt.alloc()), Carried::copy)
-}
-
-#[test]
-fn unseen_states_are_copied(rt: HostRuntime) -> Result<(), Fail> {
-    assert_copied(&rt, unseen_state(rt.alloc()), UnseenState::copy)
-}
-
-#[test]
-fn unseen_rows_are_copied(rt: HostRuntime) -> Result<(), Fail> {
-    assert_copied(&rt, unseen_row(rt.alloc()), UnseenRow::copy)
-}
-
-fn mark(alloc: Global) -> Result<StateMark, Fail> {
-    Ok(StateMark {
-        number: 1,
-        carried: Some(carried(alloc)?),
-    })
-}
-
-#[test]
-fn marks_are_copied(rt: HostRuntime) -> Result<(), Fail> {
-    assert_copied(&rt, mark(rt.alloc()), StateMark::copy)
-}
-
-fn reply(alloc: Global) -> Result<Reply, Fail> {
-    let verdicts = one(alloc, Verdict::Committed)?;
-    let unseen = one(alloc, unseen_row(alloc)?)?;
-    Ok(Reply {
+        states: one(rt.alloc(), state)?,
+    };
+    assert_copied(&rt, row.copy(), &row)?;
+    let reply = Reply {
         resolver: 0,
         proxy: 1,
         row: 2,
         version: 30,
-        verdicts,
-        unseen,
-    })
+        verdicts: one(rt.alloc(), Verdict::Committed)?,
+        unseen: one(rt.alloc(), row)?,
+    };
+    assert_copied(&rt, reply.copy(), &reply)
 }
 
 #[test]
-fn replies_are_copied(rt: HostRuntime) -> Result<(), Fail> {
-    assert_copied(&rt, reply(rt.alloc()), Reply::copy)
-}
-
-#[test]
-fn routes_are_copied(rt: HostRuntime) -> Result<(), Fail> {
-    assert_copied(&rt, route(rt.alloc()), Route::copy)
-}
-
-fn routing(alloc: Global) -> Result<Routing, Fail> {
-    let routes = one(alloc, route(alloc)?)?;
-    Ok(Routing {
+fn journal_rows_are_copied(rt: HostRuntime) -> Result<(), Fail> {
+    let state = StateTxn {
+        mutations: changes(rt.alloc(), CONTENT.0)?,
+        lock_aware: false,
+        verdicts: one(rt.alloc(), Verdict::Conflict)?,
+    };
+    assert_copied(&rt, state.copy(), &state)?;
+    let row = JournalRow {
         version: 10,
-        locked: true,
-        metadata_version: Some(bytes(alloc, b"v")?),
-        routes,
-    })
+        states: one(rt.alloc(), state)?,
+    };
+    assert_copied(&rt, row.copy(), &row)
+}
+
+#[test]
+fn parts_and_moves_are_copied(rt: HostRuntime) -> Result<(), Fail> {
+    let part = part(rt.alloc(), 1, (20, &[(b"m", b"t")], &[(b"a", b"b")]))?;
+    assert_copied(&rt, part.copy(), &part)?;
+    let moved = Move {
+        range: range(rt.alloc(), b"m", b"t")?,
+        date: 21,
+        dest: 1,
+    };
+    assert_copied(&rt, moved.copy(), &moved)
 }
 
 #[test]
 fn routings_are_copied(rt: HostRuntime) -> Result<(), Fail> {
-    assert_copied(&rt, routing(rt.alloc()), Routing::copy)
-}
-
-#[test]
-fn tagged_changes_are_copied(rt: HostRuntime) -> Result<(), Fail> {
-    assert_copied(&rt, tagged(rt.alloc()), Tagged::copy)
-}
-
-fn finished(alloc: Global) -> Result<Finished, Fail> {
-    let outcomes = one(alloc, Outcome::Locked)?;
-    let tagged = one(alloc, tagged(alloc)?)?;
-    Ok(Finished {
-        row: 0,
+    let value = bytes(rt.alloc(), b"v")?;
+    let route = Route {
+        key: bytes(rt.alloc(), b"m")?,
+        tags: one(rt.alloc(), TAG)?,
+    };
+    assert_copied(&rt, route.copy(), &route)?;
+    let routing = Routing {
         version: 10,
-        outcomes,
-        tagged,
-    })
+        locked: true,
+        metadata_version: Some(value),
+        routes: one(rt.alloc(), route)?,
+    };
+    assert_copied(&rt, routing.copy(), &routing)
 }
 
 #[test]
 fn finished_batches_are_copied(rt: HostRuntime) -> Result<(), Fail> {
-    assert_copied(&rt, finished(rt.alloc()), Finished::copy)
+    let tags = one(rt.alloc(), TAG)?;
+    let tagged = Tagged {
+        number: 1,
+        place: 2,
+        change: change(rt.alloc(), Step::Set(b"a", b"1"))?,
+        tags,
+    };
+    assert_copied(&rt, tagged.copy(), &tagged)?;
+    let tagged = one(rt.alloc(), tagged)?;
+    let finished = Finished {
+        row: 0,
+        version: 10,
+        outcomes: one(rt.alloc(), Outcome::Locked)?,
+        tagged,
+    };
+    assert_copied(&rt, finished.copy(), &finished)
+}
+
+#[test]
+fn outcomes_are_copied(rt: HostRuntime) {
+    let outcome = Outcome::Committed {
+        version: 10,
+        number: 1,
+    };
+    assert!(rt; outcome.copy() == Ok(outcome));
+}
+
+#[test]
+fn a_configuration_has_its_numbers_within_their_limits(rt: HostRuntime) -> Result<(), Fail> {
+    let config = Config::new(64, 3, 1_000_000_000, 9_223_372_036_854_775_807)?;
+    assert!(rt; config.proxies() == 64 && config.resolvers() == 3);
+    assert!(rt; config.window() == 1_000_000_000 && config.step() == 9_223_372_036_854_775_807);
+    assert!(rt; config.copy() == Ok(config));
+    assert!(rt; Config::new(65, 3, 100, 10) == Err(Refusal::BadConfig));
+    Ok(())
 }

@@ -1,18 +1,18 @@
 //! Tests of proxy_state.
 
-mod clearing;
 mod collecting;
 mod disagreeing;
 mod finishing;
-mod new_proxies;
+mod tested;
 
 ghost use Rattle.std.specs.Prelude.{◌≡◌, IfOk};
 
-use model::{Config, Reply};
+use model::Config;
 use proxy_state::{Replies, Verdict};
 use std::alloc::Global;
 use std::test::Fail;
-use testing::{ReplyLine, Step, reply};
+use system_keys::{OutOfMemory, Tag};
+use testing::{ReplyLine, reply_by, twice};
 
 pub(crate) const LOCK: &[u8] = b"\xff/dbLocked";
 
@@ -26,15 +26,9 @@ pub(crate) const SERVER_1: &[u8] = b"\x01server0000000001\x00";
 
 pub(crate) const SERVER_2: &[u8] = b"\x01server0000000002\x00";
 
-const COMMITTED: Verdict = Verdict::Committed;
+pub(crate) const TAG_1: Tag = Tag { locality: 0, id: 1 };
 
-const ONE_VERDICT: &[Verdict] = &[Verdict::Committed];
-
-/// Gives server 1 its tag.
-const TAGS: &[Step<'static>] = &[Step::Set(TAG_ROW_1, b"\x00\x00\x01")];
-
-/// Gives server 1 all keys.
-const SERVES: &[Step<'static>] = &[Step::Set(ROW_OF_ALL, SERVER_1)];
+pub(crate) const COMMITTED: Verdict = Verdict::Committed;
 
 /// Two proxies and two resolvers, with versions 10 apart.
 fn two_of_each() -> Result<Config, Fail>
@@ -44,37 +38,28 @@ fn two_of_each() -> Result<Config, Fail>
 }
 
 fn no_replies(alloc: Global) -> Result<Replies, Fail> {
-    Ok(Replies::new(alloc, &two_of_each()?)?)
+    let config = two_of_each()?;
+    Ok(twice!(Replies::new(alloc, &config), OutOfMemory)?)
 }
 
-fn with_reply(mut replies: Replies, one: Reply) -> Result<Replies, Fail> {
-    match replies.put(one) {
-        Ok(()) => Ok(replies),
-        Err(refused) => Err(Fail::from(refused.0)),
+/// Puts the replies, of which those of the carriers have the content of state transactions.
+fn put_all(
+    alloc: Global,
+    replies: &mut Replies,
+    carriers: &[usize],
+    lines: &[ReplyLine<'_>],
+) -> Result<(), Fail> {
+    for line in lines {
+        let reply = reply_by(alloc, carriers.contains(&line.resolver), *line)?;
+        if let Err((refusal, _)) = replies.put(reply) {
+            return Err(Fail::from(refusal));
+        }
     }
+    Ok(())
 }
 
-fn replies_of(alloc: Global, first: Reply, second: Reply) -> Result<Replies, Fail> {
-    with_reply(with_reply(no_replies(alloc)?, first)?, second)
-}
-
-fn both(alloc: Global, first: ReplyLine<'_>, second: ReplyLine<'_>) -> Result<Replies, Fail> {
-    replies_of(alloc, reply(alloc, first)?, reply(alloc, second)?)
-}
-
-/// The reply of a resolver to row 0, at version 10, of proxy 0.
-const fn to_row_0<'a>(resolver: usize, verdicts: &'a [Verdict]) -> ReplyLine<'a> {
-    ReplyLine {
-        resolver,
-        proxy: 0,
-        row: 0,
-        version: 10,
-        verdicts,
-        unseen: &[],
-    }
-}
-
-/// Both replies to row 0, with one verdict each.
-fn replies_to_row_0(alloc: Global) -> Result<Replies, Fail> {
-    both(alloc, to_row_0(0, ONE_VERDICT), to_row_0(1, ONE_VERDICT))
+fn replies_of(alloc: Global, carriers: &[usize], lines: &[ReplyLine<'_>]) -> Result<Replies, Fail> {
+    let mut replies = no_replies(alloc)?;
+    put_all(alloc, &mut replies, carriers, lines)?;
+    Ok(replies)
 }

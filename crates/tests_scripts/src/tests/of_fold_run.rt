@@ -1,359 +1,256 @@
-//! Tests of runs of fold_run over devices that fail, stop early or go on for ever.
-ghost use Rattle.std.specs.Prelude.{◌≡◌};
+//! Tests of fold_run: how often devices are called, that each call of ours is one call of the standard
+//! library's reader or writer and none follows one that failed, and that scripts are read by their
+//! tokens alone. No clause says so.
 
-mod reading;
-mod std_devices;
-mod streams;
-
-use super::fakes::{Counts, MemorySink, MemorySource, Spaces};
-use fold_run::{FoldScript, read_script, run_fold};
+use super::devices::{Faltering, Halting};
+use fold_run::{read_script, run_fold, stream_script};
 use scripts::{Reader, RunStatus, ScriptFault, Sink, Source, Writer};
 use std::alloc::Global;
+use std::io::ErrorKind;
 use std::process::Abort;
-use testing::twice;
+use std::test::Fail;
+use testing::{list, repeated, twice};
 
-/// What the script is read as, at the second try if an allocation failed at the first.
-fn read(alloc: Global, script: &[u8]) -> Result<FoldScript, ScriptFault> {
-    twice!(read_script(alloc, script), ScriptFault::OutOfMemory)
-}
-
+/// 37 bytes.
 const SCRIPT: &[u8] = br#"{"resolvers":1,"rows":[],"ask":["a"]}"#;
 
+/// 56 bytes.
 const TEXT: &[u8] = b"version 0\nlocked no\nmetadata_version none\ntags \"a\" none\n";
 
-// What may go wrong with the devices of a run: how many bytes a call gives or takes at most, which
-// call fails, and which write takes no byte. Calls count from 1.
+/// A script, what is to be written, how many bytes a call gives or takes at most, which read and which
+/// write fail, or none at 0, and how. A write that fails without an error takes no byte.
 #[derive(Clone, Copy)]
-struct Devices {
-    read_at_most: usize,
+struct Trial<'a> {
+    script: &'a [u8],
+    text: &'a [u8],
+    most: usize,
     failing_read: u64,
-    written_at_most: usize,
     failing_write: u64,
-    full_write: u64,
+    error: Option<ErrorKind>,
 }
 
-// Devices that never fail.
-const RELIABLE: Devices = Devices {
-    read_at_most: 64,
+/// Ten bytes a call: the script takes four reads and the one that meets the end, and the text six
+/// writes.
+const TEN_A_CALL: Trial<'static> = Trial {
+    script: SCRIPT,
+    text: TEXT,
+    most: 10,
     failing_read: 0,
-    written_at_most: 64,
     failing_write: 0,
-    full_write: 0,
+    error: None,
 };
 
-// How a run ended, what its devices counted, and whether what it wrote was as expected.
+/// How a run ended, the calls that the reader and the writer got, and the failures that our devices
+/// counted.
 #[derive(Clone, Copy, PartialEq, Eq)]
 struct Ended {
     status: RunStatus,
-    read: Counts,
-    written: Counts,
-    as_expected: bool,
+    reads: u64,
+    writes: u64,
+    failed_reads: u64,
+    failed_writes: u64,
 }
 
-fn source_over(script: &[u8], devices: Devices) -> MemorySource<'_>
-    ensures { result.failures ≡ 0 }
-{
-    MemorySource::new(script, devices.read_at_most, devices.failing_read)
+/// A run over both: how it ended, and the failures that our devices counted.
+fn run_over(
+    alloc: Global,
+    reader: &mut Faltering<'_>,
+    writer: &mut Halting<'_>,
+) -> (RunStatus, u64, u64) {
+    let mut source = Reader::new(reader);
+    let mut sink = Writer::new(writer);
+    let status = run_fold(alloc, &mut source, &mut sink);
+    (status, source.failures(), sink.failures())
 }
 
-fn sink_of(alloc: Global, devices: Devices) -> MemorySink
-    ensures { result.failures ≡ 0 }
-{
-    MemorySink::new(
-        alloc,
-        devices.written_at_most,
-        devices.failing_write,
-        devices.full_write,
-    )
-}
-
-fn run_once(rt: &impl AllocGlobal, script: &[u8], devices: Devices, expected: &[u8]) -> Ended {
-    let mut source = source_over(script, devices);
-    let mut sink = sink_of(rt.alloc(), devices);
-    let status = run_fold(rt.alloc(), &mut source, &mut sink);
+fn run_once(alloc: Global, trial: Trial<'_>) -> Ended {
+    let mut reader = Faltering {
+        rest: trial.script,
+        most: trial.most,
+        fails_at: trial.failing_read,
+        error: trial.error.unwrap_or(ErrorKind::Other),
+        calls: 0,
+    };
+    let mut writer = Halting {
+        expected: trial.text,
+        most: trial.most,
+        fails_at: trial.failing_write,
+        error: trial.error,
+        calls: 0,
+    };
+    let (status, failed_reads, failed_writes) = run_over(alloc, &mut reader, &mut writer);
     Ended {
         status,
-        read: source.counts(),
-        written: sink.counts(),
-        as_expected: sink.has_taken(expected),
+        reads: reader.calls,
+        writes: writer.calls,
+        failed_reads,
+        failed_writes,
     }
 }
 
-// Folds this script, and once more after `OutOfMemory`.
-fn run(rt: &impl AllocGlobal, script: &[u8], devices: Devices, expected: &[u8]) -> Ended {
-    let ended = run_once(rt, script, devices, expected);
+/// The run, and once more after `OutOfMemory`.
+fn run(alloc: Global, trial: Trial<'_>) -> Ended {
+    let ended = run_once(alloc, trial);
     match ended.status {
-        RunStatus::OutOfMemory => run_once(rt, script, devices, expected),
+        RunStatus::OutOfMemory => run_once(alloc, trial),
         _ => ended,
     }
-}
-
-// Whether the script was folded, and the text written as expected.
-fn is_done(ended: Ended) -> bool {
-    ended.status == RunStatus::Done && ended.as_expected
 }
 
 #[test]
 fn a_script_is_folded(rt: HostRuntime) {
-    let ended = run(&rt, SCRIPT, RELIABLE, TEXT);
-    assert!(rt; is_done(ended));
-    // The script and the text fit in one call; the other read meets the end.
-    assert!(rt; ended.read.calls == 2 && ended.written.calls == 1);
-}
-
-#[test]
-fn a_refused_script_is_answered_with_its_line(rt: HostRuntime) {
-    let ended = run(&rt, b"\xff", RELIABLE, b"refused 70 NotJson\n");
-    assert!(rt; ended.status == RunStatus::ScriptRefused && ended.as_expected);
-}
-
-// Whether the write of this number failed and no other call, and what was taken before it is as
-// expected.
-fn has_failed_at_write(ended: Ended, call: u64) -> bool {
-    ended.status == RunStatus::DeviceFailed
-        && ended.read.failures == 0
-        && ended.written.failures == 1
-        && ended.written.calls == call
-        && ended.as_expected
-}
-
-// The write of this number fails, and the run ends with what was taken before it.
-fn ends_at(
-    rt: &(impl Abort + AllocGlobal),
-    script: &[u8],
-    devices: Devices,
-    call: u64,
-    taken: &[u8],
-) {
-    assert!(rt; has_failed_at_write(run(rt, script, devices, taken), call));
-}
-
-// How a run ends whose read of this number fails: with nothing written.
-fn failed_at_read(call: u64) -> Ended {
-    Ended {
-        status: RunStatus::DeviceFailed,
-        read: Counts {
-            calls: call,
-            failures: 1,
-        },
-        written: NO_CALLS,
-        as_expected: true,
-    }
-}
-
-const NO_CALLS: Counts = Counts {
-    calls: 0,
-    failures: 0,
-};
-
-// Devices of which the read of this number fails.
-fn failing_at_read(most: usize, call: u64) -> Devices {
-    Devices {
-        read_at_most: most,
-        failing_read: call,
-        ..RELIABLE
-    }
-}
-
-// The read of this number fails, and the run ends with nothing written.
-fn read_fails(rt: &(impl Abort + AllocGlobal), script: &[u8], most: usize, call: u64) {
-    let ended = run(rt, script, failing_at_read(most, call), b"");
-    assert!(rt;
-        ended == failed_at_read(call),
-        "at read {call} of {most} bytes"
-    );
-}
-
-// Bytes a call, and calls. The script has 37 bytes: so many calls, and the one that meets the end.
-const READS: &[(usize, u64)] = &[(1, 37 + 1), (10, 4 + 1), (64, 1 + 1)];
-
-#[test]
-fn each_read_may_fail(rt: HostRuntime) {
-    for (most, calls) in READS {
-        for call in 1..=*calls {
-            read_fails(&rt, SCRIPT, *most, call);
-        }
-    }
-}
-
-#[test]
-fn the_reading_comes_before_the_script(rt: HostRuntime) {
-    // No byte behind the first can make JSON of it.
-    for call in 1..=5 {
-        read_fails(&rt, b"\xff{}a", 1, call);
-    }
-}
-
-// The write of this number fails, or takes no byte, and the run ends with what was taken before it.
-fn write_fails(rt: &(impl Abort + AllocGlobal), most: usize, call: u64, taken: &[u8]) {
-    let failing = Devices {
-        written_at_most: most,
-        failing_write: call,
-        ..RELIABLE
+    let done = Ended {
+        status: RunStatus::Done,
+        reads: 5,
+        writes: 6,
+        failed_reads: 0,
+        failed_writes: 0,
     };
-    ends_at(rt, SCRIPT, failing, call, taken);
-    let full = Devices {
-        written_at_most: most,
-        full_write: call,
-        ..RELIABLE
-    };
-    ends_at(rt, SCRIPT, full, call, taken);
+    assert!(rt; run(rt.alloc(), TEN_A_CALL) == done);
 }
 
-#[test]
-fn each_write_of_a_byte_may_fail(rt: HostRuntime) {
-    for taken in 0..TEXT.len() {
-        write_fails(&rt, 1, taken as u64 + 1, &TEXT[..taken]);
+/// The read and the write that fail, or none at 0, and how many calls of each there are then: none
+/// follows one that failed. Where both would fail, the read is told.
+const FAILURES: &[(u64, u64, u64, u64)] = &[
+    (1, 0, 1, 0),
+    (4, 0, 4, 0),
+    (5, 0, 5, 0),
+    (0, 1, 5, 1),
+    (0, 2, 5, 2),
+    (0, 6, 5, 6),
+    (5, 1, 5, 0),
+];
+
+/// Each of the calls fails by this error.
+fn assert_failures(rt: &(impl Abort + AllocGlobal), error: Option<ErrorKind>) {
+    for (failing_read, failing_write, reads, writes) in FAILURES {
+        let trial = Trial {
+            failing_read: *failing_read,
+            failing_write: *failing_write,
+            error,
+            ..TEN_A_CALL
+        };
+        let failed = Ended {
+            status: RunStatus::DeviceFailed,
+            reads: *reads,
+            writes: *writes,
+            failed_reads: u64::from(*writes == 0),
+            failed_writes: u64::from(*writes != 0),
+        };
+        assert!(rt;
+            run(rt.alloc(), trial) == failed,
+            "at read {reads} and write {writes}"
+        );
     }
 }
 
 #[test]
-fn each_longer_write_may_fail(rt: HostRuntime) {
-    write_fails(&rt, 64, 1, b"");
-    write_fails(&rt, 20, 1, b"");
-    write_fails(&rt, 20, 2, b"version 0\nlocked no\n");
-    write_fails(&rt, 20, 3, b"version 0\nlocked no\nmetadata_version non");
-}
-
-#[test]
-fn the_line_of_a_refusal_may_fail(rt: HostRuntime) {
-    let devices = Devices {
-        written_at_most: 8,
-        failing_write: 2,
-        ..RELIABLE
-    };
-    ends_at(&rt, b"\xff", devices, 2, b"refused ");
-}
-
-#[test]
-fn a_byte_at_a_time_is_the_same_script(rt: HostRuntime) {
-    let devices = Devices {
-        read_at_most: 1,
-        ..RELIABLE
-    };
-    let ended = run(&rt, SCRIPT, devices, TEXT);
-    assert!(rt; is_done(ended));
-    assert!(rt; ended.read.calls == SCRIPT.len() as u64 + 1);
-}
-
-// Devices that write at most so many bytes a call.
-fn writing(most: usize) -> Devices {
-    Devices {
-        written_at_most: most,
-        ..RELIABLE
+fn no_call_follows_one_that_failed(rt: HostRuntime) {
+    assert_failures(&rt, None);
+    for error in [
+        ErrorKind::Interrupted,
+        ErrorKind::WouldBlock,
+        ErrorKind::UnexpectedEof,
+        ErrorKind::Other,
+    ] {
+        assert_failures(&rt, Some(error));
     }
 }
 
-// Whether the whole text is written in so many calls, at most so many bytes each.
-fn is_written_in(rt: &impl AllocGlobal, most: usize, calls: u64) -> bool {
-    let ended = run(rt, SCRIPT, writing(most), TEXT);
-    is_done(ended) && ended.written.failures == 0 && ended.written.calls == calls
-}
+const NOT_JSON: &[u8] = b"refused 70 NotJson\n";
 
-// Bytes a call, and calls. The text has 56 bytes.
-const WRITES: &[(usize, u64)] = &[(1, 56), (2, 28), (55, 2)];
+/// How many spaces a script has, how many bytes a call gives or takes at most, how many reads and
+/// writes there are, and how the run ends. A read asks for 4,096 bytes, and there are at most 1,048,576
+/// reads. The line of the refusal has 19 bytes.
+const SPACES: &[(usize, usize, u64, u64, RunStatus)] = &[
+    (0, 5_000, 1, 1, RunStatus::ScriptRefused),
+    (4_095, 5_000, 2, 1, RunStatus::ScriptRefused),
+    (4_096, 5_000, 2, 1, RunStatus::ScriptRefused),
+    (4_097, 5_000, 3, 1, RunStatus::ScriptRefused),
+    (1_048_577, 5_000, 258, 1, RunStatus::ScriptRefused),
+    (1_048_575, 1, 1_048_576, 19, RunStatus::ScriptRefused),
+    (1_048_576, 1, 1_048_576, 0, RunStatus::DeviceFailed),
+    (1_048_577, 1, 1_048_576, 0, RunStatus::DeviceFailed),
+];
 
 #[test]
-fn a_short_write_is_no_failure(rt: HostRuntime) {
-    for (most, calls) in WRITES {
-        assert!(rt; is_written_in(&rt, *most, *calls));
+fn reads_ask_for_4_096_bytes_up_to_a_limit_on_reads(rt: HostRuntime) -> Result<(), Fail> {
+    for (count, most, reads, writes, status) in SPACES {
+        let script = repeated(rt.alloc(), b' ', *count)?;
+        let trial = Trial {
+            script: &script,
+            text: NOT_JSON,
+            most: *most,
+            ..TEN_A_CALL
+        };
+        let expected = Ended {
+            status: *status,
+            reads: *reads,
+            writes: *writes,
+            failed_reads: 0,
+            failed_writes: 0,
+        };
+        assert!(rt; run(rt.alloc(), trial) == expected, "{count} spaces");
+    }
+    Ok(())
+}
+
+/// Reads the script by its tokens, at the second try if an allocation failed at the first.
+fn is_streamed(alloc: Global, script: &[u8]) -> bool {
+    stream_script(alloc, script).is_some() || stream_script(alloc, script).is_some()
+}
+
+/// Right scripts, with their fields in any order and each form of a field.
+const STREAMED: &[&str] = &[
+    r#"{"resolvers":1,"rows":[],"ask":[]}"#,
+    r#"{"resolvers":1,"ask":[],"rows":[]}"#,
+    r#"{"rows":[],"resolvers":1,"ask":[]}"#,
+    r#"{"rows":[],"ask":[],"resolvers":1}"#,
+    r#"{"ask":[],"resolvers":1,"rows":[]}"#,
+    r#"{"ask":[],"rows":[],"resolvers":1}"#,
+    r#"{"resolvers":1,"ask":[],"rows":[{"states":[],"version":1}]}"#,
+    r#"{"resolvers":1,"ask":[],"rows":[{"version":1,"states":[
+    {"mutations":[],"lock_aware":true,"verdicts":["too_old"]},
+    {"mutations":[],"verdicts":["too_old"],"lock_aware":true},
+    {"lock_aware":true,"mutations":[],"verdicts":["too_old"]},
+    {"lock_aware":true,"verdicts":["too_old"],"mutations":[]},
+    {"verdicts":["too_old"],"mutations":[],"lock_aware":true},
+    {"verdicts":["too_old"],"lock_aware":true,"mutations":[]}]}]}"#,
+    " \t\r\n{ \"resolvers\" : 64 , \"rows\" : [ ] , \"ask\" : [ ] } \n",
+    r#"{"\u0061sk":["\u0061","","\\x00\\xff","\/"],"resolvers":1,"rows":[]}"#,
+    r#"{"resolvers":1,"ask":[],"rows":[{"version":9223372036854775807,"states":[]}]}"#,
+    r#"{"resolvers":3,"ask":[],"rows":[{"version":1,"states":[{"lock_aware":true,
+    "verdicts":["conflict","too_old","committed"],
+    "mutations":[{"clear":["a","b"]},{"set":["a",""]}]}]}]}"#,
+];
+
+#[test]
+fn right_scripts_are_streamed(rt: HostRuntime) {
+    for script in STREAMED {
+        assert!(rt; is_streamed(rt.alloc(), script.as_bytes()), "{script}");
     }
 }
 
-fn run_over_spaces_once(rt: &impl AllocGlobal, count: u64, expected: &[u8]) -> Ended {
-    let mut source = Spaces::new(count);
-    let mut sink = sink_of(rt.alloc(), RELIABLE);
-    let status = run_fold(rt.alloc(), &mut source, &mut sink);
-    Ended {
-        status,
-        read: source.counts(),
-        written: sink.counts(),
-        as_expected: sink.has_taken(expected),
-    }
+#[test]
+fn a_script_with_a_long_key_is_streamed(rt: HostRuntime) -> Result<(), Fail> {
+    let mut script = list(rt.alloc(), br#"{"resolvers":1,"rows":[],"ask":[""#)?;
+    let key = repeated(rt.alloc(), b'a', 100_000)?;
+    script.extend_from_slice(&key)?;
+    script.extend_from_slice(br#""]}"#)?;
+    assert!(rt; is_streamed(rt.alloc(), &script));
+    Ok(())
 }
 
-// Reads so many spaces, one a call, and once more after `OutOfMemory`.
-fn run_over_spaces(rt: &impl AllocGlobal, count: u64, expected: &[u8]) -> Ended {
-    let ended = run_over_spaces_once(rt, count, expected);
-    match ended.status {
-        RunStatus::OutOfMemory => run_over_spaces_once(rt, count, expected),
-        _ => ended,
-    }
-}
-
-// Whether the run made so many reads, and ended so, with what it wrote as expected.
-fn has_read(ended: Ended, status: RunStatus, calls: u64) -> bool {
-    ended.status == status && ended.read.calls == calls && ended.as_expected
-}
+/// A right script, of two rows and three keys, with a field twice: its tokens alone do not give it.
+const READ_AS_A_TREE: &[u8] = br#"{"resolvers":2,"resolvers":1,"ask":["a","m","z"],"rows":[
+{"version":10,"states":[]},{"version":20,"states":[]}]}"#;
 
 #[test]
-fn the_end_may_come_with_the_last_read(rt: HostRuntime) {
-    let ended = run_over_spaces(&rt, 1_048_575, b"refused 70 NotJson\n");
-    assert!(rt; has_read(ended, RunStatus::ScriptRefused, 1_048_576));
-}
-
-// Whether the run stopped at the limit on reads, with no failure of a device and nothing written.
-fn is_stopped(ended: Ended) -> bool {
-    has_read(ended, RunStatus::DeviceFailed, 1_048_576)
-        && ended.read.failures == 0
-        && ended.written.calls == 0
-}
-
-#[test]
-fn more_reads_than_the_limit_are_a_failure(rt: HostRuntime) {
-    assert!(rt; is_stopped(run_over_spaces(&rt, 1_048_576, b"")));
-    assert!(rt; is_stopped(run_over_spaces(&rt, u64::MAX, b"")));
-}
-
-// How a run over a reader and a writer of the standard library ended, and the failures of both.
-#[derive(Clone, Copy, PartialEq, Eq)]
-struct Failures {
-    status: RunStatus,
-    reads: u64,
-    writes: u64,
-}
-
-fn run_over_slices_once(rt: &impl AllocGlobal, room: &mut [u8]) -> Failures {
-    let mut writer = Writer::new(room);
-    let mut reader = Reader::new(SCRIPT);
-    let status = run_fold(rt.alloc(), &mut reader, &mut writer);
-    Failures {
-        status,
-        reads: reader.failures(),
-        writes: writer.failures(),
-    }
-}
-
-// A run over slices, and once more after `OutOfMemory`.
-fn run_over_slices(rt: &impl AllocGlobal, room: &mut [u8]) -> Failures {
-    let ended = run_over_slices_once(rt, room);
-    match ended.status {
-        RunStatus::OutOfMemory => run_over_slices_once(rt, room),
-        _ => ended,
-    }
-}
-
-const DONE: Failures = Failures {
-    status: RunStatus::Done,
-    reads: 0,
-    writes: 0,
-};
-
-const FULL: Failures = Failures {
-    status: RunStatus::DeviceFailed,
-    reads: 0,
-    writes: 1,
-};
-
-#[test]
-fn std_readers_and_writers_are_devices(rt: HostRuntime) {
-    let mut room = [0u8; 64];
-    let ended = run_over_slices(&rt, &mut room);
-    assert!(rt; ended == DONE && room.starts_with(TEXT));
-}
-
-#[test]
-fn a_full_writer_has_failed(rt: HostRuntime) {
-    let mut room = [0u8; 3];
-    assert!(rt; run_over_slices(&rt, &mut room) == FULL);
+fn a_script_is_read_as_a_tree_where_a_field_stands_twice(rt: HostRuntime) -> Result<(), Fail> {
+    let script = twice!(
+        read_script(rt.alloc(), READ_AS_A_TREE),
+        ScriptFault::OutOfMemory
+    )?;
+    assert!(rt; script.rows.as_slice().len() == 2 && script.ask.as_slice().len() == 3);
+    Ok(())
 }

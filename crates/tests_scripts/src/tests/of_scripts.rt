@@ -1,55 +1,17 @@
-//! Tests of scripts: the words in which faults are shown, that lines are printed, and batches.
+//! Tests of scripts: the words in which faults are shown, what no script prints, and batches.
 
-mod batch_streams;
-mod batches;
-
-use model::Routing;
 use mutation::Batch;
-use scripts::{RunStatus, ScriptFault, print_asked, print_routing, read_batch};
-use std::alloc::Global;
+use scripts::{RunStatus, ScriptFault, read_batch, stream_batch};
+use std::alloc::{AllocError, Global};
 use std::test::Fail;
-use system_keys::{OutOfMemory, Refusal, Tag};
-use testing::{is_shown_as, none, twice};
+use testing::{Given, NOTHING, Step, batch, is_shown_as, twice};
 
-/// What the text is read as, at the second try if an allocation failed at the first.
-fn read(alloc: Global, text: &[u8]) -> Result<Batch, ScriptFault> {
-    twice!(read_batch(alloc, text), ScriptFault::OutOfMemory)
-}
-
-/// Each status with its number.
-const STATUSES: &[(RunStatus, u8)] = &[
-    (RunStatus::Done, 0),
-    (RunStatus::ScriptRefused, 1),
-    (RunStatus::DeviceFailed, 3),
-    (RunStatus::OutOfMemory, 4),
-    (RunStatus::ClusterRefused, 5),
-];
-
-#[test]
-fn numbers_of_statuses(rt: HostRuntime) {
-    for (status, number) in STATUSES {
-        assert!(rt; status.number() == *number);
-    }
-}
-
-/// Each fault in words.
+/// Each fault in words; those of a key, a transaction or a batch are shown alone.
 const WORDS: &[(ScriptFault, &str)] = &[
     (ScriptFault::NotJson, "the script is not JSON"),
     (
         ScriptFault::BadShape,
         "the value is not of a script's shape",
-    ),
-    (
-        ScriptFault::Refused(mutation::Refusal::Key(Refusal::KeyTooLong)),
-        "a key is too long",
-    ),
-    (
-        ScriptFault::Refused(mutation::Refusal::Key(Refusal::BadRow)),
-        "the value of a system row does not decode",
-    ),
-    (
-        ScriptFault::Refused(mutation::Refusal::BadStamp),
-        "a value has no place for its stamp",
     ),
     (
         ScriptFault::Refused(mutation::Refusal::BatchTooLarge),
@@ -67,70 +29,88 @@ fn refusals_of_scripts_are_shown_in_words(rt: HostRuntime) -> Result<(), Fail> {
     Ok(())
 }
 
-/// Prints a locked routing without routes.
-fn print_locked(alloc: Global, text: &mut String) -> Result<(), OutOfMemory> {
-    let routing = Routing {
-        version: 7,
-        locked: true,
-        metadata_version: None,
-        routes: none(alloc),
-    };
-    print_routing(alloc, text, &routing)
+#[test]
+fn what_no_script_prints_has_its_number(rt: HostRuntime) {
+    assert!(rt; RunStatus::ClusterRefused.number() == 5);
+    assert!(rt; ScriptFault::OutOfMemory.number().is_none());
+    assert!(rt; ScriptFault::OutOfMemory.name() == "OutOfMemory");
+    assert!(rt; ScriptFault::from(mutation::Refusal::OutOfMemory) == ScriptFault::OutOfMemory);
 }
 
-/// Prints a key with two tags.
-fn print_two_tags(alloc: Global, text: &mut String) -> Result<(), OutOfMemory> {
-    let tags = [
-        Tag { locality: 0, id: 1 },
-        Tag {
-            locality: 255,
-            id: 65535,
-        },
-    ];
-    print_asked(alloc, text, b"\xffk", &tags)
+/// The text of two transactions, one with each kind of mutation and one with nothing in it, each with
+/// its fields in another order.
+const TWO_TRANSACTIONS: &[u8] = br#" [ {"snapshot":7,"reads":[["a","b"],["","\\xff\\xff"]],
+"writes":[["c","d\\x00"]],"mutations":[{"set":["\\xff/dbLocked","v"]},{"clear":["e","f"]},
+{"set_stamped":["g","ab0123456789\\x02\\x00\\x00\\x00"]}],"lock_aware":true},
+{"lock_aware":false,"mutations":[],"writes":[],"reads":[],"snapshot":9223372036854775807}]"#;
+
+/// These transactions.
+const TWO: &[Given<'static>] = &[
+    Given {
+        snapshot: 7,
+        reads: &[(b"a", b"b"), (b"", b"\xff\xff")],
+        writes: &[(b"c", b"d\x00")],
+        mutations: &[
+            Step::Set(b"\xff/dbLocked", b"v"),
+            Step::Clear(b"e", b"f"),
+            Step::SetStamped(b"g", b"ab0123456789\x02\x00\x00\x00"),
+        ],
+        lock_aware: true,
+    },
+    Given {
+        snapshot: 9_223_372_036_854_775_807,
+        ..NOTHING
+    },
+];
+
+/// A transaction with a field twice, which its tokens alone do not give.
+const SNAPSHOT_TWICE: &[u8] =
+    br#"[{"snapshot":1,"reads":[],"writes":[],"mutations":[],"lock_aware":false,"snapshot":0}]"#;
+
+/// The batch, read by its tokens alone, at the second try if an allocation failed at the first.
+fn streamed(alloc: Global, text: &[u8]) -> Option<Batch> {
+    stream_batch(alloc, text).or_else(|| stream_batch(alloc, text))
 }
 
-fn locked_text(alloc: Global) -> Result<String, OutOfMemory> {
-    let mut text = String::new(alloc);
-    print_locked(alloc, &mut text)?;
-    print_two_tags(alloc, &mut text)?;
-    Ok(text)
+/// Right batches.
+const STREAMED: &[&str] = &[
+    " [ ] ",
+    r#"[{"writes":[],"snapshot":0,"lock_aware":true,"reads":[],"mutations":[]}]"#,
+    r#"[{"mutations":[],"reads":[],"lock_aware":true,"snapshot":0,"writes":[]}]"#,
+];
+
+#[test]
+fn right_batches_are_streamed(rt: HostRuntime) {
+    for text in STREAMED {
+        assert!(rt; streamed(rt.alloc(), text.as_bytes()).is_some(), "{text}");
+    }
 }
 
-fn is_locked_text(alloc: Global, expected: &str) -> Result<bool, OutOfMemory> {
-    let text = twice!(locked_text(alloc), OutOfMemory)?;
-    Ok(text.as_str() == expected)
+fn are_alike(alloc: Global, batch: &Batch, expected: &Batch) -> Result<bool, AllocError> {
+    let found = format!(in alloc; "{batch:?}")?;
+    Ok(found == format!(in alloc; "{expected:?}")?)
 }
 
 #[test]
-fn routings_and_tags_are_printed(rt: HostRuntime) -> Result<(), Fail> {
-    assert!(rt;
-        is_locked_text(
-            rt.alloc(),
-            "version 7\nlocked yes\nmetadata_version none\ntags \"\\xffk\" 0:1 255:65535\n"
-        )?
-    );
+fn every_field_of_a_batch_is_read_by_its_tokens(rt: HostRuntime) -> Result<(), Fail> {
+    let expected = batch(rt.alloc(), TWO)?;
+    let found = streamed(rt.alloc(), TWO_TRANSACTIONS).expect(&rt, "a batch");
+    assert!(rt; are_alike(rt.alloc(), &found, &expected)?);
+    let read = twice!(
+        read_batch(rt.alloc(), TWO_TRANSACTIONS),
+        ScriptFault::OutOfMemory
+    )?;
+    assert!(rt; are_alike(rt.alloc(), &read, &expected)?);
     Ok(())
 }
 
-fn is_known_as(fault: ScriptFault, number: Option<u32>, name: &str) -> bool {
-    fault.number() == number && fault.name() == name
-}
-
 #[test]
-fn faults_have_their_numbers_and_names(rt: HostRuntime) {
-    for (fault, number, name) in [
-        (ScriptFault::NotJson, Some(70), "NotJson"),
-        (ScriptFault::BadShape, Some(71), "BadShape"),
-        (
-            ScriptFault::from(Refusal::KeyTooLong),
-            Some(10),
-            "KeyTooLong",
-        ),
-        (ScriptFault::from(Refusal::BadRow), Some(14), "BadRow"),
-        (ScriptFault::NoSuchResolver, Some(20), "NoSuchResolver"),
-        (ScriptFault::OutOfMemory, None, "OutOfMemory"),
-    ] {
-        assert!(rt; is_known_as(fault, number, name), "{name}");
-    }
+fn a_batch_is_read_as_a_tree_where_a_field_stands_twice(rt: HostRuntime) -> Result<(), Fail> {
+    let expected = batch(rt.alloc(), &[NOTHING])?;
+    let read = twice!(
+        read_batch(rt.alloc(), SNAPSHOT_TWICE),
+        ScriptFault::OutOfMemory
+    )?;
+    assert!(rt; are_alike(rt.alloc(), &read, &expected)?);
+    Ok(())
 }

@@ -1,9 +1,10 @@
-//! Tests of the replies that a proxy collects, and of the numbers and names of refusals.
+//! Tests of the replies that a proxy collects, of their least verdict, and of refusals.
 
-use crate::tests::of_proxy_state::two_of_each;
+use crate::tests::of_proxy_state::{COMMITTED, no_replies};
 use model::Reply;
-use proxy_state::{Refusal, Replies};
+use proxy_state::{Refusal, Replies, Verdict, join};
 use std::alloc::Global;
+use std::process::Abort;
 use std::test::Fail;
 use system_keys::OutOfMemory;
 use testing::{none, twice};
@@ -40,13 +41,24 @@ fn refusals_have_their_numbers_and_names(rt: HostRuntime) {
     }
 }
 
+const LEAST: &[(&[Verdict], Verdict)] = &[
+    (&[], COMMITTED),
+    (&[COMMITTED, Verdict::TooOld], Verdict::TooOld),
+    (
+        &[Verdict::TooOld, Verdict::Conflict, COMMITTED],
+        Verdict::Conflict,
+    ),
+];
+
 #[test]
-fn out_of_memory_is_a_refusal(rt: HostRuntime) {
-    assert!(rt; Refusal::from(OutOfMemory) == Refusal::OutOfMemory);
+fn the_least_verdict_is_the_answer(rt: HostRuntime) {
+    for (verdicts, least) in LEAST {
+        assert!(rt; join(*verdicts) == *least);
+    }
 }
 
 /// A reply to row 0 without verdicts. The proxy's number tells it from others.
-fn reply_of(alloc: Global, resolver: usize, proxy: usize) -> Reply {
+pub(crate) fn reply_of(alloc: Global, resolver: usize, proxy: usize) -> Reply {
     Reply {
         resolver,
         proxy,
@@ -57,68 +69,54 @@ fn reply_of(alloc: Global, resolver: usize, proxy: usize) -> Reply {
     }
 }
 
-/// Empty places for the replies of two resolvers.
-fn two_places(alloc: Global) -> Result<Replies, Fail> {
-    let config = two_of_each()?;
-    Ok(twice!(Replies::new(alloc, &config), OutOfMemory)?)
-}
+const DOUBLE_0: Refusal = Refusal::DoubleReply { resolver: 0 };
 
-fn is_put(replies: &mut Replies, reply: Reply) -> bool {
-    replies.put(reply).is_ok()
-}
+const DOUBLE_1: Refusal = Refusal::DoubleReply { resolver: 1 };
 
-/// Whether the reply is refused for this reason and comes back.
-fn is_refused(replies: &mut Replies, reply: Reply, reason: Refusal) -> bool {
-    let (resolver, proxy) = (reply.resolver, reply.proxy);
+/// Resolvers that reply in order, and why each reply is refused, if it is.
+type Puts = &'static [(usize, Option<Refusal>)];
+
+const FIRST: Puts = &[
+    (1, None),
+    (2, Some(Refusal::WrongResolver)),
+    (1, Some(DOUBLE_1)),
+];
+
+const REST: Puts = &[
+    (0, None),
+    (0, Some(DOUBLE_0)),
+    (usize::MAX, Some(Refusal::WrongResolver)),
+    (1, Some(DOUBLE_1)),
+];
+
+/// Why the reply is refused, if it is, and the numbers of the one that comes back.
+fn refused(replies: &mut Replies, reply: Reply) -> Option<(Refusal, usize, usize)> {
     match replies.put(reply) {
-        Ok(()) => false,
-        Err((refusal, back)) => {
-            refusal == reason && back.resolver == resolver && back.proxy == proxy
-        }
+        Ok(()) => None,
+        Err((refusal, back)) => Some((refusal, back.resolver, back.proxy)),
     }
 }
 
-/// Whether the places fill in any order, each once.
-fn are_filled_once(alloc: Global, replies: &mut Replies) -> bool {
-    is_put(replies, reply_of(alloc, 1, 0))
-        && is_refused(replies, reply_of(alloc, 2, 3), Refusal::WrongResolver)
-        && is_refused(
-            replies,
-            reply_of(alloc, 1, 4),
-            Refusal::DoubleReply { resolver: 1 },
-        )
-        && is_put(replies, reply_of(alloc, 0, 0))
-        && is_refused(
-            replies,
-            reply_of(alloc, 0, 5),
-            Refusal::DoubleReply { resolver: 0 },
-        )
-        && is_refused(
-            replies,
-            reply_of(alloc, usize::MAX, 6),
-            Refusal::WrongResolver,
-        )
+/// The replies are put, and each that is refused comes back.
+fn put_each<R: Abort + AllocGlobal>(rt: &R, replies: &mut Replies, puts: Puts) {
+    for (place, (resolver, refusal)) in puts.iter().enumerate() {
+        let refused = refused(replies, reply_of(rt.alloc(), *resolver, place));
+        let wanted = refusal.map(|refusal| (refusal, *resolver, place));
+        assert!(rt; refused == wanted, "reply {place}");
+    }
+}
+
+/// A copy is filled alone, and the replies after it.
+fn fills_alone<R: Abort + AllocGlobal>(rt: &R, replies: &mut Replies) -> Result<(), Fail> {
+    put_each(rt, replies, FIRST);
+    let mut copy = twice!(replies.copy(), OutOfMemory)?;
+    put_each(rt, &mut copy, REST);
+    put_each(rt, replies, REST);
+    Ok(())
 }
 
 #[test]
 fn each_resolver_replies_once(rt: HostRuntime) -> Result<(), Fail> {
-    let mut replies = two_places(rt.alloc())?;
-    assert!(rt; are_filled_once(rt.alloc(), &mut replies));
-    Ok(())
-}
-
-fn copy_of(replies: &Replies) -> Result<Replies, OutOfMemory> {
-    twice!(replies.copy(), OutOfMemory)
-}
-
-#[test]
-fn a_copy_of_replies_fills_alone(rt: HostRuntime) -> Result<(), Fail> {
-    let mut replies = two_places(rt.alloc())?;
-    assert!(rt; is_put(&mut replies, reply_of(rt.alloc(), 1, 0)));
-    let mut copy = copy_of(&replies)?;
-    assert!(rt; is_put(&mut copy, reply_of(rt.alloc(), 0, 0)));
-    assert!(rt; is_put(&mut replies, reply_of(rt.alloc(), 0, 0)));
-    let double = Refusal::DoubleReply { resolver: 1 };
-    assert!(rt; is_refused(&mut copy, reply_of(rt.alloc(), 1, 4), double));
-    Ok(())
+    let mut replies = no_replies(rt.alloc())?;
+    fills_alone(&rt, &mut replies)
 }

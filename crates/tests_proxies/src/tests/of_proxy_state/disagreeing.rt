@@ -1,182 +1,169 @@
-//! Tests of replies that disagree: a proxy that has begun row 3 is given both replies to it.
+//! A test of replies that are refused: a proxy that has begun row 3 is given replies to it.
 
-use crate::tests::of_proxy_state::finishing::Tested;
-use crate::tests::of_proxy_state::{COMMITTED, ONE_VERDICT, SERVES, TAGS, replies_of};
-use model::Reply;
-use proxy_state::{Refusal, Replies, Verdict};
+use crate::tests::of_proxy_state::collecting::reply_of;
+use crate::tests::of_proxy_state::finishing::finished;
+use crate::tests::of_proxy_state::tested::{Tested, seen};
+use crate::tests::of_proxy_state::{COMMITTED, TAG_ROW_1, replies_of};
+use proxy_state::{Refusal, Replies};
 use std::alloc::Global;
+use std::process::Abort;
 use std::test::Fail;
-use testing::{ReplyLine, Told, ToldRow, reply, reply_by};
+use testing::{Content, ReplyLine, Step, Told, ToldRow};
 
-/// The version at which the replies to row 3, at version 40, disagree.
-fn disagreement(
-    alloc: Global,
-    first: ReplyLine<'_>,
-    second: ReplyLine<'_>,
-) -> Result<Option<u64>, Fail> {
-    disagreement_by(alloc, reply(alloc, first)?, reply(alloc, second)?)
-}
+/// Gives server 1 its tag.
+const TAGS: Content<'static> = (&[Step::Set(TAG_ROW_1, b"\x00\x00\x01")], true);
 
-fn disagreement_by(alloc: Global, first: Reply, second: Reply) -> Result<Option<u64>, Fail> {
-    disagreement_of(alloc, replies_of(alloc, first, second)?)
-}
+const ONE: &[Told<'static>] = &[(COMMITTED, TAGS)];
 
-fn disagreement_of(alloc: Global, replies: Replies) -> Result<Option<u64>, Fail> {
-    match begun_row_3(alloc)?.refusal_of(replies) {
-        None => Ok(None),
-        Some(Refusal::RepliesDisagree { version }) => Ok(Some(version)),
-        Some(refusal) => Err(Fail::from(refusal)),
+const TWO: &[Told<'static>] = &[(COMMITTED, TAGS), (COMMITTED, TAGS)];
+
+const ROW_0: ToldRow<'static> = (10, ONE);
+
+const ROW_1: ToldRow<'static> = (20, ONE);
+
+const ROW_2: ToldRow<'static> = (30, ONE);
+
+/// The rows before row 3.
+const ROWS: &[ToldRow<'static>] = &[ROW_0, ROW_1, ROW_2];
+
+const OF_0: ReplyLine<'static> = ReplyLine {
+    resolver: 0,
+    proxy: 0,
+    row: 3,
+    version: 40,
+    verdicts: &[COMMITTED],
+    unseen: ROWS,
+};
+
+const OF_1: ReplyLine<'static> = ReplyLine {
+    resolver: 1,
+    ..OF_0
+};
+
+const OF_ANOTHER_VERSION: ReplyLine<'static> = ReplyLine {
+    version: 50,
+    ..OF_1
+};
+
+const WITHOUT_VERDICTS: ReplyLine<'static> = ReplyLine {
+    verdicts: &[],
+    unseen: &[],
+    ..OF_1
+};
+
+const WITH_TWO_VERDICTS: ReplyLine<'static> = ReplyLine {
+    verdicts: &[COMMITTED, COMMITTED],
+    ..OF_0
+};
+
+const MISSING_0: Refusal = Refusal::MissingReply { resolver: 0 };
+
+const MISSING_1: Refusal = Refusal::MissingReply { resolver: 1 };
+
+const AT_40: Refusal = Refusal::RepliesDisagree { version: 40 };
+
+/// Replies of which one is missing, one is to another record, or one has another number of verdicts,
+/// which is found before the rows; and why they are refused.
+const WRONG: &[(&[ReplyLine<'static>], Refusal)] = &[
+    (&[], MISSING_0),
+    (&[OF_1], MISSING_0),
+    (&[WITH_TWO_VERDICTS], MISSING_1),
+    (&[OF_0, ReplyLine { row: 2, ..OF_1 }], AT_40),
+    (&[OF_0, OF_ANOTHER_VERSION], AT_40),
+    (&[ReplyLine { proxy: 1, ..OF_0 }, OF_1], AT_40),
+    (&[OF_0, WITHOUT_VERDICTS], AT_40),
+    (&[WITH_TWO_VERDICTS, OF_1], AT_40),
+];
+
+/// The rows that each resolver tells, of which some are missing, one too many or others; and the
+/// version at which they disagree.
+const TOLD: &[([&[ToldRow<'static>]; 2], u64)] = &[
+    ([ROWS, &[ROW_1, ROW_2]], 10),
+    ([ROWS, &[ROW_0, ROW_2]], 20),
+    ([ROWS, &[ROW_0, ROW_1]], 30),
+    ([ROWS, &[]], 10),
+    ([&[ROW_0, ROW_1], &[ROW_0, ROW_1]], 30),
+    ([ROWS, &[ROW_0, ROW_1, ROW_2, (40, ONE)]], 40),
+    ([&[ROW_0, ROW_1, ROW_2, (40, ONE)], ROWS], 40),
+    ([ROWS, &[ROW_0, (15, ONE), ROW_2]], 20),
+    ([ROWS, &[ROW_0, (20, TWO), ROW_2]], 20),
+];
+
+/// Whether all these replies are there.
+fn are_there(alloc: Global, replies: &mut Replies, lines: &[ReplyLine<'_>]) -> bool {
+    for line in lines {
+        if replies.put(reply_of(alloc, line.resolver, 0)).is_ok() {
+            return false;
+        }
     }
+    true
 }
 
-fn begun_row_3(alloc: Global) -> Result<Tested, Fail> {
-    let mut tested = Tested::new(alloc)?;
-    tested.begin_contents(alloc, 3, 30, 0, &[(SERVES, true)])?;
-    Ok(tested)
-}
-
-const ONE: &[Told<'static>] = &[(Verdict::Committed, (TAGS, true))];
-
-/// The rows that are unseen.
-const ROWS: &[ToldRow<'static>] = &[(10, ONE), (20, ONE), (30, ONE)];
-
-/// The reply of a resolver to row 3, with rows 0 to 2.
-const fn to_row_3<'a>(resolver: usize) -> ReplyLine<'a> {
-    ReplyLine {
-        resolver,
-        proxy: 0,
-        row: 3,
-        version: 40,
-        verdicts: ONE_VERDICT,
-        unseen: ROWS,
-    }
-}
-
-#[test]
-fn replies_agree(rt: HostRuntime) -> Result<(), Fail> {
-    assert!(rt; disagreement(rt.alloc(), to_row_3(0), to_row_3(1))?.is_none());
+/// The replies are refused and come back. Those of the carriers have the content.
+fn refuses<R: Abort + AllocGlobal>(
+    rt: &R,
+    tested: &mut Tested,
+    carriers: &[usize],
+    lines: &[ReplyLine<'_>],
+    refusal: Refusal,
+) -> Result<(), Fail> {
+    let replies = replies_of(rt.alloc(), carriers, lines)?;
+    let Err((found, mut back)) = tested.finish(rt, replies) else {
+        return Err(Fail::from("the replies are not refused"));
+    };
+    assert!(rt; found == refusal, "must be refused: {refusal:?}");
+    assert!(rt; are_there(rt.alloc(), &mut back, lines));
     Ok(())
 }
 
-#[test]
-fn a_reply_to_another_record_disagrees(rt: HostRuntime) -> Result<(), Fail> {
-    let alloc = rt.alloc();
-    let row = ReplyLine {
-        row: 2,
-        ..to_row_3(1)
-    };
-    assert!(rt; disagreement(alloc, to_row_3(0), row)? == Some(40));
-    let version = ReplyLine {
-        version: 50,
-        ..to_row_3(1)
-    };
-    assert!(rt; disagreement(alloc, to_row_3(0), version)? == Some(40));
-    let proxy = ReplyLine {
-        proxy: 1,
-        ..to_row_3(0)
-    };
-    assert!(rt; disagreement(alloc, proxy, to_row_3(1))? == Some(40));
-    Ok(())
-}
-
-#[test]
-fn a_wrong_number_of_verdicts_disagrees_before_the_rows(rt: HostRuntime) -> Result<(), Fail> {
-    let alloc = rt.alloc();
-    let none = ReplyLine {
-        verdicts: &[],
-        unseen: &[],
-        ..to_row_3(1)
-    };
-    assert!(rt; disagreement(alloc, to_row_3(0), none)? == Some(40));
-    let two = ReplyLine {
-        verdicts: &[COMMITTED, COMMITTED],
-        ..to_row_3(0)
-    };
-    assert!(rt; disagreement(alloc, two, to_row_3(1))? == Some(40));
-    Ok(())
-}
-
-/// The version at which the replies disagree if resolver 1 tells these rows.
-fn told_by_1(alloc: Global, unseen: &[ToldRow<'_>]) -> Result<Option<u64>, Fail> {
-    disagreement(
-        alloc,
-        to_row_3(0),
-        ReplyLine {
-            unseen,
-            ..to_row_3(1)
-        },
-    )
-}
-
-#[test]
-fn a_row_that_is_missing_disagrees_at_its_version(rt: HostRuntime) -> Result<(), Fail> {
-    let first: &[ToldRow<'_>] = &[(20, ONE), (30, ONE)];
-    let second: &[ToldRow<'_>] = &[(10, ONE), (30, ONE)];
-    let third: &[ToldRow<'_>] = &[(10, ONE), (20, ONE)];
-    for (rows, version) in [(first, 10), (second, 20), (third, 30), (&[], 10)] {
-        let found = told_by_1(rt.alloc(), rows)?;
-        assert!(rt; found == Some(version), "a row at {version}");
+fn refuses_wrong<R: Abort + AllocGlobal>(rt: &R, tested: &mut Tested) -> Result<(), Fail> {
+    for (lines, refusal) in WRONG {
+        refuses(rt, tested, &[0], *lines, *refusal)?;
     }
     Ok(())
 }
 
-#[test]
-fn a_row_that_both_lack_disagrees_at_its_version(rt: HostRuntime) -> Result<(), Fail> {
-    let unseen: &[ToldRow<'_>] = &[(10, ONE), (20, ONE)];
-    let first = ReplyLine {
-        unseen,
-        ..to_row_3(0)
-    };
-    let found = disagreement(
-        rt.alloc(),
-        first,
-        ReplyLine {
-            unseen,
-            ..to_row_3(1)
-        },
-    )?;
-    assert!(rt; found == Some(30));
+fn refuses_other_rows<R: Abort + AllocGlobal>(rt: &R, tested: &mut Tested) -> Result<(), Fail> {
+    for ([first, second], version) in TOLD {
+        let first = ReplyLine {
+            unseen: *first,
+            ..OF_0
+        };
+        let second = ReplyLine {
+            unseen: *second,
+            ..OF_1
+        };
+        let refusal = Refusal::RepliesDisagree { version: *version };
+        refuses(rt, tested, &[0], &[first, second], refusal)?;
+    }
+    Ok(())
+}
+
+/// Replies are refused where the content of state transactions is in none, or in both.
+fn refuses_other_carriers<R: Abort + AllocGlobal>(rt: &R, tested: &mut Tested) -> Result<(), Fail> {
+    let refusal = Refusal::RepliesDisagree { version: 10 };
+    refuses(rt, tested, &[], &[OF_0, OF_1], refusal)?;
+    refuses(rt, tested, &[0, 1], &[OF_0, OF_1], refusal)
+}
+
+/// Replies are refused before row 3 is begun; then those that are wrong, but not the right ones.
+fn finishes_by_right_replies<R: Abort + AllocGlobal>(
+    rt: &R,
+    tested: &mut Tested,
+) -> Result<(), Fail> {
+    refuses(rt, tested, &[0], &[], Refusal::OutOfTurn { expected: None })?;
+    tested.begin_contents(rt.alloc(), 3, 30, 0, &[TAGS])?;
+    refuses_wrong(rt, tested)?;
+    refuses_other_rows(rt, tested)?;
+    refuses_other_carriers(rt, tested)?;
+    assert!(rt; seen(&tested.proxy) == (40, 0, 0, [false; 4]));
+    let _ = finished(rt, tested, &[OF_0, OF_1])?;
+    assert!(rt; seen(&tested.proxy) == (40, 40, 4, [true, false, false, false]));
     Ok(())
 }
 
 #[test]
-fn a_row_too_many_disagrees_at_its_version(rt: HostRuntime) -> Result<(), Fail> {
-    let alloc = rt.alloc();
-    let rows: &[ToldRow<'_>] = &[(10, ONE), (20, ONE), (30, ONE), (40, ONE)];
-    assert!(rt; told_by_1(alloc, rows)? == Some(40));
-    let first = ReplyLine {
-        unseen: rows,
-        ..to_row_3(0)
-    };
-    assert!(rt; disagreement(alloc, first, to_row_3(1))? == Some(40));
-    Ok(())
-}
-
-#[test]
-fn a_version_between_disagrees_at_the_one_that_should_stand(rt: HostRuntime) -> Result<(), Fail> {
-    let found = told_by_1(rt.alloc(), &[(10, ONE), (15, ONE), (30, ONE)])?;
-    assert!(rt; found == Some(20));
-    Ok(())
-}
-
-#[test]
-fn another_number_of_state_transactions_disagrees(rt: HostRuntime) -> Result<(), Fail> {
-    let two: &[Told<'_>] = &[(COMMITTED, (TAGS, true)), (COMMITTED, (SERVES, true))];
-    let found = told_by_1(rt.alloc(), &[(10, ONE), (20, two), (30, ONE)])?;
-    assert!(rt; found == Some(20));
-    Ok(())
-}
-
-/// The version at which the replies disagree if both, or neither, have the content.
-fn disagreement_if(alloc: Global, carries: bool) -> Result<Option<u64>, Fail> {
-    let first = reply_by(alloc, carries, to_row_3(0))?;
-    let second = reply_by(alloc, carries, to_row_3(1))?;
-    disagreement_by(alloc, first, second)
-}
-
-#[test]
-fn content_in_the_wrong_reply_disagrees(rt: HostRuntime) -> Result<(), Fail> {
-    assert!(rt; disagreement_if(rt.alloc(), false)? == Some(10));
-    assert!(rt; disagreement_if(rt.alloc(), true)? == Some(10));
-    Ok(())
+fn replies_that_are_missing_or_disagree_are_refused(rt: HostRuntime) -> Result<(), Fail> {
+    let mut tested = Tested::new(rt.alloc())?;
+    finishes_by_right_replies(&rt, &mut tested)
 }

@@ -1,0 +1,222 @@
+//! Tests of dated_owners: whom a map asks after moves.
+
+use dated_owners::{OwnerMap, Refusal};
+use std::alloc::Global;
+use std::process::Abort;
+use std::test::Fail;
+use system_keys::{Items, OutOfMemory};
+use testing::{Ends, range, twice};
+
+/// A call of a map, and what it returns.
+#[derive(Clone, Copy, Debug)]
+enum Call {
+    /// A move of the range at the date to the resolver, and what it is refused with.
+    Move(Ends<'static>, u64, usize, Option<Refusal>),
+    /// What is dated before the version is forgotten.
+    Forget(u64),
+    /// A read of the range at the snapshot, and whom it asks.
+    Read(Ends<'static>, u64, &'static [usize]),
+    /// A write of the range, and whom it asks.
+    Write(Ends<'static>, &'static [usize]),
+    /// How many pieces there are.
+    Pieces(usize),
+}
+
+fn moved(
+    map: &mut OwnerMap,
+    alloc: Global,
+    ends: Ends<'_>,
+    date: u64,
+    dest: usize,
+) -> Result<Option<Refusal>, Fail> {
+    let range = range(alloc, ends.0, ends.1)?;
+    Ok(twice!(map.move_range(&range, date, dest), Refusal::OutOfMemory).err())
+}
+
+fn readers(
+    map: &OwnerMap,
+    alloc: Global,
+    ends: Ends<'_>,
+    snapshot: u64,
+) -> Result<Items<usize>, Fail> {
+    let range = range(alloc, ends.0, ends.1)?;
+    Ok(twice!(map.read_owners(&range, snapshot), OutOfMemory)?)
+}
+
+fn writers(map: &OwnerMap, alloc: Global, ends: Ends<'_>) -> Result<Items<usize>, Fail> {
+    let range = range(alloc, ends.0, ends.1)?;
+    Ok(twice!(map.write_owners(&range), OutOfMemory)?)
+}
+
+/// Whether the call returns what it should.
+fn is_right(map: &mut OwnerMap, alloc: Global, call: Call) -> Result<bool, Fail> {
+    Ok(match call {
+        Call::Move(ends, date, dest, refusal) => moved(map, alloc, ends, date, dest)? == refusal,
+        Call::Forget(version) => {
+            map.forget(version);
+            true
+        }
+        Call::Read(ends, snapshot, asked) => {
+            readers(map, alloc, ends, snapshot)?.as_slice() == asked
+        }
+        Call::Write(ends, asked) => writers(map, alloc, ends)?.as_slice() == asked,
+        Call::Pieces(count) => map.pieces() == count,
+    })
+}
+
+fn are_right<R: Abort + AllocGlobal>(
+    rt: &R,
+    map: &mut OwnerMap,
+    calls: &[Call],
+) -> Result<(), Fail> {
+    for call in calls {
+        assert!(rt; is_right(map, rt.alloc(), *call)?, "{call:?}");
+    }
+    Ok(())
+}
+
+fn new_map(alloc: Global) -> Result<OwnerMap, OutOfMemory> {
+    twice!(OwnerMap::new(alloc, 3), OutOfMemory)
+}
+
+const ALL: Ends<'static> = (b"", b"\xff\xff");
+
+const M_TO_T: Ends<'static> = (b"m", b"t");
+
+const P_TO_Q: Ends<'static> = (b"p", b"q");
+
+const A_TO_B: Ends<'static> = (b"a", b"b");
+
+/// Two moves among three resolvers. The last owner is always asked, and one dated at the snapshot does
+/// not stop the walk.
+const TWO_MOVES: &[Call] = &[
+    Call::Read(ALL, 0, &[0]),
+    Call::Write(ALL, &[0]),
+    Call::Pieces(1),
+    Call::Move(M_TO_T, 21, 1, None),
+    Call::Move(P_TO_Q, 41, 2, None),
+    Call::Pieces(5),
+    Call::Read(M_TO_T, 20, &[0, 1, 2]),
+    Call::Read(M_TO_T, 30, &[1, 2]),
+    Call::Read(P_TO_Q, 41, &[1, 2]),
+    Call::Read(P_TO_Q, 42, &[2]),
+    Call::Read((b"a", b"m"), 20, &[0]),
+    Call::Write((b"a", b"z"), &[0, 1, 2]),
+    Call::Write(M_TO_T, &[1, 2]),
+    Call::Write(P_TO_Q, &[2]),
+];
+
+#[test]
+fn a_map_asks_the_owners_of_its_keys(rt: HostRuntime) -> Result<(), Fail> {
+    let mut map = new_map(rt.alloc())?;
+    are_right(&rt, &mut map, TWO_MOVES)?;
+    assert!(rt; map.resolvers() == 3 && map.last_date() == 41);
+    Ok(())
+}
+
+/// What is forgotten after these moves does not come back.
+const FORGETTING: &[Call] = &[
+    Call::Forget(30),
+    Call::Read(M_TO_T, 20, &[1, 2]),
+    Call::Forget(10),
+    Call::Read(M_TO_T, 20, &[1, 2]),
+    Call::Write((b"a", b"z"), &[0, 1, 2]),
+    Call::Move(ALL, 61, 0, None),
+    Call::Pieces(5),
+    Call::Forget(70),
+    Call::Pieces(1),
+    Call::Read(ALL, 0, &[0]),
+    Call::Write(ALL, &[0]),
+];
+
+#[test]
+fn what_is_forgotten_does_not_come_back(rt: HostRuntime) -> Result<(), Fail> {
+    let mut map = new_map(rt.alloc())?;
+    are_right(&rt, &mut map, TWO_MOVES)?;
+    are_right(&rt, &mut map, FORGETTING)
+}
+
+/// Refused moves after these two change nothing, and one at the date of the last is made.
+const REFUSED: &[Call] = &[
+    Call::Move(A_TO_B, 40, 1, Some(Refusal::DateGoesBack)),
+    Call::Move(A_TO_B, 40, 3, Some(Refusal::NoSuchResolver)),
+    Call::Write(A_TO_B, &[0]),
+    Call::Move(A_TO_B, 41, 2, None),
+    Call::Write(A_TO_B, &[2]),
+];
+
+#[test]
+fn dates_may_be_equal_but_not_go_back(rt: HostRuntime) -> Result<(), Fail> {
+    let mut map = new_map(rt.alloc())?;
+    are_right(&rt, &mut map, TWO_MOVES)?;
+    are_right(&rt, &mut map, REFUSED)
+}
+
+/// Each refusal with the number and the name that are printed.
+const PRINTED: &[(Refusal, Option<u32>, &str)] = &[
+    (Refusal::NoSuchResolver, Some(20), "NoSuchResolver"),
+    (Refusal::DateGoesBack, Some(21), "DateGoesBack"),
+    (Refusal::OutOfMemory, None, "OutOfMemory"),
+];
+
+#[test]
+fn refusals_have_numbers_and_names(rt: HostRuntime) {
+    for (refusal, number, name) in PRINTED {
+        assert!(rt;
+            refusal.number() == *number && refusal.name() == *name,
+            "{name}"
+        );
+    }
+}
+
+// ---- many moves
+
+/// All 64 resolvers.
+const EACH: &[usize] = &[
+    0, 1, 2, 3, 4, 5, 6, 7, 8, 9, 10, 11, 12, 13, 14, 15, 16, 17, 18, 19, 20, 21, 22, 23, 24, 25,
+    26, 27, 28, 29, 30, 31, 32, 33, 34, 35, 36, 37, 38, 39, 40, 41, 42, 43, 44, 45, 46, 47, 48, 49,
+    50, 51, 52, 53, 54, 55, 56, 57, 58, 59, 60, 61, 62, 63,
+];
+
+const LAST_FIVE: &[usize] = &[59, 60, 61, 62, 63];
+
+/// The keys that moved 63 times.
+const MOVED_OFTEN: Ends<'static> = (b"\x3f", b"\xff");
+
+const MANY_MOVES: &[Call] = &[
+    Call::Pieces(65),
+    Call::Write(ALL, EACH),
+    Call::Write(MOVED_OFTEN, &[63]),
+    Call::Read(MOVED_OFTEN, 0, EACH),
+    Call::Read(MOVED_OFTEN, 60, LAST_FIVE),
+];
+
+const MANY_FORGOTTEN: &[Call] = &[
+    Call::Forget(60),
+    Call::Pieces(65),
+    Call::Write(ALL, EACH),
+    Call::Read(MOVED_OFTEN, 0, LAST_FIVE),
+];
+
+/// The keys from each one of 1 to 63 on move to the resolver of this number, at that date.
+fn moved_often(alloc: Global) -> Result<OwnerMap, Fail> {
+    let mut map = OwnerMap::new(alloc, 64)?;
+    for number in 1..64u8 {
+        moved(
+            &mut map,
+            alloc,
+            (&[number], b"\xff"),
+            number as u64,
+            number as usize,
+        )?;
+    }
+    Ok(map)
+}
+
+#[test]
+fn many_moves_are_forgotten_and_stay_in_a_copy(rt: HostRuntime) -> Result<(), Fail> {
+    let mut map = moved_often(rt.alloc())?;
+    let mut copy = twice!(map.copy(), OutOfMemory)?;
+    are_right(&rt, &mut map, MANY_FORGOTTEN)?;
+    are_right(&rt, &mut copy, MANY_MOVES)
+}

@@ -1,0 +1,417 @@
+//! Tests of request_builder: records, the requests for them, and the rule of requests.
+
+mod shared_moves;
+
+use crate::tests::{are_alike, made, marks};
+use dated_owners::OwnerMap;
+use model::Part;
+use mutation::Batch;
+use request_builder::{Move, Moves, Record, Request, RequestHeader, Requests, Share, build};
+use std::alloc::{AllocError, Global};
+use std::test::Fail;
+use system_keys::{Change, Items, OutOfMemory};
+use testing::{
+    Ends, Given, NOTHING, PartLine, Step, batch, list, none, one, part, plain_batch, range, room,
+    twice,
+};
+
+// ---- records and requests
+
+/// A map of resolvers, and its moves one by one.
+#[derive(Drop)]
+struct Moved {
+    owners: OwnerMap,
+    moves: Moves,
+}
+
+impl Moved {
+    fn new(alloc: Global, owners: OwnerMap) -> Moved {
+        Moved {
+            owners,
+            moves: Moves::new(alloc),
+        }
+    }
+
+    fn add(&mut self, alloc: Global, ends: Ends<'_>, date: u64, dest: usize) -> Result<(), Fail> {
+        let range = range(alloc, ends.0, ends.1)?;
+        self.owners.move_range(&range, date, dest)?;
+        self.moves.push(Move { range, date, dest })?;
+        Ok(())
+    }
+}
+
+/// The record of the batch at version 40, after version 30, of proxy 1 as row 3.
+fn record(alloc: Global, moves: &Moves, batch: &Batch) -> Result<Record, OutOfMemory> {
+    twice!(
+        Record::new(alloc, 3, 30, 40, 20, 1, moves, batch),
+        OutOfMemory
+    )
+}
+
+/// The requests for that record.
+fn built(
+    alloc: Global,
+    moved: &Moved,
+    oldest: u64,
+    batch: &Batch,
+) -> Result<Requests, OutOfMemory> {
+    let record = record(alloc, &moved.moves, batch)?;
+    twice!(
+        build(alloc, &record, &moved.owners, oldest, 10),
+        OutOfMemory
+    )
+}
+
+fn header(resolver: usize) -> RequestHeader {
+    RequestHeader {
+        resolver,
+        proxy: 1,
+        row: 3,
+        previous: 30,
+        version: 40,
+        last_received: 10,
+    }
+}
+
+fn is_asked(asked: &[&[usize]], number: usize, resolver: usize) -> bool {
+    match asked.get(number) {
+        Some(resolvers) => resolvers.contains(&resolver),
+        None => false,
+    }
+}
+
+/// The parts of those of the transactions that ask the resolver.
+fn parts_to(
+    alloc: Global,
+    resolver: usize,
+    lines: &[PartLine<'_>],
+    asked: &[&[usize]],
+) -> Result<Items<Part>, Fail> {
+    let mut parts = room(alloc, lines.len())?;
+    for (number, line) in lines.iter().enumerate() {
+        if is_asked(asked, number, resolver) {
+            parts.push(part(alloc, number, *line)?)?;
+        }
+    }
+    Ok(Items::from(parts))
+}
+
+/// The requests to so many resolvers for transactions that ask these.
+fn requests_to(
+    alloc: Global,
+    resolvers: usize,
+    lines: &[PartLine<'_>],
+    asked: &[&[usize]],
+) -> Result<Requests, Fail> {
+    let mut requests = room(alloc, resolvers)?;
+    for resolver in 0..resolvers {
+        let parts = parts_to(alloc, resolver, lines, asked)?;
+        requests.push(made(header(resolver), parts, none(alloc))?)?;
+    }
+    with_asked(alloc, requests, asked)
+}
+
+fn with_asked(alloc: Global, requests: Vec<Request>, asked: &[&[usize]]) -> Result<Requests, Fail> {
+    let asked = lists(alloc, asked)?;
+    let requests = Items::from(requests);
+    Ok(Requests { requests, asked })
+}
+
+fn lists(alloc: Global, asked: &[&[usize]]) -> Result<Items<Items<usize>>, AllocError> {
+    let mut lists = room(alloc, asked.len())?;
+    for resolvers in asked {
+        lists.push(Items::from(list(alloc, *resolvers)?))?;
+    }
+    Ok(Items::from(lists))
+}
+
+// ---- whom ranges ask
+
+/// Three resolvers: `[m, t)` moves to 1 at date 21, and `[p, q)` to 2 at date 41.
+fn moved_twice(alloc: Global) -> Result<Moved, Fail> {
+    let mut moved = Moved::new(alloc, OwnerMap::new(alloc, 3)?);
+    moved.add(alloc, (b"m", b"t"), 21, 1)?;
+    moved.add(alloc, (b"p", b"q"), 41, 2)?;
+    Ok(moved)
+}
+
+/// Reads and writes of the ranges that moved twice.
+const FOUR: &[PartLine<'static>] = &[
+    (20, &[(b"m", b"t")], &[]),
+    (30, &[(b"m", b"t")], &[]),
+    (0, &[], &[(b"a", b"z")]),
+    (0, &[], &[(b"m", b"t")]),
+];
+
+/// Whom they ask, where nothing is forgotten or the first owner of `[m, t)` is.
+const WITH_ALL: &[&[usize]] = &[&[0, 1, 2], &[1, 2], &[0, 1, 2], &[1, 2]];
+
+const WITHOUT_FIRST: &[&[usize]] = &[&[1, 2], &[1, 2], &[0, 1, 2], &[1, 2]];
+
+/// Up to where the map forgets, the oldest version that is asked for, and whom the four ask then.
+const FORGETTING: &[(u64, u64, &[&[usize]])] = &[
+    (0, 0, WITH_ALL),
+    (0, 30, WITHOUT_FIRST),
+    (30, 10, WITHOUT_FIRST),
+    (10, 0, WITHOUT_FIRST),
+];
+
+/// Whether the requests for these transactions are those to whom they ask.
+fn are_built(
+    alloc: Global,
+    moved: &Moved,
+    oldest: u64,
+    lines: &[PartLine<'_>],
+    asked: &[&[usize]],
+) -> Result<bool, Fail> {
+    let batch = plain_batch(alloc, lines)?;
+    let requests = built(alloc, moved, oldest, &batch)?;
+    let wanted = requests_to(alloc, moved.owners.resolvers(), lines, asked)?;
+    Ok(are_alike(alloc, &requests, &wanted)?)
+}
+
+#[test]
+fn whole_ranges_go_to_those_who_are_asked(rt: HostRuntime) -> Result<(), Fail> {
+    let mut moved = moved_twice(rt.alloc())?;
+    for (forgotten, oldest, asked) in FORGETTING {
+        moved.owners.forget(*forgotten);
+        assert!(rt;
+            are_built(rt.alloc(), &moved, *oldest, FOUR, *asked)?,
+            "{forgotten} {oldest}"
+        );
+    }
+    Ok(())
+}
+
+/// Two reads and two writes of all keys.
+const OF_ALL: PartLine<'static> = (
+    0,
+    &[(b"", b"\xff"), (b"a", b"b")],
+    &[(b"", b"\xff"), (b"", b"z")],
+);
+
+/// All 16 resolvers of the next test.
+const EACH: &[usize] = &[0, 1, 2, 3, 4, 5, 6, 7, 8, 9, 10, 11, 12, 13, 14, 15];
+
+/// The keys from each one of 1 to 15 on move to the resolver of this number, at that date.
+fn moved_often(alloc: Global) -> Result<Moved, Fail> {
+    let mut moved = Moved::new(alloc, OwnerMap::new(alloc, 16)?);
+    for number in 1..16u8 {
+        moved.add(alloc, (&[number], b"\xff"), number as u64, number as usize)?;
+    }
+    Ok(moved)
+}
+
+#[test]
+fn many_transactions_go_to_the_owners_of_many_moves(rt: HostRuntime) -> Result<(), Fail> {
+    let moved = moved_often(rt.alloc())?;
+    assert!(rt; are_built(rt.alloc(), &moved, 0, &[OF_ALL; 40], &[EACH; 40])?);
+    Ok(())
+}
+
+// ---- state transactions
+
+/// The row that locks the database, and the least key after it.
+const LOCK_ROW: Ends<'static> = (b"\xff/dbLocked", b"\xff/dbLocked\0");
+
+const LOCK: &[Step<'static>] = &[Step::Set(b"\xff/dbLocked", b"L")];
+
+/// The requests to two resolvers for a state transaction without ranges, which is lock aware or not,
+/// and then one that sets no system row.
+fn requests_for_lock(alloc: Global, lock_aware: bool) -> Result<Requests, Fail> {
+    let state = Given {
+        snapshot: 5,
+        mutations: LOCK,
+        lock_aware,
+        ..NOTHING
+    };
+    let other = Given {
+        mutations: &[Step::Set(b"a", b"")],
+        ..NOTHING
+    };
+    let moved = Moved::new(alloc, OwnerMap::new(alloc, 2)?);
+    let batch = batch(alloc, &[state, other])?;
+    Ok(built(alloc, &moved, 0, &batch)?)
+}
+
+/// Whether the transaction is lock aware, and the part of it that each resolver gets: unless it is lock
+/// aware, resolver 0 gets a read of the lock row.
+const LOCK_PARTS: &[(bool, &[PartLine<'static>])] = &[
+    (false, &[(5, &[LOCK_ROW], &[]), (5, &[], &[])]),
+    (true, &[(5, &[], &[]), (5, &[], &[])]),
+];
+
+/// The request with that part. Resolver 0 alone gets the content.
+fn lock_request_to(
+    alloc: Global,
+    resolver: usize,
+    line: PartLine<'_>,
+    lock_aware: bool,
+) -> Result<Request, Fail> {
+    let parts = one(alloc, part(alloc, 0, line)?)?;
+    let marks = marks(alloc, &[0], resolver == 0, (LOCK, lock_aware))?;
+    made(header(resolver), parts, marks)
+}
+
+fn lock_requests(
+    alloc: Global,
+    lock_aware: bool,
+    lines: &[PartLine<'_>],
+) -> Result<Requests, Fail> {
+    let mut requests = room(alloc, lines.len())?;
+    for (resolver, line) in lines.iter().enumerate() {
+        requests.push(lock_request_to(alloc, resolver, *line, lock_aware)?)?;
+    }
+    with_asked(alloc, requests, &[&[0, 1], &[]])
+}
+
+#[test]
+fn a_state_transaction_goes_to_every_resolver(rt: HostRuntime) -> Result<(), Fail> {
+    for (lock_aware, lines) in LOCK_PARTS {
+        let requests = requests_for_lock(rt.alloc(), *lock_aware)?;
+        let wanted = lock_requests(rt.alloc(), *lock_aware, *lines)?;
+        assert!(rt; are_alike(rt.alloc(), &requests, &wanted)?, "{lock_aware}");
+    }
+    Ok(())
+}
+
+/// Whether copies of the request and of its share are whole.
+fn is_copied(alloc: Global, request: &Request) -> Result<bool, Fail> {
+    let copy = twice!(request.copy(), OutOfMemory)?;
+    let share = twice!(request.share().copy(), OutOfMemory)?;
+    Ok(are_alike(alloc, request, &copy)? && are_alike(alloc, request.share(), &share)?)
+}
+
+#[test]
+fn copies_of_requests_are_whole(rt: HostRuntime) -> Result<(), Fail> {
+    let requests = requests_for_lock(rt.alloc(), false)?;
+    let copy = twice!(requests.copy(), OutOfMemory)?;
+    assert!(rt; are_alike(rt.alloc(), &requests, &copy)?);
+    for request in requests.requests.as_slice() {
+        assert!(rt; is_copied(rt.alloc(), request)?);
+    }
+    Ok(())
+}
+
+// ---- records
+
+/// A value that waits for its stamp at the offset 0, and that value in transaction 1 at version 40.
+const AT_ZERO: &[u8] = b"0123456789z\x00\x00\x00\x00";
+
+const AT_ZERO_STAMPED: &[u8] = b"\x00\x00\x00\x00\x00\x00\x00\x28\x00\x01z";
+
+const STAMPING: Given<'static> = Given {
+    mutations: &[Step::SetStamped(b"k", AT_ZERO)],
+    ..NOTHING
+};
+
+/// Whether the record's second transaction sets `k` to the value with its stamp in.
+fn has_stamp(record: &Record) -> bool {
+    let [_first, second] = record.batch() else {
+        return false;
+    };
+    let [Change::Set { key, value }] = second.changes() else {
+        return false;
+    };
+    key.as_slice() == b"k".as_slice() && value.as_slice() == AT_ZERO_STAMPED
+}
+
+fn record_of_stamping(alloc: Global) -> Result<Record, Fail> {
+    let batch = batch(alloc, &[NOTHING, STAMPING])?;
+    Ok(record(alloc, &Moves::new(alloc), &batch)?)
+}
+
+/// Whether the record has the numbers of these tests.
+fn is_numbered(record: &Record) -> bool {
+    record.row() == 3
+        && record.previous() == 30
+        && record.version() == 40
+        && record.own_previous() == 20
+        && record.proxy() == 1
+}
+
+#[test]
+fn a_record_has_its_numbers_and_stamps(rt: HostRuntime) -> Result<(), Fail> {
+    let record = record_of_stamping(rt.alloc())?;
+    let copy = twice!(record.copy(), OutOfMemory)?;
+    assert!(rt; are_alike(rt.alloc(), &record, &copy)?);
+    assert!(rt; is_numbered(&copy) && has_stamp(&copy));
+    Ok(())
+}
+
+// ---- the rule of requests
+
+/// Reads and writes nothing at snapshot 7.
+const EMPTY: PartLine<'static> = (7, &[], &[]);
+
+/// The share of parts with these numbers.
+fn share_of(alloc: Global, numbers: &[usize]) -> Result<Share, Fail> {
+    let mut parts = room(alloc, numbers.len())?;
+    for number in numbers {
+        parts.push(part(alloc, *number, EMPTY)?)?;
+    }
+    Ok(Share::new(Items::from(parts)))
+}
+
+/// The request of parts and marks with these numbers, if it keeps its rule.
+fn request_of(
+    alloc: Global,
+    resolver: usize,
+    numbers: &[usize],
+    marked: &[usize],
+    has_content: bool,
+) -> Result<Option<Request>, Fail> {
+    let share = share_of(alloc, numbers)?;
+    let marks = marks(alloc, marked, has_content, (LOCK, true))?;
+    Ok(Request::new(header(resolver), share, marks))
+}
+
+/// A resolver, the numbers of parts and of marks, whether the marks have content, and whether that
+/// makes a request: the numbers of parts rise, each mark names a part, and resolver 0 alone gets
+/// content.
+const RULE: &[(usize, &[usize], &[usize], bool, bool)] = &[
+    (0, &[1, 4, 5], &[5, 1, 5], true, true),
+    (2, &[0, usize::MAX], &[usize::MAX], false, true),
+    (0, &[], &[], false, true),
+    (2, &[1, 1], &[], false, false),
+    (2, &[0, 2, 1], &[], false, false),
+    (2, &[usize::MAX, 0], &[], false, false),
+    (2, &[1, 3], &[1, 2], false, false),
+    (2, &[], &[0], false, false),
+    (0, &[1], &[1], false, false),
+    (1, &[1], &[1], true, false),
+];
+
+#[test]
+fn a_request_keeps_its_rule(rt: HostRuntime) -> Result<(), Fail> {
+    for (resolver, parts, marks, has_content, is_made) in RULE {
+        let request = request_of(rt.alloc(), *resolver, *parts, *marks, *has_content)?;
+        assert!(rt;
+            request.is_some() == *is_made,
+            "{resolver} {parts:?} {marks:?}"
+        );
+    }
+    Ok(())
+}
+
+/// Numbers, and the places of the parts with these numbers among 1, 4, 5 and 9.
+const PLACES: &[(usize, Option<usize>)] = &[
+    (0, None),
+    (1, Some(0)),
+    (3, None),
+    (4, Some(1)),
+    (5, Some(2)),
+    (9, Some(3)),
+    (10, None),
+];
+
+#[test]
+fn a_part_is_found_by_its_number(rt: HostRuntime) -> Result<(), Fail> {
+    let Some(request) = request_of(rt.alloc(), 2, &[1, 4, 5, 9], &[], false)? else {
+        return Err(Fail::from("no request"));
+    };
+    for (number, place) in PLACES {
+        assert!(rt; request.place_of(*number) == *place, "{number}");
+    }
+    Ok(())
+}

@@ -1,0 +1,206 @@
+//! Tests of share_judge: the verdicts on shares, and what is forgotten.
+
+use model::Part;
+use request_builder::Share;
+use share_judge::{Verdict, WriteHistory};
+use std::alloc::Global;
+use std::test::Fail;
+use system_keys::{Items, OutOfMemory};
+use testing::{Ends, PartLine, none, one, parts, range, room, twice};
+
+const COMMITTED: &[Verdict] = &[Verdict::Committed];
+
+const CONFLICT: &[Verdict] = &[Verdict::Conflict];
+
+fn new_history(alloc: Global, window: u64) -> Result<WriteHistory, OutOfMemory> {
+    twice!(WriteHistory::new(alloc, window), OutOfMemory)
+}
+
+/// Whether the history gives just these verdicts on the share. The version must be above the last.
+fn gives(
+    history: &mut WriteHistory,
+    version: u64,
+    share: &Share,
+    verdicts: &[Verdict],
+) -> Result<bool, OutOfMemory> {
+    if version <= history.last() {
+        return Ok(false);
+    }
+    let given = twice!(history.judge(version, share), OutOfMemory)?;
+    Ok(given.as_slice() == verdicts)
+}
+
+/// Whether it gives these on the share of the parts, numbered from 0.
+fn gives_on(
+    alloc: Global,
+    history: &mut WriteHistory,
+    version: u64,
+    lines: &[PartLine<'_>],
+    verdicts: &[Verdict],
+) -> Result<bool, Fail> {
+    let share = Share::new(parts(alloc, lines)?);
+    Ok(gives(history, version, &share, verdicts)?)
+}
+
+const B: Ends<'static> = (b"b", b"b\0");
+
+const C: Ends<'static> = (b"c", b"c\0");
+
+const D: Ends<'static> = (b"d", b"d\0");
+
+const E: Ends<'static> = (b"e", b"e\0");
+
+/// One part that writes `[a, c)`.
+const FIRST: &[PartLine<'static>] = &[(0, &[], &[(b"a", b"c")])];
+
+/// Reads around that write at version 10, and writes that are refused and committed.
+const SECOND: &[PartLine<'static>] = &[
+    (10, &[B], &[]),
+    (9, &[B], &[]),
+    (9, &[C], &[]),
+    (9, &[B], &[D]),
+    (9, &[D], &[]),
+    (9, &[C, E], &[D, E]),
+    (9, &[C, D], &[]),
+];
+
+const SECOND_VERDICTS: &[Verdict] = &[
+    Verdict::Committed,
+    Verdict::Conflict,
+    Verdict::Committed,
+    Verdict::Conflict,
+    Verdict::Committed,
+    Verdict::Committed,
+    Verdict::Conflict,
+];
+
+/// Whether the second share gets its verdicts where up to `oldest` is forgotten before it.
+fn gives_after_forgetting(alloc: Global, oldest: u64) -> Result<bool, Fail> {
+    let mut history = new_history(alloc, 100)?;
+    let is_first_right = gives_on(alloc, &mut history, 10, FIRST, COMMITTED)?;
+    history.forget(oldest);
+    Ok(is_first_right && gives_on(alloc, &mut history, 20, SECOND, SECOND_VERDICTS)?)
+}
+
+#[test]
+fn what_is_forgotten_changes_no_verdict(rt: HostRuntime) -> Result<(), Fail> {
+    for oldest in [0, 9, 10, 11, u64::MAX] {
+        assert!(rt;
+            gives_after_forgetting(rt.alloc(), oldest)?,
+            "with {oldest}"
+        );
+    }
+    Ok(())
+}
+
+/// A part that writes `[a, z)`, one that writes `[m, n)`, and a read of `m` at snapshot 20.
+const WIDE: &[PartLine<'static>] = &[(0, &[], &[(b"a", b"z")])];
+
+const NARROW: &[PartLine<'static>] = &[(0, &[], &[(b"m", b"n")])];
+
+const READ: &[PartLine<'static>] = &[(20, &[(b"m", b"m\0")], &[])];
+
+/// The versions, rows and verdicts that are judged with a window of 10; up to where is forgotten after
+/// each, and how many steps there are then.
+const NESTED: &[(u64, &[PartLine<'static>], &[Verdict], u64, usize)] = &[
+    (5, WIDE, COMMITTED, 0, 3),
+    (10, NARROW, COMMITTED, 0, 5),
+    (20, &[], &[], 5, 3),
+    (21, &[], &[], 50, 1),
+    (30, READ, COMMITTED, 0, 1),
+];
+
+#[test]
+fn forgotten_steps_become_none(rt: HostRuntime) -> Result<(), Fail> {
+    let mut history = new_history(rt.alloc(), 10)?;
+    for (version, lines, verdicts, oldest, steps) in NESTED {
+        assert!(rt; gives_on(rt.alloc(), &mut history, *version, *lines, *verdicts)?);
+        history.forget(*oldest);
+        assert!(rt; history.steps() == *steps, "after {version}");
+    }
+    Ok(())
+}
+
+/// Whether a copy gives this verdict on a read of `b` at snapshot 9.
+fn copy_gives(alloc: Global, history: &WriteHistory, verdicts: &[Verdict]) -> Result<bool, Fail> {
+    let mut copy = twice!(history.copy(), OutOfMemory)?;
+    gives_on(alloc, &mut copy, 20, &[(9, &[B], &[])], verdicts)
+}
+
+#[test]
+fn a_copy_goes_its_own_way(rt: HostRuntime) -> Result<(), Fail> {
+    let mut history = new_history(rt.alloc(), 100)?;
+    assert!(rt; copy_gives(rt.alloc(), &history, COMMITTED)?);
+    assert!(rt; gives_on(rt.alloc(), &mut history, 10, FIRST, COMMITTED)?);
+    assert!(rt; copy_gives(rt.alloc(), &history, CONFLICT)?);
+    assert!(rt; history.last() == 10);
+    Ok(())
+}
+
+// ---- many parts, and many shares
+
+/// How many parts a share has, and how many shares are judged.
+const MANY: usize = 300;
+
+/// A part that reads a key of its own at snapshot 0, or writes it.
+fn own_part(alloc: Global, number: usize, is_read: bool) -> Result<Part, Fail> {
+    let key = [(number / 256 % 256) as u8, (number % 256) as u8];
+    let own = one(alloc, range(alloc, &key, &[key[0], key[1], 0])?)?;
+    let (reads, writes) = if is_read {
+        (own, none(alloc))
+    } else {
+        (none(alloc), own)
+    };
+    Ok(Part {
+        number,
+        snapshot: 0,
+        reads,
+        writes,
+    })
+}
+
+/// Whether the history gives these verdicts on a share of many such parts.
+fn gives_on_many(
+    alloc: Global,
+    history: &mut WriteHistory,
+    version: u64,
+    is_read: bool,
+    verdicts: &[Verdict],
+) -> Result<bool, Fail> {
+    let mut parts = room(alloc, MANY)?;
+    for number in 0..MANY {
+        parts.push(own_part(alloc, number, is_read)?)?;
+    }
+    Ok(gives(history, version, &Share::new(Items::from(parts)), verdicts)?)
+}
+
+/// A write of `b`, a read of it at a snapshot past the version, and a read of `c`.
+const WRITE_AND_READ: &[PartLine<'static>] = &[
+    (0, &[], &[B]),
+    (1000, &[B], &[]),
+    (1000, &[C], &[]),
+];
+
+const ONLY_B_CONFLICTS: &[Verdict] = &[Verdict::Committed, Verdict::Conflict, Verdict::Committed];
+
+#[test]
+fn many_parts_and_shares_are_judged_and_forgotten(rt: HostRuntime) -> Result<(), Fail> {
+    let (alloc, mut history) = (rt.alloc(), new_history(rt.alloc(), 20)?);
+    assert!(rt; gives_on_many(alloc, &mut history, 10, false, &[Verdict::Committed; MANY])?);
+    assert!(rt; history.steps() == 2 * MANY + 1);
+    assert!(rt; gives_on_many(alloc, &mut history, 20, true, &[Verdict::Conflict; MANY])?);
+    for version in 30..30 + MANY as u64 {
+        assert!(rt;
+            gives_on(
+                alloc,
+                &mut history,
+                version,
+                WRITE_AND_READ,
+                ONLY_B_CONFLICTS
+            )?
+        );
+        history.forget(version);
+    }
+    assert!(rt; history.steps() == 3);
+    Ok(())
+}

@@ -1,0 +1,130 @@
+//! Judging apart from putting in place: the verdicts are kept by the caller, or they are not.
+
+ghost use Rattle.std.specs.Prelude.{◌≡◌, IfOk, IfSome};
+ghost use Rattle.state_memory.specs.Answers.{AreVerdictsAfterJudged};
+
+use crate::tests::are_alike;
+use crate::tests::of_state_memory::{
+    Body, COMMITTED, Gets, KEY_K, Line, Turn, answers, judged_two, reply_to, request,
+};
+use state_memory::{NotJudged, Reply, Request, Resolver, Verdicts};
+use std::alloc::Global;
+use std::convert::Infallible;
+use std::test::Fail;
+use system_keys::OutOfMemory;
+use testing::{ToldRow, twice};
+
+// ---- callers, proved from the public contracts alone
+
+/// Judges the request and keeps its verdicts, which are those of the reply. None if the request does
+/// not come next.
+fn judge_and_keep(
+    resolver: &mut Resolver,
+    request: &Request,
+) -> Result<Option<(Reply, Verdicts)>, OutOfMemory>
+    ensures { IfOk result (λ judged. IfSome judged (λ made. made.1 ≡ made.0.verdicts)) }
+{
+    if !resolver.comes_next(request) {
+        return Ok(None);
+    }
+    match resolver.judge_with(request, |verdicts| Ok::<Verdicts, Infallible>(verdicts)) {
+        Ok(made) => Ok(Some(made)),
+        Err(NotJudged::OutOfMemory) => Err(OutOfMemory),
+        Err(NotJudged::NotKept(never)) => match never {},
+    }
+}
+
+/// Judges the request, but does not keep its verdicts: the resolver is unchanged, and the verdicts
+/// come back. None if the request does not come next.
+fn judge_in_vain(
+    resolver: &mut Resolver,
+    request: &Request,
+) -> Result<Option<Verdicts>, OutOfMemory>
+    ensures same { resolver.new ≡ resolver.old }
+    ensures verdicts { IfOk result (λ judged. IfSome judged (λ verdicts.
+        AreVerdictsAfterJudged resolver.old request.now verdicts)) }
+{
+    if !resolver.comes_next(request) {
+        return Ok(None);
+    }
+    match resolver.judge_with(request, |verdicts| Err::<Infallible, Verdicts>(verdicts)) {
+        Ok((_reply, never)) => match never {},
+        Err(NotJudged::OutOfMemory) => Err(OutOfMemory),
+        Err(NotJudged::NotKept(verdicts)) => Ok(Some(verdicts)),
+    }
+}
+
+// ---- the next request
+
+/// A request that comes next at version 20, with a state transaction that reads what it writes.
+const NEXT: Line = (1, 20, 30, 0);
+
+const BODY: Body = (&[(20, KEY_K, KEY_K)], &[0]);
+
+/// What its reply tells.
+const UNSEEN: &[ToldRow<'static>] = &[(10, &[]), (20, &[])];
+
+const IS_JUDGED: &[Turn<'static>] = &[(NEXT, BODY, Gets::Judged(COMMITTED, UNSEEN), 1)];
+
+const IS_GIVEN_AGAIN: &[Turn<'static>] = &[(NEXT, BODY, Gets::Again(COMMITTED, UNSEEN), 1)];
+
+/// Whether the verdicts of the next request come back, and the resolver is at version 20 as before.
+fn judges_in_vain(resolver: &mut Resolver, alloc: Global) -> Result<bool, Fail> {
+    let request = request(alloc, 0, NEXT, BODY)?;
+    match twice!(judge_in_vain(resolver, &request), OutOfMemory)? {
+        Some(verdicts) => Ok(verdicts.as_slice() == COMMITTED && resolver.version() == 20),
+        None => Ok(false),
+    }
+}
+
+#[test]
+fn verdicts_that_are_not_kept_leave_the_resolver(rt: HostRuntime) -> Result<(), Fail> {
+    let mut resolver = judged_two(&rt)?;
+    assert!(rt; judges_in_vain(&mut resolver, rt.alloc())?);
+    answers(&rt, &mut resolver, 0, IS_JUDGED)
+}
+
+/// Whether the next request is judged with its reply and verdicts, and the reply is kept.
+fn judges_and_keeps(resolver: &mut Resolver, alloc: Global) -> Result<bool, Fail> {
+    let request = request(alloc, 0, NEXT, BODY)?;
+    let Some((reply, verdicts)) = twice!(judge_and_keep(resolver, &request), OutOfMemory)? else {
+        return Ok(false);
+    };
+    let wanted = reply_to(alloc, 0, NEXT, COMMITTED, UNSEEN)?;
+    let Some(kept) = resolver.kept_reply(1, 30) else {
+        return Ok(false);
+    };
+    let is_verdict = verdicts.as_slice() == COMMITTED;
+    Ok(is_verdict && are_alike(alloc, &reply, &wanted)? && are_alike(alloc, kept, &wanted)?)
+}
+
+#[test]
+fn a_request_is_judged_if_its_verdicts_are_kept(rt: HostRuntime) -> Result<(), Fail> {
+    let mut resolver = judged_two(&rt)?;
+    assert!(rt; judges_and_keeps(&mut resolver, rt.alloc())?);
+    answers(&rt, &mut resolver, 0, IS_GIVEN_AGAIN)
+}
+
+/// Whether the request is judged once its verdicts are kept, or memory was refused before that.
+fn refuses_memory_first(resolver: &mut Resolver, request: &Request) -> bool {
+    if !resolver.comes_next(request) {
+        return false;
+    }
+    let mut is_kept = false;
+    let judged = resolver.judge_with(request, |_verdicts| {
+        is_kept = true;
+        Ok::<(), Infallible>(())
+    });
+    match judged {
+        Ok(_) => is_kept,
+        Err(_) => !is_kept,
+    }
+}
+
+#[test]
+fn memory_is_refused_before_verdicts_are_kept(rt: HostRuntime) -> Result<(), Fail> {
+    let mut resolver = judged_two(&rt)?;
+    let request = request(rt.alloc(), 0, NEXT, BODY)?;
+    assert!(rt; refuses_memory_first(&mut resolver, &request));
+    Ok(())
+}

@@ -1,6 +1,0 @@
-//! Tests against values worked out by hand, and against lists of which nothing is forgotten. A tested
-//! call that allocates is made again after a failed allocation; a test that wants memory for its data
-//! ends with that error.
-
-mod of_dated_owners;
-mod of_request_builder;

@@ -1,5 +1,0 @@
-//! The tests of share_judge and state_memory, by their public calls.
-#![tactic(auto)]
-
-#[cfg(test)]
-mod tests;
