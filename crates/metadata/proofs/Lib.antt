@@ -9,13 +9,14 @@ pub mod KeySets
 pub mod KeyValues
 pub mod ListedKeys
 pub mod MapEntries
+pub mod MetadataServers
 pub mod MetadataTags
 pub mod Outcomes
 pub mod OverwrittenEntries
 pub mod PutEntries
 pub mod RangeEntries
 pub mod RouteEntries
-pub mod ServerEntries
+pub mod ServerTables
 pub mod ServingEntries
 pub mod SortedTags
 pub mod StagedChanges

@@ -8,7 +8,7 @@ use Rattle.metadata.specs.Overwrites.{is_listed, entries_without, IsPutOver}
 use Rattle.metadata.specs.CachedTags.{Values, TagLists, KeyTags, AreTags, tags_at, tags_written, displaced_tags, values_over, changed_tags, chosen_tags, is_row_named, puts_server, may_tag_some, TagsTakeBack}
 use Rattle.metadata.proofs.KeptInOrder.{none_kept_in_order}
 use Rattle.metadata.proofs.EntriesLeft.{without_none}
-use Rattle.metadata.proofs.ServerEntries.{or_none}
+use Rattle.metadata.proofs.ServerTables.{or_none}
 use Rattle.metadata.proofs.TagEntries.{reserved_are_tags}
 use Rattle.metadata.proofs.CachedTags.{changed_are_tags, changed_after, displaced_take_back, removed_are_tags}
 

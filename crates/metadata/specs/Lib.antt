@@ -8,6 +8,8 @@ pub mod Overwrites
 pub mod OwnRoutes
 -- the tags that are kept beside the entries
 pub mod CachedTags
+-- the table of the servers' tags, and what brings it up to date
+pub mod ServerTables
 -- the entries of a map to tags, as the tags at each key
 pub mod TagEntries
 -- rows that are being applied, and can be taken back

@@ -6,6 +6,7 @@ use Rattle.model.specs.Metadata.{Entries, IsInOrder, AreKept, entry_value}
 use Rattle.model.specs.Metadata.{after_journal_row}
 use Rattle.metadata.specs.Overwrites.{TakesBack, entries_without}
 use Rattle.metadata.specs.CachedTags.{KeyTags, TagsTakeBack, may_tag_some}
+use Rattle.metadata.specs.ServerTables.{ServersTakeBack}
 
 -- the metadata after some rows of the journal, one after another
 abbrev pub after_rows : Entries → List JournalRow → Entries
@@ -13,12 +14,14 @@ after_rows entries rows = fold after_journal_row entries rows
 
 -- What contracts see of rows that were started: the keys whose entries are still to be removed; the
 -- keys at which an entry was put and there was none; the entries that were displaced by others; the
--- tags that were displaced; and the lock before the last row.
+-- tags that were displaced; the keys of the serverTag entries that were put; and the lock before the
+-- last row.
 pub record Started : Type 0 where
   pub removed : List Key
   pub missing : List Key
   pub displaced : Entries
   pub tags : List KeyTags
+  pub servers : List Key
   pub locked : Bool
 
 -- The metadata is `now` because rows were started. It was `before`, and what takes back the entries
@@ -30,6 +33,7 @@ pub record IsStarted (started : Started) (before after now : Entries) : Type 0 w
   pub order : IsInOrder before
   pub kept : AreKept before
   pub tags : TagsTakeBack started.tags (entry_value before) (entry_value now)
+  pub servers : ServersTakeBack started.servers (entry_value before) (entry_value now)
   pub blank : may_tag_some now started.removed ≡ false
 
 -- the metadata is as it is because these rows were started, whatever it was before

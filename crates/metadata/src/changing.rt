@@ -3,41 +3,44 @@
 ghost use Rattle.std.specs.Prelude.{◌≡◌, ◌++◌, ◌∷◌, [], IfOk, OnOk};
 ghost use Rattle.model.specs.Metadata.{entry_value, is_key_servers};
 ghost use Rattle.metadata.specs.CachedTags.{changed_tags, chosen_tags, is_row_named, puts_server};
-ghost use Rattle.metadata.specs.CachedTags.{values_over};
+ghost use Rattle.metadata.specs.ServerTables.{AreServers, values_after};
 
 use crate::entry_map::EntryMap;
+use crate::server_table::ServerTable;
 use crate::server_tags::{names_put, value_tags};
+use crate::server_view::ServerView;
 use crate::tag_map::TagRow;
 use system_keys::{KEY_SERVERS_PREFIX, OutOfMemory, SERVER_TAG_PREFIX};
 
-/// The tags that change when the first entries are put over the others, as they are afterwards:
-/// those of the keyServers entries that name a server of which an entry is put, and those of the
-/// keyServers entries that are put. Fails only with `OutOfMemory`.
-pub(crate) fn changed_tags(puts: &EntryMap, entries: &EntryMap) -> Result<Vec<TagRow>, OutOfMemory>
-    ensures { IfOk result (λ rows. rows.items ≡ changed_tags puts.now entries.now) }
+/// The tags that change when the entries are put over the others, as they are afterwards: those of
+/// the keyServers entries that name a server of which an entry is put, and those of the keyServers
+/// entries that are put. Fails only with `OutOfMemory`.
+pub(crate) fn changed_tags(over: &ServerView<'_>) -> Result<Vec<TagRow>, OutOfMemory>
+    ensures { IfOk result (λ rows. rows.items ≡ changed_tags over.now.puts over.now.others) }
 {
-    let mut rows = Vec::new(entries.alloc());
-    if puts_server(puts) {
-        add_named(puts, entries, &mut rows)?;
+    let mut rows = Vec::new(over.alloc());
+    if puts_server(over.puts) {
+        add_named(over.others, over, &mut rows)?;
     }
-    add_tags(puts, puts, entries, &mut rows)?;
+    add_tags(over.puts, over, &mut rows)?;
     Ok(rows)
 }
 
-/// The tags of all keyServers entries. Fails only with `OutOfMemory`.
-pub(crate) fn all_tags(entries: &EntryMap) -> Result<Vec<TagRow>, OutOfMemory>
+/// The tags of all keyServers entries, by the table of the servers. Fails only with `OutOfMemory`.
+pub(crate) fn all_tags(
+    entries: &EntryMap,
+    servers: &ServerTable,
+) -> Result<Vec<TagRow>, OutOfMemory>
+    requires { AreServers servers.now.tags (entry_value entries.now) }
     ensures { IfOk result (λ rows. rows.items
         ≡ chosen_tags (entry_value entries.now) is_key_servers entries.now) }
 {
-    // (a server is found sooner among few entries)
-    let servers = entries.servers()?;
+    let none = EntryMap::new(entries.alloc());
+    let no_servers = ServerTable::new(entries.alloc());
+    // (a server that is put is found by one look-up)
+    let over = ServerView::new(entries, servers, &none, &no_servers);
     let mut rows = Vec::new(entries.alloc());
-    add_tags(
-        entries,
-        &servers,
-        &EntryMap::new(entries.alloc()),
-        &mut rows,
-    )?;
+    add_tags(entries, &over, &mut rows)?;
     Ok(rows)
 }
 
@@ -53,72 +56,70 @@ fn puts_server(puts: &EntryMap) -> bool
     false
 }
 
-/// Adds the tags of the keyServers entries in a list, by the servers of the entries that are put
-/// over others. Fails only with `OutOfMemory`.
+/// Adds the tags of the keyServers entries in a list, by the servers after the entries are put over
+/// the others. Fails only with `OutOfMemory`.
 fn add_tags(
     list: &EntryMap,
-    puts: &EntryMap,
-    entries: &EntryMap,
+    over: &ServerView<'_>,
     rows: &mut Vec<TagRow>,
 ) -> Result<(), OutOfMemory>
     ensures { OnOk result (rows.new.items
-        ≡ rows.old.items
-        ++ chosen_tags (values_over puts.now entries.now) is_key_servers list.now) }
+        ≡ rows.old.items ++ chosen_tags (values_after over.now) is_key_servers list.now) }
 {
     for (key, value) in list.iter() {
-        add_row(puts, entries, key.as_slice(), value.as_slice(), rows)?;
+        add_row(over, key.as_slice(), value.as_slice(), rows)?;
     }
     Ok(())
 }
 
 fn add_row(
-    puts: &EntryMap,
-    entries: &EntryMap,
+    over: &ServerView<'_>,
     key: &[u8],
     value: &[u8],
     rows: &mut Vec<TagRow>,
 ) -> Result<(), OutOfMemory>
     ensures { OnOk result (rows.new.items ≡ rows.old.items
-        ++ chosen_tags (values_over puts.now entries.now) is_key_servers
-        ((key.now, value.now) ∷ [])) }
+        ++ chosen_tags (values_after over.now) is_key_servers ((key.now, value.now) ∷ [])) }
 {
     if key.starts_with(KEY_SERVERS_PREFIX) {
-        let tags = value_tags(puts, entries, value)?;
-        rows.push(TagRow::new(entries.alloc(), key, tags)?)?;
+        let tags = value_tags(over, value)?;
+        rows.push(TagRow::new(over.alloc(), key, tags)?)?;
     }
     Ok(())
 }
 
-/// Adds the tags of the keyServers entries that name a server of which an entry is put. Fails only
-/// with `OutOfMemory`.
-fn add_named(puts: &EntryMap, entries: &EntryMap, rows: &mut Vec<TagRow>) -> Result<(), OutOfMemory>
-    ensures { OnOk result (rows.new.items
-        ≡ rows.old.items ++ chosen_tags (values_over puts.now entries.now) (is_row_named puts.now)
-        entries.now) }
+/// Adds the tags of the keyServers entries in a list that name a server of which an entry is put.
+/// Fails only with `OutOfMemory`.
+fn add_named(
+    list: &EntryMap,
+    over: &ServerView<'_>,
+    rows: &mut Vec<TagRow>,
+) -> Result<(), OutOfMemory>
+    ensures { OnOk result (rows.new.items ≡ rows.old.items
+        ++ chosen_tags (values_after over.now) (is_row_named over.now.puts) list.now) }
 {
-    for (key, value) in entries.iter() {
-        add_row_if_named(puts, entries, key.as_slice(), value.as_slice(), rows)?;
+    for (key, value) in list.iter() {
+        add_row_if_named(over, key.as_slice(), value.as_slice(), rows)?;
     }
     Ok(())
 }
 
 fn add_row_if_named(
-    puts: &EntryMap,
-    entries: &EntryMap,
+    over: &ServerView<'_>,
     key: &[u8],
     value: &[u8],
     rows: &mut Vec<TagRow>,
 ) -> Result<(), OutOfMemory>
     ensures { OnOk result (rows.new.items ≡ rows.old.items
-        ++ chosen_tags (values_over puts.now entries.now) (is_row_named puts.now)
+        ++ chosen_tags (values_after over.now) (is_row_named over.now.puts)
         ((key.now, value.now) ∷ [])) }
 {
     if !key.starts_with(KEY_SERVERS_PREFIX) {
         return Ok(());
     }
-    if names_put(puts, value)? {
-        let tags = value_tags(puts, entries, value)?;
-        rows.push(TagRow::new(entries.alloc(), key, tags)?)?;
+    if names_put(over, value)? {
+        let tags = value_tags(over, value)?;
+        rows.push(TagRow::new(over.alloc(), key, tags)?)?;
     }
     Ok(())
 }

@@ -15,7 +15,8 @@ ghost use Rattle.metadata.specs.MapEntries.{is_serving_up_to, is_serving_inside}
 ghost use Rattle.metadata.specs.Overwrites.{is_same_key, is_listed, has_entry, missing_keys};
 ghost use Rattle.metadata.specs.Overwrites.{IsOverwritten, IsPutOver, TakesBack, AreDisplaced};
 ghost use Rattle.metadata.specs.Overwrites.{entries_without};
-ghost use Rattle.metadata.specs.CachedTags.{may_tag, may_tag_some, names_server};
+ghost use Rattle.metadata.specs.CachedTags.{may_tag, may_tag_some};
+ghost use Rattle.metadata.specs.ServerTables.{AreServerKeys};
 
 use crate::key_set::KeySet;
 use std::alloc::Global;
@@ -76,18 +77,17 @@ impl EntryMap {
         self.values.iter()
     }
 
-    /// The serverTag entries alone. Fails only with `OutOfMemory`.
-    pub(crate) fn servers(&self) -> Result<EntryMap, OutOfMemory>
-        ensures { IfOk result (λ servers. (key : Key) → names_server key ≡ true
-            → entry_value servers key ≡ entry_value self.now key) }
+    /// The keys of the serverTag entries. Fails only with `OutOfMemory`.
+    pub(crate) fn server_keys(&self) -> Result<KeySet, OutOfMemory>
+        ensures { IfOk result (λ keys. AreServerKeys keys self.now) }
     {
-        let mut servers = EntryMap::new(self.alloc);
-        for (key, value) in self.iter() {
+        let mut keys = KeySet::new(self.alloc);
+        for (key, _) in self.iter() {
             if key.as_slice().starts_with(SERVER_TAG_PREFIX) {
-                servers.put(key.as_slice(), value)?;
+                keys.insert(key.as_slice())?;
             }
         }
-        Ok(servers)
+        Ok(keys)
     }
 
     /// Sets the value at the key. Fails only with `OutOfMemory`; the map is then unchanged.

@@ -1,6 +1,6 @@
 //! Sets of keys.
 
-ghost use Rattle.std.specs.Prelude.{◌≡◌, ◌||◌, [], OnOk};
+ghost use Rattle.std.specs.Prelude.{◌≡◌, ◌||◌, [], OnOk, length};
 ghost use Rattle.system_keys.specs.Keys.{Key};
 ghost use Rattle.metadata.specs.MapEntries.{bytes_of_keys};
 ghost use Rattle.metadata.specs.Overwrites.{is_same_key, is_listed};
@@ -44,6 +44,13 @@ impl KeySet {
         ensures { result ≡ is_listed self.now key.now }
     {
         self.keys.contains(key)
+    }
+
+    /// How many keys there are. Does not allocate.
+    pub(crate) fn len(&self) -> usize
+        ensures { result ≡ length self.now }
+    {
+        self.keys.len()
     }
 
     /// The keys. Does not allocate.

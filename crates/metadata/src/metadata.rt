@@ -9,9 +9,10 @@ ghost use Rattle.system_keys.specs.Families.{is_kept};
 ghost use Rattle.model.specs.Metadata.{IsInOrder, AreKept, entry_value, is_locked, after_change};
 ghost use Rattle.model.specs.Metadata.{is_applied, after_journal_row, key_servers_entries};
 ghost use Rattle.model.specs.Metadata.{Entries, routing, tags, tags_of_key};
-ghost use Rattle.metadata.specs.CachedTags.{TagsTakeBack, may_tag_some};
+ghost use Rattle.metadata.specs.CachedTags.{TagsTakeBack, changed_tags, may_tag_some};
 ghost use Rattle.metadata.specs.Overwrites.{IsOverwritten, IsPutOver, TakesBack};
 ghost use Rattle.metadata.specs.Overwrites.{entries_without};
+ghost use Rattle.metadata.specs.ServerTables.{AreServerKeys, ServersTakeBack};
 ghost use Rattle.metadata.specs.Started.{after_rows, IsStarted, HasStarted};
 
 use crate::applying::{any_applied, only_change};
@@ -20,9 +21,11 @@ use crate::entry_view::EntryView;
 use crate::kept_entries::KeptEntries;
 use crate::key_set::KeySet;
 use crate::routes::routes;
+use crate::server_table::ServerTable;
+use crate::server_view::ServerView;
 use crate::staged::Staged;
 use crate::started::{Put, StartedRows};
-use crate::tag_map::TagMap;
+use crate::tag_map::{TagMap, TagRow};
 use crate::tagging::{tags_of, tags_of_key};
 use model::{JournalRow, Routing, Version};
 use std::alloc::Global;
@@ -36,6 +39,8 @@ pub struct Metadata {
     entries: KeptEntries,
     /// The tags of each keyServers entry at its key, and at other keys any.
     tags: TagMap,
+    /// The tag of each server that has a serverTag entry.
+    servers: ServerTable,
     /// The empty set of hidden keys.
     none: KeySet,
 }
@@ -44,12 +49,13 @@ impl Model for Metadata {
     ghost use Rattle.std.specs.Prelude.{◌≡◌, []};
     ghost use Rattle.model.specs.Metadata.{Entries, entry_value};
     ghost use Rattle.metadata.specs.CachedTags.{AreTags, tags_at};
+    ghost use Rattle.metadata.specs.ServerTables.{AreServers};
 
     ghost Value = { Entries };
 
     ghost view = { λ m. m.entries };
 
-    ghost invariant = { λ m. AreTags (tags_at m.tags) (entry_value m.entries) × (m.none ≡ []) };
+    ghost invariant = { λ m. AreTags (tags_at m.tags) (entry_value m.entries) × (m.none ≡ []) × AreServers m.servers.tags (entry_value m.entries) };
 }
 
 impl Metadata {
@@ -60,20 +66,25 @@ impl Metadata {
         Metadata {
             entries: KeptEntries::new(alloc),
             tags: TagMap::new(alloc),
+            servers: ServerTable::new(alloc),
             none: KeySet::new(alloc),
         }
     }
 
-    /// The entries, with the tags of each. Fails only with `OutOfMemory`.
+    /// The entries, with the tags of each and the table of the servers. Fails only with `OutOfMemory`.
     fn of(entries: KeptEntries) -> Result<Metadata, OutOfMemory>
         ensures { IfOk result (λ made. made ≡ entries) }
     {
-        let alloc = entries.map().alloc();
-        let rows = all_tags(entries.map())?;
+        let map = entries.map();
+        let alloc = map.alloc();
+        let keys = map.server_keys()?;
+        let servers = ServerTable::of(&keys, map)?;
+        let rows = all_tags(map, &servers)?;
         let tags = TagMap::of(alloc, rows)?;
         Ok(Metadata {
             entries,
             tags,
+            servers,
             none: KeySet::new(alloc),
         })
     }
@@ -191,25 +202,48 @@ impl Metadata {
         })
     }
 
-    /// Puts the entries over those of the metadata, and the tags that change. Fails only with
+    /// Puts the entries over those of the metadata, with the tags that change. Fails only with
     /// `OutOfMemory`; the metadata is then unchanged.
     fn put_over(&mut self, puts: KeptEntries) -> Result<Put, OutOfMemory>
         ensures ok { OnOk result (IsPutOver puts self.old self.new) }
         ensures undo { IfOk result (λ put. TakesBack put.undo.0 put.undo.1 self.old self.new) }
         ensures tags { IfOk result (λ put.
             TagsTakeBack put.tags.items (entry_value self.old) (entry_value self.new)) }
+        ensures servers { IfOk result (λ put.
+            ServersTakeBack put.servers (entry_value self.old) (entry_value self.new)) }
         ensures was_in_order { OnOk result (IsInOrder self.old) }
         ensures was_kept { OnOk result (AreKept self.old) }
         ensures order { OnOk result (IsInOrder self.new) }
         ensures kept { OnOk result (AreKept self.new) }
         ensures err { OnErr result (self.new ≡ self.old) }
     {
-        let changed = changed_tags(puts.map(), self.entries.map())?;
+        let servers = puts.map().server_keys()?;
+        let changed = self.changed_by(&puts, &servers)?;
         let tags = self.tags.displaced_by(&changed)?;
         self.tags.reserve(&changed)?;
+        self.servers.reserve(&servers)?;
         let undo = self.entries.put_over(puts)?;
         self.tags.write(changed);
-        Ok(Put { undo, tags })
+        self.servers.refresh(&servers, self.entries.map());
+        Ok(Put {
+            undo,
+            tags,
+            servers,
+        })
+    }
+
+    /// The tags that change when the entries are put over those of the metadata, by the keys of the
+    /// serverTag entries among them. Fails only with `OutOfMemory`.
+    fn changed_by(&self, puts: &KeptEntries, keys: &KeySet) -> Result<Vec<TagRow>, OutOfMemory>
+        requires { AreServerKeys keys.now puts.now }
+        ensures changed { IfOk result (λ rows. rows.items ≡ changed_tags puts.now self.now) }
+        ensures order { IsInOrder self.now }
+        ensures kept { AreKept self.now }
+    {
+        let others = self.entries.map();
+        let put_servers = ServerTable::of(keys, puts.map())?;
+        let over = ServerView::new(puts.map(), &put_servers, others, &self.servers);
+        changed_tags(&over)
     }
 
     /// The entries of the metadata after the rows that were started. Does not allocate.
@@ -242,8 +276,14 @@ impl Metadata {
         ensures { (before after : Entries)
             → IsStarted started before after self.old → self.new ≡ before }
     {
-        self.entries.take_back(started.put.undo);
-        self.tags.write(started.put.tags);
+        let Put {
+            undo,
+            tags,
+            servers,
+        } = started.put;
+        self.entries.take_back(undo);
+        self.tags.write(tags);
+        self.servers.refresh(&servers, self.entries.map());
     }
 
     /// Removes the entries at the keys of the set, if none of them gives a server a tag. Does not
@@ -254,6 +294,7 @@ impl Metadata {
     {
         self.entries.remove_all(keys);
         self.tags.remove_all(keys);
+        self.servers.refresh(keys, self.entries.map());
     }
 
     /// All entries. Does not allocate.

@@ -17,11 +17,13 @@ pub struct StartedRows {
     pub(crate) locked: bool,
 }
 
-/// What takes back what was put: the entries, and the tags.
+/// What takes back what was put: the entries, the tags, and the servers.
 #[derive(Drop)]
 pub(crate) struct Put {
     pub(crate) undo: Undo,
     pub(crate) tags: Vec<TagRow>,
+    /// The keys of the serverTag entries that were put.
+    pub(crate) servers: KeySet,
 }
 
 impl Model for StartedRows {
@@ -34,6 +36,7 @@ impl Model for StartedRows {
       missing = s.put.undo.0;
       displaced = s.put.undo.1;
       tags = s.put.tags.items;
+      servers = s.put.servers;
       locked = s.locked;
     } };
 }

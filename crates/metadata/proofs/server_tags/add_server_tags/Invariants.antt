@@ -2,10 +2,11 @@
 use Rattle.std.proofs.Common.{◌≡◌, drop, fold, flat_map}
 use Rattle.std.specs.BTreeSet.{insert_key}
 use Rattle.model.specs.Metadata.{tag_cmp}
-use Rattle.metadata.specs.CachedTags.{tag_by, values_over}
+use Rattle.metadata.specs.CachedTags.{tag_by}
+use Rattle.metadata.specs.ServerTables.{values_after}
 use Rattle.metadata.proofs.server_tags.add_server_tags.Given as goal
 
 abbrev pub invariant-loop-server : goal.invariant-loop-server
 invariant-loop-server l =
-    fold (insert_key tag_cmp) l.tags.keys (flat_map (tag_by (values_over l.puts l.entries)) (drop l.server-index l.servers))
-    ≡ fold (insert_key tag_cmp) l.fn.tags.keys (flat_map (tag_by (values_over l.puts l.entries)) l.servers)
+    fold (insert_key tag_cmp) l.tags.keys (flat_map (tag_by (values_after l.over)) (drop l.server-index l.servers))
+    ≡ fold (insert_key tag_cmp) l.fn.tags.keys (flat_map (tag_by (values_after l.over)) l.servers)

@@ -9,14 +9,14 @@ use Rattle.metadata.proofs.server_tags.any_put.Goals as goal
 
 pub returns-then-is_put : goal.returns-then-is_put
 returns-then-is_put c =
-    let f : Id → Bool = λ id. has_entry c.args.puts.now (server_tag_family.prefix ++ id) in
+    let f : Id → Bool = λ id. has_entry c.args.over.now.puts (server_tag_family.prefix ++ id) in
     let is : true ≡ f (get_or c.args.servers.now c.loop-server.server-index c.server-item.result) = sym c.if-is_put.true ∙ c.is_put.ensures ∙ ap f c.server-item.is in
     ap (λ (t : Bool). t || list_any f (drop (c.loop-server.server-index + 1) c.args.servers.now)) is
     ∙ any_next f c.args.servers.now c.server-item.result c.loop-server.server-index _ (omega (arith, c.loop-server-test.true)) c.loop-server.invariant
 
 pub loop-server-preserved : goal.loop-server-preserved
 loop-server-preserved c =
-    let f : Id → Bool = λ id. has_entry c.args.puts.now (server_tag_family.prefix ++ id) in
+    let f : Id → Bool = λ id. has_entry c.args.over.now.puts (server_tag_family.prefix ++ id) in
     let is : false ≡ f (get_or c.args.servers.now c.loop-server.server-index c.server-item.result) = sym c.if-is_put.false ∙ c.is_put.ensures ∙ ap f c.server-item.is in
     ap (λ (t : Bool). t || list_any f (drop (c.loop-server.server-index + 1) c.args.servers.now)) is
     ∙ any_next f c.args.servers.now c.server-item.result c.loop-server.server-index _ (omega (arith, c.loop-server-test.true)) c.loop-server.invariant

@@ -7,4 +7,4 @@ use Rattle.metadata.proofs.server_tags.any_put.Given as goal
 
 abbrev pub invariant-loop-server : goal.invariant-loop-server
 invariant-loop-server l =
-    list_any (λ id. has_entry l.puts (server_tag_family.prefix ++ id)) (drop l.server-index l.servers) ≡ list_any (λ id. has_entry l.puts (server_tag_family.prefix ++ id)) l.servers
+    list_any (λ id. has_entry l.over.puts (server_tag_family.prefix ++ id)) (drop l.server-index l.servers) ≡ list_any (λ id. has_entry l.over.puts (server_tag_family.prefix ++ id)) l.servers
