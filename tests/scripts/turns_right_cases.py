@@ -316,7 +316,7 @@ def locks_among_rows():
         shown(0, 30, locked="yes", metadata_version='"v"'), shown(1, 0),
     )
     yield case(
-        "a row of keys that is set under the lock, and that its own proxy and the other one know of",
+        "a row of keys that is set under the lock, of which both proxies learn",
         turns(
             sequence(0, lock), sequence(1, transaction(10, [], [], [put_servers("", SERVER_1)])), sequence(0), offers(0, 1, 2),
             finish(0), finish(1), finish(0),
