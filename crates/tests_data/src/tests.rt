@@ -1,40 +1,42 @@
 //! Tests of what only calls can show, against vectors and values worked out by hand. A tested call
-//! that takes memory is made again if it was refused memory, but for copies; a test that wants memory
-//! for its data or for a copy ends with that error. Limits, first faults and printed refusals are
-//! shown by the scripts in `tests/scripts`.
+//! that takes memory is made again if it was refused memory; a test that wants memory for its data
+//! ends with that error. Limits, first faults and printed refusals are shown by the scripts in
+//! `tests/scripts`.
 
 mod of_model;
 mod of_mutation;
 mod of_refusals;
 mod of_system_keys;
 
+use std::alloc::{AllocError, Global};
 use std::fmt::Debug;
 use std::process::Abort;
-use std::test::Fail;
 use system_keys::{KeyRange, OutOfMemory};
+use testing::twice;
 
 fn is_range(range: &KeyRange, begin: &[u8], end: &[u8]) -> bool {
     range.begin() == begin && range.end() == end
 }
 
-/// The two are equal: in all that is printed for debugging, which is every field.
-fn assert_alike<T: Debug>(
-    rt: &(impl Abort + AllocGlobal),
-    made: &T,
-    expected: &T,
-) -> Result<(), Fail> {
-    let made = format!(in rt.alloc(); "{made:?}")?;
-    let expected = format!(in rt.alloc(); "{expected:?}")?;
-    assert_eq!(rt; made, expected);
-    Ok(())
+fn printed<T: Debug>(alloc: Global, value: &T) -> Result<String, AllocError> {
+    format!(in alloc; "{value:?}")
 }
 
-/// The copy is made, and equal to the value.
-fn assert_copied<T: Debug + Drop>(
+/// The two are equal: in all that is printed for debugging, which is every field.
+fn assert_alike<T: Debug>(rt: &(impl Abort + AllocGlobal), made: &T, expected: &T) {
+    let made = twice!(printed(rt.alloc(), made), _).expect(rt, "a text");
+    let expected = twice!(printed(rt.alloc(), expected), _).expect(rt, "a text");
+    assert_eq!(rt; made, expected);
+}
+
+/// A copy of the value, made again after a failed allocation, is equal to it.
+fn assert_copied<T: Debug + Drop, F: Fn(&T) -> Result<T, OutOfMemory>>(
     rt: &(impl Abort + AllocGlobal),
-    copy: Result<T, OutOfMemory>,
     value: &T,
-) -> Result<(), Fail> {
-    let copy = copy?;
-    assert_alike(rt, &copy, value)
+    copy: F,
+)
+    requires { F.IsAlwaysCallable copy }
+{
+    let copied = twice!(copy(value), OutOfMemory).expect(rt, "a copy");
+    assert_alike(rt, &copied, value);
 }

@@ -1,14 +1,15 @@
-//! Tests of model: a copy is an equal value, and a configuration has its numbers. Each value that is
-//! copied becomes a part of the next.
+//! Tests of model: a copy is an equal value, and a configuration has its numbers.
 
 use super::assert_copied;
 use model::{
-    Config, Finished, JournalRow, Move, Outcome, Refusal, Reply, Route, Routing, StateMark,
-    StateTxn, Tagged, UnseenRow, UnseenState, Verdict,
+    Carried, Config, Finished, JournalRow, Move, Outcome, Part, Refusal, Reply, Route, Routing,
+    StateMark, StateTxn, Tagged, UnseenRow, UnseenState, Verdict,
 };
 use std::test::Fail;
 use system_keys::Tag;
-use testing::{Content, Step, bytes, carried, change, changes, one, part, range};
+use testing::{
+    Content, ReplyLine, Step, bytes, carried, change, journal_row, one, part, range, reply,
+};
 
 const TAG: Tag = Tag {
     locality: 3,
@@ -21,100 +22,101 @@ const CONTENT: Content<'static> = (&[Step::Set(b"a", b"1"), Step::Clear(b"m", b"
 #[test]
 fn contents_and_their_marks_are_copied(rt: HostRuntime) -> Result<(), Fail> {
     let carried = carried(rt.alloc(), CONTENT)?;
-    assert_copied(&rt, carried.copy(), &carried)?;
+    assert_copied(&rt, &carried, Carried::copy);
     let mark = StateMark {
         number: 1,
         carried: Some(carried),
     };
-    assert_copied(&rt, mark.copy(), &mark)
+    assert_copied(&rt, &mark, StateMark::copy);
+    Ok(())
 }
+
+/// A reply with a state transaction of an unseen row.
+const REPLY: ReplyLine<'static> = ReplyLine {
+    resolver: 0,
+    proxy: 1,
+    row: 2,
+    version: 30,
+    verdicts: &[Verdict::Committed],
+    unseen: &[(10, &[(Verdict::TooOld, CONTENT)])],
+};
 
 #[test]
 fn replies_and_their_rows_are_copied(rt: HostRuntime) -> Result<(), Fail> {
-    let carried = carried(rt.alloc(), CONTENT)?;
-    let state = UnseenState {
-        verdict: Verdict::TooOld,
-        carried: Some(carried),
-    };
-    assert_copied(&rt, state.copy(), &state)?;
-    let row = UnseenRow {
-        version: 10,
-        states: one(rt.alloc(), state)?,
-    };
-    assert_copied(&rt, row.copy(), &row)?;
-    let reply = Reply {
-        resolver: 0,
-        proxy: 1,
-        row: 2,
-        version: 30,
-        verdicts: one(rt.alloc(), Verdict::Committed)?,
-        unseen: one(rt.alloc(), row)?,
-    };
-    assert_copied(&rt, reply.copy(), &reply)
+    let reply = reply(rt.alloc(), REPLY)?;
+    assert_copied(&rt, &reply, Reply::copy);
+    let row = reply.unseen.as_slice().first().expect(&rt, "a row");
+    assert_copied(&rt, row, UnseenRow::copy);
+    let state = row.states.as_slice().first().expect(&rt, "a state");
+    assert_copied(&rt, state, UnseenState::copy);
+    Ok(())
 }
 
 #[test]
 fn journal_rows_are_copied(rt: HostRuntime) -> Result<(), Fail> {
-    let state = StateTxn {
-        mutations: changes(rt.alloc(), CONTENT.0)?,
-        lock_aware: false,
-        verdicts: one(rt.alloc(), Verdict::Conflict)?,
-    };
-    assert_copied(&rt, state.copy(), &state)?;
-    let row = JournalRow {
-        version: 10,
-        states: one(rt.alloc(), state)?,
-    };
-    assert_copied(&rt, row.copy(), &row)
+    let row = journal_row(rt.alloc(), 10, &[(&[Verdict::Conflict], CONTENT)])?;
+    assert_copied(&rt, &row, JournalRow::copy);
+    let state = row.states.as_slice().first().expect(&rt, "a state");
+    assert_copied(&rt, state, StateTxn::copy);
+    Ok(())
 }
 
 #[test]
-fn parts_and_moves_are_copied(rt: HostRuntime) -> Result<(), Fail> {
+fn parts_are_copied(rt: HostRuntime) -> Result<(), Fail> {
     let part = part(rt.alloc(), 1, (20, &[(b"m", b"t")], &[(b"a", b"b")]))?;
-    assert_copied(&rt, part.copy(), &part)?;
+    assert_copied(&rt, &part, Part::copy);
+    Ok(())
+}
+
+#[test]
+fn moves_are_copied(rt: HostRuntime) -> Result<(), Fail> {
     let moved = Move {
         range: range(rt.alloc(), b"m", b"t")?,
         date: 21,
         dest: 1,
     };
-    assert_copied(&rt, moved.copy(), &moved)
+    assert_copied(&rt, &moved, Move::copy);
+    Ok(())
 }
 
 #[test]
 fn routings_are_copied(rt: HostRuntime) -> Result<(), Fail> {
+    let tags = one(rt.alloc(), TAG)?;
     let value = bytes(rt.alloc(), b"v")?;
     let route = Route {
         key: bytes(rt.alloc(), b"m")?,
-        tags: one(rt.alloc(), TAG)?,
+        tags,
     };
-    assert_copied(&rt, route.copy(), &route)?;
+    assert_copied(&rt, &route, Route::copy);
     let routing = Routing {
         version: 10,
         locked: true,
         metadata_version: Some(value),
         routes: one(rt.alloc(), route)?,
     };
-    assert_copied(&rt, routing.copy(), &routing)
+    assert_copied(&rt, &routing, Routing::copy);
+    Ok(())
 }
 
 #[test]
 fn finished_batches_are_copied(rt: HostRuntime) -> Result<(), Fail> {
     let tags = one(rt.alloc(), TAG)?;
+    let outcomes = one(rt.alloc(), Outcome::Locked)?;
     let tagged = Tagged {
         number: 1,
         place: 2,
         change: change(rt.alloc(), Step::Set(b"a", b"1"))?,
         tags,
     };
-    assert_copied(&rt, tagged.copy(), &tagged)?;
-    let tagged = one(rt.alloc(), tagged)?;
+    assert_copied(&rt, &tagged, Tagged::copy);
     let finished = Finished {
         row: 0,
         version: 10,
-        outcomes: one(rt.alloc(), Outcome::Locked)?,
-        tagged,
+        outcomes,
+        tagged: one(rt.alloc(), tagged)?,
     };
-    assert_copied(&rt, finished.copy(), &finished)
+    assert_copied(&rt, &finished, Finished::copy);
+    Ok(())
 }
 
 #[test]

@@ -1,10 +1,11 @@
 //! Tests of mutation.
 
 use super::{assert_copied, is_range};
-use mutation::{AdmittedMutation, Refusal, admit};
+use mutation::{Admitted, AdmittedMutation, Batch, GivenRange, Mutation, Stamped, Transaction};
+use std::alloc::Global;
 use std::test::Fail;
-use system_keys::{Bytes, Change, KeyRange, OutOfMemory};
-use testing::{Given, NOTHING, Step, admitted, batch, given_range, transaction, twice};
+use system_keys::{Bytes, Change, KeyRange};
+use testing::{Given, NOTHING, Step, admitted, batch, transaction};
 
 /// A value that waits for its stamp at the offset 2.
 const AT_TWO: &[u8] = b"ab0123456789\x02\x00\x00\x00";
@@ -65,11 +66,14 @@ fn are_mutations(mutations: &[AdmittedMutation]) -> bool {
 
 #[test]
 fn an_admitted_transaction_is_as_it_was_given(rt: HostRuntime) -> Result<(), Fail> {
-    let given = transaction(rt.alloc(), ONE_EACH)?;
-    let admitted = twice!(admit(rt.alloc(), &given), Refusal::OutOfMemory)?;
+    let admitted = admitted(rt.alloc(), ONE_EACH)?;
     assert!(rt; admitted.snapshot() == 7 && admitted.lock_aware());
     assert!(rt; are_ranges(admitted.reads(), admitted.writes()));
     assert!(rt; are_mutations(admitted.mutations()));
+    assert_copied(&rt, &admitted, Admitted::copy);
+    for mutation in admitted.mutations() {
+        assert_copied(&rt, mutation, AdmittedMutation::copy);
+    }
     Ok(())
 }
 
@@ -94,34 +98,30 @@ fn are_changes(changes: &[Change]) -> bool {
     }
 }
 
-#[test]
-fn a_stamp_takes_ten_bytes_and_every_other_field_stays(rt: HostRuntime) -> Result<(), Fail> {
-    let admitted = admitted(rt.alloc(), ONE_EACH)?;
-    let stamped = twice!(admitted.stamped(rt.alloc(), 258, 3), OutOfMemory)?;
-    assert!(rt; stamped.snapshot() == 7 && stamped.lock_aware());
-    assert!(rt; are_ranges(stamped.reads(), stamped.writes()));
-    assert!(rt; are_changes(stamped.changes()));
-    assert_copied(&rt, stamped.copy(), &stamped)
+/// That transaction.
+fn stamped(alloc: Global) -> Result<Stamped, Fail> {
+    let admitted = admitted(alloc, ONE_EACH)?;
+    Ok(admitted.stamped(alloc, 258, 3)?)
 }
 
 #[test]
-fn given_transactions_are_copied(rt: HostRuntime) -> Result<(), Fail> {
-    let read = given_range(rt.alloc(), b"a", b"b")?;
-    assert_copied(&rt, read.copy(), &read)?;
-    let given = transaction(rt.alloc(), ONE_EACH)?;
-    assert_copied(&rt, given.copy(), &given)?;
-    for mutation in given.mutations.as_slice() {
-        assert_copied(&rt, mutation.copy(), mutation)?;
-    }
+fn a_stamp_takes_ten_bytes_and_every_other_field_stays(rt: HostRuntime) -> Result<(), Fail> {
+    let stamped = stamped(rt.alloc())?;
+    assert!(rt; stamped.snapshot() == 7 && stamped.lock_aware());
+    assert!(rt; are_ranges(stamped.reads(), stamped.writes()));
+    assert!(rt; are_changes(stamped.changes()));
+    assert_copied(&rt, &stamped, Stamped::copy);
     Ok(())
 }
 
 #[test]
-fn admitted_transactions_are_copied(rt: HostRuntime) -> Result<(), Fail> {
-    let admitted = admitted(rt.alloc(), ONE_EACH)?;
-    assert_copied(&rt, admitted.copy(), &admitted)?;
-    for mutation in admitted.mutations() {
-        assert_copied(&rt, mutation.copy(), mutation)?;
+fn given_transactions_are_copied(rt: HostRuntime) -> Result<(), Fail> {
+    let given = transaction(rt.alloc(), ONE_EACH)?;
+    assert_copied(&rt, &given, Transaction::copy);
+    let read = given.reads.as_slice().first().expect(&rt, "a read");
+    assert_copied(&rt, read, GivenRange::copy);
+    for mutation in given.mutations.as_slice() {
+        assert_copied(&rt, mutation, Mutation::copy);
     }
     Ok(())
 }
@@ -130,5 +130,6 @@ fn admitted_transactions_are_copied(rt: HostRuntime) -> Result<(), Fail> {
 fn batches_are_copied(rt: HostRuntime) -> Result<(), Fail> {
     let batch = batch(rt.alloc(), &[NOTHING, NOTHING, ONE_EACH])?;
     assert!(rt; matches!(batch.transactions(), [_, _, last] if are_mutations(last.mutations())));
-    assert_copied(&rt, batch.copy(), &batch)
+    assert_copied(&rt, &batch, Batch::copy);
+    Ok(())
 }

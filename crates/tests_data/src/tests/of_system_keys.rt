@@ -4,9 +4,9 @@ use super::{assert_alike, assert_copied, is_range};
 use std::alloc::{AllocError, Global};
 use std::test::Fail;
 use system_keys::{
-    Change, KeyRange, OutOfMemory, RowFault, RowKind, ServerId, Tag, Teams, TeamsFault, classify,
-    decode_key_servers, decode_tag, encode_key_servers, encode_tag, is_state, print_bytes,
-    read_bytes,
+    Bytes, Change, KeyRange, OutOfMemory, RowFault, RowKind, ServerId, Tag, Teams, TeamsFault,
+    classify, decode_key_servers, decode_tag, encode_key_servers, encode_tag, is_state,
+    print_bytes, read_bytes,
 };
 use testing::{Step, bytes, change, list, range, room, twice};
 
@@ -50,13 +50,18 @@ const AROUND_B_UP_TO_D: &[(&[u8], &[u8], bool)] = &[
     (b"a", b"z", true),
 ];
 
+/// Whether the range from `b` up to `d` overlaps the other, and the other it.
+fn overlaps(alloc: Global, begin: &[u8], end: &[u8]) -> Result<(bool, bool), Fail> {
+    let middle = range(alloc, b"b", b"d")?;
+    let other = range(alloc, begin, end)?;
+    Ok((middle.overlaps(&other), other.overlaps(&middle)))
+}
+
 #[test]
 fn ranges_that_touch_do_not_overlap(rt: HostRuntime) -> Result<(), Fail> {
-    let middle = range(rt.alloc(), b"b", b"d")?;
     for (begin, end, overlapping) in AROUND_B_UP_TO_D {
-        let other = range(rt.alloc(), *begin, *end)?;
-        assert!(rt; middle.overlaps(&other) == *overlapping);
-        assert!(rt; other.overlaps(&middle) == *overlapping);
+        let found = overlaps(rt.alloc(), *begin, *end)?;
+        assert!(rt; found == (*overlapping, *overlapping));
     }
     Ok(())
 }
@@ -64,17 +69,17 @@ fn ranges_that_touch_do_not_overlap(rt: HostRuntime) -> Result<(), Fail> {
 #[test]
 fn a_copy_is_equal(rt: HostRuntime) -> Result<(), Fail> {
     let key = bytes(rt.alloc(), b"abc")?;
-    assert_copied(&rt, key.copy(), &key)?;
+    assert_copied(&rt, &key, Bytes::copy);
     let range = range(rt.alloc(), b"b", b"d")?;
-    assert_copied(&rt, range.copy(), &range)?;
-    let clear = Change::clear(range);
-    assert_copied(&rt, clear.copy(), &clear)?;
+    assert_copied(&rt, &range, KeyRange::copy);
+    assert_copied(&rt, &Change::clear(range), Change::copy);
+    assert_copied(&rt, &ServerId(SERVER_1), ServerId::copy);
     let tag = Tag {
         locality: 3,
         id: 258,
     };
     assert!(rt; tag.copy() == Ok(tag));
-    assert_copied(&rt, ServerId(SERVER_1).copy(), &ServerId(SERVER_1))
+    Ok(())
 }
 
 /// The change is a Set of `a` to `1`.
@@ -91,7 +96,8 @@ fn sets_a(change: &Change) -> bool {
 fn a_set_is_made_and_copied(rt: HostRuntime) -> Result<(), Fail> {
     let set = Change::set(list(rt.alloc(), b"a")?, list(rt.alloc(), b"1")?)?;
     assert!(rt; sets_a(&set));
-    assert_copied(&rt, set.copy(), &set)
+    assert_copied(&rt, &set, Change::copy);
+    Ok(())
 }
 
 /// Changes, and whether they change the state.
@@ -147,14 +153,6 @@ fn many(alloc: Global, count: u16) -> Result<Vec<ServerId>, AllocError> {
     Ok(ids)
 }
 
-/// The teams of these servers, which have no fault.
-fn teams(sources: Vec<ServerId>, destinations: Vec<ServerId>) -> Result<Teams, Fail> {
-    match Teams::new(sources, destinations) {
-        Ok(teams) => Ok(teams),
-        Err(refused) => Err(Fail::from(refused.0)),
-    }
-}
-
 /// Whether there are no teams of these sources and destinations, for this fault, and both lists come back.
 fn are_refused(sources: Vec<ServerId>, destinations: Vec<ServerId>, fault: TeamsFault) -> bool {
     let counts = (sources.len(), destinations.len());
@@ -173,30 +171,42 @@ fn teams_rise_and_are_few_enough(rt: HostRuntime) -> Result<(), Fail> {
     Ok(())
 }
 
+/// Teams of 255 sources and two destinations.
+fn many_teams(alloc: Global) -> Result<Teams, Fail> {
+    let sources = many(alloc, 255)?;
+    let destinations = many(alloc, 2)?;
+    match Teams::new(sources, destinations) {
+        Ok(teams) => Ok(teams),
+        Err(refused) => Err(Fail::from(refused.0)),
+    }
+}
+
+fn encoded(alloc: Global, teams: &Teams) -> Result<Vec<u8>, OutOfMemory> {
+    twice!(encode_key_servers(alloc, teams), OutOfMemory)
+}
+
+fn decoded(alloc: Global, value: &[u8]) -> Result<Teams, RowFault> {
+    twice!(decode_key_servers(alloc, value), RowFault::OutOfMemory)
+}
+
 #[test]
 fn teams_of_255_servers_are_copied_and_have_a_value(rt: HostRuntime) -> Result<(), Fail> {
-    let sources = many(rt.alloc(), 255)?;
-    let teams = teams(sources, many(rt.alloc(), 2)?)?;
+    let teams = many_teams(rt.alloc())?;
     assert!(rt; teams.sources().len() == 255 && teams.destinations().len() == 2);
-    assert_copied(&rt, teams.copy(), &teams)?;
-    let value = twice!(encode_key_servers(rt.alloc(), &teams), OutOfMemory).expect(&rt, "a value");
+    assert_copied(&rt, &teams, Teams::copy);
+    let value = encoded(rt.alloc(), &teams).expect(&rt, "a value");
     assert!(rt; value.len() == 2 + 16 * 257);
-    let read = twice!(
-        decode_key_servers(rt.alloc(), &value),
-        RowFault::OutOfMemory
-    );
-    assert_alike(&rt, &read.expect(&rt, "teams"), &teams)
+    let read = decoded(rt.alloc(), &value).expect(&rt, "teams");
+    assert_alike(&rt, &read, &teams);
+    Ok(())
 }
 
 #[test]
 fn a_key_servers_value_is_that_of_the_vector(rt: HostRuntime) -> Result<(), Fail> {
-    let read = twice!(
-        decode_key_servers(rt.alloc(), &ONE_SOURCE),
-        RowFault::OutOfMemory
-    )?;
+    let read = decoded(rt.alloc(), &ONE_SOURCE)?;
     assert!(rt; matches!(read.sources(), [source] if source.as_slice() == SERVER_1.as_slice()));
     assert!(rt; read.destinations().is_empty());
-    let value = twice!(encode_key_servers(rt.alloc(), &read), OutOfMemory)?;
+    let value = encoded(rt.alloc(), &read).expect(&rt, "a value");
     assert!(rt; value.as_slice() == ONE_SOURCE.as_slice());
     Ok(())
 }
