@@ -6,8 +6,9 @@ from room import run
 # In how many parts the edits of crates with their recorded text are tried, a part at each commit.
 PARTS = 6
 
-# How many neighbours of a crate are in one part: a check tries as many, and its first costs more than each further edit.
-NEIGHBOURS = 36
+# How many edits of a crate stand in one part at the most: with more, parts take less in all, as a crate is read and its
+# functions proved for each part that has some of its edits; with fewer, no part takes much longer than the others.
+NEIGHBOURS = 72
 
 
 def part_now(root):
@@ -20,14 +21,24 @@ def part_now(root):
 
 
 def parts(edits):
-    """The part of each edit: a crate's neighbours are dealt to one part after the other.
-
-    So the crate whose edits cost most is in all parts, and none of them takes much longer than the others.
+    """The part of each edit: the neighbours of a crate go together into the part that has the fewest edits so far.
 
     edits: those of each crate, by its name.
     """
-    dealt = [some[it : it + NEIGHBOURS] for _, some in sorted(edits.items()) for it in range(0, len(some), NEIGHBOURS)]
-    return {edit: number % PARTS for number, some in enumerate(dealt) for edit in some}
+    of_parts, found = [0] * PARTS, {}
+    for some in sorted(groups(edits), key=len, reverse=True):
+        part = of_parts.index(min(of_parts))
+        of_parts[part] += len(some)
+        found.update((edit, part) for edit in some)
+    return found
+
+
+def groups(edits):
+    """The edits of each crate, cut into as few groups of neighbours as there can be, none much larger than another."""
+    for _, some in sorted(edits.items()):
+        count = -(-len(some) // NEIGHBOURS)
+        for at in range(count):
+            yield some[at * len(some) // count : (at + 1) * len(some) // count]
 
 
 def chosen(is_all, known, records):

@@ -1,8 +1,9 @@
 //! Tests of scripts: the words in which faults are shown, what no script prints, and batches.
 
+use super::assert_alike;
 use mutation::Batch;
 use scripts::{RunStatus, ScriptFault, read_batch, stream_batch};
-use std::alloc::{AllocError, Global};
+use std::alloc::Global;
 use std::test::Fail;
 use testing::{Given, NOTHING, Step, batch, is_shown_as, twice};
 
@@ -86,21 +87,16 @@ fn right_batches_are_streamed(rt: HostRuntime) {
     }
 }
 
-fn are_alike(alloc: Global, batch: &Batch, expected: &Batch) -> Result<bool, AllocError> {
-    let found = format!(in alloc; "{batch:?}")?;
-    Ok(found == format!(in alloc; "{expected:?}")?)
-}
-
 #[test]
 fn every_field_of_a_batch_is_read_by_its_tokens(rt: HostRuntime) -> Result<(), Fail> {
     let expected = batch(rt.alloc(), TWO)?;
     let found = streamed(rt.alloc(), TWO_TRANSACTIONS).expect(&rt, "a batch");
-    assert!(rt; are_alike(rt.alloc(), &found, &expected)?);
+    assert_alike(&rt, &found, &expected);
     let read = twice!(
         read_batch(rt.alloc(), TWO_TRANSACTIONS),
         ScriptFault::OutOfMemory
     )?;
-    assert!(rt; are_alike(rt.alloc(), &read, &expected)?);
+    assert_alike(&rt, &read, &expected);
     Ok(())
 }
 
@@ -111,6 +107,6 @@ fn a_batch_is_read_as_a_tree_where_a_field_stands_twice(rt: HostRuntime) -> Resu
         read_batch(rt.alloc(), SNAPSHOT_TWICE),
         ScriptFault::OutOfMemory
     )?;
-    assert!(rt; are_alike(rt.alloc(), &read, &expected)?);
+    assert_alike(&rt, &read, &expected);
     Ok(())
 }
