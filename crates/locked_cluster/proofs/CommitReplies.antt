@@ -14,10 +14,10 @@ use Rattle.model.specs.Finishing.{Replies, AreRepliesBy, reply_from}
 use Rattle.model.proofs.History.Chain.{element_at}
 use Rattle.model.proofs.Proxies.Finishing.{world_replies}
 use Rattle.model.proofs.Verdicts.Places.{row_at}
-use Rattle.locked_cluster.specs.NotedReplies.{NotedReplyView, IsNotedReply}
+use Rattle.locked_resolvers.specs.NotedReplies.{NotedReplyView, IsNotedReply}
 use Rattle.locked_cluster.specs.Ready.{AreRepliesOfAll, IsReady}
-use Rattle.locked_cluster.proofs.Lists.{first_same, take_all}
-use Rattle.locked_cluster.proofs.ProxyColumns.{list_at_is, take_next}
+use Rattle.locked_resolvers.proofs.Lists.{first_same, take_all, take_next}
+use Rattle.locked_cluster.proofs.ProxyColumns.{list_at_is}
 
 -- ---- the places of the replies
 

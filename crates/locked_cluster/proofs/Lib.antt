@@ -1,6 +1,5 @@
 mod CommitReplies
 mod CommitRequests
-mod Lists
 mod ProxyAudits
 mod ProxyBegins
 mod ProxyColumns
@@ -10,4 +9,3 @@ mod ProxyMeets
 mod ProxyRequests
 mod ProxyRoutings
 mod ProxyRows
-mod ServedRequests

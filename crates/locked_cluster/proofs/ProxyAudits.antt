@@ -18,11 +18,10 @@ use Rattle.model.proofs.Verdicts.Places.{take-take_le}
 use Rattle.locked_cluster.specs.Answers.{NotedFinishedView, IsNotedFinished}
 use Rattle.locked_cluster.specs.Audits.{HasReached, HaveReached, IsAudited, IsConfirmed, reached_records}
 use Rattle.locked_cluster.specs.Proxies.{LockedProxyView, IsLockedProxy}
-use Rattle.locked_cluster.specs.Resolvers.{LockedResolverView, IsLockedResolver}
-use Rattle.locked_cluster.proofs.Lists.{first_same, take_all}
-use Rattle.locked_cluster.proofs.ProxyColumns.{take_next}
+use Rattle.locked_resolvers.specs.Resolvers.{LockedResolverView, IsLockedResolver}
+use Rattle.locked_resolvers.proofs.Lists.{first_same, take_all, take_next}
 use Rattle.locked_cluster.proofs.ProxyRows.{fewer_rows, journal_of, known_count, known_history, known_records}
-use Rattle.locked_cluster.proofs.ServedRequests.{rows_of_resolver}
+use Rattle.locked_resolvers.proofs.ServedRequests.{rows_of_resolver}
 
 -- the records up to the proxy's version are as many as the rows of its journal
 pub reached_are_known : (config : Config) (v : LockedProxyView) → IsLockedProxy config v → reached_records v ≡ known_records v

@@ -20,11 +20,11 @@ use Rattle.model.proofs.Owners.Moves.{last_moves_at, last_version_at}
 use Rattle.model.proofs.Proxies.Beginning.{a_later_record_may_begin}
 use Rattle.model.proofs.Verdicts.Places.{row_at, slice_get-take}
 use Rattle.agreed_ledger.specs.Sequencing.{TicketView, IsTicket}
-use Rattle.locked_cluster.specs.Requests.{RequestView, IsRequestFor}
+use Rattle.locked_resolvers.specs.Requests.{RequestView, IsRequestFor}
 use Rattle.locked_cluster.specs.Begun.{AreRequestsFor, BegunView, IsBegun, requests_to_all, with_records}
 use Rattle.locked_cluster.specs.Proxies.{LockedProxyView, IsLockedProxy, AreOwn, IsBeginRefusalOf, BeginsTicket, FollowOneAnother, MayFollow, StandAmong}
-use Rattle.locked_cluster.specs.declared.refusal.Refusal.TheVariants as refusals
-use Rattle.locked_cluster.proofs.Lists.{first_same, take_all}
+use Rattle.locked_resolvers.specs.declared.refusal.Refusal.TheVariants as refusals
+use Rattle.locked_resolvers.proofs.Lists.{first_same, take_all}
 use Rattle.locked_cluster.proofs.ProxyRows.{fewer_rows, journal_of, known_by_history}
 
 -- a locked proxy, and a ticket whose record follows the one that the proxy began last

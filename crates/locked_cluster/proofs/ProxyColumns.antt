@@ -8,6 +8,7 @@ use Rattle.model.specs.Journal.{list_at}
 use Rattle.model.specs.declared.verdict.Verdict.{Verdict}
 use Rattle.model.proofs.History.Growth.{push_cases}
 use Rattle.agreed_ledger.specs.Cells.{ColumnView}
+use Rattle.locked_resolvers.proofs.Lists.{got, take_next}
 use Rattle.locked_cluster.specs.Columns.{AreInOrder, ColumnsAgree, known_columns}
 
 pub none_in_order : AreInOrder []
@@ -46,19 +47,6 @@ known_at columns r column at =
 pub agree_none : {X : Type 0} (xs ys : List X) → (xs ≡ []) ⊎ (ys ≡ []) → Agree 0 xs 0 ys
 agree_none xs ys (inl none) i j x y same at_x at_y = absurd (let nothing : None ≡ Some x = ap (λ zs. slice_get zs i) (sym none) ∙ at_x in cc)
 agree_none xs ys (inr none) i j x y same at_x at_y = absurd (let nothing : None ≡ Some y = ap (λ zs. slice_get zs j) (sym none) ∙ at_y in cc)
-
--- what a loop reads at a place stands there
-pub got : {X : Type 0} (xs : List X) (i : ℕ) (x : X) → i < length xs → x ≡ get_or xs i x → slice_get xs i ≡ Some x
-got [] i x within is = absurd (omega (arith, within))
-got (y ∷ ys) zero x within is = ap Some (sym is)
-got (y ∷ ys) (suc i) x within is = got ys i x (omega (arith, within)) is
-
-pub take_next : {X : Type 0} (xs : List X) (k : ℕ) (x : X) → slice_get xs k ≡ Some x → take (k + 1) xs ≡ take k xs ++ x ∷ []
-take_next [] k x at = absurd (cc)
-take_next (y ∷ ys) zero x at = let same : y ≡ x = cc in ap (λ z. z ∷ []) same
-take_next (y ∷ ys) (suc k) x at =
-    let more : suc k + 1 ≡ suc (k + 1) = omega arith in
-    ap (λ n. take n (y ∷ ys)) more ∙ ap (λ zs. y ∷ zs) (take_next ys k x at)
 
 -- one column more is copied
 pub copied_next : (columns : List ColumnView) (k : ℕ) (column copy : ColumnView) (copied more : List (List (List Verdict))) → slice_get columns k ≡ Some column → copy ≡ column → copied ≡ known_columns (take k columns) → more ≡ copied ++ copy.rows.known ∷ [] → more ≡ known_columns (take (k + 1) columns)

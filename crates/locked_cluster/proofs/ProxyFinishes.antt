@@ -21,8 +21,8 @@ use Rattle.proxy_state.specs.Finishing.{fault_for, finish_fault, replies_fault}
 use Rattle.locked_cluster.specs.Ready.{ReadyView, IsReady}
 use Rattle.locked_cluster.specs.Answers.{IsNotedFinished}
 use Rattle.locked_cluster.specs.Proxies.{LockedProxyView, IsLockedProxy, IsFinishRefusal, FinishesReady, FollowOneAnother, first_row}
-use Rattle.locked_cluster.specs.declared.refusal.Refusal.TheVariants as refusals
-use Rattle.locked_cluster.proofs.Lists.{first_same, take_all}
+use Rattle.locked_resolvers.specs.declared.refusal.Refusal.TheVariants as refusals
+use Rattle.locked_resolvers.proofs.Lists.{first_same, take_all}
 use Rattle.locked_cluster.proofs.ProxyRows.{fewer_rows, first_rows, journal_of, known_by_history}
 
 -- A locked proxy, the record that it finishes next, and the replies to this record. The numbers of the

@@ -14,8 +14,7 @@ use Rattle.locked_cluster.specs.Audits.{IsAudited}
 use Rattle.locked_cluster.specs.Headline.{Headline}
 use Rattle.locked_cluster.specs.Proxies.{LockedProxyView, IsLockedProxy}
 use Rattle.locked_cluster.proofs.ProxyAudits.{is_audited}
-use Rattle.locked_cluster.proofs.Lists.{take_all}
-use Rattle.locked_cluster.proofs.ProxyColumns.{take_next}
+use Rattle.locked_resolvers.proofs.Lists.{take_all, take_next}
 use Rattle.locked_cluster.proofs.ProxyMeets.{same_journal}
 
 -- the tags of an answer are those of the metadata after its record

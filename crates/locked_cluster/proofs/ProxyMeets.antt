@@ -7,7 +7,7 @@ use Rattle.model.specs.Journal.{history_verdicts, journal}
 use Rattle.model.proofs.Agreement.Sources.{journal_take}
 use Rattle.model.proofs.Verdicts.Places.{take-take_le}
 use Rattle.locked_cluster.specs.Proxies.{LockedProxyView, IsLockedProxy}
-use Rattle.locked_cluster.proofs.Lists.{first_same, take_all}
+use Rattle.locked_resolvers.proofs.Lists.{first_same, take_all}
 use Rattle.locked_cluster.proofs.ProxyRows.{fewer_rows, first_rows, journal_of, known_count, known_history, known_records}
 
 -- the journal of the proxy that has come no further begins that of the other

@@ -4,7 +4,7 @@ use Rattle.facts.specs.Stretches.{Stretch}
 use Rattle.model.specs.Configs.{Config}
 use Rattle.model.specs.Records.{Record}
 use Rattle.model.specs.Requests.{Request}
-use Rattle.locked_cluster.specs.Requests.{RequestView, IsRequestFor}
+use Rattle.locked_resolvers.specs.Requests.{RequestView, IsRequestFor}
 use Rattle.locked_cluster.specs.Begun.{AreRequestsFor, with_records}
 
 not_none : {X : Type 0} (left : List X) (y : X) → left ++ y ∷ [] ≡ [] → ⊥

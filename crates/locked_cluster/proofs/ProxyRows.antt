@@ -15,7 +15,7 @@ use Rattle.model.proofs.History.Rows.{journal_counted}
 use Rattle.model.proofs.Agreement.Agreed.{agreed_journal}
 use Rattle.model.proofs.Agreement.Sources.{history_take, journal_known, journal_later, journal_take}
 use Rattle.locked_cluster.specs.Proxies.{LockedProxyView, IsLockedProxy}
-use Rattle.locked_cluster.proofs.Lists.{take_all}
+use Rattle.locked_resolvers.proofs.Lists.{take_all}
 
 -- no more steps are no more rows
 pub fewer_rows : (a b step : ℕ) → 1 ≤ step → a * step ≤ b * step → a ≤ b

@@ -8,7 +8,7 @@ use Rattle.model.specs.Serial.{IsSerial}
 use Rattle.model.specs.World.{finished_batch, up_to_version}
 use Rattle.model.specs.Agreed.{KnowsRows, AreVerdicts, IsVerdictColumn}
 use Rattle.locked_cluster.specs.Answers.{NotedFinishedView}
-use Rattle.locked_cluster.specs.Resolvers.{LockedResolverView}
+use Rattle.locked_resolvers.specs.Resolvers.{LockedResolverView}
 use Rattle.locked_cluster.specs.Proxies.{LockedProxyView}
 use Rattle.locked_cluster.specs.declared.audits.behind_by.BehindBy.{BehindBy}
 

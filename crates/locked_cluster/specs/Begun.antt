@@ -5,7 +5,7 @@ use Rattle.model.specs.Configs.{Config}
 use Rattle.model.specs.Records.{Record, IsHistory}
 use Rattle.model.specs.Shares.{each_below}
 use Rattle.model.specs.Requests.{Request, request}
-use Rattle.locked_cluster.specs.Requests.{RequestView, IsRequestFor}
+use Rattle.locked_resolvers.specs.Requests.{RequestView, IsRequestFor}
 
 -- the row of a record, the records up to it, and the requests for it
 pub record BegunView : Type 0 where

@@ -1,5 +1,5 @@
--- What is asked of all resolvers, and what a commit does. *Profile*: all of it.
-use Rattle.std.specs.Prelude.{◌≡◌, ◌⊎◌, ℕ, List, length, slice_get, Some, IsFalse}
+-- What a commit does. *Profile*: all of it.
+use Rattle.std.specs.Prelude.{◌≡◌, List, slice_get, Some, IsFalse}
 use Rattle.model.specs.Numbers.{ProxyNumber, RowNumber}
 use Rattle.model.specs.Configs.{Config}
 use Rattle.model.specs.Records.{Record, MovesFollow}
@@ -8,51 +8,14 @@ use Rattle.agreed_ledger.specs.Cells.{Cells}
 use Rattle.agreed_ledger.specs.Refusals.{refusal_fault}
 use Rattle.agreed_ledger.specs.Sequencing.{SequencedView, TicketView, sequence_fault}
 use Rattle.agreed_ledger.specs.declared.refusal.Refusal.{Refusal as LedgerRefusal}
-use Rattle.locked_cluster.specs.Requests.{RequestView}
-use Rattle.locked_cluster.specs.NotedReplies.{NotedReplyView, IsReplyToRequest}
-use Rattle.locked_cluster.specs.Resolvers.{IsResolveRefusal}
+use Rattle.locked_resolvers.specs.Asking.{IsAskAllRefusal}
 use Rattle.locked_cluster.specs.Answers.{NotedFinishedView}
 use Rattle.locked_cluster.specs.Ready.{ReadyView}
 use Rattle.locked_cluster.specs.Proxies.{LockedProxyView, IsLockedProxy, ShowsFinished}
 use Rattle.locked_cluster.specs.Proxies.{IsBeginRefusal, IsFinishRefusal, awaits_before}
-use Rattle.locked_cluster.specs.declared.refusal.Refusal.{Refusal}
-use Rattle.locked_cluster.specs.declared.refusal.Refusal.TheVariants as refusals
+use Rattle.locked_resolvers.specs.declared.refusal.Refusal.{Refusal}
 use Rattle.locked_cluster.specs.declared.commits.commit_fault.CommitFault.{CommitFault}
 use Rattle.locked_cluster.specs.declared.commits.commit_fault.CommitFault.TheVariants as faults
-
--- the requests are of one record, each to a resolver of its own
-pub record AreOfOneRecord (requests : List RequestView) : Type 0 where
-  pub one_row :
-      (i j : ℕ) (q other : RequestView)
-      → slice_get requests i ≡ Some q → slice_get requests j ≡ Some other
-      → q.plain.row ≡ other.plain.row
-  pub own_resolvers :
-      (i j : ℕ) (q other : RequestView)
-      → slice_get requests i ≡ Some q → slice_get requests j ≡ Some other
-      → q.plain.resolver ≡ other.plain.resolver → i ≡ j
-
--- the replies stand in the order of the requests, each of its request's row, proxy and resolver
-pub record AreRepliesInOrder
-    (requests : List RequestView) (replies : List NotedReplyView) : Type 0 where
-  pub count : length replies ≡ length requests
-  pub each :
-      (place : ℕ) (q : RequestView) (noted : NotedReplyView)
-      → slice_get requests place ≡ Some q → slice_get replies place ≡ Some noted
-      → IsReplyToRequest q.plain noted.reply
-
--- an allocation failed, or the resolver that the request names, as its lock kept it then, refused it
--- so
-abbrev pub IsAskRefusal : Config → RequestView → Refusal → Type 0
-IsAskRefusal config q refusal =
-    (refusal ≡ refusals.OutOfMemory) ⊎ IsResolveRefusal config q.plain.resolver q.plain refusal
-
--- an allocation failed, or the resolver that one of the requests names refused it so
-abbrev pub IsAskAllRefusal : Config → List RequestView → Refusal → Type 0
-IsAskAllRefusal config requests refusal =
-    (refusal ≡ refusals.OutOfMemory)
-    ⊎ ((place : ℕ) × (q : RequestView)
-    × (slice_get requests place ≡ Some q)
-    × IsResolveRefusal config q.plain.resolver q.plain refusal)
 
 -- the record of the row is of this proxy, and holds the batch with the stamps of its version
 pub record HoldsBatch

@@ -13,8 +13,8 @@ use Rattle.agreed_ledger.specs.Sequencing.{TicketView}
 use Rattle.locked_cluster.specs.Begun.{BegunView, requests_to_all, with_records}
 use Rattle.locked_cluster.specs.Ready.{ReadyView}
 use Rattle.locked_cluster.specs.Answers.{NotedFinishedView, NotedRoutingView}
-use Rattle.locked_cluster.specs.declared.refusal.Refusal.{Refusal}
-use Rattle.locked_cluster.specs.declared.refusal.Refusal.TheVariants as refusals
+use Rattle.locked_resolvers.specs.declared.refusal.Refusal.{Refusal}
+use Rattle.locked_resolvers.specs.declared.refusal.Refusal.TheVariants as refusals
 
 -- A proxy under its lock: what it begins and finishes, the records up to the one last begun, and the
 -- verdict cells of each resolver.

@@ -6,7 +6,7 @@ use Rattle.model.specs.Records.{Record, IsHistory}
 use Rattle.model.specs.Journal.{history_verdicts, list_at}
 use Rattle.model.specs.Agreed.{Columns, KnowsRows, AreVerdicts}
 use Rattle.model.specs.Finishing.{Replies, AreRepliesBy}
-use Rattle.locked_cluster.specs.NotedReplies.{NotedReplyView}
+use Rattle.locked_resolvers.specs.NotedReplies.{NotedReplyView}
 
 -- the row of a record, the replies to it, the records up to it, and the verdict cells of each resolver
 pub record ReadyView : Type 0 where

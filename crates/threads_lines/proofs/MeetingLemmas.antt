@@ -2,7 +2,7 @@
 use Rattle.std.proofs.Common.{◌≡◌, ◌∙◌, ◌+◌, ◌-◌, ◌<◌, ◌≤◌, ◌⊎◌, inl, inr, ℕ, List, [], ◌∷◌, ◌++◌, ap, subst, length, slice_get, Some, arith}
 use Rattle.model.specs.Configs.{Config}
 use Rattle.model.proofs.History.Growth.{push_cases}
-use Rattle.locked_cluster.specs.Resolvers.{LockedResolverView, IsLockedResolver}
+use Rattle.locked_resolvers.specs.Resolvers.{LockedResolverView, IsLockedResolver}
 use Rattle.threads_lines.specs.Meetings.{AreKept, AreKeptInPlace, AreMeetingLines, IsMeetingLine}
 use Rattle.threads_lines.specs.Threads.{AreInPlace}
 use Rattle.threads_lines.specs.Parts.{GrowsBy}

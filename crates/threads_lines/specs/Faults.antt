@@ -7,8 +7,8 @@ use Rattle.scripts.specs.declared.status.RunStatus.{RunStatus}
 use Rattle.scripts.specs.declared.status.RunStatus.TheVariants as statuses
 use Rattle.locked_cluster.specs.declared.commits.commit_fault.CommitFault.{CommitFault}
 use Rattle.locked_cluster.specs.declared.commits.commit_fault.CommitFault.TheVariants as phases
-use Rattle.locked_cluster.specs.declared.refusal.Refusal.{Refusal}
-use Rattle.locked_cluster.specs.declared.refusal.Refusal.TheVariants as refusals
+use Rattle.locked_resolvers.specs.declared.refusal.Refusal.{Refusal}
+use Rattle.locked_resolvers.specs.declared.refusal.Refusal.TheVariants as refusals
 use Rattle.threads_lines.specs.declared.faults.RunFault.{RunFault}
 use Rattle.threads_lines.specs.declared.faults.RunFault.TheVariants as faults
 

@@ -8,7 +8,7 @@ use Rattle.scripts.specs.Lines.{line, spaced}
 use Rattle.locked_cluster.specs.Audits.{HaveReached, IsAudited, IsFirstBehind}
 use Rattle.locked_cluster.specs.Meetings.{Met}
 use Rattle.locked_cluster.specs.Proxies.{LockedProxyView, IsLockedProxy}
-use Rattle.locked_cluster.specs.Resolvers.{LockedResolverView, IsLockedResolver}
+use Rattle.locked_resolvers.specs.Resolvers.{LockedResolverView, IsLockedResolver}
 use Rattle.locked_cluster.specs.declared.audits.behind_by.BehindBy.{BehindBy}
 use Rattle.locked_cluster.specs.declared.proxies.meeting.Meeting.{Meeting}
 use Rattle.locked_cluster.specs.declared.proxies.meeting.Meeting.TheVariants as meetings

@@ -8,10 +8,10 @@ use Rattle.model.specs.Shares.{each_below}
 use Rattle.model.specs.Requests.{Request, request, request_back_to}
 use Rattle.model.proofs.History.Chain.{element_at}
 use Rattle.model.proofs.Journals.ReplyRows.{length-each_below, slice_get-each_below}
-use Rattle.locked_cluster.specs.Requests.{RequestView}
-use Rattle.locked_cluster.specs.NotedReplies.{NotedReplyView}
+use Rattle.locked_resolvers.specs.Requests.{RequestView}
+use Rattle.locked_resolvers.specs.NotedReplies.{NotedReplyView}
 use Rattle.locked_cluster.specs.Begun.{BegunView, IsBegun, requests_to_all, with_records}
-use Rattle.locked_cluster.specs.Commits.{AreOfOneRecord, AreRepliesInOrder}
+use Rattle.locked_resolvers.specs.Asking.{AreOfOneRecord, AreRepliesInOrder}
 use Rattle.uses.specs.Asking.{HaveAllReplied, IsReplyOf}
 
 -- the request is to this resolver, for this record

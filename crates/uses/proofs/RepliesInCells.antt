@@ -9,11 +9,11 @@ use Rattle.model.specs.declared.reply.Reply.{Reply}
 use Rattle.model.specs.Agreed.{Column}
 use Rattle.model.specs.Journal.{history_verdicts, list_at}
 use Rattle.model.specs.World.{reply_of}
-use Rattle.locked_cluster.specs.Requests.{RequestView}
-use Rattle.locked_cluster.specs.NotedReplies.{NotedReplyView, IsNotedReply}
-use Rattle.locked_cluster.specs.Resolvers.{LockedResolverView, ShowsReply, HasOffered, HasJudged, HasRepeated, after_refusal}
-use Rattle.locked_cluster.specs.declared.refusal.Refusal.{Refusal}
-use Rattle.locked_cluster.specs.declared.refusal.Refusal.TheVariants as refusals
+use Rattle.locked_resolvers.specs.Requests.{RequestView}
+use Rattle.locked_resolvers.specs.NotedReplies.{NotedReplyView, IsNotedReply}
+use Rattle.locked_resolvers.specs.Resolvers.{LockedResolverView, ShowsReply, HasOffered, HasJudged, HasRepeated, after_refusal}
+use Rattle.locked_resolvers.specs.declared.refusal.Refusal.{Refusal}
+use Rattle.locked_resolvers.specs.declared.refusal.Refusal.TheVariants as refusals
 use Rattle.uses.specs.Resolving.{StandsInItsCell, RepliesInItsCell, KeepsAll}
 
 at_place : {X : Type 0} (lists : List (List X)) (i : ℕ) → i < length lists → slice_get lists i ≡ Some (list_at lists i)

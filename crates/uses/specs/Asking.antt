@@ -5,7 +5,7 @@ use Rattle.model.specs.Configs.{Config}
 use Rattle.model.specs.Records.{Record}
 use Rattle.model.specs.declared.reply.Reply.{Reply}
 use Rattle.locked_cluster.specs.Begun.{BegunView}
-use Rattle.locked_cluster.specs.NotedReplies.{NotedReplyView}
+use Rattle.locked_resolvers.specs.NotedReplies.{NotedReplyView}
 
 -- the reply is of this resolver, to this record
 pub record IsReplyOf (r : ResolverNumber) (rec : Record) (reply : Reply) : Type 0 where

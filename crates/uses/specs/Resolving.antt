@@ -6,9 +6,9 @@ use Rattle.model.specs.Agreed.{Column}
 use Rattle.model.specs.Offers.{OfferResult}
 use Rattle.model.specs.Offers as offers
 use Rattle.state_memory.specs.Answers.{GainsRequest}
-use Rattle.locked_cluster.specs.Requests.{RequestView}
-use Rattle.locked_cluster.specs.NotedReplies.{NotedReplyView, IsReplyToRequest}
-use Rattle.locked_cluster.specs.Resolvers.{AnswerHas, LockedResolverView, closed_resolver}
+use Rattle.locked_resolvers.specs.Requests.{RequestView}
+use Rattle.locked_resolvers.specs.NotedReplies.{NotedReplyView, IsReplyToRequest}
+use Rattle.locked_resolvers.specs.Resolvers.{AnswerHas, LockedResolverView, closed_resolver}
 
 -- The reply is to the request, and the resolver that it is to is open and has come to its version. The
 -- verdicts of the reply stand in the resolver's cell of the row, and the resolver has the records that

@@ -1,8 +1,8 @@
 //! All resolvers are asked for a record.
 
 ghost use Rattle.std.specs.Prelude.{◌≡◌, ◌⊎◌, IfErr, IfOk};
-ghost use Rattle.locked_cluster.specs.Commits.{IsAskAllRefusal};
-ghost use Rattle.locked_cluster.specs.declared.refusal.Refusal.TheVariants as refusals;
+ghost use Rattle.locked_resolvers.specs.Asking.{IsAskAllRefusal};
+ghost use Rattle.locked_resolvers.specs.declared.refusal.Refusal.TheVariants as refusals;
 ghost use Rattle.uses.specs.Asking.{HaveAllReplied};
 
 use agreed_ledger::Naming;

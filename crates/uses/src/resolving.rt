@@ -1,8 +1,8 @@
 //! A resolver replies to a request, and its cell of the row is looked at.
 
 ghost use Rattle.std.specs.Prelude.{◌≡◌, IfErr, IfOk, OnErr};
-ghost use Rattle.locked_cluster.specs.NotedReplies.{IsNotedReply};
-ghost use Rattle.locked_cluster.specs.Resolvers.{HasOffered};
+ghost use Rattle.locked_resolvers.specs.NotedReplies.{IsNotedReply};
+ghost use Rattle.locked_resolvers.specs.Resolvers.{HasOffered};
 ghost use Rattle.uses.specs.Resolving.{KeepsAll, RepliesInItsCell, StandsInItsCell};
 
 use agreed_ledger::Naming;

@@ -6,12 +6,12 @@ use Rattle.facts.specs.Stretches.{Agree}
 use Rattle.model.specs.Configs.{Config, IsConfig}
 use Rattle.model.specs.Requests.{Request, request}
 use Rattle.model.proofs.History.Growth.{push_cases}
-use Rattle.locked_cluster.specs.Requests.{RequestView, IsRequestFor}
-use Rattle.locked_cluster.specs.NotedReplies.{NotedReplyView, IsReplyToRequest}
-use Rattle.locked_cluster.specs.Commits.{AreRepliesInOrder, IsAskAllRefusal, IsAskRefusal}
-use Rattle.locked_cluster.specs.Resolvers.{IsResolveRefusal}
-use Rattle.locked_cluster.specs.declared.refusal.Refusal.{Refusal}
-use Rattle.locked_cluster.specs.declared.refusal.Refusal.TheVariants as refusals
+use Rattle.locked_resolvers.specs.Requests.{RequestView, IsRequestFor}
+use Rattle.locked_resolvers.specs.NotedReplies.{NotedReplyView, IsReplyToRequest}
+use Rattle.locked_resolvers.specs.Asking.{AreRepliesInOrder, IsAskAllRefusal, IsAskRefusal}
+use Rattle.locked_resolvers.specs.Resolvers.{IsResolveRefusal}
+use Rattle.locked_resolvers.specs.declared.refusal.Refusal.{Refusal}
+use Rattle.locked_resolvers.specs.declared.refusal.Refusal.TheVariants as refusals
 use Rattle.inboxes.specs.Ends.{ProxyView}
 use Rattle.workers.specs.Asking.{AreRequestsSent, IsRequestSent}
 use Rattle.workers.proofs.RefusedLemmas.{closed_refuses}

@@ -8,11 +8,11 @@ use Rattle.model.specs.Offers.{OfferFault}
 use Rattle.model.specs.Offers as offers
 use Rattle.model.specs.Requests.{Request}
 use Rattle.agreed_ledger.specs.Cells.{ColumnView}
-use Rattle.locked_cluster.specs.Requests.{RequestView}
-use Rattle.locked_cluster.specs.NotedReplies.{NotedReplyView}
-use Rattle.locked_cluster.specs.Resolvers.{HasOffered, HasJudged, HasRepeated, IsFault, IsLockedResolver, IsNotEarly, IsOfferRefusal, LockedResolverView, after_refusal}
-use Rattle.locked_cluster.specs.declared.refusal.Refusal.{Refusal}
-use Rattle.locked_cluster.specs.declared.refusal.Refusal.TheVariants as refusals
+use Rattle.locked_resolvers.specs.Requests.{RequestView}
+use Rattle.locked_resolvers.specs.NotedReplies.{NotedReplyView}
+use Rattle.locked_resolvers.specs.Resolvers.{HasOffered, HasJudged, HasRepeated, IsFault, IsLockedResolver, IsNotEarly, IsOfferRefusal, LockedResolverView, after_refusal}
+use Rattle.locked_resolvers.specs.declared.refusal.Refusal.{Refusal}
+use Rattle.locked_resolvers.specs.declared.refusal.Refusal.TheVariants as refusals
 use Rattle.workers.specs.Desks.{ClosesByCause, DeskView, HasLetGo, HasRow, IsNoneDue, IsSettled, KeepsServing, OnlyFails, Serves, has_failed, next_row}
 use Rattle.workers.specs.Refusing.{IsToldRefusal}
 

@@ -6,11 +6,11 @@ use Rattle.model.specs.Requests.{Request}
 use Rattle.model.specs.ResolverMemory.{ProxyMemory, ResolverView, StandsForRequests}
 use Rattle.model.specs.WriteHistories.{StandsForShares}
 use Rattle.model.proofs.Resolvers.Growth.{new_stands}
-use Rattle.locked_cluster.specs.Requests.{RequestView}
-use Rattle.locked_cluster.specs.Resolvers.{LockedResolverView, IsLockedResolver, IsNotEarly, IsResolveRefusal}
-use Rattle.locked_cluster.specs.Commits.{IsAskRefusal}
-use Rattle.locked_cluster.specs.declared.refusal.Refusal.{Refusal}
-use Rattle.locked_cluster.specs.declared.refusal.Refusal.TheVariants as refusals
+use Rattle.locked_resolvers.specs.Requests.{RequestView}
+use Rattle.locked_resolvers.specs.Resolvers.{LockedResolverView, IsLockedResolver, IsNotEarly, IsResolveRefusal}
+use Rattle.locked_resolvers.specs.Asking.{IsAskRefusal}
+use Rattle.locked_resolvers.specs.declared.refusal.Refusal.{Refusal}
+use Rattle.locked_resolvers.specs.declared.refusal.Refusal.TheVariants as refusals
 use Rattle.workers.specs.Refusing.{WasRefusedBy}
 
 -- what is kept of so many proxies without requests

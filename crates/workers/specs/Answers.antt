@@ -1,6 +1,6 @@
 -- What a worker answers to a request that gets no reply. *Profile*: all of it.
-use Rattle.locked_cluster.specs.Requests.{RequestView}
-use Rattle.locked_cluster.specs.declared.refusal.Refusal.{Refusal}
+use Rattle.locked_resolvers.specs.Requests.{RequestView}
+use Rattle.locked_resolvers.specs.declared.refusal.Refusal.{Refusal}
 
 -- why a request got no reply, and the request
 pub record RefusedRequestView : Type 0 where

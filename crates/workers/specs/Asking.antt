@@ -6,10 +6,10 @@ use Rattle.model.specs.Requests.{Request}
 use Rattle.inboxes.specs.Ends.{ProxyView}
 use Rattle.inboxes.specs.Sending.{IsSentTo}
 use Rattle.inboxes.specs.Tags.{request_tag}
-use Rattle.locked_cluster.specs.Requests.{RequestView}
-use Rattle.locked_cluster.specs.Commits.{IsAskAllRefusal}
-use Rattle.locked_cluster.specs.declared.refusal.Refusal.{Refusal}
-use Rattle.locked_cluster.specs.declared.refusal.Refusal.TheVariants as refusals
+use Rattle.locked_resolvers.specs.Requests.{RequestView}
+use Rattle.locked_resolvers.specs.Asking.{IsAskAllRefusal}
+use Rattle.locked_resolvers.specs.declared.refusal.Refusal.{Refusal}
+use Rattle.locked_resolvers.specs.declared.refusal.Refusal.TheVariants as refusals
 
 -- each request is of the proxy
 abbrev pub AreOwn : ProxyNumber → List RequestView → Type 0

@@ -6,8 +6,8 @@ use Rattle.model.specs.Numbers.{ResolverNumber, RowNumber}
 use Rattle.model.specs.Offers.{OfferFault}
 use Rattle.model.specs.Requests.{Request}
 use Rattle.agreed_ledger.specs.Cells.{ColumnView}
-use Rattle.locked_cluster.specs.Requests.{RequestView}
-use Rattle.locked_cluster.specs.Resolvers.{LockedResolverView, IsFault}
+use Rattle.locked_resolvers.specs.Requests.{RequestView}
+use Rattle.locked_resolvers.specs.Resolvers.{LockedResolverView, IsFault}
 
 -- The verdict cells of the rows that the resolver judged, as far as the worker knows them; the
 -- requests that it holds back; whether it is closed; and whether it was refused memory.

@@ -3,11 +3,11 @@ use Rattle.std.specs.Prelude.{◌≡◌, ◌≢◌, ◌⊎◌}
 use Rattle.model.specs.Numbers.{ResolverNumber, Version}
 use Rattle.model.specs.Configs.{Config}
 use Rattle.model.specs.Requests.{Request}
-use Rattle.locked_cluster.specs.Requests.{RequestView}
-use Rattle.locked_cluster.specs.Resolvers.{LockedResolverView, HasOffered, IsLockedResolver}
-use Rattle.locked_cluster.specs.Resolvers.{IsNotEarly, IsOfferRefusal}
-use Rattle.locked_cluster.specs.declared.refusal.Refusal.{Refusal}
-use Rattle.locked_cluster.specs.declared.refusal.Refusal.TheVariants as refusals
+use Rattle.locked_resolvers.specs.Requests.{RequestView}
+use Rattle.locked_resolvers.specs.Resolvers.{LockedResolverView, HasOffered, IsLockedResolver}
+use Rattle.locked_resolvers.specs.Resolvers.{IsNotEarly, IsOfferRefusal}
+use Rattle.locked_resolvers.specs.declared.refusal.Refusal.{Refusal}
+use Rattle.locked_resolvers.specs.declared.refusal.Refusal.TheVariants as refusals
 use Rattle.workers.specs.declared.answer.Answer.{Answer}
 use Rattle.workers.specs.declared.answer.Answer.TheVariants as answers
 

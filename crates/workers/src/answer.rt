@@ -1,11 +1,11 @@
 //! What a worker answers to a request.
 
 ghost use Rattle.std.specs.Prelude.{◌≡◌};
-ghost use Rattle.locked_cluster.specs.Commits.{IsAskRefusal};
-ghost use Rattle.locked_cluster.specs.declared.refusal.Refusal.TheVariants as refusals;
+ghost use Rattle.locked_resolvers.specs.Asking.{IsAskRefusal};
+ghost use Rattle.locked_resolvers.specs.declared.refusal.Refusal.TheVariants as refusals;
 
 use agreed_ledger::Naming;
-use locked_cluster::{NotedReply, Refusal, Request};
+use locked_resolvers::{NotedReply, Refusal, Request};
 use std::marker::Model;
 
 /// What a worker answers to a request, through a plain channel: the reply of its resolver, or why
@@ -30,7 +30,7 @@ pub(crate) struct RefusedRequest<N: Naming> {
 
 impl<N: Naming> Model for RefusedRequest<N> {
     ghost use Rattle.workers.specs.Answers.{RefusedRequestView};
-    ghost use Rattle.locked_cluster.specs.Commits.{IsAskRefusal};
+    ghost use Rattle.locked_resolvers.specs.Asking.{IsAskRefusal};
 
     ghost Value = { RefusedRequestView };
 

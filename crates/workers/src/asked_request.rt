@@ -6,7 +6,7 @@ use crate::answer::Answer;
 use agreed_ledger::Naming;
 use crossbeam_channel::Sender;
 use inboxes::Question;
-use locked_cluster::Request;
+use locked_resolvers::Request;
 use model::RowNumber;
 use std::marker::Model;
 
@@ -18,7 +18,7 @@ pub struct AskedRequest<N: Naming> {
 }
 
 impl<N: Naming> Model for AskedRequest<N> {
-    ghost use Rattle.locked_cluster.specs.Requests.{RequestView};
+    ghost use Rattle.locked_resolvers.specs.Requests.{RequestView};
 
     ghost Value = { RequestView };
 

@@ -5,15 +5,15 @@ ghost use Rattle.model.specs.Configs.{IsConfig};
 ghost use Rattle.inboxes.specs.Ends.{AreSenders};
 ghost use Rattle.inboxes.specs.Sending.{AreEndedSenders, AreSent, IsSentTo};
 ghost use Rattle.inboxes.specs.Tags.{close_tag, request_tag};
-ghost use Rattle.locked_cluster.specs.Commits.{AreOfOneRecord, AreRepliesInOrder, IsAskAllRefusal};
-ghost use Rattle.locked_cluster.specs.declared.refusal.Refusal.TheVariants as refusals;
+ghost use Rattle.locked_resolvers.specs.Asking.{AreOfOneRecord, AreRepliesInOrder, IsAskAllRefusal};
+ghost use Rattle.locked_resolvers.specs.declared.refusal.Refusal.TheVariants as refusals;
 ghost use Rattle.workers.specs.Asking.{AreOwn, AreRequestsSent, HasOthers, IsInboxRefusal};
 
 use crate::asked_request::AskedRequest;
 use crate::waiting::{Prepared, collect, other_at, prepare};
 use agreed_ledger::{Ledger, Naming};
 use inboxes::{Channels, EndedSender, Message, ProxySenders};
-use locked_cluster::{Asking, NotedReply, Refusal, Request};
+use locked_resolvers::{Asking, NotedReply, Refusal, Request};
 use model::ProxyNumber;
 use std::alloc::Global;
 use std::marker::Model;

@@ -2,13 +2,13 @@
 
 ghost use Rattle.std.specs.Prelude.{◌≡◌, ◌≢◌};
 ghost use Rattle.model.specs.Numbers.{Version};
-ghost use Rattle.locked_cluster.specs.Resolvers.{IsNotEarly};
-ghost use Rattle.locked_cluster.specs.declared.refusal.Refusal.TheVariants as refusals;
+ghost use Rattle.locked_resolvers.specs.Resolvers.{IsNotEarly};
+ghost use Rattle.locked_resolvers.specs.declared.refusal.Refusal.TheVariants as refusals;
 ghost use Rattle.workers.specs.Refusing.{WasRefusedBy};
 
 use crate::answer::RefusedRequest;
 use agreed_ledger::Naming;
-use locked_cluster::{Refusal, Refused, Request, ResolverGuard};
+use locked_resolvers::{Refusal, Refused, Request, ResolverGuard};
 
 /// The request was refused by its resolver, which is closed. The guard of any resolver shows what the
 /// cluster is, and that it has the resolver.

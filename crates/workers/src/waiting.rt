@@ -3,15 +3,15 @@
 ghost use Rattle.std.specs.Prelude.{◌≡◌, ◌≢◌, ◌≤◌, [], length, IfErr, IfOk, IfSome, MatchBool};
 ghost use Rattle.std.specs.Prelude.{MatchOption, vec_capacity};
 ghost use Rattle.model.specs.Configs.{IsConfig};
-ghost use Rattle.locked_cluster.specs.Commits.{AreRepliesInOrder, IsAskAllRefusal, IsAskRefusal};
-ghost use Rattle.locked_cluster.specs.NotedReplies.{IsReplyToRequest};
+ghost use Rattle.locked_resolvers.specs.Asking.{AreRepliesInOrder, IsAskAllRefusal, IsAskRefusal};
+ghost use Rattle.locked_resolvers.specs.NotedReplies.{IsReplyToRequest};
 ghost use Rattle.workers.specs.Asking.{AreOwn, IsOtherAt};
 
 use crate::answer::{Answer, RefusedRequest};
 use crate::asked_request::AskedRequest;
 use agreed_ledger::Naming;
 use crossbeam_channel::{Receiver, bounded};
-use locked_cluster::{NotedReply, Refusal, Request};
+use locked_resolvers::{NotedReply, Refusal, Request};
 use model::ProxyNumber;
 use std::alloc::Global;
 use std::sync::Wait;

@@ -2,7 +2,7 @@
 
 ghost use Rattle.std.specs.Prelude.{◌≡◌, ◌≢◌, ◌<◌, ◌⊎◌, IsFalse, IsTrue, MatchBool, MatchResult};
 ghost use Rattle.workers.specs.Workers.{HasTakenMore, IsWorkerOf, TakesOne, new_worker};
-ghost use Rattle.locked_cluster.specs.declared.refusal.Refusal.TheVariants as refusals;
+ghost use Rattle.locked_resolvers.specs.declared.refusal.Refusal.TheVariants as refusals;
 
 use crate::asked_request::AskedRequest;
 use crate::desk::Desk;
@@ -10,7 +10,7 @@ use crate::ended::EndedWorker;
 use crate::gate::Gate;
 use agreed_ledger::Naming;
 use inboxes::{Body, Channels, FreshEnd, InboxEnd};
-use locked_cluster::{Refusal, SharedResolver};
+use locked_resolvers::{Refusal, SharedResolver};
 use std::alloc::Global;
 use std::marker::Model;
 use std::sync::Wait;

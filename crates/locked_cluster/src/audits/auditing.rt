@@ -7,8 +7,8 @@ ghost use Rattle.locked_cluster.specs.Meetings.{Met};
 use crate::audits::behind_by::BehindBy;
 use crate::commits::ProxyGuard;
 use crate::proxies::Meeting;
-use crate::resolvers::ResolverGuard;
 use agreed_ledger::Naming;
+use locked_resolvers::ResolverGuard;
 
 /// Compares two proxies of one cluster by their versions. At one version both have the same journal,
 /// and so the same metadata; otherwise the journal of one begins that of the other.

@@ -1,8 +1,8 @@
 //! Why a commit failed.
 
 use crate::proxies::{Begun, Ready};
-use crate::refusal::Refusal;
 use agreed_ledger::{Naming, Ticket};
+use locked_resolvers::Refusal;
 use mutation::Batch;
 
 /// Why a commit failed: the phase, the refusal, and what the phase was given, from which the commit

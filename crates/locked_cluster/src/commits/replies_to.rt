@@ -5,8 +5,8 @@ ghost use Rattle.model.specs.Records.{IsHistory};
 ghost use Rattle.locked_cluster.specs.Ready.{AreRepliesOfAll, IsReady};
 
 use crate::proxies::Columns;
-use crate::resolvers::NotedReply;
 use agreed_ledger::{Naming, Records};
+use locked_resolvers::NotedReply;
 use model::{Config, RowNumber};
 use proxy_state::Replies;
 use std::alloc::Global;

@@ -4,20 +4,20 @@ ghost use Rattle.std.specs.Prelude.{◌≡◌, ◌<◌, ◌≤◌, IfOk, IfErr, 
 ghost use Rattle.model.specs.Metadata.{metadata as metadata_of};
 ghost use Rattle.proxy_state.specs.Beginning.{rows_up_to};
 ghost use Rattle.locked_cluster.specs.Audits.{IsConfirmed};
-ghost use Rattle.locked_cluster.specs.Commits.{HandsBack, HoldsBatch, IsAskAllRefusal, IsCommitted};
+ghost use Rattle.locked_resolvers.specs.Asking.{IsAskAllRefusal};
+ghost use Rattle.locked_cluster.specs.Commits.{HandsBack, HoldsBatch, IsCommitted};
 ghost use Rattle.locked_cluster.specs.Commits.{WasFinishRefused, WasSequenceRefused};
 ghost use Rattle.locked_cluster.specs.Meetings.{Met};
 ghost use Rattle.locked_cluster.specs.Proxies.{BeginsTicket, FinishesReady, ShowsRouting};
 ghost use Rattle.locked_cluster.specs.Proxies.{IsBeginRefusal, IsFinishRefusal};
 ghost use Rattle.locked_cluster.specs.Proxies.{IsLockedProxy, IsRoutingRefusal, ShowsFinished};
-ghost use Rattle.locked_cluster.specs.declared.refusal.Refusal.TheVariants as refusals;
+ghost use Rattle.locked_resolvers.specs.declared.refusal.Refusal.TheVariants as refusals;
 
-use crate::commits::asking::Asking;
 use crate::commits::commit_fault::CommitFault;
 use crate::commits::replies_to::{Collected, collect_replies};
 use crate::proxies::{Begun, Columns, LockedProxy, Meeting, NotedFinished, NotedRouting, Ready};
-use crate::refusal::Refusal;
 use agreed_ledger::{Ledger, Naming, Records, Sequencer, Ticket};
+use locked_resolvers::{Asking, Refusal};
 use model::{JournalRow, ProxyNumber, Version};
 use mutation::Batch;
 use proxy_state::Metadata;

@@ -3,8 +3,8 @@
 ghost use Rattle.std.specs.Prelude.{◌≡◌, ◌≤◌, [], length, replicate, vec_capacity, IfOk};
 ghost use Rattle.locked_cluster.specs.Begun.{AreRequestsFor, IsBegun, with_records};
 
-use crate::resolvers::Request;
 use agreed_ledger::{Naming, Records};
+use locked_resolvers::Request;
 use model::RowNumber;
 use request_builder::Request as PlainRequest;
 use std::alloc::Global;

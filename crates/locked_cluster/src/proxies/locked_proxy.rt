@@ -11,7 +11,7 @@ ghost use Rattle.locked_cluster.specs.Proxies.{BeginsTicket, FinishesReady, Show
 ghost use Rattle.locked_cluster.specs.Proxies.{IsBeginRefusal, IsBeginRefusalOf, IsFinishRefusal};
 ghost use Rattle.locked_cluster.specs.Proxies.{IsLockedProxy, IsNewLockedProxy, IsRoutingRefusal};
 ghost use Rattle.locked_cluster.specs.Proxies.{awaits_before};
-ghost use Rattle.locked_cluster.specs.declared.refusal.Refusal.TheVariants as refusals;
+ghost use Rattle.locked_resolvers.specs.declared.refusal.Refusal.TheVariants as refusals;
 
 use crate::proxies::begun::{Begun, Room, joined_with, room_for};
 use crate::proxies::columns::Columns;
@@ -19,8 +19,8 @@ use crate::proxies::meeting::Meeting;
 use crate::proxies::noted_finished::NotedFinished;
 use crate::proxies::noted_routing::NotedRouting;
 use crate::proxies::ready::Ready;
-use crate::refusal::Refusal;
 use agreed_ledger::{Ledger, Naming, Records, Ticket};
+use locked_resolvers::Refusal;
 use model::{Config, JournalRow, ProxyNumber, Routing, RowNumber, Version};
 use proxy_state::{Metadata, Proxy};
 use request_builder::{Record, Requests};

@@ -1,7 +1,7 @@
 -- One more resolver is locked.
 use Rattle.std.proofs.Common.{◌≡◌, ◌∙◌, ◌+◌, ◌<◌, [], ◌∷◌, List, sym, ap, subst, length, slice_get, Some, length-append, arith}
 use Rattle.std.proofs.lemmas.Option.{slice_get-get_or}
-use Rattle.locked_cluster.specs.Resolvers.{LockedResolverView}
+use Rattle.locked_resolvers.specs.Resolvers.{LockedResolverView}
 use Rattle.threads_lines.specs.Meetings.{AreKept}
 use Rattle.threads_lines.proofs.MeetingLemmas.{one_more_kept}
 use Rattle.threads_lines.proofs.meetings.lock_resolvers.Goals as goal

@@ -1,7 +1,7 @@
 -- One more proxy was audited.
 use Rattle.std.proofs.Common.{ℕ, List, rules, subst, sym}
 use Rattle.std.specs.Prelude.{string_bytes}
-use Rattle.locked_cluster.specs.Resolvers.{LockedResolverView}
+use Rattle.locked_resolvers.specs.Resolvers.{LockedResolverView}
 use Rattle.threads_lines.specs.Meetings.{AreKept, IsAuditLine, audit_line}
 use Rattle.threads_lines.proofs.MeetingLemmas.{kept_in_place}
 use Rattle.threads_lines.proofs.PartLemmas.{one_more_part}

@@ -1,8 +1,8 @@
 -- The requests are of one record, and so are the replies.
 use Rattle.std.proofs.Common.{sym, subst, List}
 use Rattle.std.proofs.lemmas.Result.{IfOk-weaker}
-use Rattle.locked_cluster.specs.Requests.{RequestView}
-use Rattle.locked_cluster.specs.Commits.{AreOfOneRecord, AreRepliesInOrder}
+use Rattle.locked_resolvers.specs.Requests.{RequestView}
+use Rattle.locked_resolvers.specs.Asking.{AreOfOneRecord, AreRepliesInOrder}
 use Rattle.uses.specs.Asking.{HaveAllReplied}
 use Rattle.uses.proofs.AskedAll.{all_replied, of_one_record}
 use Rattle.uses.proofs.asking.ask_each.Goals as goal

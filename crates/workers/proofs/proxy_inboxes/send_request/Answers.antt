@@ -1,6 +1,6 @@
 -- The message is the request, and goes to its resolver.
 use Rattle.std.proofs.Common.{◌≡◌, ◌∙◌, ap, sym, subst, ℕ, inr}
-use Rattle.locked_cluster.specs.Requests.{RequestView}
+use Rattle.locked_resolvers.specs.Requests.{RequestView}
 use Rattle.inboxes.specs.declared.tag.Tag.{Tag}
 use Rattle.inboxes.specs.Sending.{IsSentTo}
 use Rattle.inboxes.specs.Tags.{request_tag}

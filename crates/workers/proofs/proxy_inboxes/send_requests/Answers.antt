@@ -2,7 +2,7 @@
 use Rattle.std.proofs.Common.{◌≡◌, ◌∙◌, ◌++◌, [], ◌∷◌, List, sym, ap, subst, length, append-nil, append_assoc, arith}
 use Rattle.std.proofs.lemmas.List.{nil_from_length}
 use Rattle.std.specs.Vec.Iter.{into_iter_items}
-use Rattle.locked_cluster.specs.Requests.{RequestView}
+use Rattle.locked_resolvers.specs.Requests.{RequestView}
 use Rattle.workers.specs.Asking.{AreRequestsSent}
 use Rattle.workers.proofs.AskLemmas.{sent_more}
 use Rattle.workers.proofs.proxy_inboxes.send_requests.Goals as goal

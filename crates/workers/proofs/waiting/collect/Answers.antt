@@ -1,7 +1,7 @@
 -- One request more has its reply.
 use Rattle.std.proofs.Common.{◌+◌, sym, subst, List, take, arith}
-use Rattle.locked_cluster.specs.NotedReplies.{NotedReplyView}
-use Rattle.locked_cluster.specs.Commits.{AreRepliesInOrder}
+use Rattle.locked_resolvers.specs.NotedReplies.{NotedReplyView}
+use Rattle.locked_resolvers.specs.Asking.{AreRepliesInOrder}
 use Rattle.workers.proofs.AskLemmas.{order_next}
 use Rattle.workers.proofs.DeskLemmas.{got}
 use Rattle.workers.proofs.waiting.collect.Goals as goal

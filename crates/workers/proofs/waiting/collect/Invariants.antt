@@ -1,7 +1,7 @@
 -- The requests so far have their replies, and there is room for those to come.
 use Rattle.std.proofs.Common.{◌≤◌, length, take}
 use Rattle.std.specs.Vec.{vec_capacity}
-use Rattle.locked_cluster.specs.Commits.{AreRepliesInOrder}
+use Rattle.locked_resolvers.specs.Asking.{AreRepliesInOrder}
 use Rattle.workers.proofs.waiting.collect.Given as goal
 
 abbrev pub invariant-loop-place : goal.invariant-loop-place

@@ -1,6 +1,6 @@
 -- The requests so far are the proxy's.
 use Rattle.std.proofs.Common.{◌≡◌, ◌<◌, ℕ, slice_get, Some}
-use Rattle.locked_cluster.specs.Requests.{RequestView}
+use Rattle.locked_resolvers.specs.Requests.{RequestView}
 use Rattle.workers.proofs.waiting.other_at.Given as goal
 
 abbrev pub invariant-loop-place : goal.invariant-loop-place

@@ -1,7 +1,7 @@
 -- One message more, with the next request.
 use Rattle.std.proofs.Common.{◌∙◌, ◌+◌, ◌++◌, [], ◌∷◌, List, length, length-append, sym, ap, arith}
 use Rattle.std.proofs.lemmas.List.{take_all}
-use Rattle.locked_cluster.specs.Requests.{RequestView}
+use Rattle.locked_resolvers.specs.Requests.{RequestView}
 use Rattle.workers.proofs.AskLemmas.{take_next}
 use Rattle.workers.proofs.DeskLemmas.{got}
 use Rattle.workers.proofs.waiting.prepare.Goals as goal

@@ -1,8 +1,8 @@
 -- The request is the one that was refused.
 use Rattle.std.specs.Prelude.{Bool, MatchBool}
 use Rattle.std.proofs.Common.{◌≡◌, ◌≢◌, ap, sym, ◌∙◌, subst}
-use Rattle.locked_cluster.specs.Commits.{IsAskRefusal}
-use Rattle.locked_cluster.specs.Requests.{RequestView}
+use Rattle.locked_resolvers.specs.Asking.{IsAskRefusal}
+use Rattle.locked_resolvers.specs.Requests.{RequestView}
 use Rattle.workers.proofs.AskLemmas.{same_refusal}
 use Rattle.workers.proofs.waiting.refusal_of.Goals as goal
 

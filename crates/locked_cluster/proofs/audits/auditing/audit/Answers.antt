@@ -3,10 +3,9 @@ use Rattle.std.proofs.Common.{◌≤◌, subst, List, arith}
 use Rattle.facts.specs.Stretches.{Agree}
 use Rattle.locked_cluster.specs.Audits.{HaveReached}
 use Rattle.locked_cluster.specs.Proxies.{LockedProxyView}
-use Rattle.locked_cluster.specs.Resolvers.{LockedResolverView}
-use Rattle.locked_cluster.proofs.Lists.{take_all}
+use Rattle.locked_resolvers.specs.Resolvers.{LockedResolverView}
+use Rattle.locked_resolvers.proofs.Lists.{got, take_all}
 use Rattle.locked_cluster.proofs.ProxyAudits.{has_reached, have_reached_next, is_audited}
-use Rattle.locked_cluster.proofs.ProxyColumns.{got}
 use Rattle.locked_cluster.proofs.ProxyMeets.{agree_lists}
 use Rattle.locked_cluster.proofs.audits.auditing.audit.Goals as goal
 

@@ -3,8 +3,7 @@ use Rattle.std.proofs.Common.{◌≡◌, ◌∙◌, sym, ap, List, [], ◌∷◌
 use Rattle.agreed_ledger.specs.Cells.{ColumnView}
 use Rattle.model.specs.Agreed.{Column}
 use Rattle.model.specs.declared.reply.Reply.{Reply}
-use Rattle.locked_cluster.proofs.Lists.{take_all}
-use Rattle.locked_cluster.proofs.ProxyColumns.{got}
+use Rattle.locked_resolvers.proofs.Lists.{got, take_all}
 use Rattle.locked_cluster.proofs.ProxyRows.{agree_from_zero}
 use Rattle.locked_cluster.proofs.CommitReplies.{AllSayOf, all_placed, columns_count, columns_in, columns_next, is_ready, place_next, say_more, says_of}
 use Rattle.locked_cluster.proofs.commits.replies_to.collect_replies.Goals as goal

@@ -4,7 +4,7 @@ use Rattle.std.specs.Vec.Iter.{into_iter_items}
 use Rattle.facts.specs.Stretches.{Stretch}
 use Rattle.model.specs.Records.{Record}
 use Rattle.model.specs.Requests.{Request}
-use Rattle.locked_cluster.specs.Requests.{RequestView, IsRequestFor}
+use Rattle.locked_resolvers.specs.Requests.{RequestView, IsRequestFor}
 use Rattle.locked_cluster.specs.Begun.{with_records}
 use Rattle.locked_cluster.proofs.ProxyRequests.{copy_popped, first_is_for, joined_next, rest_are_for}
 use Rattle.locked_cluster.proofs.proxies.begun.joined_with.Goals as goal

@@ -1,6 +1,6 @@
 -- What the type keeps.
 use Rattle.std.proofs.Common.{subst}
-use Rattle.locked_cluster.specs.Commits.{IsAskRefusal}
+use Rattle.locked_resolvers.specs.Asking.{IsAskRefusal}
 use Rattle.workers.specs.Answers.{RefusedRequestView}
 use Rattle.workers.proofs.answer.RefusedRequest.refusal.Goals as goal
 

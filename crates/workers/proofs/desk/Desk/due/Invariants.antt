@@ -1,6 +1,6 @@
 -- The turn of no request so far has come.
 use Rattle.std.proofs.Common.{◌≡◌, ◌<◌, ℕ, slice_get, Some}
-use Rattle.locked_cluster.specs.Requests.{RequestView}
+use Rattle.locked_resolvers.specs.Requests.{RequestView}
 use Rattle.workers.proofs.desk.Desk.due.Given as goal
 
 abbrev pub invariant-loop-place : goal.invariant-loop-place

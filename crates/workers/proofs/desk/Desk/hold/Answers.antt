@@ -1,6 +1,6 @@
 -- A request more is held back.
 use Rattle.std.proofs.Common.{ap, subst, List}
-use Rattle.locked_cluster.specs.Requests.{RequestView}
+use Rattle.locked_resolvers.specs.Requests.{RequestView}
 use Rattle.workers.specs.Desks.{DeskView, KeepsServing}
 use Rattle.workers.proofs.DeskLemmas.{one_more}
 use Rattle.workers.proofs.desk.Desk.hold.Goals as goal

@@ -3,7 +3,7 @@ use Rattle.std.proofs.Common.{ap, sym, ◌∙◌, subst, ℕ, ◌<◌, List, len
 use Rattle.std.specs.Prelude.{IsFalse}
 use Rattle.std.proofs.lemmas.Option.{same_Some, slice_get_within}
 use Rattle.facts.specs.Stretches.{end_of}
-use Rattle.locked_cluster.specs.Requests.{RequestView}
+use Rattle.locked_resolvers.specs.Requests.{RequestView}
 use Rattle.workers.specs.Desks.{DeskView, KeepsServing, has_failed}
 use Rattle.workers.proofs.DeskLemmas.{cause_moved, got, taken_out}
 use Rattle.workers.specs.declared.gate.Place.{Place}

@@ -2,8 +2,8 @@
 use Rattle.std.proofs.Common.{sym, ap, ◌∙◌, ◌⊎◌, subst, inl}
 use Rattle.std.specs.Prelude.{IsTrue}
 use Rattle.model.specs.Offers.{OfferFault}
-use Rattle.locked_cluster.specs.Requests.{RequestView}
-use Rattle.locked_cluster.specs.Resolvers.{IsFault, IsOfferRefusal, LockedResolverView}
+use Rattle.locked_resolvers.specs.Requests.{RequestView}
+use Rattle.locked_resolvers.specs.Resolvers.{IsFault, IsOfferRefusal, LockedResolverView}
 use Rattle.workers.specs.Refusing.{IsToldRefusal}
 use Rattle.workers.proofs.DeskLemmas.{closed_for, fails_keeps, keeps_trans, number_refused, told_refusal}
 use Rattle.workers.proofs.desk.Desk.offered.Goals as goal

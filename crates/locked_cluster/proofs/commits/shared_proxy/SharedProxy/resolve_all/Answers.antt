@@ -2,10 +2,10 @@
 use Rattle.std.proofs.Common.{sym, ap, subst, ℕ, List}
 use Rattle.facts.specs.Stretches.{Stretch}
 use Rattle.model.specs.Records.{Record, IsHistory}
-use Rattle.locked_cluster.specs.Requests.{RequestView}
-use Rattle.locked_cluster.specs.NotedReplies.{NotedReplyView}
+use Rattle.locked_resolvers.specs.Requests.{RequestView}
+use Rattle.locked_resolvers.specs.NotedReplies.{NotedReplyView}
 use Rattle.locked_cluster.specs.Ready.{AreRepliesOfAll}
-use Rattle.locked_cluster.specs.Commits.{AreOfOneRecord, AreRepliesInOrder}
+use Rattle.locked_resolvers.specs.Asking.{AreOfOneRecord, AreRepliesInOrder}
 use Rattle.locked_cluster.proofs.CommitRequests.{of_one_record, replies_of_all}
 use Rattle.locked_cluster.proofs.commits.shared_proxy.SharedProxy.resolve_all.Goals as goal
 

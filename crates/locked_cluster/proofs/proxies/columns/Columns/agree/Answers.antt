@@ -2,7 +2,8 @@
 use Rattle.std.proofs.Common.{◌≤◌, subst, min, length, arith}
 use Rattle.model.specs.Agreed.{Columns}
 use Rattle.locked_cluster.specs.Columns.{ColumnsAgree, known_columns}
-use Rattle.locked_cluster.proofs.ProxyColumns.{agree_more, all_agree, got, known_count, one_resolver}
+use Rattle.locked_resolvers.proofs.Lists.{got}
+use Rattle.locked_cluster.proofs.ProxyColumns.{agree_more, all_agree, known_count, one_resolver}
 use Rattle.locked_cluster.proofs.proxies.columns.Columns.agree.Goals as goal
 
 pub agree-requires : goal.agree-requires

@@ -3,8 +3,8 @@ use Rattle.std.proofs.Common.{◌∙◌, sym, ap, List, length, arith}
 use Rattle.agreed_ledger.specs.Cells.{ColumnView}
 use Rattle.model.specs.Agreed.{Column}
 use Rattle.locked_cluster.specs.Columns.{known_columns}
-use Rattle.locked_cluster.proofs.Lists.{take_all}
-use Rattle.locked_cluster.proofs.ProxyColumns.{copied_count, copied_next, got, got_in}
+use Rattle.locked_resolvers.proofs.Lists.{got, take_all}
+use Rattle.locked_cluster.proofs.ProxyColumns.{copied_count, copied_next, got_in}
 use Rattle.locked_cluster.proofs.proxies.columns.Columns.copy.Goals as goal
 
 pub loop-column-init : goal.loop-column-init

@@ -9,8 +9,8 @@ use Rattle.model.specs.Finishing.{ProxyView, HasBegun}
 use Rattle.agreed_ledger.specs.Sequencing.{TicketView}
 use Rattle.locked_cluster.specs.Begun.{AreRequestsFor, BegunView, IsBegun, requests_to_all, with_records}
 use Rattle.locked_cluster.specs.Proxies.{LockedProxyView, IsLockedProxy, IsBeginRefusalOf, BeginsTicket, MayFollow}
-use Rattle.locked_cluster.specs.declared.refusal.Refusal.{Refusal}
-use Rattle.locked_cluster.specs.declared.refusal.Refusal.TheVariants as refusals
+use Rattle.locked_resolvers.specs.declared.refusal.Refusal.{Refusal}
+use Rattle.locked_resolvers.specs.declared.refusal.Refusal.TheVariants as refusals
 use Rattle.locked_cluster.proofs.ProxyRows.{agree_from_zero, from_zero}
 use Rattle.locked_cluster.proofs.ProxyBegins.{Continues, all_count, are_requests_for, begins_ticket, begun_keeps, is_begun, may_begin, not_mine, out_of_order}
 use Rattle.locked_cluster.proofs.proxies.locked_proxy.LockedProxy.begin_record.Goals as goal

@@ -7,7 +7,7 @@ use Rattle.model.specs.Finishing.{ProxyView, Replies, HasFinished}
 use Rattle.locked_cluster.specs.Ready.{ReadyView, IsReady}
 use Rattle.locked_cluster.specs.Answers.{NotedFinishedView, IsNotedFinished}
 use Rattle.locked_cluster.specs.Proxies.{LockedProxyView, IsLockedProxy, IsFinishRefusal, FinishesReady}
-use Rattle.locked_cluster.specs.declared.refusal.Refusal.TheVariants as refusals
+use Rattle.locked_resolvers.specs.declared.refusal.Refusal.TheVariants as refusals
 use Rattle.locked_cluster.proofs.ProxyRows.{agree_from_zero}
 use Rattle.locked_cluster.proofs.ProxyFinishes.{IsNext, is_next, finished_keeps, is_noted, finishes_ready, none_awaited, other_awaited, awaited_fails}
 use Rattle.locked_cluster.proofs.proxies.locked_proxy.LockedProxy.finish.Goals as goal

@@ -1,0 +1,3 @@
+mod AskedRequests
+pub mod Lists
+pub mod ServedRequests

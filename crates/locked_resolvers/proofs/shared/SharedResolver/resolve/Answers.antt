@@ -1,0 +1,17 @@
+-- A call that has waited is not refused as early, and by the resolver of its number.
+use Rattle.std.proofs.Common.{◌≡◌, subst, ℕ, rules, false}
+use Rattle.locked_resolvers.specs.Resolvers.{IsLockedResolver, TellsTaken, is_early}
+use Rattle.locked_resolvers.proofs.ServedRequests.{not_early}
+use Rattle.locked_resolvers.proofs.shared.SharedResolver.resolve.Goals as goal
+
+pub returns-clause-refused : goal.returns-clause-refused
+returns-clause-refused g c =
+    let waited : is_early c.wait_while-guard.result.value c.args.request.plain ≡ false = search rules in
+    let number : c.wait_while-guard.result.value.memory.number ≡ c.args.self.now = search rules in
+    let keeps : IsLockedResolver g.N.Naming.cells.config c.wait_while-guard.result.value = search rules in
+    (not_early g.N.Naming.cells.config c.wait_while-guard.result.value c.args.request.plain c.in-Err.refused.refusal keeps waited c.in-Err.ensures.refused, (c.wait_while-guard.result.value, keeps, number, c.in-Err.ensures.refused))
+
+pub returns-clause-taken : goal.returns-clause-taken
+returns-clause-taken g c =
+    let number : c.wait_while-guard.result.value.memory.number ≡ c.args.self.now = search rules in
+    subst (λ (r : ℕ). TellsTaken c.args.request.plain.row r c.in-Err.refused.refusal c.in-Err.refused.taken) number c.in-Err.ensures.taken

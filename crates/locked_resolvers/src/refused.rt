@@ -1,0 +1,54 @@
+//! Why a request was not served.
+
+ghost use Rattle.std.specs.Prelude.{◌≡◌, None};
+ghost use Rattle.locked_resolvers.specs.Refusals.{of_not_judged, taken_note};
+
+use crate::refusal::Refusal;
+use crate::request::Request;
+use agreed_ledger::{Naming, VerdictNote};
+use facts::Unset;
+use state_memory::NotJudged;
+
+/// Why a request was not served, and the request.
+#[derive(Drop)]
+pub struct Refused<N: Naming> {
+    /// Why.
+    pub refusal: Refusal,
+    /// The request.
+    pub request: Request<N>,
+    /// With `CellTaken` a note that knows the verdicts in the cell, and otherwise none.
+    pub taken: Option<VerdictNote<N>>,
+}
+
+impl<N: Naming> Refused<N> {
+    /// The request was refused so, and no cell was taken.
+    pub(crate) fn by(refusal: Refusal, request: Request<N>) -> Refused<N>
+        ensures refusal { result.refusal ≡ refusal }
+        ensures request { result.request ≡ request }
+        ensures taken { result.taken ≡ None }
+    {
+        Refused {
+            refusal,
+            request,
+            taken: None,
+        }
+    }
+
+    /// The request came next and was not judged. Want of memory is never told as a taken cell, nor
+    /// a taken cell as want of memory.
+    pub(crate) fn unjudged(why: NotJudged<Unset<VerdictNote<N>>>, request: Request<N>) -> Refused<N>
+        ensures refusal { result.refusal ≡ of_not_judged why }
+        ensures request { result.request ≡ request }
+        ensures taken { result.taken ≡ taken_note why }
+    {
+        match why {
+            NotJudged::OutOfMemory => Refused::by(Refusal::OutOfMemory, request),
+            NotJudged::NotKept(Unset::OutOfMemory) => Refused::by(Refusal::OutOfMemory, request),
+            NotJudged::NotKept(Unset::Taken(note)) => Refused {
+                refusal: Refusal::CellTaken,
+                request,
+                taken: Some(note),
+            },
+        }
+    }
+}
