@@ -1,4 +1,5 @@
-//! The tests of dated_owners, request_builder, share_judge and state_memory, by their public calls.
+//! The tests of dated_owners, request_builder, share_judge, state_memory, proxy_state and turn_world, by
+//! their public calls.
 #![tactic(auto)]
 
 #[cfg(test)]

@@ -1,14 +1,15 @@
 //! Tests of dated_owners: whom a map asks after moves.
 
+use crate::tests::{Copied, copy_of};
 use dated_owners::{OwnerMap, Refusal};
 use std::alloc::Global;
 use std::process::Abort;
 use std::test::Fail;
-use system_keys::{Items, OutOfMemory};
+use system_keys::{Items, KeyRange, OutOfMemory};
 use testing::{Ends, range, twice};
 
 /// A call of a map, and what it returns.
-#[derive(Clone, Copy, Debug)]
+#[derive(Clone, Copy)]
 enum Call {
     /// A move of the range at the date to the resolver, and what it is refused with.
     Move(Ends<'static>, u64, usize, Option<Refusal>),
@@ -22,6 +23,17 @@ enum Call {
     Pieces(usize),
 }
 
+/// One call for a move of the range.
+fn move_by_call(
+    map: &mut OwnerMap,
+    range: &KeyRange,
+    date: u64,
+    dest: usize,
+) -> Result<(), Refusal> {
+    map.move_range(range, date, dest)
+}
+
+/// What a move of the range is refused with, if it is.
 fn moved(
     map: &mut OwnerMap,
     alloc: Global,
@@ -30,38 +42,59 @@ fn moved(
     dest: usize,
 ) -> Result<Option<Refusal>, Fail> {
     let range = range(alloc, ends.0, ends.1)?;
-    Ok(twice!(map.move_range(&range, date, dest), Refusal::OutOfMemory).err())
+    let moved = twice!(move_by_call(map, &range, date, dest), Refusal::OutOfMemory);
+    Ok(moved.err())
 }
 
-fn readers(
+/// One call for whom a read of the range at the snapshot asks, or a write of it.
+fn asked_by_call(
+    map: &OwnerMap,
+    range: &KeyRange,
+    snapshot: Option<u64>,
+) -> Result<Items<usize>, OutOfMemory> {
+    match snapshot {
+        Some(snapshot) => map.read_owners(range, snapshot),
+        None => map.write_owners(range),
+    }
+}
+
+/// Whether that call names these.
+fn asks_by_call(
+    map: &OwnerMap,
+    range: &KeyRange,
+    snapshot: Option<u64>,
+    asked: &[usize],
+) -> Result<bool, OutOfMemory> {
+    let found = asked_by_call(map, range, snapshot)?;
+    Ok(found.as_slice() == asked)
+}
+
+/// Whether a read of these keys at the snapshot, or a write of them, asks these.
+fn asks(
     map: &OwnerMap,
     alloc: Global,
     ends: Ends<'_>,
-    snapshot: u64,
-) -> Result<Items<usize>, Fail> {
+    snapshot: Option<u64>,
+    asked: &[usize],
+) -> Result<bool, Fail> {
     let range = range(alloc, ends.0, ends.1)?;
-    Ok(twice!(map.read_owners(&range, snapshot), OutOfMemory)?)
-}
-
-fn writers(map: &OwnerMap, alloc: Global, ends: Ends<'_>) -> Result<Items<usize>, Fail> {
-    let range = range(alloc, ends.0, ends.1)?;
-    Ok(twice!(map.write_owners(&range), OutOfMemory)?)
+    Ok(twice!(asks_by_call(map, &range, snapshot, asked), OutOfMemory)?)
 }
 
 /// Whether the call returns what it should.
 fn is_right(map: &mut OwnerMap, alloc: Global, call: Call) -> Result<bool, Fail> {
-    Ok(match call {
-        Call::Move(ends, date, dest, refusal) => moved(map, alloc, ends, date, dest)? == refusal,
+    match call {
+        Call::Move(ends, date, dest, refusal) => {
+            Ok(moved(map, alloc, ends, date, dest)? == refusal)
+        }
         Call::Forget(version) => {
             map.forget(version);
-            true
+            Ok(true)
         }
-        Call::Read(ends, snapshot, asked) => {
-            readers(map, alloc, ends, snapshot)?.as_slice() == asked
-        }
-        Call::Write(ends, asked) => writers(map, alloc, ends)?.as_slice() == asked,
-        Call::Pieces(count) => map.pieces() == count,
-    })
+        Call::Read(ends, snapshot, asked) => asks(map, alloc, ends, Some(snapshot), asked),
+        Call::Write(ends, asked) => asks(map, alloc, ends, None, asked),
+        Call::Pieces(count) => Ok(map.pieces() == count),
+    }
 }
 
 fn are_right<R: Abort + AllocGlobal>(
@@ -69,14 +102,29 @@ fn are_right<R: Abort + AllocGlobal>(
     map: &mut OwnerMap,
     calls: &[Call],
 ) -> Result<(), Fail> {
-    for call in calls {
-        assert!(rt; is_right(map, rt.alloc(), *call)?, "{call:?}");
+    for (place, call) in calls.iter().enumerate() {
+        assert!(rt; is_right(map, rt.alloc(), *call)?, "call {place}");
     }
     Ok(())
 }
 
+/// One call for a map of three resolvers.
+fn map_by_call(alloc: Global) -> Result<OwnerMap, OutOfMemory> {
+    OwnerMap::new(alloc, 3)
+}
+
 fn new_map(alloc: Global) -> Result<OwnerMap, OutOfMemory> {
-    twice!(OwnerMap::new(alloc, 3), OutOfMemory)
+    twice!(map_by_call(alloc), OutOfMemory)
+}
+
+/// The calls return what they should, after those of the two moves.
+fn are_right_after_moves<R: Abort + AllocGlobal>(
+    rt: &R,
+    map: &mut OwnerMap,
+    calls: &[Call],
+) -> Result<(), Fail> {
+    are_right(rt, map, TWO_MOVES)?;
+    are_right(rt, map, calls)
 }
 
 const ALL: Ends<'static> = (b"", b"\xff\xff");
@@ -132,8 +180,7 @@ const FORGETTING: &[Call] = &[
 #[test]
 fn what_is_forgotten_does_not_come_back(rt: HostRuntime) -> Result<(), Fail> {
     let mut map = new_map(rt.alloc())?;
-    are_right(&rt, &mut map, TWO_MOVES)?;
-    are_right(&rt, &mut map, FORGETTING)
+    are_right_after_moves(&rt, &mut map, FORGETTING)
 }
 
 /// Refused moves after these two change nothing, and one at the date of the last is made.
@@ -148,8 +195,7 @@ const REFUSED: &[Call] = &[
 #[test]
 fn dates_may_be_equal_but_not_go_back(rt: HostRuntime) -> Result<(), Fail> {
     let mut map = new_map(rt.alloc())?;
-    are_right(&rt, &mut map, TWO_MOVES)?;
-    are_right(&rt, &mut map, REFUSED)
+    are_right_after_moves(&rt, &mut map, REFUSED)
 }
 
 /// Each refusal with the number and the name that are printed.
@@ -199,24 +245,39 @@ const MANY_FORGOTTEN: &[Call] = &[
 ];
 
 /// The keys from each one of 1 to 63 on move to the resolver of this number, at that date.
-fn moved_often(alloc: Global) -> Result<OwnerMap, Fail> {
-    let mut map = OwnerMap::new(alloc, 64)?;
+fn move_often(alloc: Global, map: &mut OwnerMap) -> Result<(), Fail> {
     for number in 1..64u8 {
-        moved(
-            &mut map,
-            alloc,
-            (&[number], b"\xff"),
-            number as u64,
-            number as usize,
-        )?;
+        let ends: Ends<'_> = (&[number], b"\xff");
+        moved(map, alloc, ends, number as u64, number as usize)?;
     }
-    Ok(map)
+    Ok(())
+}
+
+impl Copied for OwnerMap {
+    fn copied(&self) -> Result<OwnerMap, OutOfMemory> {
+        self.copy()
+    }
+}
+
+/// The map forgets moves, and a copy of it does not.
+fn forgets_beside_copy<R: Abort + AllocGlobal>(
+    rt: &R,
+    map: &mut OwnerMap,
+    copy: &mut OwnerMap,
+) -> Result<(), Fail> {
+    are_right(rt, map, MANY_FORGOTTEN)?;
+    are_right(rt, copy, MANY_MOVES)
+}
+
+/// Many moves are made, and then forgotten beside a copy.
+fn forgets_many<R: Abort + AllocGlobal>(rt: &R, map: &mut OwnerMap) -> Result<(), Fail> {
+    move_often(rt.alloc(), map)?;
+    let mut copy = copy_of(map)?;
+    forgets_beside_copy(rt, map, &mut copy)
 }
 
 #[test]
 fn many_moves_are_forgotten_and_stay_in_a_copy(rt: HostRuntime) -> Result<(), Fail> {
-    let mut map = moved_often(rt.alloc())?;
-    let mut copy = twice!(map.copy(), OutOfMemory)?;
-    are_right(&rt, &mut map, MANY_FORGOTTEN)?;
-    are_right(&rt, &mut copy, MANY_MOVES)
+    let mut map = OwnerMap::new(rt.alloc(), 64)?;
+    forgets_many(&rt, &mut map)
 }

@@ -2,17 +2,17 @@
 
 mod shared_moves;
 
-use crate::tests::{are_alike, made, marks};
+use crate::tests::{Copied, are_alike, copy_of, is_copied, made, marks, request_of_states};
 use dated_owners::OwnerMap;
 use model::Part;
 use mutation::Batch;
 use request_builder::{Move, Moves, Record, Request, RequestHeader, Requests, Share, build};
 use std::alloc::{AllocError, Global};
+use std::process::Abort;
 use std::test::Fail;
 use system_keys::{Change, Items, OutOfMemory};
 use testing::{
-    Ends, Given, NOTHING, PartLine, Step, batch, list, none, one, part, plain_batch, range, room,
-    twice,
+    Ends, Given, NOTHING, PartLine, Step, batch, list, none, part, plain_batch, range, room, twice,
 };
 
 // ---- records and requests
@@ -40,15 +40,37 @@ impl Moved {
     }
 }
 
-/// The record of the batch at version 40, after version 30, of proxy 1 as row 3.
-fn record(alloc: Global, moves: &Moves, batch: &Batch) -> Result<Record, OutOfMemory> {
-    twice!(
-        Record::new(alloc, 3, 30, 40, 20, 1, moves, batch),
-        OutOfMemory
-    )
+/// One call for the record of the batch at version 40, after version 30, of proxy 1 as row 3.
+fn record_by_call(alloc: Global, moves: &Moves, batch: &Batch) -> Result<Record, OutOfMemory> {
+    Record::new(alloc, 3, 30, 40, 20, 1, moves, batch)
 }
 
-/// The requests for that record.
+/// That record, which is made again after a failed allocation.
+fn record(alloc: Global, moves: &Moves, batch: &Batch) -> Result<Record, OutOfMemory> {
+    twice!(record_by_call(alloc, moves, batch), OutOfMemory)
+}
+
+/// One call for the requests of the record.
+fn requests_by_call(
+    alloc: Global,
+    record: &Record,
+    owners: &OwnerMap,
+    oldest: u64,
+) -> Result<Requests, OutOfMemory> {
+    build(alloc, record, owners, oldest, 10)
+}
+
+/// Those requests, which are built again after a failed allocation.
+fn requests_for(
+    alloc: Global,
+    record: &Record,
+    owners: &OwnerMap,
+    oldest: u64,
+) -> Result<Requests, OutOfMemory> {
+    twice!(requests_by_call(alloc, record, owners, oldest), OutOfMemory)
+}
+
+/// The requests for the record of the batch.
 fn built(
     alloc: Global,
     moved: &Moved,
@@ -56,10 +78,7 @@ fn built(
     batch: &Batch,
 ) -> Result<Requests, OutOfMemory> {
     let record = record(alloc, &moved.moves, batch)?;
-    twice!(
-        build(alloc, &record, &moved.owners, oldest, 10),
-        OutOfMemory
-    )
+    requests_for(alloc, &record, &moved.owners, oldest)
 }
 
 fn header(resolver: usize) -> RequestHeader {
@@ -73,11 +92,24 @@ fn header(resolver: usize) -> RequestHeader {
     }
 }
 
-fn is_asked(asked: &[&[usize]], number: usize, resolver: usize) -> bool {
-    match asked.get(number) {
-        Some(resolvers) => resolvers.contains(&resolver),
-        None => false,
+fn has(resolvers: &[usize], resolver: usize) -> bool {
+    for asked in resolvers {
+        if *asked == resolver {
+            return true;
+        }
     }
+    false
+}
+
+fn push_part(
+    alloc: Global,
+    parts: &mut Vec<Part>,
+    number: usize,
+    line: PartLine<'_>,
+) -> Result<(), Fail> {
+    let part = part(alloc, number, line)?;
+    parts.push(part)?;
+    Ok(())
 }
 
 /// The parts of those of the transactions that ask the resolver.
@@ -88,9 +120,9 @@ fn parts_to(
     asked: &[&[usize]],
 ) -> Result<Items<Part>, Fail> {
     let mut parts = room(alloc, lines.len())?;
-    for (number, line) in lines.iter().enumerate() {
-        if is_asked(asked, number, resolver) {
-            parts.push(part(alloc, number, *line)?)?;
+    for (number, (line, resolvers)) in lines.iter().zip(asked).enumerate() {
+        if has(*resolvers, resolver) {
+            push_part(alloc, &mut parts, number, *line)?;
         }
     }
     Ok(Items::from(parts))
@@ -127,12 +159,10 @@ fn lists(alloc: Global, asked: &[&[usize]]) -> Result<Items<Items<usize>>, Alloc
 
 // ---- whom ranges ask
 
-/// Three resolvers: `[m, t)` moves to 1 at date 21, and `[p, q)` to 2 at date 41.
-fn moved_twice(alloc: Global) -> Result<Moved, Fail> {
-    let mut moved = Moved::new(alloc, OwnerMap::new(alloc, 3)?);
+/// Of three resolvers, `[m, t)` moves to 1 at date 21, and `[p, q)` to 2 at date 41.
+fn move_twice(alloc: Global, moved: &mut Moved) -> Result<(), Fail> {
     moved.add(alloc, (b"m", b"t"), 21, 1)?;
-    moved.add(alloc, (b"p", b"q"), 41, 2)?;
-    Ok(moved)
+    moved.add(alloc, (b"p", b"q"), 41, 2)
 }
 
 /// Reads and writes of the ranges that moved twice.
@@ -156,6 +186,18 @@ const FORGETTING: &[(u64, u64, &[&[usize]])] = &[
     (10, 0, WITHOUT_FIRST),
 ];
 
+/// Whether they are the requests to so many resolvers for transactions that ask these.
+fn are_requests(
+    alloc: Global,
+    requests: &Requests,
+    resolvers: usize,
+    lines: &[PartLine<'_>],
+    asked: &[&[usize]],
+) -> Result<bool, Fail> {
+    let wanted = requests_to(alloc, resolvers, lines, asked)?;
+    Ok(are_alike(alloc, requests, &wanted)?)
+}
+
 /// Whether the requests for these transactions are those to whom they ask.
 fn are_built(
     alloc: Global,
@@ -166,21 +208,26 @@ fn are_built(
 ) -> Result<bool, Fail> {
     let batch = plain_batch(alloc, lines)?;
     let requests = built(alloc, moved, oldest, &batch)?;
-    let wanted = requests_to(alloc, moved.owners.resolvers(), lines, asked)?;
-    Ok(are_alike(alloc, &requests, &wanted)?)
+    are_requests(alloc, &requests, moved.owners.resolvers(), lines, asked)
 }
 
-#[test]
-fn whole_ranges_go_to_those_who_are_asked(rt: HostRuntime) -> Result<(), Fail> {
-    let mut moved = moved_twice(rt.alloc())?;
+/// The four go to those whom they ask, after each forgetting.
+fn go_to_asked<R: Abort + AllocGlobal>(rt: &R, moved: &mut Moved) -> Result<(), Fail> {
+    move_twice(rt.alloc(), moved)?;
     for (forgotten, oldest, asked) in FORGETTING {
         moved.owners.forget(*forgotten);
         assert!(rt;
-            are_built(rt.alloc(), &moved, *oldest, FOUR, *asked)?,
+            are_built(rt.alloc(), moved, *oldest, FOUR, *asked)?,
             "{forgotten} {oldest}"
         );
     }
     Ok(())
+}
+
+#[test]
+fn whole_ranges_go_to_those_who_are_asked(rt: HostRuntime) -> Result<(), Fail> {
+    let mut moved = Moved::new(rt.alloc(), OwnerMap::new(rt.alloc(), 3)?);
+    go_to_asked(&rt, &mut moved)
 }
 
 /// Two reads and two writes of all keys.
@@ -194,19 +241,24 @@ const OF_ALL: PartLine<'static> = (
 const EACH: &[usize] = &[0, 1, 2, 3, 4, 5, 6, 7, 8, 9, 10, 11, 12, 13, 14, 15];
 
 /// The keys from each one of 1 to 15 on move to the resolver of this number, at that date.
-fn moved_often(alloc: Global) -> Result<Moved, Fail> {
-    let mut moved = Moved::new(alloc, OwnerMap::new(alloc, 16)?);
+fn move_often(alloc: Global, moved: &mut Moved) -> Result<(), Fail> {
     for number in 1..16u8 {
         moved.add(alloc, (&[number], b"\xff"), number as u64, number as usize)?;
     }
-    Ok(moved)
+    Ok(())
+}
+
+/// Many transactions go to the owners of those moves.
+fn go_to_each<R: Abort + AllocGlobal>(rt: &R, moved: &mut Moved) -> Result<(), Fail> {
+    move_often(rt.alloc(), moved)?;
+    assert!(rt; are_built(rt.alloc(), moved, 0, &[OF_ALL; 40], &[EACH; 40])?);
+    Ok(())
 }
 
 #[test]
 fn many_transactions_go_to_the_owners_of_many_moves(rt: HostRuntime) -> Result<(), Fail> {
-    let moved = moved_often(rt.alloc())?;
-    assert!(rt; are_built(rt.alloc(), &moved, 0, &[OF_ALL; 40], &[EACH; 40])?);
-    Ok(())
+    let mut moved = Moved::new(rt.alloc(), OwnerMap::new(rt.alloc(), 16)?);
+    go_to_each(&rt, &mut moved)
 }
 
 // ---- state transactions
@@ -241,18 +293,7 @@ const LOCK_PARTS: &[(bool, &[PartLine<'static>])] = &[
     (true, &[(5, &[], &[]), (5, &[], &[])]),
 ];
 
-/// The request with that part. Resolver 0 alone gets the content.
-fn lock_request_to(
-    alloc: Global,
-    resolver: usize,
-    line: PartLine<'_>,
-    lock_aware: bool,
-) -> Result<Request, Fail> {
-    let parts = one(alloc, part(alloc, 0, line)?)?;
-    let marks = marks(alloc, &[0], resolver == 0, (LOCK, lock_aware))?;
-    made(header(resolver), parts, marks)
-}
-
+/// The requests with those parts.
 fn lock_requests(
     alloc: Global,
     lock_aware: bool,
@@ -260,7 +301,8 @@ fn lock_requests(
 ) -> Result<Requests, Fail> {
     let mut requests = room(alloc, lines.len())?;
     for (resolver, line) in lines.iter().enumerate() {
-        requests.push(lock_request_to(alloc, resolver, *line, lock_aware)?)?;
+        let (header, content) = (header(resolver), (LOCK, lock_aware));
+        requests.push(request_of_states(alloc, header, &[*line], &[0], content)?)?;
     }
     with_asked(alloc, requests, &[&[0, 1], &[]])
 }
@@ -275,20 +317,31 @@ fn a_state_transaction_goes_to_every_resolver(rt: HostRuntime) -> Result<(), Fai
     Ok(())
 }
 
-/// Whether copies of the request and of its share are whole.
-fn is_copied(alloc: Global, request: &Request) -> Result<bool, Fail> {
-    let copy = twice!(request.copy(), OutOfMemory)?;
-    let share = twice!(request.share().copy(), OutOfMemory)?;
-    Ok(are_alike(alloc, request, &copy)? && are_alike(alloc, request.share(), &share)?)
+impl Copied for Requests {
+    fn copied(&self) -> Result<Requests, OutOfMemory> {
+        self.copy()
+    }
+}
+
+impl Copied for Request {
+    fn copied(&self) -> Result<Request, OutOfMemory> {
+        self.copy()
+    }
+}
+
+impl Copied for Share {
+    fn copied(&self) -> Result<Share, OutOfMemory> {
+        self.copy()
+    }
 }
 
 #[test]
 fn copies_of_requests_are_whole(rt: HostRuntime) -> Result<(), Fail> {
     let requests = requests_for_lock(rt.alloc(), false)?;
-    let copy = twice!(requests.copy(), OutOfMemory)?;
-    assert!(rt; are_alike(rt.alloc(), &requests, &copy)?);
+    assert!(rt; is_copied(rt.alloc(), &requests)?);
     for request in requests.requests.as_slice() {
         assert!(rt; is_copied(rt.alloc(), request)?);
+        assert!(rt; is_copied(rt.alloc(), request.share())?);
     }
     Ok(())
 }
@@ -330,12 +383,23 @@ fn is_numbered(record: &Record) -> bool {
         && record.proxy() == 1
 }
 
+impl Copied for Record {
+    fn copied(&self) -> Result<Record, OutOfMemory> {
+        self.copy()
+    }
+}
+
+/// Whether a copy of the record has the numbers of these tests and the stamp.
+fn has_right_copy(record: &Record) -> Result<bool, OutOfMemory> {
+    let copy = copy_of(record)?;
+    Ok(is_numbered(&copy) && has_stamp(&copy))
+}
+
 #[test]
 fn a_record_has_its_numbers_and_stamps(rt: HostRuntime) -> Result<(), Fail> {
     let record = record_of_stamping(rt.alloc())?;
-    let copy = twice!(record.copy(), OutOfMemory)?;
-    assert!(rt; are_alike(rt.alloc(), &record, &copy)?);
-    assert!(rt; is_numbered(&copy) && has_stamp(&copy));
+    assert!(rt; is_copied(rt.alloc(), &record)?);
+    assert!(rt; has_right_copy(&record)?);
     Ok(())
 }
 
@@ -348,7 +412,7 @@ const EMPTY: PartLine<'static> = (7, &[], &[]);
 fn share_of(alloc: Global, numbers: &[usize]) -> Result<Share, Fail> {
     let mut parts = room(alloc, numbers.len())?;
     for number in numbers {
-        parts.push(part(alloc, *number, EMPTY)?)?;
+        push_part(alloc, &mut parts, *number, EMPTY)?;
     }
     Ok(Share::new(Items::from(parts)))
 }
@@ -364,6 +428,18 @@ fn request_of(
     let share = share_of(alloc, numbers)?;
     let marks = marks(alloc, marked, has_content, (LOCK, true))?;
     Ok(Request::new(header(resolver), share, marks))
+}
+
+/// Whether the parts and marks make a request.
+fn is_made(
+    alloc: Global,
+    resolver: usize,
+    numbers: &[usize],
+    marked: &[usize],
+    has_content: bool,
+) -> Result<bool, Fail> {
+    let request = request_of(alloc, resolver, numbers, marked, has_content)?;
+    Ok(request.is_some())
 }
 
 /// A resolver, the numbers of parts and of marks, whether the marks have content, and whether that
@@ -384,12 +460,9 @@ const RULE: &[(usize, &[usize], &[usize], bool, bool)] = &[
 
 #[test]
 fn a_request_keeps_its_rule(rt: HostRuntime) -> Result<(), Fail> {
-    for (resolver, parts, marks, has_content, is_made) in RULE {
-        let request = request_of(rt.alloc(), *resolver, *parts, *marks, *has_content)?;
-        assert!(rt;
-            request.is_some() == *is_made,
-            "{resolver} {parts:?} {marks:?}"
-        );
+    for (place, (resolver, parts, marks, has_content, wanted)) in RULE.iter().enumerate() {
+        let is_made = is_made(rt.alloc(), *resolver, *parts, *marks, *has_content)?;
+        assert!(rt; is_made == *wanted, "line {place}");
     }
     Ok(())
 }

@@ -1,9 +1,11 @@
 //! Tests of share_judge: the verdicts on shares, and what is forgotten.
 
+use crate::tests::{Copied, copy_of};
 use model::Part;
 use request_builder::Share;
 use share_judge::{Verdict, WriteHistory};
 use std::alloc::Global;
+use std::process::Abort;
 use std::test::Fail;
 use system_keys::{Items, OutOfMemory};
 use testing::{Ends, PartLine, none, one, parts, range, room, twice};
@@ -12,8 +14,13 @@ const COMMITTED: &[Verdict] = &[Verdict::Committed];
 
 const CONFLICT: &[Verdict] = &[Verdict::Conflict];
 
+/// One call for a history.
+fn history_by_call(alloc: Global, window: u64) -> Result<WriteHistory, OutOfMemory> {
+    WriteHistory::new(alloc, window)
+}
+
 fn new_history(alloc: Global, window: u64) -> Result<WriteHistory, OutOfMemory> {
-    twice!(WriteHistory::new(alloc, window), OutOfMemory)
+    twice!(history_by_call(alloc, window), OutOfMemory)
 }
 
 /// Whether the history gives just these verdicts on the share. The version must be above the last.
@@ -74,21 +81,26 @@ const SECOND_VERDICTS: &[Verdict] = &[
     Verdict::Conflict,
 ];
 
-/// Whether the second share gets its verdicts where up to `oldest` is forgotten before it.
-fn gives_after_forgetting(alloc: Global, oldest: u64) -> Result<bool, Fail> {
-    let mut history = new_history(alloc, 100)?;
-    let is_first_right = gives_on(alloc, &mut history, 10, FIRST, COMMITTED)?;
+/// Both shares get their verdicts where up to `oldest` is forgotten between them.
+fn gives_both<R: Abort + AllocGlobal>(
+    rt: &R,
+    history: &mut WriteHistory,
+    oldest: u64,
+) -> Result<(), Fail> {
+    assert!(rt; gives_on(rt.alloc(), history, 10, FIRST, COMMITTED)?);
     history.forget(oldest);
-    Ok(is_first_right && gives_on(alloc, &mut history, 20, SECOND, SECOND_VERDICTS)?)
+    assert!(rt;
+        gives_on(rt.alloc(), history, 20, SECOND, SECOND_VERDICTS)?,
+        "with {oldest}"
+    );
+    Ok(())
 }
 
 #[test]
 fn what_is_forgotten_changes_no_verdict(rt: HostRuntime) -> Result<(), Fail> {
     for oldest in [0, 9, 10, 11, u64::MAX] {
-        assert!(rt;
-            gives_after_forgetting(rt.alloc(), oldest)?,
-            "with {oldest}"
-        );
+        let mut history = new_history(rt.alloc(), 100)?;
+        gives_both(&rt, &mut history, oldest)?;
     }
     Ok(())
 }
@@ -110,31 +122,49 @@ const NESTED: &[(u64, &[PartLine<'static>], &[Verdict], u64, usize)] = &[
     (30, READ, COMMITTED, 0, 1),
 ];
 
-#[test]
-fn forgotten_steps_become_none(rt: HostRuntime) -> Result<(), Fail> {
-    let mut history = new_history(rt.alloc(), 10)?;
+fn forgets_nested<R: Abort + AllocGlobal>(rt: &R, history: &mut WriteHistory) -> Result<(), Fail> {
     for (version, lines, verdicts, oldest, steps) in NESTED {
-        assert!(rt; gives_on(rt.alloc(), &mut history, *version, *lines, *verdicts)?);
+        let is_right = gives_on(rt.alloc(), history, *version, *lines, *verdicts)?;
         history.forget(*oldest);
-        assert!(rt; history.steps() == *steps, "after {version}");
+        assert!(rt; is_right && history.steps() == *steps, "after {version}");
     }
     Ok(())
 }
 
+#[test]
+fn forgotten_steps_become_none(rt: HostRuntime) -> Result<(), Fail> {
+    let mut history = new_history(rt.alloc(), 10)?;
+    forgets_nested(&rt, &mut history)
+}
+
+impl Copied for WriteHistory {
+    fn copied(&self) -> Result<WriteHistory, OutOfMemory> {
+        self.copy()
+    }
+}
+
 /// Whether a copy gives this verdict on a read of `b` at snapshot 9.
 fn copy_gives(alloc: Global, history: &WriteHistory, verdicts: &[Verdict]) -> Result<bool, Fail> {
-    let mut copy = twice!(history.copy(), OutOfMemory)?;
+    let mut copy = copy_of(history)?;
     gives_on(alloc, &mut copy, 20, &[(9, &[B], &[])], verdicts)
+}
+
+/// A copy gives what the history does that it is made of, and leaves it as it is.
+fn judges_between_copies<R: Abort + AllocGlobal>(
+    rt: &R,
+    history: &mut WriteHistory,
+) -> Result<(), Fail> {
+    assert!(rt; copy_gives(rt.alloc(), history, COMMITTED)?);
+    assert!(rt; gives_on(rt.alloc(), history, 10, FIRST, COMMITTED)?);
+    assert!(rt; copy_gives(rt.alloc(), history, CONFLICT)?);
+    assert!(rt; history.last() == 10);
+    Ok(())
 }
 
 #[test]
 fn a_copy_goes_its_own_way(rt: HostRuntime) -> Result<(), Fail> {
     let mut history = new_history(rt.alloc(), 100)?;
-    assert!(rt; copy_gives(rt.alloc(), &history, COMMITTED)?);
-    assert!(rt; gives_on(rt.alloc(), &mut history, 10, FIRST, COMMITTED)?);
-    assert!(rt; copy_gives(rt.alloc(), &history, CONFLICT)?);
-    assert!(rt; history.last() == 10);
-    Ok(())
+    judges_between_copies(&rt, &mut history)
 }
 
 // ---- many parts, and many shares
@@ -183,24 +213,44 @@ const WRITE_AND_READ: &[PartLine<'static>] = &[
 
 const ONLY_B_CONFLICTS: &[Verdict] = &[Verdict::Committed, Verdict::Conflict, Verdict::Committed];
 
-#[test]
-fn many_parts_and_shares_are_judged_and_forgotten(rt: HostRuntime) -> Result<(), Fail> {
-    let (alloc, mut history) = (rt.alloc(), new_history(rt.alloc(), 20)?);
-    assert!(rt; gives_on_many(alloc, &mut history, 10, false, &[Verdict::Committed; MANY])?);
+/// Many parts are written at version 10, and then read.
+fn judges_many_parts<R: Abort + AllocGlobal>(
+    rt: &R,
+    history: &mut WriteHistory,
+) -> Result<(), Fail> {
+    assert!(rt; gives_on_many(rt.alloc(), history, 10, false, &[Verdict::Committed; MANY])?);
     assert!(rt; history.steps() == 2 * MANY + 1);
-    assert!(rt; gives_on_many(alloc, &mut history, 20, true, &[Verdict::Conflict; MANY])?);
+    assert!(rt; gives_on_many(rt.alloc(), history, 20, true, &[Verdict::Conflict; MANY])?);
+    Ok(())
+}
+
+/// Many shares are judged, and forgotten one after the other.
+fn judges_many_shares<R: Abort + AllocGlobal>(
+    rt: &R,
+    history: &mut WriteHistory,
+) -> Result<(), Fail> {
     for version in 30..30 + MANY as u64 {
-        assert!(rt;
-            gives_on(
-                alloc,
-                &mut history,
-                version,
-                WRITE_AND_READ,
-                ONLY_B_CONFLICTS
-            )?
-        );
+        let is_right = gives_on(
+            rt.alloc(),
+            history,
+            version,
+            WRITE_AND_READ,
+            ONLY_B_CONFLICTS,
+        )?;
+        assert!(rt; is_right, "at {version}");
         history.forget(version);
     }
     assert!(rt; history.steps() == 3);
     Ok(())
+}
+
+fn judges_many<R: Abort + AllocGlobal>(rt: &R, history: &mut WriteHistory) -> Result<(), Fail> {
+    judges_many_parts(rt, history)?;
+    judges_many_shares(rt, history)
+}
+
+#[test]
+fn many_parts_and_shares_are_judged_and_forgotten(rt: HostRuntime) -> Result<(), Fail> {
+    let mut history = new_history(rt.alloc(), 20)?;
+    judges_many(&rt, &mut history)
 }

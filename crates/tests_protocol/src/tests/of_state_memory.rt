@@ -2,15 +2,15 @@
 
 mod kept_verdicts;
 
-use crate::tests::{are_alike, made, marks};
+use crate::tests::{Copied, are_alike, copy_of, is_copied, request_of_states};
 use request_builder::RequestHeader;
 use state_memory::{Answer, Refusal, Reply, Request, Resolver, Verdict};
-use std::alloc::Global;
+use std::alloc::{AllocError, Global};
 use std::process::Abort;
 use std::test::Fail;
 use system_keys::OutOfMemory;
 use testing::{
-    Content, Ends, PartLine, ReplyLine, Step, Told, ToldRow, is_shown_as, parts, reply, room, twice,
+    Content, Ends, PartLine, ReplyLine, Step, Told, ToldRow, is_shown_as, reply, room, twice,
 };
 
 // ---- requests and what they get
@@ -70,9 +70,7 @@ fn request(alloc: Global, number: usize, line: Line, body: Body) -> Result<Reque
         version: line.2,
         last_received: line.3,
     };
-    let parts = parts(alloc, body.0)?;
-    let marks = marks(alloc, body.1, number == 0, CONTENT)?;
-    made(header, parts, marks)
+    request_of_states(alloc, header, body.0, body.1, CONTENT)
 }
 
 /// The reply of the resolver of this number.
@@ -119,19 +117,36 @@ fn is_judged(answer: &Result<Answer, Refusal>) -> bool {
     }
 }
 
-/// What the resolver of this number answers to the request, which comes next if it is judged.
-fn offered<R: Abort + AllocGlobal>(
+/// What one offer of the request is answered.
+fn answer_by_call(resolver: &mut Resolver, request: &Request) -> Result<Answer, Refusal> {
+    resolver.offer(request)
+}
+
+/// What the request is answered, which comes next if it is judged.
+fn offered<R: Abort>(
     rt: &R,
     resolver: &mut Resolver,
-    number: usize,
-    line: Line,
-    body: Body,
-) -> Result<Result<Answer, Refusal>, Fail> {
-    let request = request(rt.alloc(), number, line, body)?;
-    let comes_next = resolver.comes_next(&request);
-    let answer = twice!(resolver.offer(&request), Refusal::OutOfMemory);
-    assert!(rt; comes_next == is_judged(&answer), "at {line:?}");
-    Ok(answer)
+    request: &Request,
+) -> Result<Answer, Refusal> {
+    let comes_next = resolver.comes_next(request);
+    let answer = twice!(answer_by_call(resolver, request), Refusal::OutOfMemory);
+    assert!(rt;
+        comes_next == is_judged(&answer),
+        "at version {}",
+        request.version()
+    );
+    answer
+}
+
+/// Whether the request is answered like this.
+fn is_answered<R: Abort + AllocGlobal>(
+    rt: &R,
+    resolver: &mut Resolver,
+    request: &Request,
+    wanted: &Result<Answer, Refusal>,
+) -> Result<bool, AllocError> {
+    let found = offered(rt, resolver, request);
+    are_alike(rt.alloc(), &found, wanted)
 }
 
 /// Whether the request gets its answer.
@@ -142,9 +157,10 @@ fn is_right<R: Abort + AllocGlobal>(
     turn: Turn<'_>,
 ) -> Result<bool, Fail> {
     let (line, body, gets, remembered) = turn;
-    let found = offered(rt, resolver, number, line, body)?;
+    let request = request(rt.alloc(), number, line, body)?;
     let wanted = answer_to(rt.alloc(), number, line, gets)?;
-    Ok(are_alike(rt.alloc(), &found, &wanted)? && resolver.remembered() == remembered)
+    let is_answered = is_answered(rt, resolver, &request, &wanted)?;
+    Ok(is_answered && resolver.remembered() == remembered)
 }
 
 /// Each request gets its answer from the resolver of this number.
@@ -160,8 +176,13 @@ fn answers<R: Abort + AllocGlobal>(
     Ok(())
 }
 
+/// One call for a resolver of two proxies, with a window of 100.
+fn resolver_by_call(alloc: Global, number: usize) -> Result<Resolver, OutOfMemory> {
+    Resolver::new(alloc, number, 2, 100)
+}
+
 fn new_resolver(alloc: Global, number: usize) -> Result<Resolver, OutOfMemory> {
-    twice!(Resolver::new(alloc, number, 2, 100), OutOfMemory)
+    twice!(resolver_by_call(alloc, number), OutOfMemory)
 }
 
 // ---- two proxies
@@ -270,23 +291,42 @@ const TO_30: &[Turn<'static>] = &[((1, 20, 30, 0), EMPTY, TELLS_OF_TWO, 1)];
 
 const TO_40: &[Turn<'static>] = &[((1, 20, 40, 0), EMPTY, TELLS_OF_TWO, 1)];
 
+impl Copied for Resolver {
+    fn copied(&self) -> Result<Resolver, OutOfMemory> {
+        self.copy()
+    }
+}
+
+/// The resolver comes to version 30, and a copy of it stays at 20 and comes to 40.
+fn goes_beside_copy<R: Abort + AllocGlobal>(
+    rt: &R,
+    resolver: &mut Resolver,
+    copy: &mut Resolver,
+) -> Result<(), Fail> {
+    answers(rt, resolver, 0, TO_30)?;
+    assert!(rt; resolver.version() == 30 && copy.version() == 20);
+    answers(rt, copy, 0, TO_40)
+}
+
 #[test]
 fn a_copy_goes_its_own_way(rt: HostRuntime) -> Result<(), Fail> {
     let mut resolver = judged_two(&rt)?;
-    let mut copy = twice!(resolver.copy(), OutOfMemory)?;
-    answers(&rt, &mut resolver, 0, TO_30)?;
-    assert!(rt; resolver.version() == 30 && copy.version() == 20);
-    answers(&rt, &mut copy, 0, TO_40)
+    let mut copy = copy_of(&resolver)?;
+    goes_beside_copy(&rt, &mut resolver, &mut copy)
+}
+
+impl Copied for Answer {
+    fn copied(&self) -> Result<Answer, OutOfMemory> {
+        self.copy()
+    }
 }
 
 #[test]
 fn a_copied_answer_tells_the_same(rt: HostRuntime) -> Result<(), Fail> {
-    let gets = Gets::Judged(COMMITTED, &[(20, TOLD), (30, &[])]);
-    let Ok(answer) = answer_to(rt.alloc(), 0, (0, 30, 40, 0), gets)? else {
-        return Err(Fail::from("no answer"));
-    };
-    let copy = twice!(answer.copy(), OutOfMemory)?;
-    assert!(rt; are_alike(rt.alloc(), &answer, &copy)?);
+    let unseen: &[ToldRow<'_>] = &[(20, TOLD), (30, &[])];
+    let reply = reply_to(rt.alloc(), 0, (0, 30, 40, 0), COMMITTED, unseen)?;
+    let answer = Answer::Judged(reply);
+    assert!(rt; is_copied(rt.alloc(), &answer)?);
     Ok(())
 }
 

@@ -1,8 +1,11 @@
 //! Moves that records share, against a plain list.
 
 use crate::tests::of_request_builder::record;
-use request_builder::{Move, Moves};
+use crate::tests::{Copied, copy_of};
+use mutation::Batch;
+use request_builder::{Move, Moves, Record};
 use std::alloc::Global;
+use std::process::Abort;
 use std::test::Fail;
 use system_keys::OutOfMemory;
 use testing::{plain_batch, range, room, twice};
@@ -39,24 +42,60 @@ fn are_moves(moves: &Moves, plain: &[Move]) -> bool {
     moves.len() == plain.len() && moves.get(plain.len()).is_none()
 }
 
-#[test]
-fn records_share_the_moves_before_them(rt: HostRuntime) -> Result<(), Fail> {
-    let alloc = rt.alloc();
-    let batch = plain_batch(alloc, &[])?;
-    let (mut plain, mut records) = (room(alloc, MANY)?, room(alloc, MANY)?);
-    let mut moves = Moves::new(alloc);
+/// Adds a copy of the move.
+fn push_copy(moves: &mut Moves, one: &Move) -> Result<(), OutOfMemory> {
+    moves.push(one.copy()?)
+}
+
+/// Adds the move to both.
+fn push(moves: &mut Moves, plain: &mut Vec<Move>, one: Move) -> Result<(), Fail> {
+    twice!(push_copy(moves, &one), OutOfMemory)?;
+    plain.push(one)?;
+    Ok(())
+}
+
+/// Adds one move to both after the other, and makes a record after each.
+fn push_all(
+    alloc: Global,
+    batch: &Batch,
+    moves: &mut Moves,
+    plain: &mut Vec<Move>,
+) -> Result<Vec<Record>, Fail> {
+    let mut records = room(alloc, MANY)?;
     for date in 0..MANY as u64 {
-        let one = move_at(alloc, date)?;
-        twice!(moves.push(one.copy()?), OutOfMemory)?;
-        plain.push(one)?;
-        records.push(record(alloc, &moves, &batch)?)?;
+        push(moves, plain, move_at(alloc, date)?)?;
+        records.push(record(alloc, moves, batch)?)?;
     }
-    let copy = twice!(moves.copy(), OutOfMemory)?;
-    drop(moves);
-    assert!(rt; are_moves(&copy, &plain));
+    Ok(records)
+}
+
+impl Copied for Moves {
+    fn copied(&self) -> Result<Moves, OutOfMemory> {
+        self.copy()
+    }
+}
+
+/// A copy of the moves, which end here.
+fn copy_alone(moves: Moves) -> Result<Moves, OutOfMemory> {
+    copy_of(&moves)
+}
+
+/// Each record has the moves that were made before it.
+fn have_moves<R: Abort>(rt: &R, records: &[Record], plain: &[Move]) {
     for (place, record) in records.iter().enumerate() {
         let (before, _later) = plain.split_at(place.saturating_add(1).min(plain.len()));
         assert!(rt; are_moves(record.moves(), before), "of record {place}");
     }
+}
+
+#[test]
+fn records_share_the_moves_before_them(rt: HostRuntime) -> Result<(), Fail> {
+    let batch = plain_batch(rt.alloc(), &[])?;
+    let mut plain = room(rt.alloc(), MANY)?;
+    let mut moves = Moves::new(rt.alloc());
+    let records = push_all(rt.alloc(), &batch, &mut moves, &mut plain)?;
+    let copy = copy_alone(moves)?;
+    assert!(rt; are_moves(&copy, &plain));
+    have_moves(&rt, &records, &plain);
     Ok(())
 }

@@ -68,13 +68,19 @@ const IS_JUDGED: &[Turn<'static>] = &[(NEXT, BODY, Gets::Judged(COMMITTED, UNSEE
 
 const IS_GIVEN_AGAIN: &[Turn<'static>] = &[(NEXT, BODY, Gets::Again(COMMITTED, UNSEEN), 1)];
 
+/// Whether the verdicts of the request come back.
+fn gives_back(resolver: &mut Resolver, request: &Request) -> Result<bool, OutOfMemory> {
+    match judge_in_vain(resolver, request)? {
+        Some(verdicts) => Ok(verdicts.as_slice() == COMMITTED),
+        None => Ok(false),
+    }
+}
+
 /// Whether the verdicts of the next request come back, and the resolver is at version 20 as before.
 fn judges_in_vain(resolver: &mut Resolver, alloc: Global) -> Result<bool, Fail> {
     let request = request(alloc, 0, NEXT, BODY)?;
-    match twice!(judge_in_vain(resolver, &request), OutOfMemory)? {
-        Some(verdicts) => Ok(verdicts.as_slice() == COMMITTED && resolver.version() == 20),
-        None => Ok(false),
-    }
+    let is_given_back = twice!(gives_back(resolver, &request), OutOfMemory)?;
+    Ok(is_given_back && resolver.version() == 20)
 }
 
 #[test]
@@ -84,18 +90,30 @@ fn verdicts_that_are_not_kept_leave_the_resolver(rt: HostRuntime) -> Result<(), 
     answers(&rt, &mut resolver, 0, IS_JUDGED)
 }
 
-/// Whether the next request is judged with its reply and verdicts, and the reply is kept.
-fn judges_and_keeps(resolver: &mut Resolver, alloc: Global) -> Result<bool, Fail> {
-    let request = request(alloc, 0, NEXT, BODY)?;
-    let Some((reply, verdicts)) = twice!(judge_and_keep(resolver, &request), OutOfMemory)? else {
-        return Ok(false);
-    };
+/// The reply to the request, if the verdicts that are kept beside it are right.
+fn judged(resolver: &mut Resolver, request: &Request) -> Result<Option<Reply>, OutOfMemory> {
+    match judge_and_keep(resolver, request)? {
+        Some((reply, verdicts)) if verdicts.as_slice() == COMMITTED => Ok(Some(reply)),
+        _ => Ok(None),
+    }
+}
+
+/// Whether the reply is the wanted one, and kept.
+fn is_kept(alloc: Global, resolver: &Resolver, reply: &Reply) -> Result<bool, Fail> {
     let wanted = reply_to(alloc, 0, NEXT, COMMITTED, UNSEEN)?;
     let Some(kept) = resolver.kept_reply(1, 30) else {
         return Ok(false);
     };
-    let is_verdict = verdicts.as_slice() == COMMITTED;
-    Ok(is_verdict && are_alike(alloc, &reply, &wanted)? && are_alike(alloc, kept, &wanted)?)
+    Ok(are_alike(alloc, reply, &wanted)? && are_alike(alloc, kept, &wanted)?)
+}
+
+/// Whether the next request is judged with its reply and verdicts, and the reply is kept.
+fn judges_and_keeps(resolver: &mut Resolver, alloc: Global) -> Result<bool, Fail> {
+    let request = request(alloc, 0, NEXT, BODY)?;
+    match twice!(judged(resolver, &request), OutOfMemory)? {
+        Some(reply) => is_kept(alloc, resolver, &reply),
+        None => Ok(false),
+    }
 }
 
 #[test]

@@ -1,13 +1,14 @@
 //! Tests of the replies that a proxy collects, of their least verdict, and of refusals.
 
 use crate::tests::of_proxy_state::{COMMITTED, no_replies};
+use crate::tests::{Copied, copy_of};
 use model::Reply;
 use proxy_state::{Refusal, Replies, Verdict, join};
 use std::alloc::Global;
 use std::process::Abort;
 use std::test::Fail;
 use system_keys::OutOfMemory;
-use testing::{none, twice};
+use testing::none;
 
 /// Each refusal with the number and the name that are printed.
 const PRINTED: &[(Refusal, Option<u32>, &str)] = &[
@@ -106,10 +107,16 @@ fn put_each<R: Abort + AllocGlobal>(rt: &R, replies: &mut Replies, puts: Puts) {
     }
 }
 
+impl Copied for Replies {
+    fn copied(&self) -> Result<Replies, OutOfMemory> {
+        self.copy()
+    }
+}
+
 /// A copy is filled alone, and the replies after it.
 fn fills_alone<R: Abort + AllocGlobal>(rt: &R, replies: &mut Replies) -> Result<(), Fail> {
     put_each(rt, replies, FIRST);
-    let mut copy = twice!(replies.copy(), OutOfMemory)?;
+    let mut copy = copy_of(replies)?;
     put_each(rt, &mut copy, REST);
     put_each(rt, replies, REST);
     Ok(())

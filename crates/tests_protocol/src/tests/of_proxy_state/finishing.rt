@@ -1,9 +1,10 @@
 //! Tests of a proxy that begins and finishes records.
 
-use crate::tests::of_proxy_state::tested::{ROW_OF_M, Tested, entries_there, seen};
+use crate::tests::of_proxy_state::tested::{ROW_OF_M, Tested, entries_there, is_seen};
 use crate::tests::of_proxy_state::{
     COMMITTED, LOCK, ROW_OF_ALL, SERVER_1, SERVER_2, TAG_1, TAG_ROW_1, TAG_ROW_2, replies_of,
 };
+use crate::tests::{Copied, copy_of};
 use mutation::Batch;
 use proxy_state::{Finished, Outcome, Proxy, Refusal, Verdict};
 use request_builder::Requests;
@@ -14,19 +15,44 @@ use testing::{Content, ReplyLine, Step, content_batch, twice};
 
 // ---- records that are begun
 
+/// Which entries are there, or why there is no metadata.
+type Entries = Result<[bool; 4], Refusal>;
+
+/// One call for which entries are there at the version, if it is reached.
+fn entries_by_call(proxy: &Proxy, version: u64) -> Entries {
+    let metadata = proxy.metadata_at(version)?;
+    Ok(entries_there(&metadata))
+}
+
+/// Whether those are the entries at the version.
+fn has_entries(proxy: &Proxy, version: u64, entries: Entries) -> bool {
+    let found = twice!(entries_by_call(proxy, version), Refusal::OutOfMemory);
+    found == entries
+}
+
+/// The metadata at each version is of the rows up to it.
+fn has_each_version<R: Abort>(rt: &R, proxy: &Proxy, versions: &[(u64, Entries)]) {
+    for (version, entries) in versions {
+        assert!(rt; has_entries(proxy, *version, *entries), "at {version}");
+    }
+}
+
+/// What a new proxy has at each version.
+const OF_NEW: &[(u64, Entries)] = &[
+    (0, Ok([false; 4])),
+    (1, Err(Refusal::NotReached { version: 0 })),
+];
+
+fn is_new<R: Abort>(rt: &R, proxy: &Proxy) {
+    assert!(rt; is_seen(proxy, (0, 0, 0, [false; 4])));
+    has_each_version(rt, proxy, OF_NEW);
+}
+
 #[test]
 fn a_new_proxy_has_reached_version_0_alone(rt: HostRuntime) -> Result<(), Fail> {
     let tested = Tested::new(rt.alloc())?;
-    assert!(rt; seen(&tested.proxy) == (0, 0, 0, [false; 4]));
-    assert!(rt; entries_at(&tested.proxy, 0) == Ok([false; 4]));
-    assert!(rt; entries_at(&tested.proxy, 1) == Err(Refusal::NotReached { version: 0 }));
+    is_new(&rt, &tested.proxy);
     Ok(())
-}
-
-/// Which entries are there at the version, if it is reached.
-fn entries_at(proxy: &Proxy, version: u64) -> Result<[bool; 4], Refusal> {
-    let metadata = twice!(proxy.metadata_at(version), Refusal::OutOfMemory)?;
-    Ok(entries_there(&metadata))
 }
 
 /// Whether they are two, at version 30, of a proxy that has finished nothing.
@@ -40,27 +66,53 @@ fn are_requests_of_row_2(built: &Requests) -> bool {
 }
 
 /// The batch is refused in a record of another proxy, and in one that comes too early.
-fn begins_its_own_alone<R: Abort + AllocGlobal>(
+fn refuses_others<R: Abort + AllocGlobal>(
     rt: &R,
     tested: &mut Tested,
     batch: &Batch,
 ) -> Result<(), Fail> {
     let other = tested.begin(rt.alloc(), 1, 10, 0, 1, batch)?.err();
-    assert!(rt; other == Some(Refusal::NotMine));
     let early = tested.begin(rt.alloc(), 2, 20, 20, 0, batch)?.err();
+    assert!(rt; other == Some(Refusal::NotMine));
     assert!(rt; early == Some(Refusal::OutOfOrder { expected: 10 }));
-    assert!(rt; tested.proxy.last_begun() == 10 && tested.proxy.version() == 0);
-    let built = tested.begin(rt.alloc(), 2, 20, 10, 0, batch)??;
-    assert!(rt; are_requests_of_row_2(&built) && tested.proxy.last_begun() == 30);
     Ok(())
+}
+
+/// The batch is begun in row 2.
+fn begins_row_2<R: Abort + AllocGlobal>(
+    rt: &R,
+    tested: &mut Tested,
+    batch: &Batch,
+) -> Result<(), Fail> {
+    let built = tested.begin(rt.alloc(), 2, 20, 10, 0, batch)??;
+    assert!(rt; are_requests_of_row_2(&built));
+    Ok(())
+}
+
+/// The batch is begun in the proxy's own next record alone.
+fn begins_next_alone<R: Abort + AllocGlobal>(
+    rt: &R,
+    tested: &mut Tested,
+    batch: &Batch,
+) -> Result<(), Fail> {
+    refuses_others(rt, tested, batch)?;
+    assert!(rt; tested.proxy.last_begun() == 10 && tested.proxy.version() == 0);
+    begins_row_2(rt, tested, batch)?;
+    assert!(rt; tested.proxy.last_begun() == 30);
+    Ok(())
+}
+
+/// Row 0 is begun, and then row 2.
+fn begins_its_own_alone<R: Abort + AllocGlobal>(rt: &R, tested: &mut Tested) -> Result<(), Fail> {
+    tested.begin_contents(rt.alloc(), 0, 0, 0, &[LOCKS])?;
+    let batch = content_batch(rt.alloc(), &[LOCKS])?;
+    begins_next_alone(rt, tested, &batch)
 }
 
 #[test]
 fn a_proxy_begins_its_own_next_record_alone(rt: HostRuntime) -> Result<(), Fail> {
-    let batch = content_batch(rt.alloc(), &[LOCKS])?;
     let mut tested = Tested::new(rt.alloc())?;
-    tested.begin_contents(rt.alloc(), 0, 0, 0, &[LOCKS])?;
-    begins_its_own_alone(&rt, &mut tested, &batch)
+    begins_its_own_alone(&rt, &mut tested)
 }
 
 // ---- records that are finished
@@ -127,7 +179,7 @@ const REPLIES_TO_ROW_2: &[ReplyLine<'static>] = &[
 ];
 
 /// Finishes the earliest record by these replies, of which that of resolver 0 has the content.
-pub(crate) fn finished<R: Abort + AllocGlobal>(
+fn finished<R: Abort + AllocGlobal>(
     rt: &R,
     tested: &mut Tested,
     lines: &[ReplyLine<'_>],
@@ -137,6 +189,16 @@ pub(crate) fn finished<R: Abort + AllocGlobal>(
         Ok(finished) => Ok(finished),
         Err((refusal, _)) => Err(Fail::from(refusal)),
     }
+}
+
+/// Finishes the earliest record by these replies.
+pub(crate) fn finishes<R: Abort + AllocGlobal>(
+    rt: &R,
+    tested: &mut Tested,
+    lines: &[ReplyLine<'_>],
+) -> Result<(), Fail> {
+    let _ = finished(rt, tested, lines)?;
+    Ok(())
 }
 
 /// Whether the batch of row 2 committed its first transaction alone, with tag 1 at both mutations.
@@ -154,33 +216,47 @@ fn is_row_2(finished: &Finished) -> bool {
         && finished.outcomes.as_slice() == [committed, Outcome::Conflict].as_slice()
 }
 
-/// Row 2 is finished, and a copy of the proxy stays as it was.
+impl Copied for Proxy {
+    fn copied(&self) -> Result<Proxy, OutOfMemory> {
+        self.copy()
+    }
+}
+
 fn finishes_row_2<R: Abort + AllocGlobal>(rt: &R, tested: &mut Tested) -> Result<(), Fail> {
-    let copy = twice!(tested.proxy.copy(), OutOfMemory)?;
     let finished = finished(rt, tested, REPLIES_TO_ROW_2)?;
     assert!(rt; is_row_2(&finished));
-    assert!(rt; seen(&tested.proxy) == (30, 30, 3, [true, false, true, false]));
-    assert!(rt; seen(&copy) == (30, 10, 1, [true; 4]));
     Ok(())
 }
 
-/// The metadata at a version is of the rows up to it.
-fn has_each_version<R: Abort>(rt: &R, proxy: &Proxy) {
-    assert!(rt; entries_at(proxy, 9) == Ok([false; 4]));
-    assert!(rt; entries_at(proxy, 10) == Ok([true; 4]));
-    assert!(rt; entries_at(proxy, 20) == Ok([true, true, true, false]));
-    assert!(rt; entries_at(proxy, 30) == Ok([true, false, true, false]));
-    assert!(rt; entries_at(proxy, 31) == Err(Refusal::NotReached { version: 30 }));
+/// Row 2 is finished, and a copy of the proxy stays as it was.
+fn finishes_alone<R: Abort + AllocGlobal>(
+    rt: &R,
+    tested: &mut Tested,
+    copy: &Proxy,
+) -> Result<(), Fail> {
+    finishes_row_2(rt, tested)?;
+    assert!(rt; is_seen(&tested.proxy, (30, 30, 3, [true, false, true, false])));
+    assert!(rt; is_seen(copy, (30, 10, 1, [true; 4])));
+    has_each_version(rt, &tested.proxy, AFTER_BOTH);
+    Ok(())
 }
+
+/// What the proxy then has at each version.
+const AFTER_BOTH: &[(u64, Entries)] = &[
+    (9, Ok([false; 4])),
+    (10, Ok([true; 4])),
+    (20, Ok([true, true, true, false])),
+    (30, Ok([true, false, true, false])),
+    (31, Err(Refusal::NotReached { version: 30 })),
+];
 
 /// Rows 0 and 2 are begun, and finished one after the other.
 fn finishes_both<R: Abort + AllocGlobal>(rt: &R, tested: &mut Tested) -> Result<(), Fail> {
     tested.begin_contents(rt.alloc(), 0, 0, 0, &[SPLIT])?;
     tested.begin_contents(rt.alloc(), 2, 20, 10, &[WITHOUT_TAG_2, LOCKS])?;
-    let _ = finished(rt, tested, REPLIES_TO_ROW_0)?;
-    finishes_row_2(rt, tested)?;
-    has_each_version(rt, &tested.proxy);
-    Ok(())
+    finishes(rt, tested, REPLIES_TO_ROW_0)?;
+    let copy = copy_of(&tested.proxy)?;
+    finishes_alone(rt, tested, &copy)
 }
 
 #[test]

@@ -1,6 +1,7 @@
 //! Tests of the cluster without threads. What its events return is shown by scripts; here it is that
 //! single steps return the same, that a run goes on where it stopped, and what no script prints.
 
+use crate::tests::{Copied, copy_of};
 use std::alloc::Global;
 use std::process::Abort;
 use std::test::Fail;
@@ -8,10 +9,15 @@ use system_keys::OutOfMemory;
 use testing::{Given, NOTHING, range, room, twice};
 use turn_world::{Answer, Config, Event, OfferAnswer, Refusal, Stopped, TurnWorld};
 
+/// One call for a cluster.
+fn cluster_by_call(alloc: Global, config: &Config) -> Result<TurnWorld, OutOfMemory> {
+    TurnWorld::new(alloc, config)
+}
+
 /// Two proxies and two resolvers, with versions 10 apart.
 fn cluster(alloc: Global) -> Result<TurnWorld, Fail> {
     let config = Config::new(2, 2, 100, 10)?;
-    Ok(twice!(TurnWorld::new(alloc, &config), OutOfMemory)?)
+    Ok(twice!(cluster_by_call(alloc, &config), OutOfMemory)?)
 }
 
 // ---- events
@@ -104,19 +110,51 @@ const END: Story = &[
 
 // ---- single steps
 
-/// What is told of a copy of the event, and of a copy of its answer.
+impl Copied for Event {
+    fn copied(&self) -> Result<Event, OutOfMemory> {
+        self.copy()
+    }
+}
+
+impl Copied for Answer {
+    fn copied(&self) -> Result<Answer, OutOfMemory> {
+        self.copy()
+    }
+}
+
+/// What one call of the step is answered.
+fn step_by_call(world: &mut TurnWorld, event: &Event) -> Result<Answer, Refusal> {
+    world.step(event)
+}
+
+/// What is told of a copy of the answer.
+fn told_by_copy(answer: &Answer) -> Result<Told, OutOfMemory> {
+    let copy = copy_of(answer)?;
+    Ok(Ok(version_of(&copy)))
+}
+
+/// What is told of a copy of the event's answer.
 fn carry_out(world: &mut TurnWorld, event: &Event) -> Result<Told, OutOfMemory> {
-    let event = twice!(event.copy(), OutOfMemory)?;
-    match twice!(world.step(&event), Refusal::OutOfMemory) {
-        Ok(answer) => Ok(Ok(version_of(&twice!(answer.copy(), OutOfMemory)?))),
+    match twice!(step_by_call(world, event), Refusal::OutOfMemory) {
+        Ok(answer) => told_by_copy(&answer),
         Err(refusal) => Ok(Err(refusal)),
     }
 }
 
+/// What is told where a copy of the event is carried out.
+fn carry_out_copy(world: &mut TurnWorld, event: &Event) -> Result<Told, OutOfMemory> {
+    let copy = copy_of(event)?;
+    carry_out(world, &copy)
+}
+
+fn carry_out_step(alloc: Global, world: &mut TurnWorld, step: Step) -> Result<Told, Fail> {
+    let event = event_of(alloc, step)?;
+    Ok(carry_out_copy(world, &event)?)
+}
+
 fn tells<R: Abort + AllocGlobal>(rt: &R, world: &mut TurnWorld, story: Story) -> Result<(), Fail> {
     for (place, (step, wanted)) in story.iter().enumerate() {
-        let event = event_of(rt.alloc(), *step)?;
-        let told = carry_out(world, &event)?;
+        let told = carry_out_step(rt.alloc(), world, *step)?;
         assert!(rt; told == *wanted, "at step {place}");
     }
     Ok(())
@@ -169,6 +207,14 @@ fn results_of(
     }
 }
 
+/// The results tell what is wanted of each step.
+fn tell<R: Abort>(rt: &R, results: &[Result<Answer, Refusal>], story: Story) {
+    assert!(rt; results.len() == story.len());
+    for (result, (_, wanted)) in results.iter().zip(story) {
+        assert!(rt; told(result) == *wanted);
+    }
+}
+
 /// A run of the steps tells what is wanted of each.
 fn run_tells<R: Abort + AllocGlobal>(
     rt: &R,
@@ -177,10 +223,7 @@ fn run_tells<R: Abort + AllocGlobal>(
 ) -> Result<(), Fail> {
     let events = events_of(rt.alloc(), story)?;
     let results = results_of(rt.alloc(), world, &events)?;
-    assert!(rt; results.len() == story.len());
-    for (result, (_, wanted)) in results.iter().zip(story) {
-        assert!(rt; told(result) == *wanted);
-    }
+    tell(rt, &results, story);
     Ok(())
 }
 
@@ -210,13 +253,18 @@ fn a_run_carries_out_its_events(rt: HostRuntime) -> Result<(), Fail> {
 
 // ---- what no script prints
 
-#[test]
-fn a_cluster_has_its_proxies_and_resolvers_alone(rt: HostRuntime) -> Result<(), Fail> {
-    let world = cluster(rt.alloc())?;
+/// There are two proxies and two resolvers.
+fn has_two_of_each<R: Abort>(rt: &R, world: &TurnWorld) {
     for number in 0..3usize {
         assert!(rt; world.proxy(number).is_some() == (number < 2));
         assert!(rt; world.resolver(number).is_some() == (number < 2));
     }
+}
+
+#[test]
+fn a_cluster_has_its_proxies_and_resolvers_alone(rt: HostRuntime) -> Result<(), Fail> {
+    let world = cluster(rt.alloc())?;
+    has_two_of_each(&rt, &world);
     assert!(rt; world.config().step() == 10);
     Ok(())
 }

@@ -27,13 +27,19 @@ pub(crate) fn entries_there(metadata: &Metadata) -> [bool; 4] {
 
 /// The version last begun, the proxy's version, how many rows its journal has, and which entries
 /// are there.
-pub(crate) fn seen(proxy: &Proxy) -> (u64, u64, usize, [bool; 4]) {
+type Seen = (u64, u64, usize, [bool; 4]);
+
+fn seen(proxy: &Proxy) -> Seen {
     (
         proxy.last_begun(),
         proxy.version(),
         proxy.journal().len(),
         entries_there(proxy.metadata()),
     )
+}
+
+pub(crate) fn is_seen(proxy: &Proxy, wanted: Seen) -> bool {
+    seen(proxy) == wanted
 }
 
 /// A proxy whose map of owners holds no moves, of a cluster whose versions are 10 apart.
@@ -117,7 +123,7 @@ impl Tested {
         match self.proxy.finish(replies) {
             Err((Refusal::OutOfMemory, replies)) => {
                 assert!(rt;
-                    seen(&self.proxy) == before,
+                    is_seen(&self.proxy, before),
                     "a failed allocation changed the proxy"
                 );
                 self.proxy.finish(replies)

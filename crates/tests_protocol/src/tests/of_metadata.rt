@@ -3,8 +3,8 @@
 use crate::tests::of_proxy_state::{
     COMMITTED, LOCK, ROW_OF_ALL, SERVER_1, SERVER_2, TAG_1, TAG_ROW_1, TAG_ROW_2,
 };
+use crate::tests::{Copied, copy_of};
 use proxy_state::{JournalRow, Metadata, Verdict};
-use std::alloc::Global;
 use std::process::Abort;
 use std::test::Fail;
 use system_keys::{Change, OutOfMemory, Tag};
@@ -61,14 +61,59 @@ fn are_same(metadata: &Metadata, other: &Metadata) -> bool {
     true
 }
 
-fn copy_of(metadata: &Metadata) -> Result<Metadata, OutOfMemory> {
-    twice!(metadata.copy(), OutOfMemory)
+impl Copied for Metadata {
+    fn copied(&self) -> Result<Metadata, OutOfMemory> {
+        self.copy()
+    }
 }
 
-/// Applies the change. A failed allocation leaves the metadata unchanged.
-fn apply<R: Abort>(rt: &R, metadata: &mut Metadata, change: &Change) -> Result<(), OutOfMemory> {
+/// What is applied to metadata.
+trait Applied {
+    /// Applies it by one call.
+    fn apply_to(&self, metadata: &mut Metadata) -> Result<(), OutOfMemory>;
+}
+
+impl Applied for Change {
+    fn apply_to(&self, metadata: &mut Metadata) -> Result<(), OutOfMemory> {
+        metadata.apply(self)
+    }
+}
+
+impl Applied for JournalRow {
+    fn apply_to(&self, metadata: &mut Metadata) -> Result<(), OutOfMemory> {
+        metadata.apply_row(self)
+    }
+}
+
+/// Applies this to metadata with the entries and tags of `before`. A failed allocation leaves those.
+fn apply_after<R: Abort, A: Applied>(
+    rt: &R,
+    metadata: &mut Metadata,
+    before: &Metadata,
+    applied: &A,
+) -> Result<(), OutOfMemory> {
+    twice_on!(rt; are_same(metadata, before), applied.apply_to(metadata), OutOfMemory)
+}
+
+/// Applies this. A failed allocation leaves the metadata unchanged.
+fn apply<R: Abort, A: Applied>(
+    rt: &R,
+    metadata: &mut Metadata,
+    applied: &A,
+) -> Result<(), OutOfMemory> {
     let before = copy_of(metadata)?;
-    twice_on!(rt; are_same(metadata, &before), metadata.apply(change), OutOfMemory)
+    apply_after(rt, metadata, &before, applied)
+}
+
+/// Applies the change of the step.
+fn apply_step<R: Abort + AllocGlobal>(
+    rt: &R,
+    metadata: &mut Metadata,
+    step: Step<'_>,
+) -> Result<(), Fail> {
+    let change = change(rt.alloc(), step)?;
+    apply(rt, metadata, &change)?;
+    Ok(())
 }
 
 /// Applies the changes of the steps in order.
@@ -78,20 +123,9 @@ fn apply_all<R: Abort + AllocGlobal>(
     steps: &[Step<'_>],
 ) -> Result<(), Fail> {
     for step in steps {
-        let change = change(rt.alloc(), *step)?;
-        apply(rt, metadata, &change)?;
+        apply_step(rt, metadata, *step)?;
     }
     Ok(())
-}
-
-/// Applies the row. A failed allocation leaves the metadata unchanged.
-fn apply_row<R: Abort>(
-    rt: &R,
-    metadata: &mut Metadata,
-    row: &JournalRow,
-) -> Result<(), OutOfMemory> {
-    let before = copy_of(metadata)?;
-    twice_on!(rt; are_same(metadata, &before), metadata.apply_row(row), OutOfMemory)
 }
 
 // ---- single changes
@@ -166,26 +200,29 @@ const STAGES: &[Stage] = &[
 fn pass_stages<R: Abort + AllocGlobal>(rt: &R, metadata: &mut Metadata) -> Result<(), Fail> {
     for (place, (steps, entries, cached)) in STAGES.iter().enumerate() {
         apply_all(rt, metadata, *steps)?;
-        assert!(rt;
-            has_entries(metadata, *entries),
-            "the entries of stage {place}"
-        );
-        assert!(rt;
-            has_cached(metadata, *cached),
-            "the kept tags of stage {place}"
-        );
+        let has_both = has_entries(metadata, *entries) && has_cached(metadata, *cached);
+        assert!(rt; has_both, "after stage {place}");
     }
     Ok(())
 }
 
-/// A copy of two servers stays as it is, while the metadata passes all stages.
+/// The copy stays as it is, while the metadata passes all stages.
+fn pass_stages_alone<R: Abort + AllocGlobal>(
+    rt: &R,
+    metadata: &mut Metadata,
+    copy: &Metadata,
+) -> Result<(), Fail> {
+    pass_stages(rt, metadata)?;
+    assert!(rt; has_entries(copy, OF_TWO_SERVERS));
+    assert!(rt; has_cached(copy, CACHED_OF_TWO_SERVERS));
+    Ok(())
+}
+
+/// A copy is made of two servers, and then the metadata changes alone.
 fn changes_alone<R: Abort + AllocGlobal>(rt: &R, metadata: &mut Metadata) -> Result<(), Fail> {
     apply_all(rt, metadata, TWO_SERVERS)?;
     let copy = copy_of(metadata)?;
-    pass_stages(rt, metadata)?;
-    assert!(rt; has_entries(&copy, OF_TWO_SERVERS));
-    assert!(rt; has_cached(&copy, CACHED_OF_TWO_SERVERS));
-    Ok(())
+    pass_stages_alone(rt, metadata, &copy)
 }
 
 #[test]
@@ -203,21 +240,36 @@ const UNDECODED_AT_B: &[Step<'static>] = &[
     Step::Set(ROW_OF_B, b"\x01server"),
 ];
 
+/// Whether the key has these tags, by one call.
+fn has_tags_at(metadata: &Metadata, key: &[u8], wanted: &[Tag]) -> Result<bool, OutOfMemory> {
+    let tags = metadata.tags_of_key(key)?;
+    Ok(tags.as_slice() == wanted)
+}
+
+/// Whether the change has these tags, by one call.
+fn has_tags(metadata: &Metadata, change: &Change, wanted: &[Tag]) -> Result<bool, OutOfMemory> {
+    let tags = metadata.tags_of(change)?;
+    Ok(tags.as_slice() == wanted)
+}
+
 /// `b` has no tags, and a Clear over its row has those of the row before it alone.
-fn has_no_tags_at_b<R: Abort + AllocGlobal>(rt: &R, metadata: &mut Metadata) -> Result<(), Fail> {
-    apply_all(rt, metadata, UNDECODED_AT_B)?;
-    let of_key = twice!(metadata.tags_of_key(b"b"), OutOfMemory)?;
-    assert!(rt; of_key.as_slice().is_empty());
+fn has_no_tags_at_b<R: Abort + AllocGlobal>(rt: &R, metadata: &Metadata) -> Result<(), Fail> {
+    assert!(rt; twice!(has_tags_at(metadata, b"b", &[]), OutOfMemory)?);
     let change = change(rt.alloc(), Step::Clear(b"a", b"c"))?;
-    let of_change = twice!(metadata.tags_of(&change), OutOfMemory)?;
-    assert!(rt; of_change.as_slice() == [TAG_1].as_slice());
+    assert!(rt; twice!(has_tags(metadata, &change, &[TAG_1]), OutOfMemory)?);
     Ok(())
+}
+
+/// The value at `b` is applied, and gives no tags.
+fn gives_no_tags<R: Abort + AllocGlobal>(rt: &R, metadata: &mut Metadata) -> Result<(), Fail> {
+    apply_all(rt, metadata, UNDECODED_AT_B)?;
+    has_no_tags_at_b(rt, metadata)
 }
 
 #[test]
 fn a_value_that_does_not_decode_gives_no_tags(rt: HostRuntime) -> Result<(), Fail> {
     let mut metadata = Metadata::new(rt.alloc());
-    has_no_tags_at_b(&rt, &mut metadata)
+    gives_no_tags(&rt, &mut metadata)
 }
 
 // ---- rows
@@ -284,10 +336,20 @@ const ROWS: &[(&[Joined<'static>], Entries)] = &[
     ),
 ];
 
+/// Applies the row of these state transactions.
+fn apply_states<R: Abort + AllocGlobal>(
+    rt: &R,
+    metadata: &mut Metadata,
+    states: &[Joined<'_>],
+) -> Result<(), Fail> {
+    let row = journal_row(rt.alloc(), 10, states)?;
+    apply(rt, metadata, &row)?;
+    Ok(())
+}
+
 fn pass_rows<R: Abort + AllocGlobal>(rt: &R, metadata: &mut Metadata) -> Result<(), Fail> {
     for (place, (states, entries)) in ROWS.iter().enumerate() {
-        let row = journal_row(rt.alloc(), 10, *states)?;
-        apply_row(rt, metadata, &row)?;
+        apply_states(rt, metadata, *states)?;
         assert!(rt;
             has_entries(metadata, *entries),
             "the entries after row {place}"
