@@ -262,19 +262,6 @@ def try_words(trial):
         trial.expect(got == (COMMAND_LINE_REFUSED, b"", b""), "ends wrong with Threads %s: %r" % (redirections, got))
 
 
-def refuse_in_words(trial):
-    """Each growth while words are refused: the status is 2 or 4, and nothing stands on standard output."""
-    for words in (["Threads"], ["fold", "turns"], ["--help"], [b"\xff"]):
-        number, refused = 0, True
-        while refused:
-            number += 1
-            ended, refused = trial.run(b"", words, REFUSE_GROWTH=number)
-            right = (COMMAND_LINE_REFUSED, OUT_OF_MEMORY) if refused else (COMMAND_LINE_REFUSED,)
-            fine = ended.returncode in right and not ended.stdout and bool(ended.stderr) == (ended.returncode == COMMAND_LINE_REFUSED)
-            trial.expect(fine, "%s: ends wrong where growth %d is refused: %r" % (words, number, ended))
-            number += not refused
-
-
 def run_in_parts(trial, words, parts, between):
     """A run whose script comes in parts, with a call between them: its output and status."""
     with subprocess.Popen([trial.program, *words], stdin=subprocess.PIPE, stdout=subprocess.PIPE, bufsize=0) as process:
@@ -315,7 +302,7 @@ def try_pipes(trial, example):
 
 
 OF_EACH_EXAMPLE = (refuse_growths, read_by_tokens, refuse_reads, refuse_writes, shorten_calls, try_pipes, stop_and_go)
-OF_THE_PROGRAM = (refuse_in_words, want_space, try_endless_inputs, try_words)
+OF_THE_PROGRAM = (want_space, try_endless_inputs, try_words)
 
 
 def tried(program, shim, mark, trial_and_arguments):

@@ -67,4 +67,13 @@ def wrong_words():
             yield "%s is %r" % (named(path), word), write(FOLD.changed(path, word)), BAD_SHAPE
 
 
-CASES = (moved_fields, lists_of_verdicts, counts_of_resolvers, versions, wrong_words)
+def other_forms():
+    """What is right elsewhere: a turns script, a threads script, a row, and the rows alone."""
+    cluster = {"proxies": 1, "resolvers": 1, "window": 1, "step": 1, "ask": []}
+    yield "a turns script", write({**cluster, "events": []}), BAD_SHAPE
+    yield "a threads script", write({**cluster, "rows": 1, "moves": [], "work": [[]]}), BAD_SHAPE
+    yield "a row", write(FOLD.good()["rows"][0]), BAD_SHAPE
+    yield "the rows alone", write(FOLD.good()["rows"]), BAD_SHAPE
+
+
+CASES = (moved_fields, lists_of_verdicts, counts_of_resolvers, versions, wrong_words, other_forms)

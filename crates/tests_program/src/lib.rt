@@ -1,4 +1,4 @@
-//! The tests of turns_run, threads_run and command_line, by their public calls.
+//! The tests of turns_run and threads_scripts, by their public calls.
 #![tactic(auto)]
 
 #[cfg(test)]

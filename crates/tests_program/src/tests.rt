@@ -1,8 +1,7 @@
-//! Tests of what no clause says: that calls succeed if no allocation fails, and that right turns
-//! and threads scripts are read by their tokens alone. A tested call that failed with
-//! `OutOfMemory` is made once more; a test that wants memory for its data ends with that error.
-//! Texts of whole scripts, right and wrong ones, stand in `tests/scripts`.
+//! Tests of what no clause says and no script shows: that right turns and threads scripts are read by
+//! their tokens alone. A call that failed with `OutOfMemory` is made once more. Texts of whole
+//! scripts, right and wrong ones, and the words of the command line stand in `tests/scripts`; the
+//! built program meets failing devices in `tests/memory`.
 
-mod of_command_line;
-mod of_threads_run;
+mod of_threads_scripts;
 mod of_turns_run;

@@ -1,16 +1,12 @@
-//! Tests of reading turns scripts.
-
-mod streams;
+//! Tests of reading turns scripts: that right ones are read, and by their tokens alone. What is read
+//! is right by the contracts.
 
 use scripts::ScriptFault;
 use std::alloc::Global;
-use std::process::Abort;
-use testing::twice;
-use turn_world::Event;
-use turns_run::{TurnsScript, read_turns};
+use turns_run::{read_turns, stream_turns};
 
 /// A move between a write and a read of its range, offered and finished.
-const MOVED: &[u8] = br#"{"proxies":1,"resolvers":2,"window":100,"step":10,"ask":["n"],"events":[
+const MOVED: &str = r#"{"proxies":1,"resolvers":2,"window":100,"step":10,"ask":["n"],"events":[
 {"sequence":{"proxy":0,"batch":[]}},
 {"sequence":{"proxy":0,"batch":[{"snapshot":0,"reads":[],
 "writes":[["n","n\\x00"]],"mutations":[{"set":["n","1"]}],"lock_aware":false}]}},
@@ -22,101 +18,131 @@ const MOVED: &[u8] = br#"{"proxies":1,"resolvers":2,"window":100,"step":10,"ask"
 {"offer":{"row":2,"resolver":0}},{"offer":{"row":2,"resolver":1}},
 {"finish":{"proxy":0}},{"finish":{"proxy":0}},{"finish":{"proxy":0}}]}"#;
 
-/// What the text is read as, at the second try if an allocation failed at the first.
-fn read(alloc: Global, text: &[u8]) -> Result<TurnsScript, ScriptFault> {
-    twice!(read_turns(alloc, text), ScriptFault::OutOfMemory)
+/// Right scripts: with their fields in any order, and with events in each form.
+const STREAMED: &[&str] = &[
+    MOVED,
+    r#"{"proxies":1,"resolvers":2,"window":3,"step":4,"events":[],"ask":["a"]}"#,
+    r#"{"resolvers":2,"window":3,"step":4,"events":[],"ask":["a"],"proxies":1}"#,
+    r#"{"window":3,"step":4,"events":[],"ask":["a"],"proxies":1,"resolvers":2}"#,
+    r#"{"step":4,"events":[],"ask":["a"],"proxies":1,"resolvers":2,"window":3}"#,
+    r#"{"events":[],"ask":["a"],"proxies":1,"resolvers":2,"window":3,"step":4}"#,
+    r#"{"ask":["a"],"proxies":1,"resolvers":2,"window":3,"step":4,"events":[]}"#,
+    r#"{"ask":["a"],"events":[],"step":4,"window":3,"resolvers":2,"proxies":1}"#,
+    r#"{"proxies":2,"resolvers":2,"window":100,"step":10,"ask":[],"events":[
+    { "sequence" : { "proxy" : 0 , "batch" : [ ] } } ]}"#,
+    r#"{"proxies":2,"resolvers":2,"window":100,"step":10,"ask":[],"events":[
+    {"sequence":{"batch":[{"snapshot":0,"reads":[["a","b"]],"writes":[],
+    "mutations":[{"clear":["a","b"]}],"lock_aware":true}],"proxy":9223372036854775807}}]}"#,
+    r#"{"proxies":2,"resolvers":2,"window":100,"step":10,"ask":[],"events":[
+    {"move":{"range":["a","\\xff\\xff"],"resolver":1}},{"move":{"resolver":1,"range":["a","b"]}},
+    {"offer":{"row":0,"resolver":1}},{"offer":{"resolver":1,"row":0}}]}"#,
+    r#"{"proxies":2,"resolvers":2,"window":100,"step":10,"ask":[],"events":[
+    {"finish":{"proxy":1}},{"\u0066inish":{"\u0070roxy":1}}]}"#,
+];
+
+/// Right scripts with a field twice: the tokens alone do not give them.
+const READ_AS_A_TREE: &[&str] = &[
+    r#"{"proxies":1,"resolvers":1,"window":1,"step":1,"proxies":1,"events":[],"ask":[]}"#,
+    r#"{"proxies":1,"resolvers":1,"window":1,"step":0,"step":1,"events":[],"ask":[]}"#,
+    r#"{"proxies":1,"resolvers":1,"window":1,"step":1,"ask":["a"],"events":[],"ask":[]}"#,
+    r#"{"proxies":2,"resolvers":2,"window":100,"step":10,"ask":[],"events":[
+    {"finish":{"proxy":0},"finish":{"proxy":1}}]}"#,
+    r#"{"proxies":2,"resolvers":2,"window":100,"step":10,"ask":[],"events":[
+    {"finish":{"proxy":0,"proxy":1}}]}"#,
+    r#"{"proxies":2,"resolvers":2,"window":100,"step":10,"ask":[],"events":[
+    {"offer":{"row":0,"row":0,"resolver":1}}]}"#,
+    r#"{"proxies":2,"resolvers":2,"window":100,"step":10,"ask":[],"events":[
+    {"move":{"range":["a","b"],"resolver":1,"range":["a","b"]}}]}"#,
+    r#"{"proxies":2,"resolvers":2,"window":100,"step":10,"ask":[],"events":[
+    {"sequence":{"batch":[],"proxy":0,"batch":[]}}]}"#,
+];
+
+/// Scripts that are refused.
+const REFUSED: &[&str] = &[
+    r#"{"proxies":0,"resolvers":1,"window":1,"step":1,"events":[],"ask":[]}"#,
+    r#"{"proxies":1,"resolvers":65,"window":1,"step":1,"events":[],"ask":[]}"#,
+    r#"{"proxies":1,"resolvers":1,"window":1000000001,"step":1,"events":[],"ask":[]}"#,
+    r#"{"proxies":1,"resolvers":1,"window":1,"step":0,"events":[],"ask":[]}"#,
+    r#"{"proxies":1,"resolvers":1,"window":1,"events":[],"ask":[]}"#,
+    r#"{"proxies":1,"resolvers":1,"window":1,"step":1,"more":0,"events":[],"ask":[]}"#,
+    r#"{"proxies":2,"resolvers":2,"window":100,"step":10,"ask":[],"events":[
+    {}]}"#,
+    r#"{"proxies":2,"resolvers":2,"window":100,"step":10,"ask":[],"events":[
+    {"begin":{"proxy":0}}]}"#,
+    r#"{"proxies":2,"resolvers":2,"window":100,"step":10,"ask":[],"events":[
+    {"finish":{"proxy":0},"offer":{"row":0,"resolver":0}}]}"#,
+    r#"{"proxies":2,"resolvers":2,"window":100,"step":10,"ask":[],"events":[
+    {"finish":{}}]}"#,
+    r#"{"proxies":2,"resolvers":2,"window":100,"step":10,"ask":[],"events":[
+    {"offer":{"row":-1,"resolver":0}}]}"#,
+    r#"{"proxies":2,"resolvers":2,"window":100,"step":10,"ask":[],"events":[
+    {"move":{"range":["b","a"],"resolver":0}}]}"#,
+    r#"{"proxies":2,"resolvers":2,"window":100,"step":10,"ask":[],"events":[
+    {"sequence":{"proxy":0,"batch":[{}]}}]}"#,
+];
+
+fn is_streamed_at_once(alloc: Global, script: &[u8]) -> bool {
+    stream_turns(alloc, script).is_some()
 }
 
-fn fault_of(alloc: Global, text: &[u8]) -> Option<ScriptFault> {
-    read(alloc, text).err()
+/// Reads the script by its tokens, at the second try if an allocation failed at the first.
+fn is_streamed(alloc: Global, script: &[u8]) -> bool {
+    is_streamed_at_once(alloc, script) || is_streamed_at_once(alloc, script)
 }
 
-/// Whether the text is refused, with this number.
-fn is_refused(alloc: Global, text: &[u8], number: u32) -> bool {
-    match fault_of(alloc, text) {
-        Some(fault) => fault.number() == Some(number),
-        None => false,
+fn fault_at_once(alloc: Global, script: &[u8]) -> Option<ScriptFault> {
+    read_turns(alloc, script).err()
+}
+
+/// Why the script is refused, if it is, at the second try if an allocation failed at the first.
+fn fault_of(alloc: Global, script: &[u8]) -> Option<ScriptFault> {
+    match fault_at_once(alloc, script) {
+        Some(ScriptFault::OutOfMemory) => fault_at_once(alloc, script),
+        answer => answer,
     }
-}
-
-/// The text is refused, with this number.
-fn refuses(rt: &(impl Abort + AllocGlobal), text: &[u8], number: u32) {
-    assert!(rt; is_refused(rt.alloc(), text, number));
-}
-
-/// Whether the event gives a batch of this many transactions to proxy 0.
-fn is_sequence(event: &Event, transactions: usize) -> bool {
-    match event {
-        Event::Sequence { proxy, batch } => {
-            *proxy == 0 && batch.transactions().len() == transactions
-        }
-        _ => false,
-    }
-}
-
-/// Whether the event moves the keys from `m` up to `t` to resolver 1.
-fn is_move(event: &Event) -> bool {
-    match event {
-        Event::Move { range, dest } => {
-            *dest == 1 && range.begin() == b"m".as_slice() && range.end() == b"t".as_slice()
-        }
-        _ => false,
-    }
-}
-
-/// Whether the event offers row 2 to resolver 1.
-fn is_offer(event: &Event) -> bool {
-    match event {
-        Event::Offer { row, resolver } => *row == 2 && *resolver == 1,
-        _ => false,
-    }
-}
-
-fn is_finish(event: &Event) -> bool {
-    match event {
-        Event::Finish { proxy } => *proxy == 0,
-        _ => false,
-    }
-}
-
-fn are_events_of_moved(events: &[Event]) -> bool {
-    match events {
-        [empty, written, moved, .., offered, first, second, third] => {
-            is_sequence(empty, 0)
-                && is_sequence(written, 1)
-                && is_move(moved)
-                && is_offer(offered)
-                && is_finish(first)
-                && is_finish(second)
-                && is_finish(third)
-        }
-        _ => false,
-    }
-}
-
-fn has_numbers_of_moved(script: &TurnsScript) -> bool {
-    script.config.proxies() == 1
-        && script.config.resolvers() == 2
-        && script.config.window() == 100
-        && script.config.step() == 10
-}
-
-fn is_moved(script: &TurnsScript) -> bool {
-    has_numbers_of_moved(script)
-        && script.events.as_slice().len() == 13
-        && are_events_of_moved(script.events.as_slice())
-        && script.ask.as_slice().len() == 1
 }
 
 #[test]
-fn every_kind_of_event_is_read(rt: HostRuntime) {
-    let script = read(rt.alloc(), MOVED).expect(&rt, "a script");
-    assert!(rt; is_moved(&script));
+fn right_scripts_are_streamed(rt: HostRuntime) {
+    for script in STREAMED {
+        assert!(rt; is_streamed(rt.alloc(), script.as_bytes()), "{script}");
+        assert!(rt;
+            fault_of(rt.alloc(), script.as_bytes()).is_none(),
+            "{script}"
+        );
+    }
+}
+
+#[test]
+fn scripts_are_read_as_a_tree_where_a_field_stands_twice(rt: HostRuntime) {
+    for script in READ_AS_A_TREE {
+        assert!(rt; !is_streamed(rt.alloc(), script.as_bytes()), "{script}");
+        assert!(rt;
+            fault_of(rt.alloc(), script.as_bytes()).is_none(),
+            "{script}"
+        );
+    }
+}
+
+#[test]
+fn no_refused_script_is_streamed(rt: HostRuntime) {
+    for script in REFUSED {
+        assert!(rt; !is_streamed(rt.alloc(), script.as_bytes()), "{script}");
+        assert!(rt;
+            fault_of(rt.alloc(), script.as_bytes()).is_some(),
+            "{script}"
+        );
+    }
 }
 
 #[test]
 fn no_beginning_of_a_script_is_json(rt: HostRuntime) {
-    for end in 0..MOVED.len() {
-        refuses(&rt, &MOVED[..end], 70);
+    let whole = MOVED.as_bytes();
+    for end in 0..whole.len() {
+        let fault = fault_of(rt.alloc(), &whole[..end]);
+        assert!(rt;
+            fault == Some(ScriptFault::NotJson),
+            "the first {end} bytes"
+        );
     }
 }

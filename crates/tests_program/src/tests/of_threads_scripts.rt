@@ -1,0 +1,123 @@
+//! Tests of reading threads scripts: that right ones are read, and by their tokens alone. What is
+//! read is right by the contracts.
+
+use scripts::ScriptFault;
+use std::alloc::Global;
+use threads_scripts::{read_threads, stream_threads};
+
+/// Right scripts: two moves and three batches, fields in any order, and each form of a move and of a
+/// batch.
+const STREAMED: &[&str] = &[
+    r#"{"proxies":2,"resolvers":3,"window":100,"step":10,"rows":5,"ask":["n","\\xff"],
+    "work":[[[{"snapshot":7,"reads":[],"writes":[["n","n\\x00"]],"mutations":[{"set":["n","1"]}],
+    "lock_aware":false}],[]],[[]]],
+    "moves":[{"range":["m","t"],"resolver":1},{"resolver":2,"range":["","\\xff"]}]}"#,
+    r#"{"proxies":1,"resolvers":2,"window":3,"step":4,
+    "rows":5,"moves":[],"work":[[]],"ask":["a"]}"#,
+    r#"{"resolvers":2,"window":3,"step":4,"rows":5,
+    "moves":[],"work":[[]],"ask":["a"],"proxies":1}"#,
+    r#"{"window":3,"step":4,"rows":5,"moves":[],
+    "work":[[]],"ask":["a"],"proxies":1,"resolvers":2}"#,
+    r#"{"step":4,"rows":5,"moves":[],"work":[[]],
+    "ask":["a"],"proxies":1,"resolvers":2,"window":3}"#,
+    r#"{"rows":5,"moves":[],"work":[[]],"ask":["a"],
+    "proxies":1,"resolvers":2,"window":3,"step":4}"#,
+    r#"{"moves":[],"work":[[]],"ask":["a"],"proxies":1,
+    "resolvers":2,"window":3,"step":4,"rows":5}"#,
+    r#"{"work":[[]],"ask":["a"],"proxies":1,"resolvers":2,
+    "window":3,"step":4,"rows":5,"moves":[]}"#,
+    r#"{"ask":["a"],"work":[[]],"moves":[],"rows":5,
+    "step":4,"window":3,"resolvers":2,"proxies":1}"#,
+    r#"{"proxies":2,"resolvers":2,"window":100,"step":10,"rows":4096,"ask":[],"work":[[],[]],
+    "moves":[{"range":["a","\\xff\\xff"],"resolver":1},
+    { "resolver" : 0 , "\u0072ange" : [ "" , "b" ] } ]}"#,
+    r#"{"proxies":2,"resolvers":2,"window":100,"step":10,"rows":4096,"ask":[],"moves":[],
+    "work":[[[{"lock_aware":true,"mutations":[{"clear":["a","b"]}],"writes":[],
+    "reads":[["a","b"]],"snapshot":1}],[]],[[],[{"lock_aware":true,"mutations":[],"writes":[],
+    "reads":[["a","b"]],"snapshot":1}],[{"lock_aware":true,"mutations":[{"clear":["a","b"]}],
+    "writes":[],"reads":[],"snapshot":1}]]]}"#,
+    r#"{"proxies":2,"resolvers":2,"window":100,"step":10,"rows":4096,"ask":[],"moves":[],
+    "work":[ [ [ ] ] , [ ] ]}"#,
+];
+
+/// Right scripts with a field twice: the tokens alone do not give them.
+const READ_AS_A_TREE: &[&str] = &[
+    r#"{"proxies":1,"resolvers":1,"window":1,"step":1,
+    "rows":0,"rows":1,"moves":[],"work":[[]],"ask":[]}"#,
+    r#"{"proxies":1,"resolvers":1,"window":1,"step":1,
+    "rows":1,"moves":[],"work":[],"work":[[]],"ask":[]}"#,
+    r#"{"proxies":1,"resolvers":1,"window":1,"step":1,
+    "rows":1,"moves":[{}],"moves":[],"work":[[]],"ask":[]}"#,
+    r#"{"proxies":1,"resolvers":1,"window":1,"step":1,
+    "rows":1,"moves":[{"range":["a","b"],"resolver":1,"resolver":0}],"work":[[]],"ask":[]}"#,
+];
+
+/// Scripts that are refused.
+const REFUSED: &[&str] = &[
+    r#"{"proxies":2,"resolvers":2,"window":100,"step":10,"rows":4096,"ask":[],
+    "moves":[],"work":[[]]}"#,
+    r#"{"proxies":2,"resolvers":2,"window":100,"step":10,"rows":4096,"ask":[],
+    "moves":[],"work":[[],[],[]]}"#,
+    r#"{"proxies":2,"resolvers":2,"window":100,"step":10,"rows":4096,"ask":[],
+    "moves":[],"work":[[],[{}]]}"#,
+    r#"{"proxies":2,"resolvers":2,"window":100,"step":10,"rows":4096,"ask":[],
+    "moves":[{"range":["b","a"],"resolver":0}],"work":[[],[]]}"#,
+    r#"{"proxies":2,"resolvers":2,"window":100,"step":10,"rows":4096,"ask":[],
+    "moves":[{"range":["a","b"],"resolver":2}],"work":[[],[]]}"#,
+    r#"{"proxies":2,"resolvers":2,"window":100,"step":10,"rows":4096,"ask":[],
+    "moves":[{"range":["a","b"]}],"work":[[],[]]}"#,
+];
+
+fn is_streamed_at_once(alloc: Global, script: &[u8]) -> bool {
+    stream_threads(alloc, script).is_some()
+}
+
+/// Reads the script by its tokens, at the second try if an allocation failed at the first.
+fn is_streamed(alloc: Global, script: &[u8]) -> bool {
+    is_streamed_at_once(alloc, script) || is_streamed_at_once(alloc, script)
+}
+
+fn fault_at_once(alloc: Global, script: &[u8]) -> Option<ScriptFault> {
+    read_threads(alloc, script).err()
+}
+
+/// Why the script is refused, if it is, at the second try if an allocation failed at the first.
+fn fault_of(alloc: Global, script: &[u8]) -> Option<ScriptFault> {
+    match fault_at_once(alloc, script) {
+        Some(ScriptFault::OutOfMemory) => fault_at_once(alloc, script),
+        answer => answer,
+    }
+}
+
+#[test]
+fn right_scripts_are_streamed(rt: HostRuntime) {
+    for script in STREAMED {
+        assert!(rt; is_streamed(rt.alloc(), script.as_bytes()), "{script}");
+        assert!(rt;
+            fault_of(rt.alloc(), script.as_bytes()).is_none(),
+            "{script}"
+        );
+    }
+}
+
+#[test]
+fn scripts_are_read_as_a_tree_where_a_field_stands_twice(rt: HostRuntime) {
+    for script in READ_AS_A_TREE {
+        assert!(rt; !is_streamed(rt.alloc(), script.as_bytes()), "{script}");
+        assert!(rt;
+            fault_of(rt.alloc(), script.as_bytes()).is_none(),
+            "{script}"
+        );
+    }
+}
+
+#[test]
+fn no_refused_script_is_streamed(rt: HostRuntime) {
+    for script in REFUSED {
+        assert!(rt; !is_streamed(rt.alloc(), script.as_bytes()), "{script}");
+        assert!(rt;
+            fault_of(rt.alloc(), script.as_bytes()).is_some(),
+            "{script}"
+        );
+    }
+}
