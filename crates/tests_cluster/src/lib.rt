@@ -1,4 +1,4 @@
-//! The tests of locked_cluster, by its public calls.
+//! The tests of locked_cluster, inboxes and workers, by their public calls.
 #![tactic(auto)]
 
 #[cfg(test)]

@@ -2,7 +2,7 @@
 
 use crate::tests::phases::Phase;
 use agreed_ledger::Naming;
-use locked_cluster::{NotedReply, Refusal, Refused, Request, SharedResolver};
+use locked_cluster::{Refusal, Request, SharedResolver};
 use model::{Reply, Verdict};
 use std::sync::Wait;
 use testing::twice;
@@ -32,15 +32,27 @@ fn told(reply: &Reply) -> Told {
     (reply.version, first, reply.unseen.as_slice().len())
 }
 
-/// Waits with the request for its turn, and lets the resolver go.
-fn resolve<N: Naming, R: Wait>(
+/// Waits with the request for its turn.
+fn resolved<N: Naming, R: Wait>(
     rt: &R,
     resolver: &SharedResolver<'_, N>,
     request: Request<N>,
-) -> Result<NotedReply<N>, Refused<N>> {
+) -> Answer {
     match resolver.resolve(rt, request) {
-        Ok((noted, _shown)) => Ok(noted),
-        Err(refused) => Err(refused),
+        Ok((noted, _shown)) => Ok(told(noted.value())),
+        Err(refused) => Err(refused.refusal),
+    }
+}
+
+/// Brings the request, which does not wait.
+fn offered<N: Naming, R: Wait>(
+    rt: &R,
+    resolver: &SharedResolver<'_, N>,
+    request: Request<N>,
+) -> Answer {
+    match resolver.lock(rt).offer(request) {
+        Ok(noted) => Ok(told(noted.value())),
+        Err(refused) => Err(refused.refusal),
     }
 }
 
@@ -53,14 +65,10 @@ fn answer_once<N: Naming, R: Wait>(
     row: usize,
 ) -> Answer {
     let request = request(rows, row, resolver.number())?;
-    let answered = if waits {
-        resolve(rt, resolver, request)
+    if waits {
+        resolved(rt, resolver, request)
     } else {
-        resolver.lock(rt).offer(request)
-    };
-    match answered {
-        Ok(noted) => Ok(told(noted.value())),
-        Err(refused) => Err(refused.refusal),
+        offered(rt, resolver, request)
     }
 }
 

@@ -3,7 +3,7 @@
 use crate::tests::phases::{Phase, step_once};
 use crate::tests::starting::Cluster;
 use agreed_ledger::Naming;
-use locked_cluster::{AllResolvers, CommitFault, SharedProxy};
+use locked_cluster::{AllResolvers, Asking, CommitFault, SharedProxy};
 use model::{Finished, Outcome};
 use mutation::Batch;
 use std::sync::Wait;
@@ -33,29 +33,17 @@ fn last_tag(finished: &Finished) -> Option<Tag> {
     }
 }
 
-/// Commits a batch, and lets the proxy go.
-fn commit_once<N: Naming, R: Wait>(
+/// Commits a batch by asking in this way, and lets the proxy go.
+pub(crate) fn commit_once<N: Naming, A: Asking<N>, R: Wait>(
     rt: &R,
     cluster: &Cluster<'_, N>,
-    asking: &AllResolvers<'_, '_, N>,
+    asking: &A,
     proxy: &SharedProxy<'_, N>,
     batch: Batch,
 ) -> Result<Seen, CommitFault<N>> {
     match proxy.commit(rt, &cluster.sequencer, asking, batch) {
         Ok((noted, shown)) => Ok(seen(noted.value(), shown.version())),
         Err(fault) => Err(fault),
-    }
-}
-
-/// What a fault leaves of a commit, if the batch was sequenced; otherwise why it was not, and the batch.
-fn left<N: Naming>(fault: CommitFault<N>) -> Result<Phase<N>, (u32, Batch)> {
-    match fault {
-        CommitFault::Sequencing { refusal, batch } => {
-            Err((refusal.number().unwrap_or(0), batch))
-        }
-        CommitFault::Beginning { refusal: _, ticket } => Ok(Phase::Sequenced(ticket)),
-        CommitFault::Resolving { refusal: _, begun } => Ok(Phase::Begun(begun)),
-        CommitFault::Finishing { refusal: _, ready } => Ok(Phase::Ready(ready)),
     }
 }
 
@@ -66,14 +54,62 @@ fn go_on<N: Naming, R: Wait>(
     proxy: &SharedProxy<'_, N>,
     left: Phase<N>,
 ) -> Commit {
-    let mut phase = left;
-    for _phase in 0..3 {
-        let (_refusal, next) = step_once(rt, cluster, proxy, phase);
-        phase = next;
-    }
-    match phase {
+    let (_, second) = step_once(rt, cluster, proxy, left);
+    let (_, third) = step_once(rt, cluster, proxy, second);
+    let (_, last) = step_once(rt, cluster, proxy, third);
+    match &last {
         Phase::Finished(noted) => Ok(seen(noted.value(), proxy.lock(rt).version())),
         _ => Err(0),
+    }
+}
+
+/// Goes on once from what a failure left.
+fn go_on_after<N: Naming, A: Asking<N>, R: Wait>(
+    rt: &R,
+    cluster: &Cluster<'_, N>,
+    asking: &A,
+    proxy: &SharedProxy<'_, N>,
+    fault: CommitFault<N>,
+) -> Commit {
+    let left = match fault {
+        CommitFault::Sequencing { refusal, batch } => {
+            return sequence_again(rt, cluster, asking, proxy, batch, refusal.number());
+        }
+        CommitFault::Beginning { refusal: _, ticket } => Phase::Sequenced(ticket),
+        CommitFault::Resolving { refusal: _, begun } => Phase::Begun(begun),
+        CommitFault::Finishing { refusal: _, ready } => Phase::Ready(ready),
+    };
+    go_on(rt, cluster, proxy, left)
+}
+
+/// Commits the batch once more if it was refused with no number.
+fn sequence_again<N: Naming, A: Asking<N>, R: Wait>(
+    rt: &R,
+    cluster: &Cluster<'_, N>,
+    asking: &A,
+    proxy: &SharedProxy<'_, N>,
+    batch: Batch,
+    refusal: Option<u32>,
+) -> Commit {
+    match refusal {
+        Some(number) => Err(number),
+        None => match commit_once(rt, cluster, asking, proxy, batch) {
+            Ok(seen) => Ok(seen),
+            Err(_fault) => Err(0),
+        },
+    }
+}
+
+fn commit_by<N: Naming, A: Asking<N>, R: Wait>(
+    rt: &R,
+    cluster: &Cluster<'_, N>,
+    asking: &A,
+    proxy: &SharedProxy<'_, N>,
+    batch: Batch,
+) -> Commit {
+    match commit_once(rt, cluster, asking, proxy, batch) {
+        Ok(seen) => Ok(seen),
+        Err(fault) => go_on_after(rt, cluster, asking, proxy, fault),
     }
 }
 
@@ -84,19 +120,11 @@ pub(crate) fn commit<N: Naming, R: Wait>(
     number: usize,
     batch: Batch,
 ) -> Commit {
-    let Ok(asking) = AllResolvers::new(cluster.resolvers()) else {
-        return Err(0);
-    };
-    let Some(proxy) = cluster.proxy(number) else {
-        return Err(0);
-    };
-    let fault = match commit_once(rt, cluster, &asking, proxy, batch) {
-        Ok(seen) => return Ok(seen),
-        Err(fault) => fault,
-    };
-    match left(fault) {
-        Ok(phase) => go_on(rt, cluster, proxy, phase),
-        Err((0, batch)) => commit_once(rt, cluster, &asking, proxy, batch).map_err(|_fault| 0),
-        Err((number, _batch)) => Err(number),
+    match (
+        AllResolvers::new(cluster.resolvers()),
+        cluster.proxy(number),
+    ) {
+        (Ok(asking), Some(proxy)) => commit_by(rt, cluster, &asking, proxy, batch),
+        _ => Err(0),
     }
 }

@@ -1,13 +1,12 @@
 //! Tests of commits, one after the other.
 
-ghost use Rattle.std.specs.Prelude.{◌≡◌};
-
 use crate::tests::commits::{Commit, commit};
 use crate::tests::starting::{Cluster, Line, blank};
-use agreed_ledger::{BlankLedger, Naming};
+use crate::tests::stories::{Story, tell};
+use agreed_ledger::Naming;
 use model::Outcome;
 use std::alloc::Global;
-use std::marker::Brand;
+use std::process::Abort;
 use std::sync::Wait;
 use std::test::Fail;
 use system_keys::Tag;
@@ -80,49 +79,39 @@ fn move_keys<N: Naming, R: Wait>(
     Ok(())
 }
 
-/// The number of the first batch that does not come to what is wanted.
-fn first_wrong<N: Naming, R: Wait>(
+/// Commits the batches, one after the other.
+fn commit_each<N: Naming, R: Abort + Wait>(
     rt: &R,
     alloc: Global,
     cluster: &Cluster<'_, N>,
-) -> Result<Option<usize>, Fail> {
-    for (number, (proxy, given)) in LINES.iter().enumerate() {
-        let batch = batch(alloc, *given)?;
-        if WANTED.get(number) != Some(&commit(rt, cluster, *proxy, batch)) {
-            return Ok(Some(number));
-        }
+) -> Result<(), Fail> {
+    for (place, (proxy, given)) in LINES.iter().enumerate() {
+        let committed = commit(rt, cluster, *proxy, batch(alloc, *given)?);
+        assert!(rt; Some(&committed) == WANTED.get(place));
     }
-    Ok(None)
+    Ok(())
 }
 
-fn first_wrong_of<N: Naming, R: Wait>(
+/// Moves keys to the last of so many resolvers, and commits the batches.
+pub(crate) fn commit_in_order<N: Naming, R: Abort + Wait>(
     rt: &R,
     alloc: Global,
-    blank: BlankLedger,
-    numbers: &[usize],
-) -> Result<Option<usize>, Fail>
-    requires { blank ≡ N.cells }
-{
-    let ledger = blank.named::<N>();
-    let cluster = Cluster::new(alloc, &ledger, numbers)?;
-    move_keys(rt, alloc, &cluster, numbers.len())?;
-    first_wrong(rt, alloc, &cluster)
-}
-
-/// As above, with resolvers of these numbers in a cluster of its own.
-fn first_wrong_over<R: Wait>(
-    rt: &R,
-    alloc: Global,
-    numbers: &[usize],
-) -> Result<Option<usize>, Fail> {
-    let blank = blank(alloc, 3, numbers.len())?;
-    first_wrong_of::<Brand, _>(rt, alloc, blank, numbers)
+    cluster: &Cluster<'_, N>,
+    resolvers: usize,
+) -> Result<(), Fail> {
+    move_keys(rt, alloc, cluster, resolvers)?;
+    commit_each(rt, alloc, cluster)
 }
 
 #[test]
 fn commits_over_one_resolver_and_over_two_are_in_order(rt: HostRuntime) -> Result<(), Fail> {
     let alloc = rt.alloc();
-    assert!(&rt; first_wrong_over(&rt, alloc, &[0])? == None);
-    assert!(&rt; first_wrong_over(&rt, alloc, &[0, 1])? == None);
-    Ok(())
+    tell(&rt, alloc, blank(alloc, 3, 3, 1)?, &[0], &Story::InOrder(1))?;
+    tell(
+        &rt,
+        alloc,
+        blank(alloc, 3, 3, 2)?,
+        &[0, 1],
+        &Story::InOrder(2),
+    )
 }

@@ -1,17 +1,16 @@
 //! Tests of proxies that meet, of audits, of confirmed answers and of routings, by one thread.
 
-ghost use Rattle.std.specs.Prelude.{◌≡◌};
-
-use crate::tests::phases::{Phase, Step, answer, first_wrong};
-use crate::tests::routings::{Routed, last_routed, routed_at};
-use crate::tests::starting::{Cluster, Line, blank, tickets};
-use agreed_ledger::{BlankLedger, Naming};
+use crate::tests::phases::{Phase, Step, answer};
+use crate::tests::routings::routed_at;
+use crate::tests::starting::{Cluster, Line, blank, go_through, resolver, tickets};
+use crate::tests::stories::{Story, tell};
+use agreed_ledger::Naming;
 use locked_cluster::{
-    BehindBy, Meeting, ProxyGuard, Refusal, SharedResolver, audit, meet, metadata_of_two,
+    BehindBy, Meeting, Refusal, SharedProxy, SharedResolver, audit, meet, metadata_of_two,
 };
 use proxy_state::Metadata;
 use std::alloc::Global;
-use std::marker::Brand;
+use std::process::Abort;
 use std::sync::Wait;
 use std::test::Fail;
 use testing::{Given, NOTHING, Step as Change};
@@ -49,13 +48,31 @@ const FINISH_EARLIER: &[Step] = &[(0, 0, None)];
 /// resolvers, and by the first and one of number 1 that was never asked.
 type Look = ([Meeting; 3], [Result<(), BehindBy>; 2]);
 
+/// The two proxies.
+fn two<'c, 'l, N: Naming>(
+    cluster: &'c Cluster<'l, N>,
+) -> Option<(&'c SharedProxy<'l, N>, &'c SharedProxy<'l, N>)> {
+    Some((cluster.proxy(0)?, cluster.proxy(1)?))
+}
+
 fn audit_by<N: Naming, R: Wait>(
     rt: &R,
-    proxy: &ProxyGuard<'_, N>,
+    proxy: &SharedProxy<'_, N>,
     first: &SharedResolver<'_, N>,
     second: &SharedResolver<'_, N>,
 ) -> Result<(), BehindBy> {
-    audit(proxy, &[first.lock(rt), second.lock(rt)])
+    audit(&proxy.lock(rt), &[first.lock(rt), second.lock(rt)])
+}
+
+/// How the proxies meet.
+fn meetings<N: Naming, R: Wait>(
+    rt: &R,
+    zero: &SharedProxy<'_, N>,
+    one: &SharedProxy<'_, N>,
+) -> [Meeting; 3] {
+    let zero = zero.lock(rt);
+    let one = one.lock(rt);
+    [meet(&zero, &one), meet(&one, &zero), meet(&one, &one)]
 }
 
 fn look<N: Naming, R: Wait>(
@@ -63,30 +80,14 @@ fn look<N: Naming, R: Wait>(
     cluster: &Cluster<'_, N>,
     other: &SharedResolver<'_, N>,
 ) -> Option<Look> {
-    let zero = cluster.proxy(0)?.lock(rt);
-    let one = cluster.proxy(1)?.lock(rt);
+    let (zero, one) = two(cluster)?;
     let first = cluster.resolvers().first()?;
     let second = cluster.resolvers().get(1)?;
-    let meetings = [meet(&zero, &one), meet(&one, &zero), meet(&one, &one)];
     let audits = [
-        audit_by(rt, &one, first, second),
-        audit_by(rt, &one, first, other),
+        audit_by(rt, one, first, second),
+        audit_by(rt, one, first, other),
     ];
-    Some((meetings, audits))
-}
-
-/// Looks at the cluster after the story, if it goes as it is to go.
-fn look_after<N: Naming, R: Wait>(
-    rt: &R,
-    cluster: &Cluster<'_, N>,
-    other: &SharedResolver<'_, N>,
-    rows: &mut Vec<Phase<N>>,
-    story: &[Step],
-) -> Option<Look> {
-    match first_wrong(rt, cluster, rows, story) {
-        Some(_) => None,
-        None => look(rt, cluster, other),
-    }
+    Some((meetings(rt, zero, one), audits))
 }
 
 /// Whether each of the two proxies confirms its own answer, and that of the other.
@@ -95,10 +96,11 @@ fn confirm<N: Naming, R: Wait>(
     cluster: &Cluster<'_, N>,
     rows: &[Phase<N>],
 ) -> Option<[bool; 4]> {
-    let zero = cluster.proxy(0)?.lock(rt);
-    let one = cluster.proxy(1)?.lock(rt);
+    let (zero, one) = two(cluster)?;
     let first = answer(rows, 0)?;
     let second = answer(rows, 1)?;
+    let zero = zero.lock(rt);
+    let one = one.lock(rt);
     Some([
         zero.confirm(first),
         one.confirm(second),
@@ -121,46 +123,12 @@ fn rows_of_two<N: Naming, R: Wait>(
     cluster: &Cluster<'_, N>,
     rows: &[Phase<N>],
 ) -> Option<[[bool; 2]; 2]> {
-    let zero = cluster.proxy(0)?.lock(rt);
-    let one = cluster.proxy(1)?.lock(rt);
-    let (first, second) = metadata_of_two(&zero, &one, answer(rows, 1)?);
+    let (zero, one) = two(cluster)?;
+    let later = answer(rows, 1)?;
+    let zero = zero.lock(rt);
+    let one = one.lock(rt);
+    let (first, second) = metadata_of_two(&zero, &one, later);
     Some([has_rows(first), has_rows(second)])
-}
-
-/// The last routings of both proxies, and those of proxy 1 at an earlier version and at a later one.
-fn routings<N: Naming, R: Wait>(rt: &R, cluster: &Cluster<'_, N>) -> [Routed; 4] {
-    [
-        last_routed(rt, cluster, 0),
-        last_routed(rt, cluster, 1),
-        routed_at(rt, cluster, 1, 19),
-        routed_at(rt, cluster, 1, 21),
-    ]
-}
-
-/// Looks at the start, after one proxy has finished and after the other; and at the end which answers
-/// are confirmed, which rows the metadata has, and routings.
-type Told = (
-    [Option<Look>; 3],
-    Option<[bool; 4]>,
-    Option<[[bool; 2]; 2]>,
-    [Routed; 4],
-);
-
-fn tell<N: Naming, R: Wait>(rt: &R, alloc: Global, blank: BlankLedger) -> Result<Told, Fail>
-    requires { blank ≡ N.cells }
-{
-    let ledger = blank.named::<N>();
-    let cluster = Cluster::new(alloc, &ledger, &[0, 1])?;
-    let other = SharedResolver::new(alloc, &ledger, 1)?;
-    let mut rows = tickets(rt, alloc, &cluster, LINES)?;
-    let looks = [
-        look_after(rt, &cluster, &other, &mut rows, RESOLVE),
-        look_after(rt, &cluster, &other, &mut rows, FINISH_LATER),
-        look_after(rt, &cluster, &other, &mut rows, FINISH_EARLIER),
-    ];
-    let confirmed = confirm(rt, &cluster, rows.as_slice());
-    let has = rows_of_two(rt, &cluster, rows.as_slice());
-    Ok((looks, confirmed, has, routings(rt, &cluster)))
 }
 
 const AT_THE_START: Look = ([Meeting::Same; 3], [Ok(()); 2]);
@@ -177,20 +145,72 @@ const LATER: Look = (
     ],
 );
 
+/// After the steps the proxies look so.
+fn look_so_after<N: Naming, R: Abort + Wait>(
+    rt: &R,
+    cluster: &Cluster<'_, N>,
+    other: &SharedResolver<'_, N>,
+    rows: &mut Vec<Phase<N>>,
+    steps: &[Step],
+    wanted: Look,
+) -> Result<(), Fail> {
+    go_through(rt, cluster, rows, steps)?;
+    assert!(rt; look(rt, cluster, other) == Some(wanted));
+    Ok(())
+}
+
+/// The proxies look as they are to look at the start, after one has finished and after the other.
+fn look_three_times<N: Naming, R: Abort + Wait>(
+    rt: &R,
+    cluster: &Cluster<'_, N>,
+    other: &SharedResolver<'_, N>,
+    rows: &mut Vec<Phase<N>>,
+) -> Result<(), Fail> {
+    look_so_after(rt, cluster, other, rows, RESOLVE, AT_THE_START)?;
+    look_so_after(rt, cluster, other, rows, FINISH_LATER, LATER)?;
+    look_so_after(rt, cluster, other, rows, FINISH_EARLIER, LATER)
+}
+
 const TOO_EARLY: Refusal = Refusal::NotReached { version: 20 };
+
+/// The last routings of both proxies, and those of proxy 1 at an earlier version and at a later one.
+fn are_routed<N: Naming, R: Abort + Wait>(rt: &R, cluster: &Cluster<'_, N>) {
+    assert!(rt; routed_at(rt, cluster, 0, None) == Ok((10, false, 1, 1)));
+    assert!(rt; routed_at(rt, cluster, 1, None) == Ok((20, false, 2, 1)));
+    assert!(rt; routed_at(rt, cluster, 1, Some(19)) == Ok((19, false, 1, 1)));
+    assert!(rt; routed_at(rt, cluster, 1, Some(21)) == Err(TOO_EARLY));
+    assert!(rt; TOO_EARLY.number() == Some(45));
+}
+
+/// Both have finished: their answers are confirmed, and their rows and routings are there.
+fn are_confirmed<N: Naming, R: Abort + Wait>(rt: &R, cluster: &Cluster<'_, N>, rows: &[Phase<N>]) {
+    assert!(rt; confirm(rt, cluster, rows) == Some([true, true, false, true]));
+    let found = rows_of_two(rt, cluster, rows);
+    assert!(rt; found == Some([[true, false], [true, true]]));
+    are_routed(rt, cluster);
+}
+
+/// Two proxies meet before and after each has finished its record.
+pub(crate) fn meet_twice<N: Naming, R: Abort + Wait>(
+    rt: &R,
+    alloc: Global,
+    cluster: &Cluster<'_, N>,
+) -> Result<(), Fail> {
+    let other = resolver(alloc, cluster.ledger, 1)?;
+    let mut rows = tickets(rt, alloc, cluster, LINES)?;
+    look_three_times(rt, cluster, &other, &mut rows)?;
+    are_confirmed(rt, cluster, rows.as_slice());
+    Ok(())
+}
 
 #[test]
 fn proxies_meet_are_audited_and_confirm_answers(rt: HostRuntime) -> Result<(), Fail> {
     let alloc = rt.alloc();
-    let told = tell::<Brand, _>(&rt, alloc, blank(alloc, 2, 2)?)?;
-    let (looks, confirmed, has, routings) = told;
-    assert!(&rt; looks == [Some(AT_THE_START), Some(LATER), Some(LATER)]);
-    assert!(&rt; confirmed == Some([true, true, false, true]));
-    assert!(&rt; has == Some([[true, false], [true, true]]));
-    let first = Ok((10, false, 1, 1));
-    let first_at_19 = Ok((19, false, 1, 1));
-    let second = Ok((20, false, 2, 1));
-    assert!(&rt; routings == [first, second, first_at_19, Err(TOO_EARLY)]);
-    assert!(&rt; TOO_EARLY.number() == Some(45));
-    Ok(())
+    tell(
+        &rt,
+        alloc,
+        blank(alloc, 2, 3, 2)?,
+        &[0, 1],
+        &Story::Meetings,
+    )
 }

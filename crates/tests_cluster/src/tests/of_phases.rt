@@ -1,13 +1,12 @@
 //! Tests of phases that are called by hand, in an odd order.
 
-ghost use Rattle.std.specs.Prelude.{◌≡◌};
-
-use crate::tests::phases::{Phase, Step, answer, first_wrong};
-use crate::tests::starting::{Cluster, Line, blank, tickets};
-use agreed_ledger::{BlankLedger, Naming};
+use crate::tests::phases::{Phase, Step, answer};
+use crate::tests::starting::{Cluster, Line, blank, rows_after};
+use crate::tests::stories::{Story, tell};
+use agreed_ledger::Naming;
 use locked_cluster::Refusal;
 use std::alloc::Global;
-use std::marker::Brand;
+use std::process::Abort;
 use std::sync::Wait;
 use std::test::Fail;
 
@@ -39,25 +38,27 @@ fn version<N: Naming>(rows: &[Phase<N>], row: usize) -> Option<u64> {
     Some(answer(rows, row)?.value().version)
 }
 
-/// The first wrong step, and the versions of the three records.
-type Told = (Option<usize>, [Option<u64>; 3]);
-
-fn tell_story<N: Naming, R: Wait>(rt: &R, alloc: Global, blank: BlankLedger) -> Result<Told, Fail>
-    requires { blank ≡ N.cells }
-{
-    let ledger = blank.named::<N>();
-    let cluster = Cluster::new(alloc, &ledger, &[0, 1])?;
-    let mut rows = tickets(rt, alloc, &cluster, LINES)?;
-    let wrong = first_wrong(rt, &cluster, &mut rows, STORY);
+/// Calls the phases of the records in this order.
+pub(crate) fn go_in_odd_order<N: Naming, R: Abort + Wait>(
+    rt: &R,
+    alloc: Global,
+    cluster: &Cluster<'_, N>,
+) -> Result<(), Fail> {
+    let rows = rows_after(rt, alloc, cluster, LINES, STORY)?;
     let rows = rows.as_slice();
     let versions = [version(rows, 0), version(rows, 1), version(rows, 2)];
-    Ok((wrong, versions))
+    assert!(rt; versions == [Some(10), Some(20), Some(30)]);
+    Ok(())
 }
 
 #[test]
 fn phases_in_an_odd_order_hand_back_what_they_are_given(rt: HostRuntime) -> Result<(), Fail> {
     let alloc = rt.alloc();
-    let told = tell_story::<Brand, _>(&rt, alloc, blank(alloc, 12, 2)?)?;
-    assert!(&rt; told == (None, [Some(10), Some(20), Some(30)]));
-    Ok(())
+    tell(
+        &rt,
+        alloc,
+        blank(alloc, 12, 3, 2)?,
+        &[0, 1],
+        &Story::InOddOrder,
+    )
 }

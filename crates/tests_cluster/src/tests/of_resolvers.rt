@@ -1,18 +1,17 @@
 //! Tests of resolvers behind locks.
 
-ghost use Rattle.std.specs.Prelude.{◌≡◌};
-
 use crate::tests::answers::{Answer, answer};
-use crate::tests::phases::{Phase, Step, first_wrong};
-use crate::tests::starting::{Cluster, Line, blank, tickets};
-use agreed_ledger::{BlankLedger, Ledger, Naming};
-use locked_cluster::{Refusal, SharedResolver};
+use crate::tests::phases::{Phase, Step};
+use crate::tests::starting::{Cluster, Line, blank, resolver, rows_after};
+use crate::tests::stories::{Story, tell};
+use agreed_ledger::{Ledger, Naming};
+use locked_cluster::Refusal;
 use model::Verdict;
 use std::alloc::Global;
-use std::marker::Brand;
+use std::process::Abort;
 use std::sync::Wait;
 use std::test::Fail;
-use testing::{Given, NOTHING, twice};
+use testing::{Given, NOTHING};
 
 /// A batch that writes at `k`.
 const WRITE: &[Given<'static>] = &[Given {
@@ -27,23 +26,10 @@ const READ: &[Given<'static>] = &[Given {
 }];
 
 /// The first record writes where the second reads.
-const LINES: &[Line<'static>] = &[(0, WRITE), (1, READ)];
+pub(crate) const LINES: &[Line<'static>] = &[(0, WRITE), (1, READ)];
 
 /// Each is begun by its proxy.
-const BEGIN: &[Step] = &[(0, 0, None), (1, 1, None)];
-
-/// Both records, begun and not resolved.
-pub(crate) fn begun<N: Naming, R: Wait>(
-    rt: &R,
-    alloc: Global,
-    cluster: &Cluster<'_, N>,
-) -> Result<Vec<Phase<N>>, Fail> {
-    let mut rows = tickets(rt, alloc, cluster, LINES)?;
-    match first_wrong(rt, cluster, &mut rows, BEGIN) {
-        None => Ok(rows),
-        Some(_) => Err(Fail::from("a record was not begun")),
-    }
-}
+pub(crate) const BEGIN: &[Step] = &[(0, 0, None), (1, 1, None)];
 
 const COMMITTED_AT_10: Answer = Ok((10, Some(Verdict::Committed), 0));
 
@@ -51,46 +37,39 @@ const CONFLICT_AT_20: Answer = Ok((20, Some(Verdict::Conflict), 1));
 
 // ---- numbers
 
-/// The number of a new resolver, and the number of what it locks.
+/// The number of the resolver of this number, and the number of what it locks.
 fn numbers<N: Naming, R: Wait>(
     rt: &R,
     alloc: Global,
     ledger: &Ledger<N>,
     number: usize,
 ) -> Result<(usize, usize), Refusal> {
-    let resolver = twice!(
-        SharedResolver::new(alloc, ledger, number),
-        Refusal::OutOfMemory
-    )?;
-    let locked = resolver.lock(rt).number();
-    Ok((resolver.number(), locked))
+    let made = resolver(alloc, ledger, number)?;
+    let locked = made.lock(rt).number();
+    Ok((made.number(), locked))
 }
 
-type Numbers = Result<(usize, usize), Refusal>;
-
-fn three_numbers<N: Naming, R: Wait>(rt: &R, alloc: Global, blank: BlankLedger) -> [Numbers; 3]
-    requires { blank ≡ N.cells }
-{
-    let ledger = blank.named::<N>();
-    [
-        numbers(rt, alloc, &ledger, 0),
-        numbers(rt, alloc, &ledger, 1),
-        numbers(rt, alloc, &ledger, 2),
-    ]
+/// Resolvers of three numbers are made, the last of which is too large.
+pub(crate) fn are_numbered<N: Naming, R: Abort + Wait>(
+    rt: &R,
+    alloc: Global,
+    cluster: &Cluster<'_, N>,
+) {
+    assert!(rt; numbers(rt, alloc, cluster.ledger, 0) == Ok((0, 0)));
+    assert!(rt; numbers(rt, alloc, cluster.ledger, 1) == Ok((1, 1)));
+    assert!(rt; numbers(rt, alloc, cluster.ledger, 2) == Err(Refusal::WrongResolver));
 }
 
 #[test]
 fn a_resolver_has_its_number(rt: HostRuntime) -> Result<(), Fail> {
     let alloc = rt.alloc();
-    let found = three_numbers::<Brand, _>(&rt, alloc, blank(alloc, 1, 2)?);
-    assert!(&rt; found == [Ok((0, 0)), Ok((1, 1)), Err(Refusal::WrongResolver)]);
-    Ok(())
+    tell(&rt, alloc, blank(alloc, 1, 3, 2)?, &[], &Story::Numbers)
 }
 
 // ---- turns
 
 /// A request: the resolver's place, whether it waits its turn, its row, and what is to be answered.
-type Ask = (usize, bool, usize, Answer);
+pub(crate) type Ask = (usize, bool, usize, Answer);
 
 const WAITS: bool = true;
 
@@ -115,51 +94,54 @@ const BY_TWO: &[Ask] = &[
     (0, WAITS, 0, COMMITTED_AT_10),
 ];
 
-/// The place of the first request that is not answered as it is to be.
-fn first_other<N: Naming, R: Wait>(
+/// Each request is answered as it is to be.
+fn ask_each<N: Naming, R: Abort + Wait>(
     rt: &R,
     cluster: &Cluster<'_, N>,
     rows: &[Phase<N>],
     asks: &[Ask],
-) -> Option<usize> {
-    for (place, (resolver, waits, row, wanted)) in asks.iter().enumerate() {
-        let Some(resolver) = cluster.resolvers().get(*resolver) else {
-            return Some(place);
+) {
+    for (resolver, waits, row, wanted) in asks {
+        let answered = match cluster.resolvers().get(*resolver) {
+            Some(resolver) => answer(rt, resolver, *waits, rows, *row),
+            None => Err(Refusal::WrongResolver),
         };
-        if answer(rt, resolver, *waits, rows, *row) != *wanted {
-            return Some(place);
-        }
+        assert!(rt; answered == *wanted);
     }
-    None
 }
 
-fn first_other_of<N: Naming, R: Wait>(
+/// Brings the requests for two records that are begun.
+pub(crate) fn ask_by_hand<N: Naming, R: Abort + Wait>(
     rt: &R,
     alloc: Global,
-    blank: BlankLedger,
-    numbers: &[usize],
+    cluster: &Cluster<'_, N>,
     asks: &[Ask],
-) -> Result<Option<usize>, Fail>
-    requires { blank ≡ N.cells }
-{
-    let ledger = blank.named::<N>();
-    let cluster = Cluster::new(alloc, &ledger, numbers)?;
-    let rows = begun(rt, alloc, &cluster)?;
-    Ok(first_other(rt, &cluster, rows.as_slice(), asks))
+) -> Result<(), Fail> {
+    let rows = rows_after(rt, alloc, cluster, LINES, BEGIN)?;
+    ask_each(rt, cluster, rows.as_slice(), asks);
+    Ok(())
 }
 
 #[test]
 fn a_request_comes_early_in_turn_or_again(rt: HostRuntime) -> Result<(), Fail> {
     let alloc = rt.alloc();
-    let blank = blank(alloc, 2, 1)?;
-    assert!(&rt; first_other_of::<Brand, _>(&rt, alloc, blank, &[0], IN_TURN)? == None);
-    Ok(())
+    tell(
+        &rt,
+        alloc,
+        blank(alloc, 2, 3, 1)?,
+        &[0],
+        &Story::Asked(IN_TURN),
+    )
 }
 
 #[test]
 fn a_second_resolver_of_a_number_is_refused_the_cell(rt: HostRuntime) -> Result<(), Fail> {
     let alloc = rt.alloc();
-    let blank = blank(alloc, 2, 1)?;
-    assert!(&rt; first_other_of::<Brand, _>(&rt, alloc, blank, &[0, 0], BY_TWO)? == None);
-    Ok(())
+    tell(
+        &rt,
+        alloc,
+        blank(alloc, 2, 3, 1)?,
+        &[0, 0],
+        &Story::Asked(BY_TWO),
+    )
 }

@@ -2,7 +2,7 @@
 
 use crate::tests::starting::Cluster;
 use agreed_ledger::{Naming, Ticket};
-use locked_cluster::{AllResolvers, Begun, NotedFinished, Ready, Refusal, SharedProxy};
+use locked_cluster::{AllResolvers, Asking, Begun, NotedFinished, Ready, Refusal, SharedProxy};
 use std::mem;
 use std::sync::Wait;
 
@@ -17,7 +17,7 @@ pub(crate) enum Phase<N: Naming> {
 }
 
 /// Why a phase was refused, if it was, and what comes next.
-type Stepped<N> = (Option<Refusal>, Phase<N>);
+pub(crate) type Stepped<N> = (Option<Refusal>, Phase<N>);
 
 fn begin<N: Naming, R: Wait>(rt: &R, proxy: &SharedProxy<'_, N>, ticket: Ticket<N>) -> Stepped<N> {
     match proxy.lock(rt).begin(ticket) {
@@ -26,19 +26,40 @@ fn begin<N: Naming, R: Wait>(rt: &R, proxy: &SharedProxy<'_, N>, ticket: Ticket<
     }
 }
 
-fn resolve<N: Naming, R: Wait>(
+fn resolve<N: Naming, A: Asking<N>, R: Wait>(
+    rt: &R,
+    asking: &A,
+    proxy: &SharedProxy<'_, N>,
+    begun: Begun<N>,
+) -> Stepped<N> {
+    match proxy.resolve_all(rt, asking, begun) {
+        Ok(ready) => (None, Phase::Ready(ready)),
+        Err((refusal, back)) => (Some(refusal), Phase::Begun(back)),
+    }
+}
+
+/// Asks all resolvers in this way, if the record is begun.
+pub(crate) fn resolve_begun<N: Naming, A: Asking<N>, R: Wait>(
+    rt: &R,
+    asking: &A,
+    proxy: &SharedProxy<'_, N>,
+    phase: Phase<N>,
+) -> Stepped<N> {
+    match phase {
+        Phase::Begun(begun) => resolve(rt, asking, proxy, begun),
+        other => (None, other),
+    }
+}
+
+fn resolve_by_all<N: Naming, R: Wait>(
     rt: &R,
     cluster: &Cluster<'_, N>,
     proxy: &SharedProxy<'_, N>,
     begun: Begun<N>,
 ) -> Stepped<N> {
-    let asking = match AllResolvers::new(cluster.resolvers()) {
-        Ok(asking) => asking,
-        Err(refusal) => return (Some(refusal), Phase::Begun(begun)),
-    };
-    match proxy.resolve_all(rt, &asking, begun) {
-        Ok(ready) => (None, Phase::Ready(ready)),
-        Err((refusal, back)) => (Some(refusal), Phase::Begun(back)),
+    match AllResolvers::new(cluster.resolvers()) {
+        Ok(asking) => resolve(rt, &asking, proxy, begun),
+        Err(refusal) => (Some(refusal), Phase::Begun(begun)),
     }
 }
 
@@ -58,31 +79,31 @@ pub(crate) fn step_once<N: Naming, R: Wait>(
 ) -> Stepped<N> {
     match phase {
         Phase::Sequenced(ticket) => begin(rt, proxy, ticket),
-        Phase::Begun(begun) => resolve(rt, cluster, proxy, begun),
+        Phase::Begun(begun) => resolve_by_all(rt, cluster, proxy, begun),
         Phase::Ready(ready) => finish(rt, proxy, ready),
         other => (None, other),
     }
 }
 
-/// Goes through the next phase by this proxy, once more after a failed allocation.
+/// Goes through the next phase of what the slot holds by this proxy, and returns why that is refused,
+/// if it is.
 fn step<N: Naming, R: Wait>(
     rt: &R,
     cluster: &Cluster<'_, N>,
     proxy: &SharedProxy<'_, N>,
-    phase: Phase<N>,
-) -> Stepped<N> {
-    let (refusal, back) = step_once(rt, cluster, proxy, phase);
-    if refusal == Some(Refusal::OutOfMemory) {
-        step_once(rt, cluster, proxy, back)
-    } else {
-        (refusal, back)
-    }
+    slot: &mut Phase<N>,
+) -> Option<Refusal> {
+    let phase = mem::replace(slot, Phase::Lost);
+    let (refusal, next) = step_once(rt, cluster, proxy, phase);
+    *slot = next;
+    refusal
 }
 
 /// A step: the row of a record, the proxy that is to go on with it, and why it is refused, if it is.
 pub(crate) type Step = (usize, usize, Option<Refusal>);
 
-/// Goes on with the record of the row by the proxy, and returns why that is refused, if it is.
+/// Goes on with the record of the row by the proxy, once more after a failed allocation. Returns why
+/// that is refused, if it is.
 fn go<N: Naming, R: Wait>(
     rt: &R,
     cluster: &Cluster<'_, N>,
@@ -93,10 +114,10 @@ fn go<N: Naming, R: Wait>(
     let (Some(proxy), Some(slot)) = (cluster.proxy(proxy), rows.get_mut(row)) else {
         return Some(Refusal::NoSuchProxy);
     };
-    let phase = mem::replace(slot, Phase::Lost);
-    let (refusal, next) = step(rt, cluster, proxy, phase);
-    *slot = next;
-    refusal
+    match step(rt, cluster, proxy, slot) {
+        Some(Refusal::OutOfMemory) => step(rt, cluster, proxy, slot),
+        refusal => refusal,
+    }
 }
 
 /// The place of the first step that is not answered as it is to be.

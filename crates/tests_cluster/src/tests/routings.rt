@@ -19,41 +19,35 @@ fn is_first(route: &Route) -> bool {
 
 fn routed(routing: &Routing) -> (u64, bool, usize, usize) {
     let routes = routing.routes.as_slice();
-    let first = routes.iter().filter(|route| is_first(*route)).count();
+    let mut first = 0_usize;
+    for route in routes {
+        first = first.saturating_add(usize::from(is_first(route)));
+    }
     (routing.version, routing.locked, routes.len(), first)
 }
 
-fn routed_once<N: Naming, R: Wait>(rt: &R, proxy: &SharedProxy<'_, N>, version: u64) -> Routed {
-    let noted = proxy.lock(rt).routing_at(version)?;
+fn routed_once<N: Naming, R: Wait>(
+    rt: &R,
+    proxy: &SharedProxy<'_, N>,
+    version: Option<u64>,
+) -> Routed {
+    let shown = proxy.lock(rt);
+    let noted = match version {
+        Some(version) => shown.routing_at(version)?,
+        None => shown.routing()?,
+    };
     Ok(routed(noted.value()))
 }
 
-/// The routing of a proxy at a version.
+/// The routing of a proxy at a version, or at its own.
 pub(crate) fn routed_at<N: Naming, R: Wait>(
     rt: &R,
     cluster: &Cluster<'_, N>,
     proxy: usize,
-    version: u64,
+    version: Option<u64>,
 ) -> Routed {
     let Some(proxy) = cluster.proxy(proxy) else {
         return Err(Refusal::NoSuchProxy);
     };
     twice!(routed_once(rt, proxy, version), Refusal::OutOfMemory)
-}
-
-fn last_once<N: Naming, R: Wait>(rt: &R, proxy: &SharedProxy<'_, N>) -> Routed {
-    let noted = proxy.lock(rt).routing()?;
-    Ok(routed(noted.value()))
-}
-
-/// The routing of a proxy at its version.
-pub(crate) fn last_routed<N: Naming, R: Wait>(
-    rt: &R,
-    cluster: &Cluster<'_, N>,
-    proxy: usize,
-) -> Routed {
-    let Some(proxy) = cluster.proxy(proxy) else {
-        return Err(Refusal::NoSuchProxy);
-    };
-    twice!(last_once(rt, proxy), Refusal::OutOfMemory)
 }

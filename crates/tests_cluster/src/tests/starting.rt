@@ -1,17 +1,26 @@
-//! What the tests start from: a ledger, the parts of a cluster, and tickets.
+//! What the tests start from: a ledger, the parts of a cluster, inboxes, and records.
 
-use crate::tests::phases::Phase;
+ghost use Rattle.std.specs.Prelude.{◌≡◌};
+
+use crate::tests::phases::{Phase, Step, first_wrong};
 use agreed_ledger::{BlankLedger, Ledger, Naming, Sequencer, Ticket};
-use locked_cluster::{SharedProxy, SharedResolver};
+use inboxes::{BlankInboxes, Channels, FreshEnd, InboxRoom, ProxySenders};
+use locked_cluster::{Refusal, Request, SharedProxy, SharedResolver};
 use model::Config;
 use std::alloc::Global;
 use std::sync::Wait;
 use std::test::Fail;
 use testing::{Given, batch, room, twice};
+use workers::{AskedRequest, ProxyInboxes};
 
-/// A ledger of so many rows, for three proxies and so many resolvers.
-pub(crate) fn blank(alloc: Global, rows: usize, resolvers: usize) -> Result<BlankLedger, Fail> {
-    let config = Config::new(3, resolvers, 1000, 10)?;
+/// A ledger of so many rows, for so many proxies and resolvers.
+pub(crate) fn blank(
+    alloc: Global,
+    rows: usize,
+    proxies: usize,
+    resolvers: usize,
+) -> Result<BlankLedger, Fail> {
+    let config = Config::new(proxies, resolvers, 1000, 10)?;
     let made = twice!(
         Ledger::new(alloc, rows, config),
         agreed_ledger::Refusal::OutOfMemory
@@ -22,6 +31,7 @@ pub(crate) fn blank(alloc: Global, rows: usize, resolvers: usize) -> Result<Blan
 /// The parts of a cluster: all proxies, and some resolvers.
 #[derive(Drop)]
 pub(crate) struct Cluster<'l, N: Naming> {
+    pub(crate) ledger: &'l Ledger<N>,
     pub(crate) sequencer: Sequencer<'l, N>,
     proxies: Vec<SharedProxy<'l, N>>,
     resolvers: Vec<SharedResolver<'l, N>>,
@@ -35,6 +45,7 @@ impl<'l, N: Naming> Cluster<'l, N> {
         numbers: &[usize],
     ) -> Result<Cluster<'l, N>, Fail> {
         Ok(Cluster {
+            ledger,
             sequencer: Sequencer::new(alloc, ledger)?,
             proxies: proxies(alloc, ledger)?,
             resolvers: resolvers(alloc, ledger, numbers)?,
@@ -56,11 +67,24 @@ fn proxies<'l, N: Naming>(
     alloc: Global,
     ledger: &'l Ledger<N>,
 ) -> Result<Vec<SharedProxy<'l, N>>, Fail> {
-    let mut made = room(alloc, 3)?;
-    for number in 0..3 {
+    let count = ledger.config().proxies();
+    let mut made = room(alloc, count)?;
+    for number in 0..count {
         made.push(SharedProxy::new(alloc, ledger, number)?)?;
     }
     Ok(made)
+}
+
+/// The resolver of this number.
+pub(crate) fn resolver<'l, N: Naming>(
+    alloc: Global,
+    ledger: &'l Ledger<N>,
+    number: usize,
+) -> Result<SharedResolver<'l, N>, Refusal> {
+    twice!(
+        SharedResolver::new(alloc, ledger, number),
+        Refusal::OutOfMemory
+    )
 }
 
 fn resolvers<'l, N: Naming>(
@@ -70,10 +94,53 @@ fn resolvers<'l, N: Naming>(
 ) -> Result<Vec<SharedResolver<'l, N>>, Fail> {
     let mut made = room(alloc, numbers.len())?;
     for number in numbers {
-        made.push(SharedResolver::new(alloc, ledger, *number)?)?;
+        made.push(resolver(alloc, ledger, *number)?)?;
     }
     Ok(made)
 }
+
+// ---- inboxes
+
+/// The ends of all inboxes: those of the workers, in the order of the resolvers, and those of the
+/// proxies.
+#[derive(Drop)]
+pub(crate) struct Inboxes<N: Naming, M: Channels> {
+    pub(crate) ends: Vec<FreshEnd<N, AskedRequest<N>, M>>,
+    pub(crate) sides: Vec<ProxyInboxes<N, M>>,
+}
+
+impl<N: Naming, M: Channels> Inboxes<N, M> {
+    /// The inboxes, named.
+    pub(crate) fn new(
+        alloc: Global,
+        ledger: &Ledger<N>,
+        blank: BlankInboxes<N, AskedRequest<N>>,
+    ) -> Result<Inboxes<N, M>, Fail>
+        requires { blank ≡ M.places }
+    {
+        let room = InboxRoom::new(alloc, ledger)?;
+        let (senders, ends) = blank.named::<M>(room);
+        Ok(Inboxes {
+            ends,
+            sides: sides(alloc, ledger, senders)?,
+        })
+    }
+}
+
+/// The inboxes of each proxy.
+fn sides<N: Naming, M: Channels>(
+    alloc: Global,
+    ledger: &Ledger<N>,
+    senders: Vec<ProxySenders<N, AskedRequest<N>, M>>,
+) -> Result<Vec<ProxyInboxes<N, M>>, Fail> {
+    let mut made = room(alloc, senders.len())?;
+    for one in senders {
+        made.push(ProxyInboxes::new(ledger, one))?;
+    }
+    Ok(made)
+}
+
+// ---- records
 
 /// The proxy of a record, and its batch.
 pub(crate) type Line<'a> = (usize, &'a [Given<'a>]);
@@ -104,4 +171,38 @@ pub(crate) fn tickets<N: Naming, R: Wait>(
         rows.push(Phase::Sequenced(ticket(rt, alloc, cluster, *line)?))?;
     }
     Ok(rows)
+}
+
+/// Goes through the steps, each of which is to be answered as it says.
+pub(crate) fn go_through<N: Naming, R: Wait>(
+    rt: &R,
+    cluster: &Cluster<'_, N>,
+    rows: &mut Vec<Phase<N>>,
+    steps: &[Step],
+) -> Result<(), Fail> {
+    match first_wrong(rt, cluster, rows, steps) {
+        None => Ok(()),
+        Some(_) => Err(Fail::from("a phase is not answered as it is to be")),
+    }
+}
+
+/// The records of these batches, after the steps.
+pub(crate) fn rows_after<N: Naming, R: Wait>(
+    rt: &R,
+    alloc: Global,
+    cluster: &Cluster<'_, N>,
+    lines: &[Line<'_>],
+    steps: &[Step],
+) -> Result<Vec<Phase<N>>, Fail> {
+    let mut rows = tickets(rt, alloc, cluster, lines)?;
+    go_through(rt, cluster, &mut rows, steps)?;
+    Ok(rows)
+}
+
+/// The requests of the first record, if it is begun.
+pub(crate) fn requests<N: Naming>(rows: &[Phase<N>]) -> &[Request<N>] {
+    match rows.first() {
+        Some(Phase::Begun(begun)) => begun.requests(),
+        _ => &[],
+    }
 }

@@ -1,17 +1,17 @@
 //! Workers and proxies in threads of their own.
 
+use crate::tests::commits::commit_once;
 use crate::tests::starting::Cluster;
-use agreed_ledger::{Ledger, Naming};
-use inboxes::{Channels, ProxySenders};
+use crate::tests::summing::Called;
+use agreed_ledger::Naming;
+use inboxes::Channels;
 use locked_cluster::CommitFault;
 use mutation::Batch;
 use std::alloc::Global;
 use std::sync::Wait;
-use std::test::Fail;
 use std::thread;
 use std::thread::{Scope, Threads};
-use testing::room;
-use workers::{AskedRequest, ProxyInboxes};
+use workers::ProxyInboxes;
 
 /// What the threads of a test do: `E` is what the worker of a resolver gets, and `S` what a proxy gets.
 pub(crate) trait Parts<E, S> {
@@ -88,19 +88,6 @@ fn start_proxies<'s, X, E: 's, S: Sync + 's, P: Parts<E, S> + Sync, R: Threads +
     all
 }
 
-/// The inboxes of each proxy.
-pub(crate) fn sides<N: Naming, M: Channels>(
-    alloc: Global,
-    ledger: &Ledger<N>,
-    senders: Vec<ProxySenders<N, AskedRequest<N>, M>>,
-) -> Result<Vec<ProxyInboxes<N, M>>, Fail> {
-    let mut made = room(alloc, senders.len())?;
-    for one in senders {
-        made.push(ProxyInboxes::new(ledger, one))?;
-    }
-    Ok(made)
-}
-
 /// The number of the refusal of a closed resolver.
 pub(crate) const CLOSED: u32 = 60;
 
@@ -111,12 +98,11 @@ pub(crate) fn commit_or_close<N: Naming, M: Channels, R: Wait>(
     alloc: Global,
     cluster: &Cluster<'_, N>,
     side: &ProxyInboxes<N, M>,
-) -> Result<u64, u32> {
+) -> Called {
     let committed = commit_empty(rt, alloc, cluster, side);
-    if let Err(number) = committed {
-        if number != CLOSED {
-            side.close(rt);
-        }
+    match committed {
+        Ok(_) | Err(CLOSED) => {}
+        Err(_) => side.close(rt),
     }
     committed
 }
@@ -127,16 +113,26 @@ fn commit_empty<N: Naming, M: Channels, R: Wait>(
     alloc: Global,
     cluster: &Cluster<'_, N>,
     side: &ProxyInboxes<N, M>,
-) -> Result<u64, u32> {
-    let Some(proxy) = cluster.proxies.as_slice().get(side.proxy()) else {
+) -> Called {
+    let Some(proxy) = cluster.proxy(side.proxy()) else {
         return Err(32);
     };
     let Ok(empty) = Batch::new(Vec::new(alloc)) else {
         return Err(0);
     };
-    match proxy.commit(rt, &cluster.sequencer, side, empty) {
-        Ok((noted, _shown)) => Ok(noted.value().version),
-        Err(CommitFault::Resolving { refusal, begun: _ }) => Err(refusal.number().unwrap_or(0)),
-        Err(_) => Err(1),
+    match commit_once(rt, cluster, side, proxy, empty) {
+        Ok(((version, _), ..)) => Ok(version),
+        Err(fault) => Err(number(&fault)),
     }
+}
+
+/// The number of the refusal, 0 for want of memory.
+fn number<N: Naming>(fault: &CommitFault<N>) -> u32 {
+    let number = match fault {
+        CommitFault::Sequencing { refusal, .. } => refusal.number(),
+        CommitFault::Beginning { refusal, .. }
+        | CommitFault::Resolving { refusal, .. }
+        | CommitFault::Finishing { refusal, .. } => refusal.number(),
+    };
+    number.unwrap_or(0)
 }

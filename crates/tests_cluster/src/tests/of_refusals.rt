@@ -1,0 +1,98 @@
+//! Tests of ends and requests that are refused.
+
+use crate::tests::phases::{Phase, Step, resolve_begun};
+use crate::tests::starting::{Cluster, Inboxes, Line, blank, requests, rows_after};
+use crate::tests::stories::{InboxStory, Story, tell};
+use agreed_ledger::Naming;
+use inboxes::{Channels, FreshEnd};
+use locked_cluster::Refusal;
+use std::alloc::Global;
+use std::process::Abort;
+use std::sync::Wait;
+use std::test::Fail;
+use testing::{Given, NOTHING};
+use workers::{AskedRequest, Open, ProxyInboxes, ResolverWorker};
+
+/// A batch of proxy 0, which writes one key.
+pub(crate) const ONE: &[Line<'static>] = &[(
+    0,
+    &[Given {
+        writes: &[(b"a", b"b")],
+        ..NOTHING
+    }],
+)];
+
+/// It is begun.
+pub(crate) const BEGIN_ONE: &[Step] = &[(0, 0, None)];
+
+/// What a worker of resolver 0 is refused with that gets this end.
+fn misplaced<N: Naming, M: Channels>(
+    alloc: Global,
+    cluster: &Cluster<'_, N>,
+    end: Option<FreshEnd<N, AskedRequest<N>, M>>,
+) -> Option<Refusal> {
+    let resolver = cluster.resolvers().first()?;
+    match ResolverWorker::new(alloc, resolver, end?, Open) {
+        Ok(_worker) => None,
+        Err((refusal, _end, _gate)) => Some(refusal),
+    }
+}
+
+/// What proxy 0 is refused with that asks all resolvers for the record by the inboxes of another proxy.
+fn foreign_all<N: Naming, M: Channels, R: Wait>(
+    rt: &R,
+    cluster: &Cluster<'_, N>,
+    side: &ProxyInboxes<N, M>,
+    rows: &mut Vec<Phase<N>>,
+) -> Option<Refusal> {
+    let proxy = cluster.proxy(0)?;
+    let record = rows.pop()?;
+    resolve_begun(rt, side, proxy, record).0
+}
+
+/// Both ways to ask by the inboxes of another proxy are refused.
+fn are_refused<N: Naming, M: Channels, R: Abort + Wait>(
+    rt: &R,
+    alloc: Global,
+    cluster: &Cluster<'_, N>,
+    side: &ProxyInboxes<N, M>,
+    rows: Vec<Phase<N>>,
+) {
+    let mut rows = rows;
+    let asked = side.ask(rt, alloc, requests(rows.as_slice())).err();
+    assert!(rt; asked == Some(Refusal::NotMine));
+    let asked = foreign_all(rt, cluster, side, &mut rows);
+    assert!(rt; asked == Some(Refusal::Closed));
+}
+
+/// Ends come to another resolver, and requests are asked by another proxy.
+pub(crate) fn misplace<N: Naming, M: Channels, R: Abort + Wait>(
+    rt: &R,
+    alloc: Global,
+    cluster: &Cluster<'_, N>,
+    inboxes: Inboxes<N, M>,
+) -> Result<(), Fail> {
+    let rows = rows_after(rt, alloc, cluster, ONE, BEGIN_ONE)?;
+    let Inboxes { ends, sides } = inboxes;
+    let mut ends = ends;
+    assert!(rt; misplaced(alloc, cluster, ends.pop()) == Some(Refusal::WrongResolver));
+    let Some(side) = sides.last() else {
+        return Err(Fail::from("there is no proxy"));
+    };
+    are_refused(rt, alloc, cluster, side, rows);
+    Ok(())
+}
+
+#[test]
+fn other_resolvers_ends_and_other_proxies_requests_are_refused(
+    rt: HostRuntime,
+) -> Result<(), Fail> {
+    let alloc = rt.alloc();
+    tell(
+        &rt,
+        alloc,
+        blank(alloc, 1, 2, 2)?,
+        &[0, 1],
+        &Story::OfInboxes(InboxStory::Misplaced),
+    )
+}

@@ -1,5 +1,0 @@
-//! The tests of inboxes and workers, by their public calls.
-#![tactic(auto)]
-
-#[cfg(test)]
-mod tests;
