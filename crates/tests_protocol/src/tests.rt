@@ -8,6 +8,7 @@
 mod of_dated_owners;
 mod of_metadata;
 mod of_proxy_state;
+mod of_refusals;
 mod of_request_builder;
 mod of_share_judge;
 mod of_state_memory;

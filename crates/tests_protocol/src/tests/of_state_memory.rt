@@ -9,9 +9,7 @@ use std::alloc::{AllocError, Global};
 use std::process::Abort;
 use std::test::Fail;
 use system_keys::OutOfMemory;
-use testing::{
-    Content, Ends, PartLine, ReplyLine, Step, Told, ToldRow, is_shown_as, reply, room, twice,
-};
+use testing::{Content, Ends, PartLine, ReplyLine, Step, Told, ToldRow, reply, room, twice};
 
 // ---- requests and what they get
 
@@ -385,15 +383,11 @@ const PRINTED: &[(Refusal, Option<u32>, &str)] = &[
 ];
 
 #[test]
-fn refusals_are_printed_with_numbers_names_and_versions(rt: HostRuntime) -> Result<(), Fail> {
+fn refusals_are_printed_with_numbers_and_names(rt: HostRuntime) {
     for (refusal, number, name) in PRINTED {
         assert!(rt;
             refusal.number() == *number && refusal.name() == *name,
             "{name}"
         );
     }
-    let early = Refusal::Early { version: 7 };
-    let text = "the request is early, since the resolver has come to 7";
-    assert!(rt; is_shown_as(rt.alloc(), early, text)?);
-    Ok(())
 }
