@@ -22,7 +22,7 @@ pub use replies::{
     unseen_rows,
 };
 pub use shares::{PartLine, part, parts};
-pub use texts::{is_shown_as, joined, text_room};
+pub use texts::{are_shown_as, joined, text_room};
 pub use transactions::{
     Content, Given, NOTHING, Step, admitted, batch, batch_of, change, changes, content_batch,
     mutation, mutations, plain_batch, transaction, transaction_of,

@@ -3,22 +3,9 @@
 
 use model::Refusal::BadConfig;
 use mutation::Refusal;
-use std::fmt::Display;
-use std::process::Abort;
 use std::test::Fail;
 use system_keys::{OutOfMemory, RowFault, TeamsFault};
-use testing::is_shown_as;
-
-/// Each value is printed as its text.
-fn assert_shown_as<T: Display>(
-    rt: &(impl Abort + AllocGlobal),
-    texts: &[(T, &str)],
-) -> Result<(), Fail> {
-    for (value, text) in texts {
-        assert!(rt; is_shown_as(rt.alloc(), value, *text)?, "{text}");
-    }
-    Ok(())
-}
+use testing::are_shown_as;
 
 /// Each refusal of a transaction in words; those of a key, a range or a change are shown alone.
 const OF_TRANSACTIONS: &[(Refusal, &str)] = &[
@@ -73,11 +60,13 @@ const OF_NUMBERS: &[(model::Refusal, &str)] = &[(
 
 #[test]
 fn refusals_are_shown_in_words(rt: HostRuntime) -> Result<(), Fail> {
-    assert_shown_as(&rt, OF_TRANSACTIONS)?;
-    assert_shown_as(&rt, OF_VALUES)?;
-    assert_shown_as(&rt, OF_TEAMS)?;
-    assert_shown_as(&rt, OF_NUMBERS)?;
-    assert_shown_as(&rt, &[(OutOfMemory, "out of memory")])
+    let alloc = rt.alloc();
+    assert!(&rt; are_shown_as(alloc, OF_TRANSACTIONS)?);
+    assert!(&rt; are_shown_as(alloc, OF_VALUES)?);
+    assert!(&rt; are_shown_as(alloc, OF_TEAMS)?);
+    assert!(&rt; are_shown_as(alloc, OF_NUMBERS)?);
+    assert!(&rt; are_shown_as(alloc, &[(OutOfMemory, "out of memory")])?);
+    Ok(())
 }
 
 /// Each fault of a value with its number and its name.

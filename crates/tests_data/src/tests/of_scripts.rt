@@ -5,7 +5,7 @@ use mutation::Batch;
 use scripts::{RunStatus, ScriptFault, read_batch, stream_batch};
 use std::alloc::Global;
 use std::test::Fail;
-use testing::{Given, NOTHING, Step, batch, is_shown_as, twice};
+use testing::{Given, NOTHING, Step, are_shown_as, batch, twice};
 
 /// Each fault in words; those of a key, a transaction or a batch are shown alone.
 const WORDS: &[(ScriptFault, &str)] = &[
@@ -24,9 +24,7 @@ const WORDS: &[(ScriptFault, &str)] = &[
 
 #[test]
 fn refusals_of_scripts_are_shown_in_words(rt: HostRuntime) -> Result<(), Fail> {
-    for (fault, text) in WORDS {
-        assert!(rt; is_shown_as(rt.alloc(), *fault, *text)?, "{text}");
-    }
+    assert!(&rt; are_shown_as(rt.alloc(), WORDS)?);
     Ok(())
 }
 

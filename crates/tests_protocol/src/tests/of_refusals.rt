@@ -1,20 +1,7 @@
 //! Tests of refusals: the words in which they are shown.
 
-use std::fmt::Display;
-use std::process::Abort;
 use std::test::Fail;
-use testing::is_shown_as;
-
-/// Each value is shown as its text.
-fn assert_shown_as<T: Display>(
-    rt: &(impl Abort + AllocGlobal),
-    texts: &[(T, &str)],
-) -> Result<(), Fail> {
-    for (value, text) in texts {
-        assert!(rt; is_shown_as(rt.alloc(), value, *text)?, "{text}");
-    }
-    Ok(())
-}
+use testing::are_shown_as;
 
 const OF_OWNERS: &[(dated_owners::Refusal, &str)] = &[
     (
@@ -118,8 +105,10 @@ const OF_THE_WORLD: &[(turn_world::Refusal, &str)] = &[
 
 #[test]
 fn refusals_are_shown_in_words(rt: HostRuntime) -> Result<(), Fail> {
-    assert_shown_as(&rt, OF_OWNERS)?;
-    assert_shown_as(&rt, OF_RESOLVERS)?;
-    assert_shown_as(&rt, OF_PROXIES)?;
-    assert_shown_as(&rt, OF_THE_WORLD)
+    let alloc = rt.alloc();
+    assert!(&rt; are_shown_as(alloc, OF_OWNERS)?);
+    assert!(&rt; are_shown_as(alloc, OF_RESOLVERS)?);
+    assert!(&rt; are_shown_as(alloc, OF_PROXIES)?);
+    assert!(&rt; are_shown_as(alloc, OF_THE_WORLD)?);
+    Ok(())
 }
