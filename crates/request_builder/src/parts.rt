@@ -1,6 +1,6 @@
 //! The parts of transactions that a resolver gets.
 
-ghost use Rattle.std.specs.Prelude.{◌≡◌, ◌∷◌, ◌++◌, [], if◌then◌else◌, length, IfOk, OnOk};
+ghost use Rattle.std.specs.Prelude.{◌≡◌, ◌∷◌, ◌++◌, [], if◌then◌else◌, length, filter, IfOk, OnOk};
 ghost use Rattle.system_keys.specs.Keys.{only};
 ghost use Rattle.model.specs.Transactions.{locked_key};
 ghost use Rattle.model.specs.Journal.{list_at};
@@ -86,7 +86,7 @@ fn part_by(
     })
 }
 
-/// Adds copies of the ranges whose lists have the resolver.
+/// Adds copies of the ranges whose lists have the resolver. Room for them is made at once.
 fn push_ranges(
     copies: &mut Vec<KeyRange>,
     resolver: ResolverNumber,
@@ -96,10 +96,21 @@ fn push_ranges(
     ensures { OnOk result
         (copies.new.items ≡ copies.old.items ++ ranges_for resolver ranges.now lists.now) }
 {
+    copies.reserve(how_many_list(resolver, lists))?;
     for (number, range) in ranges.iter().enumerate() {
         push_if(copies, is_listed(resolver, lists, number), range)?;
     }
     Ok(())
+}
+
+/// How many of the lists have the resolver.
+fn how_many_list(resolver: ResolverNumber, lists: &[Items<ResolverNumber>]) -> usize
+    ensures { result ≡ length (filter (is_in resolver) lists.now) }
+{
+    lists
+        .iter()
+        .filter(|list| list.as_slice().contains(&resolver))
+        .count()
 }
 
 /// Adds a copy of the range, if it is asked for.

@@ -10,10 +10,12 @@ use model::{ProxyNumber, RowNumber, Version};
 use mutation::{Admitted, Batch, Stamped};
 use std::alloc::Global;
 use std::marker::Model;
+use std::sync::Arc;
 use system_keys::{Items, OutOfMemory};
 
 /// What the sequencer gives to a batch: its place in the order of all batches, its version, the
-/// version before it, and all moves so far. The transactions have their stamps in.
+/// version before it, and all moves so far. The transactions have their stamps in. Copies share the
+/// moves and the transactions.
 #[derive(Clone, Debug, Drop)]
 pub struct Record {
     row: RowNumber,
@@ -22,11 +24,12 @@ pub struct Record {
     own_previous: Version,
     proxy: ProxyNumber,
     moves: Moves,
-    batch: Items<Stamped>,
+    batch: Arc<Items<Stamped>>,
 }
 
 impl Model for Record {
     ghost use Rattle.std.specs.Prelude.{◌<◌};
+    ghost use Rattle.std.specs.Arc.{arc_value};
     ghost use Rattle.model.specs.Records.{Record as Sequenced};
 
     ghost Value = { Sequenced };
@@ -38,7 +41,7 @@ impl Model for Record {
       own_previous = rec.own_previous;
       proxy = rec.proxy;
       moves = rec.moves;
-      batch = rec.batch;
+      batch = arc_value rec.batch;
     } };
 
     ghost invariant = { λ rec. rec.previous < rec.version };
@@ -72,7 +75,8 @@ impl Record {
         }) }
     {
         let moves = moves.copy()?;
-        let batch = stamped_batch(alloc, version, batch.transactions())?;
+        let stamped = stamped_batch(alloc, version, batch.transactions())?;
+        let batch = Arc::new(alloc, Items::from(stamped))?;
         Ok(Record {
             row,
             previous,
@@ -80,7 +84,7 @@ impl Record {
             own_previous,
             proxy,
             moves,
-            batch: Items::from(batch),
+            batch,
         })
     }
 
@@ -135,7 +139,7 @@ impl Record {
         self.batch.as_slice()
     }
 
-    /// Returns a copy, which shares the moves and copies the rest. Fails only with `OutOfMemory`.
+    /// Returns a copy, which shares the moves and the transactions. Fails only with `OutOfMemory`.
     pub fn copy(&self) -> Result<Record, OutOfMemory>
         ensures { IfOk result (λ copy. copy ≡ self.now) }
     {

@@ -2,12 +2,14 @@
 
 ghost use Rattle.std.specs.Prelude.{◌≡◌, ◌++◌, ℕ, List, IfOk, OnOk, Ok, string_bytes};
 ghost use Rattle.scripts.specs.Answers.{Answer, IsOutput, answer_of};
+ghost use Rattle.scripts.specs.ScriptFaults.{IsReadAs};
 ghost use Rattle.scripts.specs.Scripts.{read_as};
 ghost use Rattle.scripts.specs.Statuses.{IsAnswered};
 
 use crate::checks::Checked;
 use crate::output::{Output, refused};
 use crate::reading::read_checked;
+use crate::script_fault::ScriptFault;
 use crate::status::RunStatus;
 use crate::streams::Streamed;
 use std::alloc::Global;
@@ -26,28 +28,35 @@ pub trait ScriptKind {
     ghost answer_to: { List ℕ → Answer };
 
     /// Prints what a script comes to. Fails only with `OutOfMemory`.
-    fn print(alloc: Global, text: &mut String, script: &Self::Script) -> Result<(), OutOfMemory>
+    fn print(alloc: Global, text: &mut String, script: Self::Script) -> Result<(), OutOfMemory>
         ensures { OnOk result (string_bytes text.new
-            ≡ string_bytes text.old ++ printed script.now) };
+            ≡ string_bytes text.old ++ printed script) };
 
     ghost answers: { (bytes : List ℕ) → answer_to bytes
         ≡ answer_of printed (read_as Self.Raw.shape Self.Script.checked bytes) };
 }
 
 /// The output for a script of this kind: what is printed of it, or its first fault (this project's
-/// profile). Fails only with `OutOfMemory`.
-pub fn answer<K: ScriptKind>(alloc: Global, bytes: &[u8]) -> Result<Output, OutOfMemory>
-    ensures output { IfOk result (IsOutput (K.answer_to bytes.now)) }
+/// profile). The bytes are dropped when the script is read. Fails only with `OutOfMemory`.
+pub fn answer<K: ScriptKind>(alloc: Global, bytes: Vec<u8>) -> Result<Output, OutOfMemory>
+    ensures output { IfOk result (IsOutput (K.answer_to bytes.items)) }
     ensures answered { IfOk result (λ output. IsAnswered output.status) }
 {
-    match read_checked::<K::Raw, K::Script>(alloc, bytes) {
-        Ok(script) => output_of::<K>(alloc, &script),
+    match read_of::<K>(alloc, bytes) {
+        Ok(script) => output_of::<K>(alloc, script),
         Err(fault) => refused(alloc, fault),
     }
 }
 
-fn output_of<K: ScriptKind>(alloc: Global, script: &K::Script) -> Result<Output, OutOfMemory>
-    ensures output { IfOk result (IsOutput (answer_of K.printed (Ok script.now))) }
+fn read_of<K: ScriptKind>(alloc: Global, bytes: Vec<u8>) -> Result<K::Script, ScriptFault>
+    ensures { IsReadAs (λ script. script) result
+        (read_as K.Raw.shape K.Script.checked bytes.items) }
+{
+    read_checked::<K::Raw, K::Script>(alloc, &bytes)
+}
+
+fn output_of<K: ScriptKind>(alloc: Global, script: K::Script) -> Result<Output, OutOfMemory>
+    ensures output { IfOk result (IsOutput (answer_of K.printed (Ok script))) }
     ensures answered { IfOk result (λ output. IsAnswered output.status) }
 {
     let mut text = String::new(alloc);

@@ -28,7 +28,7 @@ pub fn run_script<K: ScriptKind, S: Source, T: Sink>(
         Err(ReadFault::Device) => return RunStatus::DeviceFailed,
         Err(ReadFault::Limit) => return RunStatus::DeviceFailed,
     };
-    let Ok(output) = answer::<K>(alloc, &bytes) else {
+    let Ok(output) = answer::<K>(alloc, bytes) else {
         return RunStatus::OutOfMemory;
     };
     match write_all(sink, output.text.as_bytes()) {

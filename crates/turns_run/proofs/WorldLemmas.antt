@@ -1,6 +1,5 @@
 -- What is printed of a cluster that carried out events.
-use Rattle.std.proofs.Common.{◌≡◌, ◌++◌, ◌+◌, ◌∷◌, [], ◌∙◌, ℕ, List, map, refl, sym, ap, ap₂, add-one, append_assoc}
-use Rattle.std.specs.Prelude.{Result}
+use Rattle.std.proofs.Common.{◌≡◌, ◌++◌, ◌+◌, ◌∷◌, [], ◌∙◌, ℕ, List, map, sym, ap, ap₂, add-one, append_assoc}
 use Rattle.std.specs.List.{flat_map}
 use Rattle.std.proofs.lemmas.Grind.{flat_map-append}
 use Rattle.std.proofs.lemmas.List.{append-nil}
@@ -13,13 +12,9 @@ use Rattle.model.specs.Turns.{TurnCluster, IsProxyOf}
 use Rattle.model.specs.World.{World, answers, initial_world, world_after}
 use Rattle.cluster_lines.specs.MetadataLines.{metadata_text, proxy_line}
 use Rattle.turn_world.specs.Events.{event_of}
-use Rattle.turn_world.specs.Steps.{HasCarriedOut}
-use Rattle.turn_world.specs.declared.answer.Answer.{Answer as TurnAnswer}
-use Rattle.turn_world.specs.declared.refusal.Refusal.{Refusal}
 use Rattle.turns_run.specs.declared.script.TurnsScript.{TurnsScript}
-use Rattle.turns_run.specs.Lines.{events_text, results_text}
+use Rattle.turns_run.specs.Lines.{events_text}
 use Rattle.turns_run.specs.Text.{played_text, proxies_text, proxy_text}
-use Rattle.turns_run.proofs.AnswerLemmas.{results_text-answers}
 
 -- a proxy of the world is printed as the world says
 proxy_text-is : (config : Config) (w : World) (ask : List Key) (p : ℕ) (v : ProxyView) → IsProxyOf config w p v
@@ -40,17 +35,15 @@ one_more_proxy config w ask p v start before after is printed more =
     ∙ append_assoc start (flat_map f (each_below p)) (f p) ∙ ap (λ text. start ++ text) (sym grown)
 
 -- the events were carried out and printed, and then the proxies
-pub played_text-is : (script : TurnsScript) (results : List (Result TurnAnswer Refusal)) (before after : TurnCluster) (start between new : List ℕ)
+pub played_text-is : (script : TurnsScript) (before after : TurnCluster) (start between new : List ℕ)
     → before ≡ record { config = script.config; world = initial_world script.config }
-    → HasCarriedOut before after (map event_of script.events) results
-    → between ≡ start ++ results_text (map event_of script.events) results
+    → between ≡ start ++ events_text (map event_of script.events) (answers before.config before.world (map event_of script.events))
+    → after ≡ record before { world = world_after before.config before.world (map event_of script.events) }
     → new ≡ between ++ proxies_text script.config after.world script.ask
     → new ≡ start ++ played_text script
-played_text-is script results before after start between new first carried events proxies =
-    let told = answers script.config (initial_world script.config) (map event_of script.events) in
-    let cluster : TurnCluster = record { config = script.config; world = initial_world script.config } in
-    let run : HasCarriedOut cluster after (map event_of script.events) results = rw first at carried in
-    let world : after.world ≡ world_after script.config (initial_world script.config) (map event_of script.events) = ap (λ (c : TurnCluster). c.world) run.after_is in
-    let lines : results_text (map event_of script.events) results ≡ events_text (map event_of script.events) told = results_text-answers (map event_of script.events) results told run.results_are in
-    proxies ∙ ap₂ (λ text w. text ++ proxies_text script.config w script.ask) (events ∙ ap (λ text. start ++ text) lines) world
-    ∙ append_assoc start (events_text (map event_of script.events) told) (proxies_text script.config (world_after script.config (initial_world script.config) (map event_of script.events)) script.ask)
+played_text-is script before after start between new first events carried proxies =
+    let given = map event_of script.events in
+    let lines : between ≡ start ++ events_text given (answers script.config (initial_world script.config) given) = rw first at events in
+    let world : after.world ≡ world_after script.config (initial_world script.config) given = ap (λ (c : TurnCluster). c.world) (rw first at carried) in
+    proxies ∙ ap₂ (λ text w. text ++ proxies_text script.config w script.ask) lines world
+    ∙ append_assoc start (events_text given (answers script.config (initial_world script.config) given)) (proxies_text script.config (world_after script.config (initial_world script.config) given) script.ask)

@@ -1,7 +1,6 @@
 -- The lines that are printed for the events of a turns script, by the answers to them (this
 -- project's profile).
 use Rattle.std.specs.Prelude.{ℕ, suc, List, [], ◌∷◌, ◌++◌, map, flat_map, filter, nat_eq, codes}
-use Rattle.std.specs.Prelude.{Option, Some, None, Result}
 use Rattle.std.specs.Fmt.{decimal}
 use Rattle.model.specs.Numbers.{Version, ProxyNumber, ResolverNumber, RowNumber}
 use Rattle.model.specs.Numbers.{TransactionNumber}
@@ -18,8 +17,6 @@ use Rattle.scripts.specs.Lines.{line, spaced, list_text, tags_text}
 use Rattle.cluster_lines.specs.Names.{outcome_name, verdict_name}
 use Rattle.cluster_lines.specs.Refusals.{number_or_none, refused_text}
 use Rattle.turn_world.specs.Events.{refusal_number, refusal_name}
-use Rattle.turn_world.specs.Steps.{told_by}
-use Rattle.turn_world.specs.declared.answer.Answer.{Answer as TurnAnswer}
 use Rattle.turn_world.specs.declared.refusal.Refusal.{Refusal}
 use Rattle.turn_world.specs.declared.refusal.Refusal.TheVariants as refusals
 
@@ -158,15 +155,3 @@ events_text [] answers = []
 events_text (event ∷ events) [] = []
 events_text (event ∷ events) (answer ∷ answers) =
     event_text event answer ++ events_text events answers
-
--- the lines of an event that returned this; nothing if an allocation failed
-abbrev pub told_text : Event → Option Answer → List ℕ
-told_text event None = []
-told_text event (Some answer) = event_text event answer
-
--- the lines of all events, each with what it returned
-abbrev pub results_text : List Event → List (Result TurnAnswer Refusal) → List ℕ
-results_text events [] = []
-results_text [] (result ∷ results) = []
-results_text (event ∷ events) (result ∷ results) =
-    told_text event (told_by result) ++ results_text events results

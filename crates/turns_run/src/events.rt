@@ -1,52 +1,51 @@
-//! The lines that are printed of events, each by what it returned.
+//! The lines of events, printed as they are carried out.
 
 ghost use Rattle.std.specs.Prelude.{◌≡◌, ◌++◌, IsSome, OnOk, string_bytes, map};
+ghost use Rattle.model.specs.Turns.{after_event};
+ghost use Rattle.model.specs.World.{answers, handle_event, world_after};
 ghost use Rattle.turn_world.specs.Events.{answer_of, event_of, refusal_number};
-ghost use Rattle.turn_world.specs.Steps.{told_by};
-ghost use Rattle.turns_run.specs.Lines.{completed_text, event_text, finish_text};
-ghost use Rattle.turns_run.specs.Lines.{finished_text, refusal_line};
-ghost use Rattle.turns_run.specs.Lines.{refusal_value, results_text, told_text};
+ghost use Rattle.turns_run.specs.Lines.{completed_text, event_text, events_text, finish_text};
+ghost use Rattle.turns_run.specs.Lines.{finished_text, refusal_line, refusal_value};
 
 use crate::lines::{print_move, print_offer, print_sequence};
 use crate::transactions::print_transactions;
 use cluster_lines::push_refused;
 use model::Finished;
 use std::fmt::Write;
-use system_keys::OutOfMemory;
-use turn_world::{Answer, Event, OfferAnswer, Refusal};
+use system_keys::{Items, OutOfMemory};
+use turn_world::{Answer, Event, OfferAnswer, Refusal, TurnWorld};
 
-/// Prints the lines of all events, in order, each by what it returned. Fails only with
-/// `OutOfMemory`.
-pub fn print_events(
+/// Carries out the events, one after another, prints the lines of each, and drops it. Fails only
+/// with `OutOfMemory`.
+pub(crate) fn print_events(
     text: &mut String,
-    events: &[Event],
-    results: &[Result<Answer, Refusal>],
+    events: Items<Event>,
+    world: &mut TurnWorld,
 ) -> Result<(), OutOfMemory>
-    ensures { OnOk result (string_bytes text.new
-        ≡ string_bytes text.old ++ results_text (map event_of events.now) results.now) }
+    ensures text { let before = world.old in let given = map event_of events in
+        OnOk result (string_bytes text.new
+        ≡ string_bytes text.old ++ events_text given (answers before.config before.world given)) }
+    ensures world { let before = world.old in
+        OnOk result (world.new ≡ record before {
+          world = world_after before.config before.world (map event_of events);
+        }) }
 {
-    let mut rest = events;
-    for returned in results {
-        let Some((event, later)) = rest.split_first() else {
-            return Ok(());
-        };
-        print_event(text, event, returned)?;
-        rest = later;
+    for event in Vec::from(events) {
+        print_event(text, &event, world)?;
     }
     Ok(())
 }
 
-fn print_event(
-    text: &mut String,
-    event: &Event,
-    returned: &Result<Answer, Refusal>,
-) -> Result<(), OutOfMemory>
-    ensures { OnOk result (string_bytes text.new
-        ≡ string_bytes text.old ++ told_text (event_of event.now) (told_by returned.now)) }
+/// Carries out the event, and prints its lines.
+fn print_event(text: &mut String, event: &Event, world: &mut TurnWorld) -> Result<(), OutOfMemory>
+    ensures text { let given = event_of event.now in let before = world.old in
+        OnOk result (string_bytes text.new ≡ string_bytes text.old
+        ++ event_text given (handle_event before.config before.world given).answer) }
+    ensures world { OnOk result (world.new ≡ after_event world.old (event_of event.now)) }
 {
-    match returned {
-        Ok(answer) => print_answer(text, event, answer),
-        Err(refusal) => print_refusal(text, refusal),
+    match world.step(event) {
+        Ok(answer) => print_answer(text, event, &answer),
+        Err(refusal) => print_refusal(text, &refusal),
     }
 }
 

@@ -22,7 +22,7 @@ impl ScriptKind for TurnsKind {
 
     ghost answer_to = { turns_text };
 
-    fn print(alloc: Global, text: &mut String, script: &TurnsScript) -> Result<(), OutOfMemory> {
+    fn print(alloc: Global, text: &mut String, script: TurnsScript) -> Result<(), OutOfMemory> {
         print_played(alloc, text, script)
     }
 

@@ -15,16 +15,12 @@ use turn_world::TurnWorld;
 pub(crate) fn print_played(
     alloc: Global,
     text: &mut String,
-    script: &TurnsScript,
+    script: TurnsScript,
 ) -> Result<(), OutOfMemory>
     ensures { OnOk result (string_bytes text.new
-        ≡ string_bytes text.old ++ played_text script.now) }
+        ≡ string_bytes text.old ++ played_text script) }
 {
-    let events = script.events.as_slice();
     let mut world = TurnWorld::new(alloc, &script.config)?;
-    let Ok(results) = world.run(alloc, events) else {
-        return Err(OutOfMemory);
-    };
-    print_events(text, events, &results)?;
+    print_events(text, script.events, &mut world)?;
     print_proxies(alloc, text, &script.config, &world, script.ask.as_slice())
 }
