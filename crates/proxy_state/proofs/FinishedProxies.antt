@@ -1,6 +1,5 @@
 -- The earliest record of a proxy, what the replies to it tell, and the proxy after it is finished.
-use Rattle.std.proofs.Common.{◌≡◌, refl, sym, ap, ◌∙◌, subst, ℕ, ◌<◌, ◌≤◌, List, [], ◌∷◌, ◌++◌, map, length, fold, slice_get, slice_index_or, Some, None, arith}
-use Rattle.std.specs.List.{remove}
+use Rattle.std.proofs.Common.{◌≡◌, refl, sym, ap, ◌∙◌, subst, ℕ, ◌<◌, ◌≤◌, List, [], ◌∷◌, ◌++◌, map, length, drop, fold, slice_get, slice_index_or, Some, None, arith}
 use Rattle.std.proofs.lemmas.List.Sums.{fold-append}
 use Rattle.model.specs.Configs.{Config}
 use Rattle.model.specs.declared.journal.JournalRow.{JournalRow}
@@ -66,7 +65,7 @@ learned_from v config replies one learned replied same told own columns =
 pub record AreFinishing (v : ProxyView) (begun left : List BegunRecord) (grown : List JournalRow) (entries after : Entries) (one : BegunRecord) (learned : Learned) : Type 0 where
   pub some : 0 < length begun
   pub one_is : one ≡ slice_index_or begun 0 one
-  pub left_is : left ≡ remove begun 0
+  pub left_is : left ≡ drop 1 begun
   pub grown_is : grown ≡ (v.journal ++ learned.told.items) ++ learned.own ∷ []
   pub after_is : after ≡ after_batch entries learned
 
@@ -102,7 +101,7 @@ finished_columns config columns rec journal told own is =
     ∙ ap (λ (after : Entries). finished_by config columns (is_locked (metadata (journal ++ told))) after rec) (sym (metadata_grown journal told own))
     ∙ ap (λ (row : JournalRow). finished_by config columns (is_locked (metadata (journal ++ told))) (metadata ((journal ++ told) ++ row ∷ [])) rec) is
 
-first_of : (v : ProxyView) (begun left : List BegunRecord) (one : BegunRecord) (rec : Record) (rest : List Record) → 0 < length begun → one ≡ slice_index_or begun 0 one → left ≡ remove begun 0 → v.begun ≡ map record_of begun → v.begun ≡ rec ∷ rest → (one.rec ≡ rec) × (map record_of left ≡ rest)
+first_of : (v : ProxyView) (begun left : List BegunRecord) (one : BegunRecord) (rec : Record) (rest : List Record) → 0 < length begun → one ≡ slice_index_or begun 0 one → left ≡ drop 1 begun → v.begun ≡ map record_of begun → v.begun ≡ rec ∷ rest → (one.rec ≡ rec) × (map record_of left ≡ rest)
 first_of v [] left one rec rest some one_is left_is are is = absurd (omega (arith, some))
 first_of v (first ∷ later) left one rec rest some one_is left_is are is =
     let both : first.rec ∷ map record_of later ≡ rec ∷ rest = sym are ∙ is in

@@ -24,6 +24,7 @@ use metadata::Metadata;
 use model::{Config, Finished, JournalRow, ProxyNumber, Reply, Version};
 use request_builder::{Record, Requests, build};
 use std::alloc::Global;
+use std::collections::VecDeque;
 use std::marker::Model;
 use system_keys::OutOfMemory;
 
@@ -36,7 +37,7 @@ pub struct Proxy {
     owners: OwnerMap,
     moved: usize,
     last_begun: Version,
-    begun: Vec<BegunRecord>,
+    begun: VecDeque<BegunRecord>,
     version: Version,
     journal: Vec<JournalRow>,
     metadata: Metadata,
@@ -80,7 +81,7 @@ impl Proxy {
             owners: OwnerMap::new(alloc, config.resolvers())?,
             moved: 0,
             last_begun: 0,
-            begun: Vec::new(alloc),
+            begun: VecDeque::new(alloc),
             version: 0,
             journal: Vec::new(alloc),
             metadata: Metadata::new(alloc),
@@ -108,7 +109,7 @@ impl Proxy {
             (self.now.begun ≡ []) (λ rec. IsFirst self.now.begun rec.now) }
         ensures own { IfSome result (λ rec. rec.now.own_previous ≡ self.now.version) }
     {
-        match self.begun.as_slice().first() {
+        match self.begun.front() {
             Some(begun) => Some(&begun.rec),
             None => None,
         }
@@ -181,7 +182,7 @@ impl Proxy {
         let Ok(()) = self.begun.reserve(1) else {
             return Err(Refusal::OutOfMemory);
         };
-        self.begun.push_reserved(begun);
+        self.begun.push_back_reserved(begun);
         keep_map(&mut self.owners, moved, &self.config, rec);
         self.moved = rec.moves().len();
         self.last_begun = rec.version();
@@ -257,7 +258,7 @@ impl Proxy {
         let begun = &self.begun[0];
         let version = begun.rec.version();
         let finished = finish_batch(alloc, &mut self.metadata, &self.config, begun, &learned)?;
-        self.begun.remove(0);
+        self.begun.pop_front();
         self.version = version;
         let _ = self.journal.append(&mut learned.told);
         self.journal.push_reserved(learned.own);
@@ -282,7 +283,7 @@ impl Proxy {
             MatchResult result (λ begun. fault ≡ None) (λ refusal. fault ≡ Some refusal) }
         ensures replied { IfOk result (λ begun. IsReplied self.now replies.now begun.now) }
     {
-        let Some(begun) = self.begun.as_slice().first() else {
+        let Some(begun) = self.begun.front() else {
             return Err(Refusal::OutOfTurn { expected: None });
         };
         if let Some(resolver) = first_unreplied(self.config.resolvers(), replies) {

@@ -2,4 +2,5 @@ pub mod Courses
 pub mod JudgedRequests
 pub mod KeptLaws
 pub mod OfferedRequests
+pub mod ReplyPlaces
 pub mod RowLaws

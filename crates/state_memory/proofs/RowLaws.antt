@@ -1,6 +1,7 @@
 -- Rows in the order of their versions, and the states of a row.
 use Rattle.std.proofs.Common.{◌≡◌, slice_get, Some, Contains, ℕ, zero, suc, ◌<◌, ◌≤◌, refl, sym, ap, ◌∙◌, Bool, true, false, cond, nat_eq, nat_lt, slice_set, List, [], ◌∷◌, ◌++◌, length, map, filter, take, drop, get_or, arith}
 use Rattle.std.specs.Prelude.{unwrap_or}
+use Rattle.std.specs.List.Sorted.{IsNonDecreasingBy}
 use Rattle.std.proofs.lemmas.Bool.{lt-ltb, le-ltb, eq-eqb, ne_eqb}
 use Rattle.std.proofs.lemmas.Option.{none-some, same_Some}
 use Rattle.std.proofs.lemmas.List.Elements.{Contains-append_right}
@@ -26,10 +27,20 @@ pub from_lower : {X : Type 0} (version_of : X → Version) (low high : ℕ) (xs 
 from_lower version_of low high [] up order = tt
 from_lower version_of low high (x ∷ xs) up order = let first = order.0 in (omega (arith, first, up), order.1)
 
-at_least : {X : Type 0} (version_of : X → Version) (low : ℕ) (xs : List X) (i : ℕ) (x : X) → Increase version_of low xs → i < length xs → x ≡ get_or xs i x → low < version_of x
-at_least version_of low [] i x order there is = absurd (omega arith)
-at_least version_of low (y ∷ xs) zero x order there is = let same : version_of x ≡ version_of y = ap version_of is in let first = order.0 in omega (arith, same, first)
-at_least version_of low (y ∷ xs) (suc i) x order there is = let first = order.0 in omega (arith, first, at_least version_of (version_of y) xs i x order.1 (omega arith) is)
+above_low : {X : Type 0} (version_of : X → Version) (low : ℕ) (xs : List X) (i : ℕ) (d : X) → Increase version_of low xs → i < length xs → low < version_of (get_or xs i d)
+above_low version_of low [] i d order there = absurd (omega arith)
+above_low version_of low (x ∷ xs) zero d order there = order.0
+above_low version_of low (x ∷ xs) (suc i) d order there = let first = order.0 in omega (arith, first, above_low version_of (version_of x) xs i d order.1 (omega arith))
+
+pub at_least : {X : Type 0} (version_of : X → Version) (low : ℕ) (xs : List X) (i : ℕ) (x : X) → Increase version_of low xs → i < length xs → x ≡ get_or xs i x → low < version_of x
+at_least version_of low xs i x order there is = let same = ap version_of is in omega (arith, same, above_low version_of low xs i x order there)
+
+pub never_falls : {X : Type 0} (version_of : X → Version) (low : ℕ) (xs : List X) → Increase version_of low xs → IsNonDecreasingBy version_of xs
+never_falls version_of low [] order i j d up there = absurd (omega arith)
+never_falls version_of low (x ∷ xs) order zero zero d up there = omega arith
+never_falls version_of low (x ∷ xs) order zero (suc j) d up there = let later = above_low version_of (version_of x) xs j d order.1 (omega arith) in omega (arith, later)
+never_falls version_of low (x ∷ xs) order (suc i) zero d up there = absurd (omega arith)
+never_falls version_of low (x ∷ xs) order (suc i) (suc j) d up there = never_falls version_of (version_of x) xs order.1 i j d (omega arith) (omega arith)
 
 -- at an element that is not above the version the walk back may stop
 pub stops : {X : Type 0} (version_of : X → Version) (version low : ℕ) (xs : List X) (i : ℕ) (x : X) → Increase version_of low xs → i < length xs → x ≡ get_or xs i x → version_of x ≤ version → above version_of version (drop (suc i) xs) ≡ drop (suc i) xs → drop (suc i) xs ≡ above version_of version xs

@@ -42,6 +42,7 @@ impl ProxyMemory {
 
     /// What the resolver, which has come to version `last`, does with a repeat of this version.
     pub(crate) fn again(&self, version: Version, last: Version) -> Result<Course, Refusal>
+        requires { RepliesIncrease self.now.replies.items }
         ensures { let kept = reply_at version (kept_of self.now).replies in
             IsAsSpecified fault_of course_of result
             (course_again kept version self.now.acknowledged last) }
@@ -58,16 +59,24 @@ impl ProxyMemory {
     }
 
     /// The reply that is kept at the version.
+    ///
+    /// Halves the replies again and again, so it looks at few of them. Allocates nothing.
     pub(crate) fn reply_at(&self, version: Version) -> Option<&Reply>
+        requires { RepliesIncrease self.now.replies.items }
         ensures { let kept = reply_at version self.now.replies.items in
             MatchOption result (kept ≡ None) (λ reply. kept ≡ Some reply.now) }
     {
-        for i in 0..self.replies.len() {
-            if self.replies[i].version == version {
-                return Some(&self.replies[i]);
-            }
+        let place = self
+            .replies
+            .partition_point(|reply| reply.version < version);
+        let Some(reply) = self.replies.get(place) else {
+            return None;
+        };
+        if reply.version == version {
+            Some(reply)
+        } else {
+            None
         }
-        None
     }
 
     /// Makes room for one more reply.

@@ -1,5 +1,5 @@
 -- The first record of those begun, which follows the version of the proxy.
-use Rattle.std.proofs.Common.{◌≡◌, ◌∙◌, sym, ap, subst, map, ◌<◌, ℕ, List, [], ◌∷◌, length, get_or, arith}
+use Rattle.std.proofs.Common.{◌≡◌, ◌∙◌, sym, ap, map, ◌<◌, ℕ, List, [], ◌∷◌, length, get_or, arith}
 use Rattle.model.specs.Configs.{Config}
 use Rattle.model.specs.Finishing.{ProxyView}
 use Rattle.proxy_state.specs.declared.begun.BegunRecord.{BegunRecord}
@@ -18,12 +18,10 @@ first_follows config version last (y ∷ ys) x chain some is = ap (λ (z : Begun
 
 pub returns-in-Some-clause-first : goal.returns-in-Some-clause-first
 returns-in-Some-clause-first c =
-    let found = first_of_begun c.as_slice.result.now c.in-Some.begun.now c.in-Some.ensures.item.3.0 c.in-Some.ensures.item.1 in
-    (found.0, sym (ap (λ (v : ProxyView). v.begun) c.self.view_is) ∙ ap (map record_of) (sym c.as_slice.ensures.value) ∙ found.1)
+    let found = first_of_begun c.self.inside.begun.items c.in-Some.begun.now c.in-Some.ensures.item.3.0 c.in-Some.ensures.item.1 in
+    (found.0, sym (ap (λ (v : ProxyView). v.begun) c.self.view_is) ∙ found.1)
 
 pub returns-in-Some-clause-own : goal.returns-in-Some-clause-own
 returns-in-Some-clause-own c =
-    let begun : c.as_slice.result.now ≡ c.self.inside.begun.items = c.as_slice.ensures.value in
-    let chain = subst (AreBegun c.self.inside.config c.self.inside.version c.self.inside.last_begun) (sym begun) c.self.invariant.chain in
-    first_follows c.self.inside.config c.self.inside.version c.self.inside.last_begun c.as_slice.result.now c.in-Some.begun.now chain c.in-Some.ensures.item.3.0 c.in-Some.ensures.item.1
+    first_follows c.self.inside.config c.self.inside.version c.self.inside.last_begun c.self.inside.begun.items c.in-Some.begun.now c.self.invariant.chain c.in-Some.ensures.item.3.0 c.in-Some.ensures.item.1
     ∙ ap (λ (v : ProxyView). v.version) c.self.view_is

@@ -1,5 +1,5 @@
 -- A proxy with one record more keeps what every proxy keeps; and a record that gets this far has no fault.
-use Rattle.std.proofs.Common.{◌≡◌, ◌∙◌, ap, rules, sym, subst, None, Err, IfErr}
+use Rattle.std.proofs.Common.{◌≡◌, ◌∙◌, ap, rules, sym, subst, Err, IfErr}
 use Rattle.model.specs.Finishing.{ProxyView}
 use Rattle.proxy_state.specs.Beginning.{refusal_fault, begin_fault}
 use Rattle.proxy_state.specs.declared.refusal.Refusal.TheVariants as refusals

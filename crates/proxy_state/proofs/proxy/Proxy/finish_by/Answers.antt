@@ -20,12 +20,12 @@ before c = record {
 
 -- and as it is afterwards
 abbrev after : goal.After-drop-learned-3 → ProxyView
-after c = record (before c) { begun = map record_of c.remove.new.self.items; version = c.version-version.result; journal = c.push_reserved.new.self.items }
+after c = record (before c) { begun = map record_of c.pop_front.new.self.items; version = c.version-version.result; journal = c.push_reserved.new.self.items }
 
 appended : (c : goal.After-drop-learned-3) → c.append.new.self.items ≡ c.self.inside.journal.items ++ c.in_ok-learned.learned.told.items
 appended c = search rules
 
-finishing : (c : goal.After-drop-learned-3) → AreFinishing (before c) c.self.inside.begun.items c.remove.new.self.items c.push_reserved.new.self.items c.self.inside.metadata c.finish_batch.new.metadata c.index-begun.result.now c.in_ok-learned.learned
+finishing : (c : goal.After-drop-learned-3) → AreFinishing (before c) c.self.inside.begun.items c.pop_front.new.self.items c.push_reserved.new.self.items c.self.inside.metadata c.finish_batch.new.metadata c.index-begun.result.now c.in_ok-learned.learned
 finishing c =
     record {
       some = search rules;

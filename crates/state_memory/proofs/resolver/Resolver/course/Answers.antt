@@ -5,6 +5,8 @@ use Rattle.model.specs.ResolverMemory.{ResolverView}
 use Rattle.state_memory.specs.Answers.{fault_of, course_of}
 use Rattle.state_memory.specs.Kept.{all_kept}
 use Rattle.state_memory.proofs.Courses.{refused_resolver, refused_proxy, known, known_wrong, known_again, known_early, known_late, known_next, not_risen, received_later, in_order}
+use Rattle.state_memory.proofs.JudgedRequests.{kept_replies_increase}
+use Rattle.state_memory.proofs.KeptLaws.{kept_there}
 use Rattle.state_memory.proofs.resolver.Resolver.course.Goals as goal
 use Rattle.state_memory.proofs.resolver.Resolver.course.Goals.{then-version-previous-via-then-version-previous, then-version-previous-via-else-version-previous+then-previous-last_received}
 
@@ -14,6 +16,10 @@ returns-then-resolver-self c = refused_resolver c.args.self.now c.args.request.n
 pub returns-in_default : goal.returns-in_default
 returns-in_default c =
     refused_proxy c.args.self.now c.args.request.now c.resolver.result c.self.inside.number c.proxy.result c.deref.result.now c.resolver.ensures (ap (λ (v : ResolverView). v.number) c.self.view_is) c.if-resolver-self.false c.proxy.ensures (ap all_kept c.deref.ensures.value ∙ ap (λ (v : ResolverView). v.proxies) c.self.view_is) c.in_default.ensures.lookup.3
+
+pub again-requires : goal.again-requires
+again-requires c =
+    kept_replies_increase c.self.inside.version c.self.inside.rows.items _ c.deref.result.now c.self.invariant.1 (ap all_kept c.deref.ensures.value) c.proxy.result _ (kept_there c.deref.result.now c.proxy.result c.in-Some.proxy.now c.in-Some.ensures.lookup.3.0 c.in-Some.ensures.lookup.1)
 
 pub returns-then-version-previous : goal.returns-then-version-previous
 returns-then-version-previous c =
