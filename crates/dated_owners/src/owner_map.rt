@@ -89,6 +89,13 @@ impl OwnerMap {
         self.last_date
     }
 
+    /// Returns the oldest version remembered.
+    pub fn oldest(&self) -> Version
+        ensures { result ≡ self.now.oldest }
+    {
+        self.oldest
+    }
+
     /// Gives the keys of `range` to resolver `dest`, from version `date` on.
     ///
     /// Fails with `NoSuchResolver` if `dest` is not below the number of resolvers, otherwise with

@@ -1,8 +1,9 @@
 pub mod AskedParts
 pub mod BelowLaws
 pub mod ColumnLaws
-pub mod Joins
 pub mod FinishedProxies
+pub mod Joins
 pub mod KeptProxies
 pub mod MadeMoves
 pub mod Misfits
+pub mod SecondMaps

@@ -13,6 +13,7 @@ mod learning;
 mod moving;
 mod outcomes;
 mod own_row;
+mod owners;
 mod proxy;
 mod refusal;
 mod replies;

@@ -1,9 +1,10 @@
 //! A proxy's map of owners: the moves of a record are made in it, and it forgets.
 
-ghost use Rattle.std.specs.Prelude.{◌≡◌, [], ◌∷◌, drop, unwrap_or, None, OnOk};
+ghost use Rattle.std.specs.Prelude.{◌≡◌, [], ◌∷◌, drop, unwrap_or, None, IfSome, OnOk};
 ghost use Rattle.dated_owners.specs.Refusals.{move_fault};
 ghost use Rattle.proxy_state.specs.Beginning.{MayGain, HasGained, HasMapFor, IsMapFor};
 
+use crate::owners::ProxyOwners;
 use dated_owners::OwnerMap;
 use model::{Config, Move};
 use request_builder::{Moves, Record};
@@ -48,19 +49,27 @@ pub(crate) fn newest_map<'a>(owners: &'a OwnerMap, moved: &'a Option<OwnerMap>) 
     }
 }
 
-/// Takes the moved map, if there is one, and forgets the owners that the record does not ask about.
-#[tactic(auto, using(crate::proofs::KeptProxies::forgotten))]
-pub(crate) fn keep_map(
-    owners: &mut OwnerMap,
+/// Takes the map with further moves, if there is one.
+pub(crate) fn keep_moved(
+    owners: &mut ProxyOwners,
     moved: Option<OwnerMap>,
-    config: &Config,
-    rec: &Record,
+    moves: Moves,
+    from: usize,
 )
-    requires { HasMapFor config.now rec.now (unwrap_or moved owners.old) }
-    ensures { IsMapFor config.now rec.now owners.new }
+    requires may { IfSome moved (λ map. MayGain owners.old (drop from moves)) }
+    requires gained { IfSome moved (λ map. HasGained owners.old (drop from moves) map) }
+    ensures { owners.new ≡ unwrap_or moved owners.old }
 {
     if let Some(moved) = moved {
-        *owners = moved;
+        owners.replace(moved, moves, from);
     }
+}
+
+/// Forgets the owners that the record does not ask about.
+#[tactic(auto, using(crate::proofs::KeptProxies::forgotten))]
+pub(crate) fn forget_owners(owners: &mut ProxyOwners, config: &Config, rec: &Record)
+    requires { HasMapFor config.now rec.now owners.old }
+    ensures { IsMapFor config.now rec.now owners.new }
+{
     owners.forget(rec.previous().saturating_sub(config.window()));
 }

@@ -3,20 +3,21 @@
 //! Release 7.1, `CommitProxyServer.actor.cpp`, commitBatch; what differs is marked *profile*.
 
 ghost use Rattle.std.specs.Prelude.{◌≡◌, ◌≤◌, ◌<◌, [], map, None, Some, IfOk, IfErr, OnOk, OnErr};
-ghost use Rattle.std.specs.Prelude.{IfSome, MatchResult, MatchOption, unwrap_or};
+ghost use Rattle.std.specs.Prelude.{IfSome, MatchResult, MatchOption, drop, unwrap_or};
 ghost use Rattle.model.specs.Metadata.{metadata as metadata_of};
 ghost use Rattle.model.specs.Shares.{asked};
 ghost use Rattle.model.specs.Finishing.{HoldsMoves, MayBegin, HasBegun, HasFinished};
 ghost use Rattle.proxy_state.specs.declared.refusal.Refusal.TheVariants as refusals;
 ghost use Rattle.proxy_state.specs.Beginning.{refusal_fault, begin_fault, requests_for, rows_up_to};
-ghost use Rattle.proxy_state.specs.Beginning.{HasMapFor, IsFirst};
+ghost use Rattle.proxy_state.specs.Beginning.{HasGained, HasMapFor, IsFirst};
 ghost use Rattle.proxy_state.specs.Finishing.{finish_fault, IsReplied, IsLearned};
 
 use crate::begun::BegunRecord;
 use crate::finishing::finish_batch;
 use crate::learned::Learned;
 use crate::learning::{first_disagreement, first_unreplied};
-use crate::moving::{keep_map, make_moves, newest_map};
+use crate::moving::{forget_owners, keep_moved, newest_map};
+use crate::owners::ProxyOwners;
 use crate::refusal::Refusal;
 use crate::replies::Replies;
 use dated_owners::OwnerMap;
@@ -34,7 +35,7 @@ use system_keys::OutOfMemory;
 pub struct Proxy {
     number: ProxyNumber,
     config: Config,
-    owners: OwnerMap,
+    owners: ProxyOwners,
     moved: usize,
     last_begun: Version,
     begun: VecDeque<BegunRecord>,
@@ -78,7 +79,7 @@ impl Proxy {
         Ok(Proxy {
             number,
             config: *config,
-            owners: OwnerMap::new(alloc, config.resolvers())?,
+            owners: ProxyOwners::new(alloc, config.resolvers())?,
             moved: 0,
             last_begun: 0,
             begun: VecDeque::new(alloc),
@@ -176,32 +177,36 @@ impl Proxy {
                 expected: self.last_begun,
             });
         }
+        let moves = rec.moves().copy()?;
         let moved = self.moved_map(rec)?;
-        let requests = self.requests_by(newest_map(&self.owners, &moved), rec)?;
+        let requests = self.requests_by(newest_map(self.owners.newest(), &moved), rec)?;
         let begun = BegunRecord::of_requests(rec, &requests)?;
         let Ok(()) = self.begun.reserve(1) else {
             return Err(Refusal::OutOfMemory);
         };
         self.begun.push_back_reserved(begun);
-        keep_map(&mut self.owners, moved, &self.config, rec);
+        keep_moved(&mut self.owners, moved, moves, self.moved);
+        forget_owners(&mut self.owners, &self.config, rec);
         self.moved = rec.moves().len();
         self.last_begun = rec.version();
         Ok(requests)
     }
 
-    /// A copy of the map of owners with the further moves of the record, or None if it has none.
+    /// The map of owners with the further moves of the record, or None if it has none.
     #[tactic(auto, using(crate::proofs::KeptProxies::may_gain, crate::proofs::KeptProxies::has_map, crate::proofs::KeptProxies::has_map_now))]
-    fn moved_map(&self, rec: &Record) -> Result<Option<OwnerMap>, OutOfMemory>
-        requires may { MayBegin self.now rec.now }
-        requires own { begin_fault self.now rec.now ≡ None }
-        ensures { IfOk result (λ moved.
-            HasMapFor self.now.config rec.now (unwrap_or moved self.now.owned)) }
+    fn moved_map(&mut self, rec: &Record) -> Result<Option<OwnerMap>, OutOfMemory>
+        requires may { MayBegin self.old rec.now }
+        requires own { begin_fault self.old rec.now ≡ None }
+        ensures map { IfOk result (λ moved.
+            HasMapFor self.old.config rec.now (unwrap_or moved self.old.owned)) }
+        ensures gained { IfOk result (λ moved. IfSome moved (λ map.
+            HasGained self.old.owned (drop self.old.moved rec.now.moves) map)) }
+        ensures same { self.new ≡ self.old }
     {
         if rec.moves().len() <= self.moved {
             return Ok(None);
         }
-        let mut owners = self.owners.copy()?;
-        make_moves(&mut owners, rec.moves(), self.moved)?;
+        let owners = self.owners.with_moves(rec.moves(), self.moved)?;
         Ok(Some(owners))
     }
 
