@@ -1,5 +1,5 @@
-use Rattle.std.proofs.Common.{◌≡◌, ◌++◌, None, map, length}
-use Rattle.std.specs.Vec.Iter.{into_iter_items, into_iter_len}
+use Rattle.std.proofs.Common.{◌≡◌, ◌++◌, None, map}
+use Rattle.std.specs.Vec.Iter.{into_iter_items}
 use Rattle.mutation.specs.Faults.{first_fault, fault_of_mutation}
 use Rattle.mutation.specs.Transactions.{from_unchecked}
 use Rattle.mutation.specs.Admitted.{from_admitted}
@@ -9,5 +9,4 @@ abbrev pub invariant-loop-mutation : goal.invariant-loop-mutation
 invariant-loop-mutation l = record {
   read : map from_admitted l.admitted.items ++ map from_unchecked (into_iter_items l.mutation-iterator) ≡ map from_unchecked l.fn.mutations;
   faultless : first_fault fault_of_mutation (map from_unchecked (into_iter_items l.mutation-iterator)) ≡ None;
-  count : into_iter_len l.mutation-iterator ≡ length (into_iter_items l.mutation-iterator);
 }
