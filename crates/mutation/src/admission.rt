@@ -13,7 +13,7 @@ use crate::limits::check_transaction;
 use crate::refusal::Refusal;
 use crate::transaction::{GivenRange, Mutation, Transaction};
 use std::alloc::Global;
-use system_keys::{Bytes, KeyRange, OutOfMemory};
+use system_keys::{Bytes, Items, KeyRange, OutOfMemory};
 
 /// Admits a transaction in which every limit holds. Every field is as given.
 ///
@@ -28,78 +28,87 @@ pub fn admit(alloc: Global, transaction: &Transaction) -> Result<Admitted, Refus
         (unless_fault (transaction_fault given) given) }
 {
     check_transaction(transaction)?;
+    Ok(to_transaction(alloc, transaction.copy()?)?)
+}
+
+/// Admits a transaction of the caller as `admit` does: its keys and values become those of the
+/// admitted one, and none is copied.
+pub fn admit_owned(alloc: Global, transaction: Transaction) -> Result<Admitted, Refusal>
+    ensures kept { IfOk result (λ admitted. admitted ≡ given_from transaction) }
+    ensures limits { OnOk result (transaction_fault (given_from transaction) ≡ None) }
+    ensures value { let given = given_from transaction in
+        IsAsSpecified refusal_fault (λ admitted. admitted) result
+        (unless_fault (transaction_fault given) given) }
+{
+    check_transaction(&transaction)?;
     Ok(to_transaction(alloc, transaction)?)
 }
 
 /// Returns the admitted transaction of one without a fault.
-fn to_transaction(alloc: Global, transaction: &Transaction) -> Result<Admitted, OutOfMemory>
-    requires { transaction_fault (given_from transaction.now) ≡ None }
-    ensures { IfOk result (λ admitted. admitted ≡ given_from transaction.now) }
+fn to_transaction(alloc: Global, transaction: Transaction) -> Result<Admitted, OutOfMemory>
+    requires { transaction_fault (given_from transaction) ≡ None }
+    ensures { IfOk result (λ admitted. admitted ≡ given_from transaction) }
 {
     Ok(Admitted::of_parts(
         transaction.snapshot,
-        to_ranges(alloc, transaction.reads.as_slice())?,
-        to_ranges(alloc, transaction.writes.as_slice())?,
-        to_mutations(alloc, transaction.mutations.as_slice())?,
+        to_ranges(alloc, transaction.reads)?,
+        to_ranges(alloc, transaction.writes)?,
+        to_mutations(alloc, transaction.mutations)?,
         transaction.lock_aware,
     ))
 }
 
 /// Returns the ranges of bytes without a fault.
-fn to_ranges(alloc: Global, ranges: &[GivenRange]) -> Result<Vec<KeyRange>, OutOfMemory>
-    requires { first_fault fault_of_range (map range_from ranges.now) ≡ None }
-    ensures { IfOk result (λ checked. checked.items ≡ map range_from ranges.now) }
+fn to_ranges(alloc: Global, ranges: Items<GivenRange>) -> Result<Vec<KeyRange>, OutOfMemory>
+    requires { first_fault fault_of_range (map range_from ranges) ≡ None }
+    ensures { IfOk result (λ checked. checked.items ≡ map range_from ranges) }
 {
-    let mut checked = Vec::with_capacity(alloc, ranges.len())?;
-    for range in ranges {
-        checked.push(to_range(&range.begin, &range.end)?)?;
+    let given = Vec::from(ranges);
+    let mut checked = Vec::with_capacity(alloc, given.len())?;
+    for range in given {
+        checked.push(to_range(range.begin, range.end))?;
     }
     Ok(checked)
 }
 
 /// Returns the mutations of bytes without a fault.
-fn to_mutations(alloc: Global, mutations: &[Mutation]) -> Result<Vec<AdmittedMutation>, OutOfMemory>
-    requires { first_fault fault_of_mutation (map from_unchecked mutations.now) ≡ None }
+fn to_mutations(
+    alloc: Global,
+    mutations: Items<Mutation>,
+) -> Result<Vec<AdmittedMutation>, OutOfMemory>
+    requires { first_fault fault_of_mutation (map from_unchecked mutations) ≡ None }
     ensures { IfOk result (λ admitted.
-        map from_admitted admitted.items ≡ map from_unchecked mutations.now) }
+        map from_admitted admitted.items ≡ map from_unchecked mutations) }
 {
-    let mut admitted = Vec::with_capacity(alloc, mutations.len())?;
-    for mutation in mutations {
-        admitted.push(to_mutation(mutation)?)?;
+    let given = Vec::from(mutations);
+    let mut admitted = Vec::with_capacity(alloc, given.len())?;
+    for mutation in given {
+        admitted.push(to_mutation(mutation))?;
     }
     Ok(admitted)
 }
 
 /// Returns the mutation of bytes without a fault.
-fn to_mutation(mutation: &Mutation) -> Result<AdmittedMutation, OutOfMemory>
-    requires { fault_of_mutation (from_unchecked mutation.now) ≡ None }
-    ensures { IfOk result (λ admitted.
-        from_admitted admitted ≡ from_unchecked mutation.now) }
+fn to_mutation(mutation: Mutation) -> AdmittedMutation
+    requires { fault_of_mutation (from_unchecked mutation) ≡ None }
+    ensures { from_admitted result ≡ from_unchecked mutation }
 {
-    Ok(match mutation {
-        Mutation::Set { key, value } => AdmittedMutation::Set {
-            key: key.copy()?,
-            value: value.copy()?,
-        },
+    match mutation {
+        Mutation::Set { key, value } => AdmittedMutation::Set { key, value },
         Mutation::Clear { begin, end } => AdmittedMutation::Clear {
-            range: to_range(begin, end)?,
+            range: to_range(begin, end),
         },
-        Mutation::SetStamped { key, value } => AdmittedMutation::SetStamped {
-            key: key.copy()?,
-            value: value.copy()?,
-        },
-    })
+        Mutation::SetStamped { key, value } => AdmittedMutation::SetStamped { key, value },
+    }
 }
 
 /// Returns the range of bytes without a fault.
-fn to_range(begin: &Bytes, end: &Bytes) -> Result<KeyRange, OutOfMemory>
-    requires { fault_of_range (record { begin = begin.now; end = end.now }) ≡ None }
-    ensures { IfOk result (λ range. range ≡ record { begin = begin.now; end = end.now }) }
+fn to_range(begin: Bytes, end: Bytes) -> KeyRange
+    requires { fault_of_range (record { begin = begin; end = end }) ≡ None }
+    ensures { result ≡ record { begin = begin; end = end } }
 {
-    let begin = Vec::from(begin.copy()?);
-    let end = Vec::from(end.copy()?);
-    let Ok(range) = KeyRange::new(begin, end) else {
+    let Ok(range) = KeyRange::new(Vec::from(begin), Vec::from(end)) else {
         unreachable!();
     };
-    Ok(range)
+    range
 }

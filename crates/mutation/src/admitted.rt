@@ -41,8 +41,8 @@ impl AdmittedMutation {
     }
 }
 
-/// A transaction as it was given, in which every limit holds: `admit` makes it (this project's
-/// profile).
+/// A transaction as it was given, in which every limit holds: `admit` and `admit_owned` make it
+/// (this project's profile).
 #[derive(Clone, Debug, Drop)]
 pub struct Admitted {
     snapshot: Version,

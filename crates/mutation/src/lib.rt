@@ -15,7 +15,7 @@ mod stamp;
 mod stamped;
 mod transaction;
 
-pub use admission::admit;
+pub use admission::{admit, admit_owned};
 pub use admitted::{Admitted, AdmittedMutation};
 pub use batch::{BATCH_LIMIT, Batch};
 pub use laws::{fault_law, limits_law, stamped_law};

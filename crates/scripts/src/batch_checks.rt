@@ -9,7 +9,7 @@ ghost use Rattle.scripts.specs.ScriptFaults.{IsReadAs};
 
 use crate::checks::Checked;
 use crate::script_fault::ScriptFault;
-use mutation::{Admitted, Batch, Refusal, Transaction, admit};
+use mutation::{Admitted, Batch, Refusal, Transaction, admit_owned};
 use std::alloc::Global;
 use system_keys::Items;
 
@@ -28,14 +28,14 @@ impl Checked<Items<Transaction>> for Batch {
     ghost checked = { checked_transactions };
 
     fn check(alloc: Global, raw: Items<Transaction>) -> Result<Batch, ScriptFault> {
-        admit_batch(alloc, raw.as_slice())
+        admit_batch(alloc, raw)
     }
 }
 
 /// Returns the batch of these transactions, or the first fault of one in their order, or else that
-/// they are too many (this project's profile).
-pub fn admit_batch(alloc: Global, given: &[Transaction]) -> Result<Batch, ScriptFault>
-    ensures { IsReadAs (λ found. found) result (checked_batch (map given_from given.now)) }
+/// they are too many (this project's profile). No key or value is copied.
+pub fn admit_batch(alloc: Global, given: Items<Transaction>) -> Result<Batch, ScriptFault>
+    ensures { IsReadAs (λ found. found) result (checked_batch (map given_from given)) }
 {
     match Batch::new(admit_each(alloc, given)?) {
         Ok(batch) => Ok(batch),
@@ -44,15 +44,16 @@ pub fn admit_batch(alloc: Global, given: &[Transaction]) -> Result<Batch, Script
 }
 
 // All of the list, or the first fault.
-fn admit_each(alloc: Global, given: &[Transaction]) -> Result<Vec<Admitted>, ScriptFault>
-    ensures kept { IfOk result (λ admitted. admitted.items ≡ map given_from given.now) }
-    ensures limits { OnOk result (first_fault transaction_fault (map given_from given.now) ≡ None) }
+fn admit_each(alloc: Global, given: Items<Transaction>) -> Result<Vec<Admitted>, ScriptFault>
+    ensures kept { IfOk result (λ admitted. admitted.items ≡ map given_from given) }
+    ensures limits { OnOk result (first_fault transaction_fault (map given_from given) ≡ None) }
     ensures value { IsReadAs (λ admitted. admitted.items) result
-        (checked_each (map given_from given.now)) }
+        (checked_each (map given_from given)) }
 {
-    let mut admitted = Vec::with_capacity(alloc, given.len())?;
-    for transaction in given {
-        admitted.push(admit(alloc, transaction)?)?;
+    let transactions = Vec::from(given);
+    let mut admitted = Vec::with_capacity(alloc, transactions.len())?;
+    for transaction in transactions {
+        admitted.push(admit_owned(alloc, transaction)?)?;
     }
     Ok(admitted)
 }

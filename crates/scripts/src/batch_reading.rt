@@ -40,7 +40,7 @@ pub fn stream_batch(alloc: Global, bytes: &[u8]) -> Option<Batch>
     ensures { IfSome result (λ batch. batch_of bytes.now ≡ Ok batch) }
 {
     let given: Items<Transaction> = read_tokens(alloc, bytes)?;
-    match admit_batch(alloc, given.as_slice()) {
+    match admit_batch(alloc, given) {
         Ok(batch) => Some(batch),
         Err(_) => None,
     }
@@ -50,5 +50,5 @@ fn batch_of_value(alloc: Global, value: &Value) -> Result<Batch, ScriptFault>
     ensures { IsReadAs (λ found. found) result (batch_of_shape (batch_shape (view value.now))) }
 {
     let given: Items<Transaction> = Items::shaped(alloc, value)?;
-    admit_batch(alloc, given.as_slice())
+    admit_batch(alloc, given)
 }

@@ -14,7 +14,7 @@ impl Checked<RawEvent> for Event {
         match raw {
             RawEvent::Sequence { proxy, batch } => Ok(Event::Sequence {
                 proxy,
-                batch: admit_batch(alloc, batch.as_slice())?,
+                batch: admit_batch(alloc, batch)?,
             }),
             RawEvent::Move(moved) => Ok(Event::Move {
                 range: check_range(moved.range)?,

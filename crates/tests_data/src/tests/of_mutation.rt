@@ -1,7 +1,10 @@
 //! Tests of mutation.
 
 use super::{assert_copied, is_range};
-use mutation::{Admitted, AdmittedMutation, Batch, GivenRange, Mutation, Stamped, Transaction};
+use mutation::{
+    Admitted, AdmittedMutation, Batch, GivenRange, Mutation, Refusal, Stamped, Transaction, admit,
+    admit_owned,
+};
 use std::alloc::Global;
 use std::test::Fail;
 use system_keys::{Bytes, Change, KeyRange};
@@ -64,16 +67,44 @@ fn are_mutations(mutations: &[AdmittedMutation]) -> bool {
     }
 }
 
+/// It is the transaction of one each.
+fn is_one_each(admitted: &Admitted) -> bool {
+    admitted.snapshot() == 7
+        && are_ranges(admitted.reads(), admitted.writes())
+        && are_mutations(admitted.mutations())
+        && admitted.lock_aware()
+}
+
 #[test]
 fn an_admitted_transaction_is_as_it_was_given(rt: HostRuntime) -> Result<(), Fail> {
     let admitted = admitted(rt.alloc(), ONE_EACH)?;
-    assert!(rt; admitted.snapshot() == 7 && admitted.lock_aware());
-    assert!(rt; are_ranges(admitted.reads(), admitted.writes()));
-    assert!(rt; are_mutations(admitted.mutations()));
+    assert!(rt; is_one_each(&admitted));
     assert_copied(&rt, &admitted, Admitted::copy);
     for mutation in admitted.mutations() {
         assert_copied(&rt, mutation, AdmittedMutation::copy);
     }
+    Ok(())
+}
+
+#[test]
+fn an_owned_transaction_is_admitted_as_a_lent_one(rt: HostRuntime) -> Result<(), Fail> {
+    let given = transaction(rt.alloc(), ONE_EACH)?;
+    assert!(rt; is_one_each(&admit(rt.alloc(), &given)?));
+    assert!(rt; is_one_each(&admit_owned(rt.alloc(), given)?));
+    Ok(())
+}
+
+#[test]
+fn the_first_fault_of_an_owned_transaction_is_told(rt: HostRuntime) -> Result<(), Fail> {
+    let faulty = Given {
+        writes: &[(b"b", b"b")],
+        mutations: &[Step::SetStamped(b"n", b"v")],
+        ..ONE_EACH
+    };
+    let refused = Refusal::Key(system_keys::Refusal::EmptyRange);
+    let given = transaction(rt.alloc(), faulty)?;
+    assert!(rt; matches!(admit(rt.alloc(), &given), Err(refusal) if refusal == refused));
+    assert!(rt; matches!(admit_owned(rt.alloc(), given), Err(refusal) if refusal == refused));
     Ok(())
 }
 
