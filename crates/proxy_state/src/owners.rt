@@ -79,11 +79,7 @@ impl ProxyOwners {
     /// The map with the moves from this place on. Fails only with `OutOfMemory`. Afterwards there is
     /// no second map.
     #[tactic(auto, using(crate::proofs::SecondMaps::alike_may_gain, crate::proofs::SecondMaps::alike_gained))]
-    pub(crate) fn with_moves(
-        &mut self,
-        moves: &Moves,
-        from: usize,
-    ) -> Result<OwnerMap, OutOfMemory>
+    pub(crate) fn with_moves(&mut self, moves: &Moves, from: usize) -> Result<OwnerMap, OutOfMemory>
         requires { MayGain self.old (drop from moves.now) }
         ensures gained { IfOk result (λ moved. HasGained self.old (drop from moves.now) moved) }
         ensures same { self.new ≡ self.old }
