@@ -3,6 +3,7 @@ pub mod BlankedKeys
 pub mod CachedTags
 pub mod ChosenTags
 pub mod EntriesLeft
+pub mod HeldKeys
 pub mod KeptInOrder
 pub mod KeptTags
 pub mod KeySets

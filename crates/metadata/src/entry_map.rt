@@ -7,18 +7,19 @@ ghost use Rattle.std.specs.Ordering.{nat_cmp};
 ghost use Rattle.std.specs.BTreeMap.{insert_entry};
 ghost use Rattle.std.specs.Cmp.Lexicographic.{slice_cmp};
 ghost use Rattle.std.specs.Map.{keys_of};
-ghost use Rattle.system_keys.specs.Keys.{Key, holds};
+ghost use Rattle.system_keys.specs.Keys.{Key, holds, is_key_below};
 ghost use Rattle.system_keys.specs.Families.{key_servers_family};
 ghost use Rattle.model.specs.Metadata.{Entries, IsInOrder, entry_value};
 ghost use Rattle.metadata.specs.MapEntries.{entries_of, bytes_of_keys};
 ghost use Rattle.metadata.specs.MapEntries.{is_serving_up_to, is_serving_inside};
 ghost use Rattle.metadata.specs.Overwrites.{is_same_key, is_listed, has_entry, missing_keys};
 ghost use Rattle.metadata.specs.Overwrites.{IsOverwritten, IsPutOver, TakesBack, AreDisplaced};
-ghost use Rattle.metadata.specs.Overwrites.{entries_without};
+ghost use Rattle.metadata.specs.Overwrites.{entries_without, is_held, lent_ranges};
 ghost use Rattle.metadata.specs.CachedTags.{may_tag, may_tag_some};
 ghost use Rattle.metadata.specs.ServerTables.{AreServerKeys};
 
 use crate::key_set::KeySet;
+use crate::order::{is_between, precedes};
 use std::alloc::Global;
 use std::collections::BTreeMap;
 use std::collections::btree_map::{Iter, Range};
@@ -125,13 +126,52 @@ impl EntryMap {
         ensures { OnOk result (bytes_of_keys keys.new.items ≡ bytes_of_keys keys.old.items
             ++ keys_of (filter (λ entry. holds range.now entry.0) self.now)) }
     {
-        let begin = Vec::from_slice(self.alloc, range.begin())?;
-        let end = Vec::from_slice(self.alloc, range.end())?;
+        self.list_keys_between(range.begin(), range.end(), keys)
+    }
+
+    /// Lists the keys of the entries from `begin` up to `end`, without `end`, in order. Fails only
+    /// with `OutOfMemory`.
+    fn list_keys_between(
+        &self,
+        begin: &[u8],
+        end: &[u8],
+        keys: &mut Vec<Vec<u8>>,
+    ) -> Result<(), OutOfMemory>
+        requires { is_key_below begin.now end.now ≡ true }
+        ensures { OnOk result (bytes_of_keys keys.new.items ≡ bytes_of_keys keys.old.items
+            ++ keys_of (filter (λ entry. holds (record { begin = begin.now; end = end.now }) entry.0)
+            self.now)) }
+    {
+        let begin = Vec::from_slice(self.alloc, begin)?;
+        let end = Vec::from_slice(self.alloc, end)?;
         let bounds = (Bound::Included(&begin), Bound::Excluded(&end));
         for (key, _) in self.values.range(bounds) {
             keys.push(Vec::from_slice(self.alloc, key.as_slice())?)?;
         }
         Ok(())
+    }
+
+    /// The keys of the entries that are in one of the ranges. Each is listed once if the begins of
+    /// the ranges do not fall. Fails only with `OutOfMemory`.
+    pub(crate) fn keys_in_any(&self, ranges: &[&KeyRange]) -> Result<Vec<Vec<u8>>, OutOfMemory>
+        ensures { IfOk result (λ keys. (key : Key) → is_listed (bytes_of_keys keys.items) key
+            ≡ (is_held (lent_ranges ranges.now) key && has_entry self.now key)) }
+    {
+        let mut keys = Vec::new(self.alloc);
+        let mut from: &[u8] = b"";
+        let mut up_to: &[u8] = b"";
+        for range in ranges {
+            // (what there is from `from` up to `up_to` is listed)
+            if !is_between(range.begin(), from, up_to) {
+                from = range.begin();
+                up_to = range.begin();
+            }
+            if precedes(up_to, range.end()) {
+                self.list_keys_between(up_to, range.end(), &mut keys)?;
+                up_to = range.end();
+            }
+        }
+        Ok(keys)
     }
 
     /// Removes the entries at the keys, except for the keys of the other map. Does not allocate.

@@ -13,6 +13,7 @@ mod entry_view;
 mod kept_entries;
 mod key_set;
 mod metadata;
+mod order;
 mod routes;
 mod server_table;
 mod server_tags;
