@@ -16,6 +16,7 @@ pub mod Outcomes
 pub mod OverwrittenEntries
 pub mod PutEntries
 pub mod RangeEntries
+pub mod RawIds
 pub mod RouteEntries
 pub mod ServerTables
 pub mod ServingEntries

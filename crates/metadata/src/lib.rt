@@ -14,6 +14,7 @@ mod kept_entries;
 mod key_set;
 mod metadata;
 mod order;
+mod raw_ids;
 mod routes;
 mod server_table;
 mod server_tags;
