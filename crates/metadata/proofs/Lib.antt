@@ -4,6 +4,7 @@ pub mod CachedTags
 pub mod ChosenTags
 pub mod EntriesLeft
 pub mod HeldKeys
+pub mod HiddenRuns
 pub mod KeptInOrder
 pub mod KeptTags
 pub mod KeySets

@@ -27,7 +27,7 @@ key_cmp = slice_cmp nat_cmp
 
 -- ---- keys behind a prefix
 
-same_number : (x y : ℕ) → nat_eq x y ≡ is_eq (nat_cmp x y)
+pub same_number : (x y : ℕ) → nat_eq x y ≡ is_eq (nat_cmp x y)
 same_number x y = by (nat_cmp x y) refl (nat_eq x y) refl
   where
     apart : (r : Ordering) → nat_cmp x y ≡ r → is_eq r ≡ false → (t : Bool) → nat_eq x y ≡ t → t ≡ false
@@ -51,7 +51,7 @@ not_up_to a b = ap not (up_to_is a b) ∙ twice (is_key_below b a)
     twice false = refl
 
 -- from the prefix up to a key behind it
-up_to_behind : (p key k : Key) → (is_key_up_to p k && not (is_key_below (p ++ key) k)) ≡ (starts_with nat_eq k p && is_key_up_to (drop (length p) k) key)
+pub up_to_behind : (p key k : Key) → (is_key_up_to p k && not (is_key_below (p ++ key) k)) ≡ (starts_with nat_eq k p && is_key_up_to (drop (length p) k) key)
 up_to_behind [] key [] = sym (up_to_is [] key)
 up_to_behind [] key (y ∷ k) = sym (up_to_is (y ∷ k) key)
 up_to_behind (x ∷ p) key [] = refl

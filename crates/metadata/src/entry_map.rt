@@ -8,7 +8,7 @@ ghost use Rattle.std.specs.BTreeMap.{insert_entry};
 ghost use Rattle.std.specs.Cmp.Lexicographic.{slice_cmp};
 ghost use Rattle.std.specs.Map.{keys_of};
 ghost use Rattle.system_keys.specs.Keys.{Key, holds, is_key_below};
-ghost use Rattle.system_keys.specs.Families.{key_servers_family};
+ghost use Rattle.system_keys.specs.Families.{key_servers_family, is_in};
 ghost use Rattle.model.specs.Metadata.{Entries, IsInOrder, entry_value};
 ghost use Rattle.metadata.specs.MapEntries.{entries_of, bytes_of_keys};
 ghost use Rattle.metadata.specs.MapEntries.{is_serving_up_to, is_serving_inside};
@@ -16,8 +16,10 @@ ghost use Rattle.metadata.specs.Overwrites.{is_same_key, is_listed, has_entry, m
 ghost use Rattle.metadata.specs.Overwrites.{IsOverwritten, IsPutOver, TakesBack, AreDisplaced};
 ghost use Rattle.metadata.specs.Overwrites.{entries_without, is_held, lent_ranges};
 ghost use Rattle.metadata.specs.CachedTags.{may_tag, may_tag_some};
+ghost use Rattle.metadata.specs.HiddenRuns.{IsHiddenRun, AreHiddenRuns, is_serving_before};
 ghost use Rattle.metadata.specs.ServerTables.{AreServerKeys};
 
+use crate::key_runs::KeyRuns;
 use crate::key_set::KeySet;
 use crate::order::{is_between, precedes};
 use std::alloc::Global;
@@ -398,6 +400,58 @@ impl EntryMap {
         let greatest = key_servers_key(self.alloc, key)?;
         let bounds = (Bound::Included(&least), Bound::Included(&greatest));
         Ok(self.values.range(bounds))
+    }
+
+    /// The keyServers entries before the key, which is that of one, in the order of their keys. Fails
+    /// only with `OutOfMemory`.
+    pub(crate) fn serving_before<'a>(
+        &'a self,
+        key: &Vec<u8>,
+    ) -> Result<Range<'a, Vec<u8>, Bytes>, OutOfMemory>
+        requires { is_in key_servers_family key.now.items ≡ true }
+        ensures { IfOk result (λ found. entries_of found
+            ≡ filter (is_serving_before key.now.items) self.now) }
+    {
+        let least = key_servers_key(self.alloc, b"")?;
+        let bounds = (Bound::Included(&least), Bound::Excluded(key));
+        Ok(self.values.range(bounds))
+    }
+
+    /// The key of the entry before this key. Does not allocate.
+    pub(crate) fn before(&self, key: &Vec<u8>) -> Option<&Vec<u8>> {
+        let bounds = (Bound::Unbounded, Bound::Excluded(key));
+        let (before, _) = self.values.range(bounds).next_back()?;
+        Some(before)
+    }
+
+    /// Whether each of the runs is of keyServers entries, and the entries from its first to its last
+    /// key are hidden. Does not allocate.
+    pub(crate) fn are_hidden_runs(&self, runs: &KeyRuns, hidden: &KeySet) -> bool
+        ensures { result ≡ true → AreHiddenRuns hidden.now self.now runs.now }
+    {
+        for (first, last) in runs.iter() {
+            if !self.is_hidden_run(first, last, hidden) {
+                return false;
+            }
+        }
+        true
+    }
+
+    fn is_hidden_run(&self, first: &Vec<u8>, last: &Vec<u8>, hidden: &KeySet) -> bool
+        ensures { result ≡ true
+            → IsHiddenRun hidden.now self.now (first.now.items, last.now.items) }
+    {
+        let begins = first.as_slice().starts_with(KEY_SERVERS_PREFIX);
+        if !begins || precedes(last.as_slice(), first.as_slice()) {
+            return false;
+        }
+        let bounds = (Bound::Included(first), Bound::Included(last));
+        for (key, _) in self.values.range(bounds) {
+            if !hidden.contains(key.as_slice()) {
+                return false;
+            }
+        }
+        true
     }
 
     /// The keyServers entries after the begin of the range and before its end, in the order of

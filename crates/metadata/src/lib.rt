@@ -11,6 +11,7 @@ mod changing;
 mod entry_map;
 mod entry_view;
 mod kept_entries;
+mod key_runs;
 mod key_set;
 mod metadata;
 mod order;

@@ -35,7 +35,7 @@ loop-key-preserved c =
           (λ shows.
           c.in_ok-add_unless_hidden.ensures.shows (tags_by (entry_value view) c.in-Some.field-0-1.now) (ap (is_listed c.entries.inside.hidden.now) key ∙ shows)
           (ap (tags_at c.entries.inside.tags.now) key
-          ∙ tags_shown_at c.entries.inside.hidden.now c.entries.inside.entries.now (tags_at c.entries.inside.tags.now) (entry_from entry) c.entries.invariant shows rows own
+          ∙ tags_shown_at c.entries.inside.hidden.now c.entries.inside.entries.now (tags_at c.entries.inside.tags.now) (entry_from entry) c.entries.invariant.0 shows rows own
           ∙ ap (λ (entries : Entries). Some (tags_by (entry_value entries) c.in-Some.field-0-1.now)) c.entries.view_is)
           ∙ row_added view c.loop-key.tags.keys (entry_from entry))
           (ap (λ (es : List (Vec ℕ × List ℕ)). added c.loop-key.tags.keys (flat_map (entry_tags view) (filter (is_left c.entries.inside.hidden.now) (entries_of es)))) (sym steps) ∙ c.loop-key.invariant.added);
