@@ -9,19 +9,19 @@ use Rattle.std.specs.BTreeMap.Range.{entries_between}
 use Rattle.std.proofs.lemmas.Cmp.{tied_itself, nat_list_cmp_total}
 use Rattle.std.proofs.lemmas.Bool.{eqb-true}
 use Rattle.std.specs.Option.{is_some}
-use Rattle.system_keys.specs.Keys.{Key, is_key_below, is_key_up_to}
+use Rattle.system_keys.specs.Keys.{Key, Range, is_key_below, is_key_up_to}
 use Rattle.system_keys.specs.Families.{key_servers_family, is_in}
-use Rattle.system_keys.proofs.KeyOrder.{below_trans, up_to_trans, not_below_back, up_to_is}
-use Rattle.model.specs.Metadata.{Entry, Entries, IsInOrder, entry_value, is_key_servers, behind_prefix}
+use Rattle.system_keys.proofs.KeyOrder.{below_trans, up_to_trans, up_to_below, not_below_back, not_below_itself, up_to_is}
+use Rattle.model.specs.Metadata.{Entry, Entries, IsInOrder, entry_value, is_key_servers, behind_prefix, is_entry_inside}
 use Rattle.model.proofs.Members.{Has, Has-from_Contains, Contains-from_Has, Has-map, Has-from_filter, Has-split}
 use Rattle.model.proofs.Metadata.Entries.{filter_in_order}
-use Rattle.metadata.specs.MapEntries.{entry_from, entries_of, is_serving_up_to}
+use Rattle.metadata.specs.MapEntries.{entry_from, entries_of, is_serving_up_to, is_serving_inside}
 use Rattle.metadata.specs.Overwrites.{is_same_key, is_listed, has_entry}
-use Rattle.metadata.specs.HiddenRuns.{Run, runs_of, IsHiddenRun, AreHiddenRuns, is_serving_before}
+use Rattle.metadata.specs.HiddenRuns.{Run, runs_of, IsHiddenRun, AreHiddenRuns, is_serving_before, is_serving_after}
 use Rattle.metadata.proofs.KeyValues.{key_cmp, same_key, Behind, first_behind, rest_in_order}
 use Rattle.metadata.proofs.MapEntries.{vec_cmp, filtered}
-use Rattle.metadata.proofs.KeptTags.{AreRows}
-use Rattle.metadata.proofs.ServingEntries.{is_left, last_left, same_number, not_up_to, up_to_behind}
+use Rattle.metadata.proofs.KeptTags.{AreRows, AreKeyServers}
+use Rattle.metadata.proofs.ServingEntries.{is_left, last_left, same_number, not_up_to, up_to_behind, inside_behind}
 
 abbrev is_before : Key → Entry → Bool
 is_before key row = is_key_below row.0 key
@@ -329,3 +329,177 @@ pub run_listed : (p : Vec ℕ × Vec ℕ → Bool) (es part front : List (Vec �
 run_listed p es part front e is steps =
     Contains-from_Has (runs_of es) (e.0.items, e.1.items)
     (Has-map (λ (run : Vec ℕ × Vec ℕ). (run.0.items, run.1.items)) es e (Has-from_filter p es e (subst (λ (list : List (Vec ℕ × Vec ℕ)). Has list e) (sym steps ∙ is) (Has-split front [] e))).0)
+
+-- ---- rows after a key
+
+abbrev is_after : Key → Entry → Bool
+is_after key row = is_key_below key row.0
+
+all_after : (key : Key) (row : Entry) (rows : Entries) → IsInOrder (row ∷ rows) → is_key_below key row.0 ≡ true → filter (is_after key) (row ∷ rows) ≡ row ∷ rows
+all_after key row [] s h = rw h refl
+all_after key row (next ∷ rows) s h =
+    let later : is_key_below key next.0 ≡ true = below_trans key row.0 next.0 h (ap is_lt (first_behind row (next ∷ rows) s).0) in
+    rw h (ap (λ (more : Entries). row ∷ more) (all_after key next rows (rest_in_order row (next ∷ rows) s) later))
+
+-- the rows after a key are the back of rows in order
+rows_after : (key : Key) (rows : Entries) → IsInOrder rows → (front : Entries) × (front ++ filter (is_after key) rows ≡ rows)
+rows_after key [] s = ([], refl)
+rows_after key (row ∷ rows) s = by (is_key_below key row.0) refl (rows_after key rows (rest_in_order row rows s))
+  where
+    some : Entries
+    some = filter (is_after key) rows
+
+    by : (t : Bool) → is_key_below key row.0 ≡ t → (front : Entries) × (front ++ some ≡ rows) → (front : Entries) × (front ++ cond t (row ∷ some) some ≡ row ∷ rows)
+    by true h later =
+        let whole : row ∷ some ≡ row ∷ rows = sym (rw h refl) ∙ all_after key row rows s h in
+        ([], whole)
+    by false h later = (row ∷ later.0, ap (λ (more : Entries). row ∷ more) later.1)
+
+-- only rows behind one that is not after the key are
+after_in_back : (key : Key) (front : Entries) (row : Entry) (rest : Entries) → IsInOrder (front ++ row ∷ rest) → is_key_below key row.0 ≡ false → filter (is_after key) (front ++ row ∷ rest) ≡ filter (is_after key) rest
+after_in_back key [] row rest s h = rw h refl
+after_in_back key (first ∷ front) row rest s h =
+    let below : is_key_below first.0 row.0 ≡ true = front_below (first ∷ front) row rest first s (inl refl) in
+    let out : is_key_below key first.0 ≡ false = up_to_trans first.0 row.0 key (not_below_back first.0 row.0 below) h in
+    rw out (after_in_back key front row rest (rest_in_order first (front ++ row ∷ rest) s) h)
+
+back_in_order : (front rest : Entries) → IsInOrder (front ++ rest) → IsInOrder rest
+back_in_order [] rest s = s
+back_in_order (first ∷ front) rest s = back_in_order front rest (rest_in_order first (front ++ rest) s)
+
+behind_has : (key : Key) (rows : Entries) (row : Entry) → Behind key rows → Has rows row → is_key_below key row.0 ≡ true
+behind_has key [] row all h = absurd h
+behind_has key (first ∷ rows) row all (inl same) = ap (λ (e : Entry). is_key_below key e.0) (sym same) ∙ ap is_lt all.0
+behind_has key (first ∷ rows) row all (inr there) = behind_has key rows row all.1 there
+
+-- the entries of the map are those at the back of all
+pub record IsBack (es : List (Vec ℕ × List ℕ)) (all : Entries) : Type 0 where
+  pub front : Entries
+  pub parts : front ++ entries_of es ≡ all
+
+pub whole_back : (es : List (Vec ℕ × List ℕ)) (all : Entries) → entries_of es ≡ all → IsBack es all
+whole_back es all is = record { front = []; parts = is }
+
+-- one step on
+pub back_stepped : (e : Vec ℕ × List ℕ) (es left : List (Vec ℕ × List ℕ)) (all : Entries) → left ≡ e ∷ es → IsBack left all → IsBack es all
+back_stepped e es left all steps is = record {
+  front = is.front ++ entry_from e ∷ [];
+  parts = append_assoc is.front (entry_from e ∷ []) (entries_of es) ∙ ap (λ (list : List (Vec ℕ × List ℕ)). is.front ++ entries_of list) (sym steps) ∙ is.parts;
+}
+
+abbrev pub inside_rows : Range → Entries → Entries
+inside_rows range rows = filter (is_serving_inside range) rows
+
+-- the rows after a run of hidden rows
+pub record IsJumpOn (hidden : List Key) (rows : Entries) (range : Range) (rest new : List (Vec ℕ × List ℕ)) : Type 0 where
+  pub left : filter (is_left hidden) (entries_of new) ≡ filter (is_left hidden) (entries_of rest)
+  pub back_is : IsBack new (inside_rows range rows)
+  pub fewer : length new ≤ length rest
+
+pub jump_on : (hidden : List Key) (rows : Entries) (range : Range) (rest new left : List (Vec ℕ × List ℕ)) (e : Vec ℕ × List ℕ) (run : Run) → IsInOrder rows → left ≡ e ∷ rest → IsBack left (inside_rows range rows)
+    → ((row : Entry) → Has (entries_of rest) row → entry_value rows row.0 ≡ Some row.1) → IsHiddenRun hidden rows run → is_key_below e.0.items run.0 ≡ false → is_key_below run.1 e.0.items ≡ false
+    → entries_of new ≡ filter (is_serving_after run.1 range) rows → IsJumpOn hidden rows range rest new
+jump_on hidden rows range rest new left e run s steps is there hides begins reaches new_is = record {
+  left = ap (filter (is_left hidden)) new_rest ∙ left_of_before (is_left hidden) (is_after run.1) (entries_of rest) hidden_unless;
+  back_is = record { front = some.0; parts = ap (λ (list : Entries). some.0 ++ list) new_all ∙ some.1 };
+  fewer =
+      let short : length (entries_of new) ≤ length (entries_of rest) = subst (λ (list : Entries). length list ≤ length (entries_of rest)) (sym new_rest) (length_filter (is_after run.1) (entries_of rest)) in
+      omega (arith, short, length_entries new, length_entries rest);
+}
+  where
+    inside : Entries
+    inside = inside_rows range rows
+
+    ordered : IsInOrder inside
+    ordered = filter_in_order (is_serving_inside range) rows s
+
+    some : (front : Entries) × (front ++ filter (is_after run.1) inside ≡ inside)
+    some = rows_after run.1 inside ordered
+
+    new_all : entries_of new ≡ filter (is_after run.1) inside
+    new_all = new_is ∙ both_tests (is_serving_inside range) (is_after run.1) rows
+
+    all_is : is.front ++ entry_from e ∷ entries_of rest ≡ inside
+    all_is = ap (λ (list : List (Vec ℕ × List ℕ)). is.front ++ entries_of list) (sym steps) ∙ is.parts
+
+    in_order : IsInOrder (is.front ++ entry_from e ∷ entries_of rest)
+    in_order = subst IsInOrder (sym all_is) ordered
+
+    new_rest : entries_of new ≡ filter (is_after run.1) (entries_of rest)
+    new_rest = new_all ∙ ap (filter (is_after run.1)) (sym all_is) ∙ after_in_back run.1 is.front (entry_from e) (entries_of rest) in_order reaches
+
+    hidden_unless : (row : Entry) → Has (entries_of rest) row → is_key_below run.1 row.0 ≡ false → not (is_listed hidden row.0) ≡ false
+    hidden_unless row has out =
+        let above : is_key_below e.0.items row.0 ≡ true = behind_has e.0.items (entries_of rest) row (first_behind (entry_from e) (entries_of rest) (back_in_order is.front (entry_from e ∷ entries_of rest) in_order)) has in
+        let within : is_key_below row.0 run.0 ≡ false = up_to_trans run.0 e.0.items row.0 begins (not_below_back e.0.items row.0 above) in
+        ap not (hides.hides row.0 (ap is_some (there row has)) within out)
+
+pub jump_on_fewer : (hidden : List Key) (rows : Entries) (range : Range) (rest new left : List (Vec ℕ × List ℕ)) (e : Vec ℕ × List ℕ) → IsJumpOn hidden rows range rest new → left ≡ e ∷ rest → length new < length left
+jump_on_fewer hidden rows range rest new left e jump steps =
+    let longer : length left ≡ suc (length rest) = ap length steps in
+    omega (arith, longer, jump.fewer)
+
+-- the key at which a run ends that an entry inside a range is in is not before the range
+pub run_inside : (rows : Entries) (range : Range) (e : Vec ℕ × List ℕ) (es left : List (Vec ℕ × List ℕ)) (last : Key) → left ≡ e ∷ es → IsBack left (inside_rows range rows) → is_key_below last e.0.items ≡ false → is_key_below last (prefix ++ range.begin) ≡ false
+run_inside rows range e es left last steps is reaches =
+    let parts : is.front ++ entry_from e ∷ entries_of es ≡ inside_rows range rows = ap (λ (list : List (Vec ℕ × List ℕ)). is.front ++ entries_of list) (sym steps) ∙ is.parts in
+    let inside : is_serving_inside range (entry_from e) ≡ true = (Has-from_filter (is_serving_inside range) rows (entry_from e) (subst (λ (list : Entries). Has list (entry_from e)) parts (Has-split is.front (entries_of es) (entry_from e)))).1 in
+    let after : is_key_below (prefix ++ range.begin) e.0.items ≡ true =
+    (both_true (is_key_below (prefix ++ range.begin) e.0.items) (not (is_key_up_to (prefix ++ range.end) e.0.items)) (inside_behind prefix range.begin range.end e.0.items ∙ inside)).0 in
+    up_to_trans (prefix ++ range.begin) e.0.items last (not_below_back (prefix ++ range.begin) e.0.items after) reaches
+
+-- ---- the entries of the map after a key and inside a range
+
+pub below_less : (a b : Key) → is_key_below a b ≡ true → key_cmp a b ≡ Less
+below_less a b h = less (key_cmp a b) h
+  where
+    less : (r : Ordering) → is_lt r ≡ true → r ≡ Less
+    less Less e = refl
+    less Equal e = absurd (cc)
+    less Greater e = absurd (cc)
+
+pub same_forward : (key : Key) → is_gt (key_cmp key key) ≡ false
+same_forward key = not_backwards key key (not_below_itself key)
+
+after_begin : (k b n : Bool) → (k ≡ true → b ≡ true) → (k && n) ≡ ((b && n) && k)
+after_begin true true true h = refl
+after_begin true true false h = refl
+after_begin true false n h = let two : false ≡ true = h refl in absurd (cc)
+after_begin false true true h = refl
+after_begin false true false h = refl
+after_begin false false n h = refl
+
+past_end : (u b k : Bool) → (k ≡ true → u ≡ true) → (u && not u) ≡ ((b && not u) && k)
+past_end true true k h = refl
+past_end true false k h = refl
+past_end false true true h = let two : false ≡ true = h refl in absurd (cc)
+past_end false true false h = refl
+past_end false false k h = refl
+
+pub between_after : (es : List (Vec ℕ × List ℕ)) (key end : Vec ℕ) (range : Range) → end.items ≡ prefix ++ range.end → is_key_below key.items (prefix ++ range.begin) ≡ false
+    → entries_of (entries_between vec_cmp (Excluded key) (Excluded end) es) ≡ filter (is_serving_after key.items range) (entries_of es)
+between_after es key end range high late =
+    let same : (row : Entry) → (is_key_below key.items row.0 && not (is_key_up_to end.items row.0)) ≡ is_serving_after key.items range row =
+    λ row.
+    ap (λ (k : Key). is_key_below key.items row.0 && not (is_key_up_to k row.0)) high
+    ∙ after_begin (is_key_below key.items row.0) (is_key_below (prefix ++ range.begin) row.0) (not (is_key_up_to (prefix ++ range.end) row.0)) (up_to_below (prefix ++ range.begin) key.items row.0 late)
+    ∙ ap (λ (t : Bool). t && is_key_below key.items row.0) (inside_behind prefix range.begin range.end row.0) in
+    filtered (λ (row : Entry). is_key_below key.items row.0 && not (is_key_up_to end.items row.0)) es
+    ∙ ap (λ (p : Entry → Bool). filter p (entries_of es)) (λ i row. same row i)
+
+pub none_after : (es : List (Vec ℕ × List ℕ)) (key end : Vec ℕ) (range : Range) → end.items ≡ prefix ++ range.end → is_key_below key.items end.items ≡ false
+    → entries_of (entries_between vec_cmp (Included end) (Excluded end) es) ≡ filter (is_serving_after key.items range) (entries_of es)
+none_after es key end range high past =
+    let same : (row : Entry) → (is_key_up_to end.items row.0 && not (is_key_up_to end.items row.0)) ≡ is_serving_after key.items range row =
+    λ row.
+    past_end (is_key_up_to end.items row.0) (is_key_below (prefix ++ range.begin) row.0) (is_key_below key.items row.0)
+    (λ h. up_to_is end.items row.0 ∙ ap not (up_to_trans end.items key.items row.0 past (not_below_back key.items row.0 h)))
+    ∙ ap (λ (k : Key). (is_key_below (prefix ++ range.begin) row.0 && not (is_key_up_to k row.0)) && is_key_below key.items row.0) high
+    ∙ ap (λ (t : Bool). t && is_key_below key.items row.0) (inside_behind prefix range.begin range.end row.0) in
+    filtered (λ (row : Entry). is_key_up_to end.items row.0 && not (is_key_up_to end.items row.0)) es
+    ∙ ap (λ (p : Entry → Bool). filter p (entries_of es)) (λ i row. same row i)
+
+pub own_after : (rows : Entries) (key : Key) (range : Range) (es : List (Vec ℕ × List ℕ)) → entries_of es ≡ filter (is_serving_after key range) rows → AreKeyServers es
+own_after rows key range es is = λ entry has.
+    let passes : is_serving_after key range entry ≡ true = (Has-from_filter (is_serving_after key range) rows entry (subst (λ (list : Entries). Has list entry) is has)).1 in
+    (both_true (is_key_servers entry) (is_entry_inside range (behind_prefix entry)) (both_true (is_serving_inside range entry) (is_key_below key entry.0) passes).0).0

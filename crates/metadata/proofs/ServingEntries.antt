@@ -65,7 +65,7 @@ up_to_behind (x ∷ p) key (y ∷ k) =
     by Greater rest = refl
 
 -- after a key behind the prefix, and before another
-inside_behind : (p begin end k : Key) → (is_key_below (p ++ begin) k && not (is_key_up_to (p ++ end) k)) ≡ (starts_with nat_eq k p && (is_key_below begin (drop (length p) k) && is_key_below (drop (length p) k) end))
+pub inside_behind : (p begin end k : Key) → (is_key_below (p ++ begin) k && not (is_key_up_to (p ++ end) k)) ≡ (starts_with nat_eq k p && (is_key_below begin (drop (length p) k) && is_key_below (drop (length p) k) end))
 inside_behind [] begin end k = ap (λ (t : Bool). is_key_below begin k && t) (not_up_to end k)
 inside_behind (x ∷ p) begin end [] = refl
 inside_behind (x ∷ p) begin end (y ∷ k) =

@@ -2,9 +2,10 @@
 use Rattle.std.specs.Prelude.{◌≡◌, ℕ, List, map, true, false, ◌&&◌, Bool}
 use Rattle.std.specs.Global.{Vec}
 use Rattle.std.specs.List.{AllByRecursion}
-use Rattle.system_keys.specs.Keys.{Key, is_key_below}
+use Rattle.system_keys.specs.Keys.{Key, Range, is_key_below}
 use Rattle.system_keys.specs.Families.{key_servers_family, is_in}
 use Rattle.model.specs.Metadata.{Entry, Entries, is_key_servers}
+use Rattle.metadata.specs.MapEntries.{is_serving_inside}
 use Rattle.metadata.specs.Overwrites.{is_listed, has_entry}
 
 -- a run of keys: its first and its last
@@ -30,3 +31,7 @@ AreHiddenRuns hidden entries runs = AllByRecursion (IsHiddenRun hidden entries) 
 -- the entry is a keyServers row, before the key
 abbrev pub is_serving_before : Key → Entry → Bool
 is_serving_before key entry = is_key_servers entry && is_key_below entry.0 key
+
+-- the entry is a keyServers row inside the range, after the key
+abbrev pub is_serving_after : Key → Range → Entry → Bool
+is_serving_after key range entry = is_serving_inside range entry && is_key_below key entry.0

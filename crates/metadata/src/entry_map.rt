@@ -17,6 +17,7 @@ ghost use Rattle.metadata.specs.Overwrites.{IsOverwritten, IsPutOver, TakesBack,
 ghost use Rattle.metadata.specs.Overwrites.{entries_without, is_held, lent_ranges};
 ghost use Rattle.metadata.specs.CachedTags.{may_tag, may_tag_some};
 ghost use Rattle.metadata.specs.HiddenRuns.{IsHiddenRun, AreHiddenRuns, is_serving_before};
+ghost use Rattle.metadata.specs.HiddenRuns.{is_serving_after};
 ghost use Rattle.metadata.specs.ServerTables.{AreServerKeys};
 
 use crate::key_runs::KeyRuns;
@@ -468,6 +469,28 @@ impl EntryMap {
         let end = key_servers_key(self.alloc, range.end())?;
         let bounds = (Bound::Excluded(&begin), Bound::Excluded(&end));
         Ok(self.values.range(bounds))
+    }
+
+    /// Those of the keyServers entries inside the range that are after a key, which is not before the
+    /// range, in the order of their keys. Fails only with `OutOfMemory`.
+    pub(crate) fn serving_after<'a>(
+        &'a self,
+        key: &Vec<u8>,
+        range: &KeyRange,
+    ) -> Result<Range<'a, Vec<u8>, Bytes>, OutOfMemory>
+        requires { is_key_below key.now.items (key_servers_family.prefix ++ range.now.begin)
+            ≡ false }
+        ensures { IfOk result (λ found. entries_of found
+            ≡ filter (is_serving_after key.now.items range.now) self.now) }
+    {
+        let end = key_servers_key(self.alloc, range.end())?;
+        if precedes(key.as_slice(), end.as_slice()) {
+            let bounds = (Bound::Excluded(key), Bound::Excluded(&end));
+            Ok(self.values.range(bounds))
+        } else {
+            let none = (Bound::Included(&end), Bound::Excluded(&end));
+            Ok(self.values.range(none))
+        }
     }
 
     /// Returns a deep copy. Fails only with `OutOfMemory`.
