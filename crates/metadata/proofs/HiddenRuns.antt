@@ -1,7 +1,7 @@
 -- Rows before a run of hidden rows: what is left of them is what is left of the rows before its last.
-use Rattle.std.proofs.Common.{◌≡◌, refl, sym, ap, ◌∙◌, subst, ℕ, ◌+◌, ◌<◌, ◌≤◌, suc, length, drop, List, [], ◌∷◌, ◌++◌, append_assoc, map, Bool, true, false, cond, not, ◌&&◌, Option, Some, None, filter, ◌⊎◌, inl, inr, is_lt, is_gt, is_le, is_eq, Ordering, Less, Equal, Greater, nat_cmp, nat_eq, length-append, arith}
+use Rattle.std.proofs.Common.{◌≡◌, refl, sym, ap, ◌∙◌, subst, ℕ, ◌+◌, ◌<◌, ◌≤◌, suc, length, drop, List, [], ◌∷◌, ◌++◌, append_assoc, map, Bool, true, false, cond, not, ◌&&◌, Some, None, filter, inl, inr, is_lt, is_gt, is_le, is_eq, Ordering, Less, Equal, Greater, nat_cmp, nat_eq, length-append, arith}
 use Rattle.std.specs.Global.{Vec}
-use Rattle.std.specs.List.{AllByRecursion, Contains, last_or, list_all, starts_with}
+use Rattle.std.specs.List.{Contains, last_or, list_all, starts_with}
 use Rattle.std.specs.Ordering.{ordering_reverse, ordering_then}
 use Rattle.std.specs.Cmp.{nat_cmp_total}
 use Rattle.std.specs.declared.ops.Bound.TheVariants.{Included, Excluded}
@@ -20,7 +20,7 @@ use Rattle.metadata.specs.Overwrites.{is_same_key, is_listed, has_entry}
 use Rattle.metadata.specs.HiddenRuns.{Run, runs_of, IsHiddenRun, AreHiddenRuns, is_serving_before, is_serving_after}
 use Rattle.metadata.proofs.KeyValues.{key_cmp, same_key, Behind, first_behind, rest_in_order}
 use Rattle.metadata.proofs.MapEntries.{vec_cmp, filtered}
-use Rattle.metadata.proofs.KeptTags.{AreRows, AreKeyServers}
+use Rattle.metadata.proofs.KeptTags.{AreKeyServers}
 use Rattle.metadata.proofs.ServingEntries.{is_left, last_left, same_number, not_up_to, up_to_behind, inside_behind}
 
 abbrev is_before : Key → Entry → Bool

@@ -1,9 +1,9 @@
 -- The ids that stand in the bytes of a value are those that it names, if it decodes.
-use Rattle.std.proofs.Common.{◌≡◌, refl, sym, ap, ◌∙◌, ℕ, ◌+◌, ◌-◌, ◌<◌, ◌*◌, ◌≤◌, length, take, drop, suc, List, [], ◌∷◌, ◌++◌, Bool, true, false, ◌||◌, Result, Ok, Err, None, arith, subst}
+use Rattle.std.proofs.Common.{◌≡◌, refl, sym, ap, ◌∙◌, ℕ, ◌+◌, ◌-◌, ◌<◌, take, drop, suc, List, [], ◌∷◌, Bool, true, false, ◌||◌, Result, Ok, Err, None, arith}
 use Rattle.std.specs.List.{list_any}
 use Rattle.std.proofs.lemmas.List.Folds.{list_any-append}
 use Rattle.system_keys.specs.declared.refusal.RowFault.{RowFault}
-use Rattle.system_keys.specs.Rows.{Id, Servers, ids_at, ids_in, ids_listed, counted_ids_at, servers_at, at_end, ◌>>=◌}
+use Rattle.system_keys.specs.Rows.{Id, Servers, ids_in, ids_listed, counted_ids_at, at_end, ◌>>=◌}
 use Rattle.system_keys.proofs.RowLaws.{Taken, ids_taken}
 use Rattle.model.specs.Metadata.{all_servers, servers_of}
 

@@ -6,7 +6,7 @@ use Rattle.metadata.specs.MapEntries.{entry_from, entries_of, is_serving_inside}
 use Rattle.metadata.specs.Overwrites.{is_listed}
 use Rattle.metadata.specs.CachedTags.{tags_at, tags_by}
 use Rattle.metadata.proofs.Tags.{added}
-use Rattle.metadata.proofs.KeptTags.{AreRows, rows_passing, key_servers_passing, row_first, own_first, rows_rest, own_rest, tags_shown_at, row_added}
+use Rattle.metadata.proofs.KeptTags.{rows_passing, key_servers_passing, row_first, own_first, rows_rest, own_rest, tags_shown_at, row_added}
 use Rattle.metadata.specs.HiddenRuns.{Run, is_serving_after}
 use Rattle.metadata.proofs.HiddenRuns.{whole_back, back_stepped, inside_rows, IsJumpOn, jump_on, jump_on_fewer, one_run, run_inside, own_after}
 use Rattle.metadata.proofs.ServingEntries.{is_left, tags_left, inside_next}
