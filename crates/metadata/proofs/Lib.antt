@@ -3,6 +3,8 @@ pub mod BlankedKeys
 pub mod CachedTags
 pub mod ChosenTags
 pub mod EntriesLeft
+pub mod HeldKeys
+pub mod HiddenRuns
 pub mod KeptInOrder
 pub mod KeptTags
 pub mod KeySets
@@ -15,6 +17,7 @@ pub mod Outcomes
 pub mod OverwrittenEntries
 pub mod PutEntries
 pub mod RangeEntries
+pub mod RawIds
 pub mod RouteEntries
 pub mod ServerTables
 pub mod ServingEntries

@@ -129,7 +129,7 @@ over_changes (change ∷ changes) key cleared puts old now is =
     subst (λ (t : Bool). IsOver key t (after_changes puts (change ∷ changes)) old (after_changes now (change ∷ changes))) (either_group cleared (clears change key) (are_clearing changes key))
     (over_changes changes key (cleared || clears change key) (after_change puts change) old (after_change now change) (over_change change key cleared puts old now is))
 
-listed_both : (xs ys : List Key) (key : Key) → is_listed (xs ++ ys) key ≡ (is_listed xs key || is_listed ys key)
+pub listed_both : (xs ys : List Key) (key : Key) → is_listed (xs ++ ys) key ≡ (is_listed xs key || is_listed ys key)
 listed_both [] ys key = refl
 listed_both (x ∷ xs) ys key = ap (λ (t : Bool). is_same_key key x || t) (listed_both xs ys key) ∙ sym (either_group (is_same_key key x) (is_listed xs key) (is_listed ys key))
 

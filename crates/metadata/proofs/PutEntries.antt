@@ -126,7 +126,7 @@ cleared_more false true (Some value) = refl
 cleared_more false false was = refl
 
 pub row_staged : (row : JournalRow) (before after old now : Entries) (cleared more all : List Key) (locked : Bool) (states : List StateTxn)
-    → locked ≡ is_locked now → states ≡ row.states → after ≡ fold (after_state locked) before states → more ≡ cleared_keys old (changes_of locked states)
+    → locked ≡ is_locked now → states ≡ row.states → after ≡ fold (after_state locked) before states → ((key : Key) → is_listed more key ≡ is_listed (cleared_keys old (changes_of locked states)) key)
     → ((key : Key) → is_listed all key ≡ (is_listed more key || is_listed cleared key))
     → IsOverwritten cleared before old now → IsOverwritten all after old (after_journal_row now row)
 row_staged row before after old now cleared more all locked states lock states_is after_is more_is all_is over = λ key.
@@ -142,7 +142,7 @@ row_staged row before after old now cleared more all locked states lock states_i
     changes = changes_of locked states
 
     listed : (key : Key) → is_listed all key ≡ ((are_clearing changes key && has_entry old key) || is_listed cleared key)
-    listed key = all_is key ∙ ap (λ (t : Bool). t || is_listed cleared key) (ap (λ (keys : List Key). is_listed keys key) more_is ∙ listed_cleared old changes key)
+    listed key = all_is key ∙ ap (λ (t : Bool). t || is_listed cleared key) (more_is key ∙ listed_cleared old changes key)
 
 -- ---- several rows
 

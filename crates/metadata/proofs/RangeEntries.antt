@@ -1,14 +1,12 @@
 -- The keys of the map in a range are those of its entries there.
-use Rattle.std.proofs.Common.{◌≡◌, refl, ap, ap₂, ◌∙◌, ℕ, Less, Greater, is_gt, is_lt, List, filter, Bool, true, false, not, Ordering, Equal, nat_cmp, ◌&&◌, None}
+use Rattle.std.proofs.Common.{◌≡◌, refl, ap, ap₂, ◌∙◌, ℕ, Less, Greater, is_gt, is_lt, List, filter, Bool, true, false, not, Ordering, Equal, nat_cmp, ◌&&◌}
 use Rattle.std.specs.Global.{Vec}
 use Rattle.std.specs.declared.ops.Bound.TheVariants.{Included, Excluded}
 use Rattle.std.specs.BTreeMap.Range.{entries_between}
 use Rattle.system_keys.proofs.KeyOrder.{up_to_is}
-use Rattle.system_keys.proofs.KeyLaws.{begins_below}
 use Rattle.std.specs.Map.{keys_of}
 use Rattle.std.specs.Cmp.Lexicographic.{slice_cmp}
-use Rattle.system_keys.specs.Keys.{Key, Range, holds, is_key_up_to}
-use Rattle.system_keys.specs.Limits.{range_fault}
+use Rattle.system_keys.specs.Keys.{Key, Range, holds, is_key_below, is_key_up_to}
 use Rattle.model.specs.Metadata.{Entry, Entries}
 use Rattle.metadata.specs.MapEntries.{entries_of}
 use Rattle.metadata.proofs.MapEntries.{vec_cmp, filtered}
@@ -20,9 +18,9 @@ matching p rows = filter (λ (row : Entry). p row.0) rows
 
 -- ---- the keys of a range
 
--- a range without a fault does not run backwards
-pub runs_forward : (begin end : Key) → range_fault begin end ≡ None → is_gt (slice_cmp nat_cmp begin end) ≡ false
-runs_forward begin end e = forward (slice_cmp nat_cmp begin end) (begins_below begin end e)
+-- a key and one above it do not run backwards
+pub below_forward : (begin end : Key) → is_key_below begin end ≡ true → is_gt (slice_cmp nat_cmp begin end) ≡ false
+below_forward begin end below = forward (slice_cmp nat_cmp begin end) below
   where
     forward : (r : Ordering) → is_lt r ≡ true → is_gt r ≡ false
     forward Less h = refl

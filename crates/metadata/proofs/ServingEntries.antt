@@ -27,7 +27,7 @@ key_cmp = slice_cmp nat_cmp
 
 -- ---- keys behind a prefix
 
-same_number : (x y : ℕ) → nat_eq x y ≡ is_eq (nat_cmp x y)
+pub same_number : (x y : ℕ) → nat_eq x y ≡ is_eq (nat_cmp x y)
 same_number x y = by (nat_cmp x y) refl (nat_eq x y) refl
   where
     apart : (r : Ordering) → nat_cmp x y ≡ r → is_eq r ≡ false → (t : Bool) → nat_eq x y ≡ t → t ≡ false
@@ -51,7 +51,7 @@ not_up_to a b = ap not (up_to_is a b) ∙ twice (is_key_below b a)
     twice false = refl
 
 -- from the prefix up to a key behind it
-up_to_behind : (p key k : Key) → (is_key_up_to p k && not (is_key_below (p ++ key) k)) ≡ (starts_with nat_eq k p && is_key_up_to (drop (length p) k) key)
+pub up_to_behind : (p key k : Key) → (is_key_up_to p k && not (is_key_below (p ++ key) k)) ≡ (starts_with nat_eq k p && is_key_up_to (drop (length p) k) key)
 up_to_behind [] key [] = sym (up_to_is [] key)
 up_to_behind [] key (y ∷ k) = sym (up_to_is (y ∷ k) key)
 up_to_behind (x ∷ p) key [] = refl
@@ -65,7 +65,7 @@ up_to_behind (x ∷ p) key (y ∷ k) =
     by Greater rest = refl
 
 -- after a key behind the prefix, and before another
-inside_behind : (p begin end k : Key) → (is_key_below (p ++ begin) k && not (is_key_up_to (p ++ end) k)) ≡ (starts_with nat_eq k p && (is_key_below begin (drop (length p) k) && is_key_below (drop (length p) k) end))
+pub inside_behind : (p begin end k : Key) → (is_key_below (p ++ begin) k && not (is_key_up_to (p ++ end) k)) ≡ (starts_with nat_eq k p && (is_key_below begin (drop (length p) k) && is_key_below (drop (length p) k) end))
 inside_behind [] begin end k = ap (λ (t : Bool). is_key_below begin k && t) (not_up_to end k)
 inside_behind (x ∷ p) begin end [] = refl
 inside_behind (x ∷ p) begin end (y ∷ k) =

@@ -12,5 +12,7 @@ pub mod CachedTags
 pub mod ServerTables
 -- the entries of a map to tags, as the tags at each key
 pub mod TagEntries
+-- runs of rows that are hidden
+pub mod HiddenRuns
 -- rows that are being applied, and can be taken back
 pub mod Started

@@ -1,5 +1,6 @@
 -- Entries that are written over others: what one row of a journal removes, and what it puts.
-use Rattle.std.specs.Prelude.{◌≡◌, List, [], Bool, true, false, None, if◌then◌else◌, filter, not}
+use Rattle.std.specs.Prelude.{◌≡◌, List, [], ◌∷◌, map, Bool, true, false, None, if◌then◌else◌, filter, not}
+use Rattle.std.specs.Borrow.{Bor}
 use Rattle.std.specs.Option.{is_some, option_or}
 use Rattle.std.specs.List.{flat_map, list_any}
 use Rattle.std.specs.Map.{keys_of}
@@ -8,7 +9,7 @@ use Rattle.std.specs.Ordering.{nat_cmp}
 use Rattle.std.specs.Cmp.Lexicographic.{slice_cmp}
 use Rattle.system_keys.specs.declared.change.Change.{Change}
 use Rattle.system_keys.specs.declared.change.Change.TheVariants.{Set, Clear}
-use Rattle.system_keys.specs.Keys.{Key, holds}
+use Rattle.system_keys.specs.Keys.{Key, Range, holds}
 use Rattle.model.specs.declared.journal.StateTxn.{StateTxn}
 use Rattle.model.specs.Metadata.{Entry, Entries, IsInOrder, AreKept, entry_value, is_applied}
 
@@ -48,6 +49,23 @@ keys_cleared entries (Clear range) = keys_of (filter (λ (entry : Entry). holds 
 -- the keys of the entries that some changes clear, one change after another
 abbrev pub cleared_keys : Entries → List Change → List Key
 cleared_keys entries changes = flat_map (keys_cleared entries) changes
+
+-- the ranges that a change clears
+abbrev pub range_cleared : Change → List Range
+range_cleared (Set key value) = []
+range_cleared (Clear range) = range ∷ []
+
+-- the ranges that some changes clear, one change after another
+abbrev pub cleared_ranges : List Change → List Range
+cleared_ranges changes = flat_map range_cleared changes
+
+-- the ranges that some references lend
+abbrev pub lent_ranges : List (Bor Range) → List Range
+lent_ranges ranges = map (λ (range : Bor Range). range.now) ranges
+
+-- one of the ranges holds the key
+abbrev pub is_held : List Range → Key → Bool
+is_held ranges key = list_any (λ (range : Range). holds range key) ranges
 
 -- ---- entries that are put over others, and taken back
 

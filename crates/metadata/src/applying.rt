@@ -4,12 +4,15 @@ ghost use Rattle.std.specs.Prelude.{◌≡◌, ◌++◌, ◌∷◌, [], IfOk, If
 ghost use Rattle.std.specs.List.{list_all, list_any};
 ghost use Rattle.model.specs.Verdicts.{is_committed};
 ghost use Rattle.model.specs.Metadata.{is_applied};
+ghost use Rattle.system_keys.specs.Keys.{Key};
 ghost use Rattle.metadata.specs.MapEntries.{bytes_of_keys};
-ghost use Rattle.metadata.specs.Overwrites.{changes_of, cleared_keys};
+ghost use Rattle.metadata.specs.Overwrites.{changes_of, cleared_keys, cleared_ranges, is_listed};
+ghost use Rattle.metadata.specs.Overwrites.{lent_ranges};
 
 use crate::entry_map::EntryMap;
 use model::{StateTxn, Verdict};
-use system_keys::{Change, OutOfMemory};
+use std::alloc::Global;
+use system_keys::{Change, KeyRange, OutOfMemory};
 
 /// Whether the transaction is applied: every resolver committed it, and it is lock aware or the
 /// database is not locked (release 7.1).
@@ -47,38 +50,51 @@ fn one_change(transaction: &StateTxn) -> Option<&Change>
     }
 }
 
-/// The keys of the entries in the ranges that the applied transactions clear. Fails only with
-/// `OutOfMemory`.
+/// The keys of the entries in the ranges that the applied transactions clear. Takes a step for each
+/// of these keys and of these ranges, however the ranges overlap, and the steps of one sort of the
+/// ranges. Fails only with `OutOfMemory`.
 pub(crate) fn cleared_keys(
     entries: &EntryMap,
     locked: bool,
     transactions: &[StateTxn],
 ) -> Result<Vec<Vec<u8>>, OutOfMemory>
-    ensures { IfOk result (λ keys. bytes_of_keys keys.items
-        ≡ cleared_keys entries.now (changes_of locked transactions.now)) }
+    ensures { IfOk result (λ keys. (key : Key) → is_listed (bytes_of_keys keys.items) key
+        ≡ is_listed (cleared_keys entries.now (changes_of locked transactions.now)) key) }
 {
-    let mut keys = Vec::new(entries.alloc());
-    for transaction in transactions {
-        if is_applied(locked, transaction) {
-            list_cleared_keys(entries, transaction.mutations.as_slice(), &mut keys)?;
-        }
-    }
-    Ok(keys)
+    let mut ranges = cleared_ranges(entries.alloc(), locked, transactions)?;
+    ranges.sort_unstable_by(|range, other| range.begin().cmp(other.begin()));
+    entries.keys_in_any(&ranges)
 }
 
-/// Lists the keys of the entries in the ranges that the changes clear. Fails only with
-/// `OutOfMemory`.
-fn list_cleared_keys(
-    entries: &EntryMap,
-    changes: &[Change],
-    keys: &mut Vec<Vec<u8>>,
+/// The ranges that the applied transactions clear. Fails only with `OutOfMemory`.
+fn cleared_ranges(
+    alloc: Global,
+    locked: bool,
+    transactions: &[StateTxn],
+) -> Result<Vec<&KeyRange>, OutOfMemory>
+    ensures { IfOk result (λ ranges. lent_ranges ranges.items
+        ≡ cleared_ranges (changes_of locked transactions.now)) }
+{
+    let mut ranges = Vec::new(alloc);
+    for transaction in transactions {
+        if is_applied(locked, transaction) {
+            add_cleared_ranges(transaction.mutations.as_slice(), &mut ranges)?;
+        }
+    }
+    Ok(ranges)
+}
+
+/// Adds the ranges that the changes clear. Fails only with `OutOfMemory`.
+fn add_cleared_ranges<'a>(
+    changes: &'a [Change],
+    ranges: &mut Vec<&'a KeyRange>,
 ) -> Result<(), OutOfMemory>
-    ensures { OnOk result (bytes_of_keys keys.new.items
-        ≡ bytes_of_keys keys.old.items ++ cleared_keys entries.now changes.now) }
+    ensures { OnOk result (lent_ranges ranges.new.items
+        ≡ lent_ranges ranges.old.items ++ cleared_ranges changes.now) }
 {
     for change in changes {
         if let Change::Clear { range } = change {
-            entries.list_keys_inside(range, keys)?;
+            ranges.push(range)?;
         }
     }
     Ok(())

@@ -7,18 +7,22 @@ ghost use Rattle.std.specs.Ordering.{nat_cmp};
 ghost use Rattle.std.specs.BTreeMap.{insert_entry};
 ghost use Rattle.std.specs.Cmp.Lexicographic.{slice_cmp};
 ghost use Rattle.std.specs.Map.{keys_of};
-ghost use Rattle.system_keys.specs.Keys.{Key, holds};
-ghost use Rattle.system_keys.specs.Families.{key_servers_family};
+ghost use Rattle.system_keys.specs.Keys.{Key, holds, is_key_below};
+ghost use Rattle.system_keys.specs.Families.{key_servers_family, is_in};
 ghost use Rattle.model.specs.Metadata.{Entries, IsInOrder, entry_value};
 ghost use Rattle.metadata.specs.MapEntries.{entries_of, bytes_of_keys};
 ghost use Rattle.metadata.specs.MapEntries.{is_serving_up_to, is_serving_inside};
 ghost use Rattle.metadata.specs.Overwrites.{is_same_key, is_listed, has_entry, missing_keys};
 ghost use Rattle.metadata.specs.Overwrites.{IsOverwritten, IsPutOver, TakesBack, AreDisplaced};
-ghost use Rattle.metadata.specs.Overwrites.{entries_without};
+ghost use Rattle.metadata.specs.Overwrites.{entries_without, is_held, lent_ranges};
 ghost use Rattle.metadata.specs.CachedTags.{may_tag, may_tag_some};
+ghost use Rattle.metadata.specs.HiddenRuns.{IsHiddenRun, AreHiddenRuns, is_serving_before};
+ghost use Rattle.metadata.specs.HiddenRuns.{is_serving_after};
 ghost use Rattle.metadata.specs.ServerTables.{AreServerKeys};
 
+use crate::key_runs::KeyRuns;
 use crate::key_set::KeySet;
+use crate::order::{is_between, precedes};
 use std::alloc::Global;
 use std::collections::BTreeMap;
 use std::collections::btree_map::{Iter, Range};
@@ -125,13 +129,52 @@ impl EntryMap {
         ensures { OnOk result (bytes_of_keys keys.new.items ≡ bytes_of_keys keys.old.items
             ++ keys_of (filter (λ entry. holds range.now entry.0) self.now)) }
     {
-        let begin = Vec::from_slice(self.alloc, range.begin())?;
-        let end = Vec::from_slice(self.alloc, range.end())?;
+        self.list_keys_between(range.begin(), range.end(), keys)
+    }
+
+    /// Lists the keys of the entries from `begin` up to `end`, without `end`, in order. Fails only
+    /// with `OutOfMemory`.
+    fn list_keys_between(
+        &self,
+        begin: &[u8],
+        end: &[u8],
+        keys: &mut Vec<Vec<u8>>,
+    ) -> Result<(), OutOfMemory>
+        requires { is_key_below begin.now end.now ≡ true }
+        ensures { OnOk result (bytes_of_keys keys.new.items ≡ bytes_of_keys keys.old.items
+            ++ keys_of (filter (λ entry. holds (record { begin = begin.now; end = end.now }) entry.0)
+            self.now)) }
+    {
+        let begin = Vec::from_slice(self.alloc, begin)?;
+        let end = Vec::from_slice(self.alloc, end)?;
         let bounds = (Bound::Included(&begin), Bound::Excluded(&end));
         for (key, _) in self.values.range(bounds) {
             keys.push(Vec::from_slice(self.alloc, key.as_slice())?)?;
         }
         Ok(())
+    }
+
+    /// The keys of the entries that are in one of the ranges. Each is listed once if the begins of
+    /// the ranges do not fall. Fails only with `OutOfMemory`.
+    pub(crate) fn keys_in_any(&self, ranges: &[&KeyRange]) -> Result<Vec<Vec<u8>>, OutOfMemory>
+        ensures { IfOk result (λ keys. (key : Key) → is_listed (bytes_of_keys keys.items) key
+            ≡ (is_held (lent_ranges ranges.now) key && has_entry self.now key)) }
+    {
+        let mut keys = Vec::new(self.alloc);
+        let mut from: &[u8] = b"";
+        let mut up_to: &[u8] = b"";
+        for range in ranges {
+            // (what there is from `from` up to `up_to` is listed)
+            if !is_between(range.begin(), from, up_to) {
+                from = range.begin();
+                up_to = range.begin();
+            }
+            if precedes(up_to, range.end()) {
+                self.list_keys_between(up_to, range.end(), &mut keys)?;
+                up_to = range.end();
+            }
+        }
+        Ok(keys)
     }
 
     /// Removes the entries at the keys, except for the keys of the other map. Does not allocate.
@@ -360,6 +403,58 @@ impl EntryMap {
         Ok(self.values.range(bounds))
     }
 
+    /// The keyServers entries before the key, which is that of one, in the order of their keys. Fails
+    /// only with `OutOfMemory`.
+    pub(crate) fn serving_before<'a>(
+        &'a self,
+        key: &Vec<u8>,
+    ) -> Result<Range<'a, Vec<u8>, Bytes>, OutOfMemory>
+        requires { is_in key_servers_family key.now.items ≡ true }
+        ensures { IfOk result (λ found. entries_of found
+            ≡ filter (is_serving_before key.now.items) self.now) }
+    {
+        let least = key_servers_key(self.alloc, b"")?;
+        let bounds = (Bound::Included(&least), Bound::Excluded(key));
+        Ok(self.values.range(bounds))
+    }
+
+    /// The key of the entry before this key. Does not allocate.
+    pub(crate) fn before(&self, key: &Vec<u8>) -> Option<&Vec<u8>> {
+        let bounds = (Bound::Unbounded, Bound::Excluded(key));
+        let (before, _) = self.values.range(bounds).next_back()?;
+        Some(before)
+    }
+
+    /// Whether each of the runs is of keyServers entries, and the entries from its first to its last
+    /// key are hidden. Does not allocate.
+    pub(crate) fn are_hidden_runs(&self, runs: &KeyRuns, hidden: &KeySet) -> bool
+        ensures { result ≡ true → AreHiddenRuns hidden.now self.now runs.now }
+    {
+        for (first, last) in runs.iter() {
+            if !self.is_hidden_run(first, last, hidden) {
+                return false;
+            }
+        }
+        true
+    }
+
+    fn is_hidden_run(&self, first: &Vec<u8>, last: &Vec<u8>, hidden: &KeySet) -> bool
+        ensures { result ≡ true
+            → IsHiddenRun hidden.now self.now (first.now.items, last.now.items) }
+    {
+        let begins = first.as_slice().starts_with(KEY_SERVERS_PREFIX);
+        if !begins || precedes(last.as_slice(), first.as_slice()) {
+            return false;
+        }
+        let bounds = (Bound::Included(first), Bound::Included(last));
+        for (key, _) in self.values.range(bounds) {
+            if !hidden.contains(key.as_slice()) {
+                return false;
+            }
+        }
+        true
+    }
+
     /// The keyServers entries after the begin of the range and before its end, in the order of
     /// their keys. Fails only with `OutOfMemory`.
     pub(crate) fn serving_inside<'a>(
@@ -374,6 +469,28 @@ impl EntryMap {
         let end = key_servers_key(self.alloc, range.end())?;
         let bounds = (Bound::Excluded(&begin), Bound::Excluded(&end));
         Ok(self.values.range(bounds))
+    }
+
+    /// Those of the keyServers entries inside the range that are after a key, which is not before the
+    /// range, in the order of their keys. Fails only with `OutOfMemory`.
+    pub(crate) fn serving_after<'a>(
+        &'a self,
+        key: &Vec<u8>,
+        range: &KeyRange,
+    ) -> Result<Range<'a, Vec<u8>, Bytes>, OutOfMemory>
+        requires { is_key_below key.now.items (key_servers_family.prefix ++ range.now.begin)
+            ≡ false }
+        ensures { IfOk result (λ found. entries_of found
+            ≡ filter (is_serving_after key.now.items range.now) self.now) }
+    {
+        let end = key_servers_key(self.alloc, range.end())?;
+        if precedes(key.as_slice(), end.as_slice()) {
+            let bounds = (Bound::Excluded(key), Bound::Excluded(&end));
+            Ok(self.values.range(bounds))
+        } else {
+            let none = (Bound::Included(&end), Bound::Excluded(&end));
+            Ok(self.values.range(none))
+        }
     }
 
     /// Returns a deep copy. Fails only with `OutOfMemory`.

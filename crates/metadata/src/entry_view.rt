@@ -3,9 +3,11 @@
 ghost use Rattle.std.specs.Prelude.{◌≡◌, IfOk, option_map};
 ghost use Rattle.model.specs.Metadata.{entry_value, serving_entry, key_servers_entries};
 ghost use Rattle.metadata.specs.CachedTags.{AreTags, tags_at, tags_by};
+ghost use Rattle.metadata.specs.HiddenRuns.{AreHiddenRuns};
 ghost use Rattle.metadata.specs.Overwrites.{entries_without};
 
 use crate::entry_map::EntryMap;
+use crate::key_runs::KeyRuns;
 use crate::key_set::KeySet;
 use crate::tag_map::TagMap;
 use std::alloc::Global;
@@ -19,32 +21,42 @@ pub struct EntryView<'a> {
     pub(crate) entries: &'a EntryMap,
     pub(crate) tags: &'a TagMap,
     pub(crate) hidden: &'a KeySet,
+    /// Runs of hidden keyServers entries; not each hidden one has to be in one.
+    pub(crate) runs: &'a KeyRuns,
 }
 
 impl<'a> Model for EntryView<'a> {
     ghost use Rattle.model.specs.Metadata.{Entries, entry_value};
     ghost use Rattle.metadata.specs.CachedTags.{AreTags, tags_at};
+    ghost use Rattle.metadata.specs.HiddenRuns.{AreHiddenRuns};
     ghost use Rattle.metadata.specs.Overwrites.{entries_without};
 
     ghost Value = { Entries };
 
     ghost view = { λ v. entries_without v.hidden.now v.entries.now };
 
-    ghost invariant = { λ v. AreTags (tags_at v.tags.now) (entry_value (entries_without v.hidden.now v.entries.now)) };
+    ghost invariant = { λ v. AreTags (tags_at v.tags.now) (entry_value (entries_without v.hidden.now v.entries.now)) × AreHiddenRuns v.hidden.now v.entries.now v.runs.now };
 }
 
 impl<'a> EntryView<'a> {
-    /// The entries of the map, except for those at hidden keys, with the tags kept for them. Does
-    /// not allocate.
-    pub(crate) fn new(entries: &'a EntryMap, tags: &'a TagMap, hidden: &'a KeySet) -> EntryView<'a>
-        requires { AreTags (tags_at tags.now)
+    /// The entries of the map, except for those at hidden keys, with the tags kept for them, and with
+    /// runs of the hidden ones. Does not allocate.
+    pub(crate) fn new(
+        entries: &'a EntryMap,
+        tags: &'a TagMap,
+        hidden: &'a KeySet,
+        runs: &'a KeyRuns,
+    ) -> EntryView<'a>
+        requires tags { AreTags (tags_at tags.now)
             (entry_value (entries_without hidden.now entries.now)) }
+        requires runs { AreHiddenRuns hidden.now entries.now runs.now }
         ensures { result ≡ entries_without hidden.now entries.now }
     {
         EntryView {
             entries,
             tags,
             hidden,
+            runs,
         }
     }
 
@@ -54,8 +66,8 @@ impl<'a> EntryView<'a> {
     }
 
     /// The tags kept for the keyServers entry that serves a key: the greatest one at or before it
-    /// (release 7.1). Takes a step for each hidden entry between that one and the key. Fails only
-    /// with `OutOfMemory`.
+    /// (release 7.1). Takes a step for each run of hidden entries between that one and the key, and for
+    /// each hidden entry there that is in no run. Fails only with `OutOfMemory`.
     pub(crate) fn serving_tags(&self, key: &[u8]) -> Result<Option<&'a [Tag]>, OutOfMemory>
         ensures { IfOk result (λ tags. option_map (λ tags. tags.now) tags
             ≡ option_map (λ entry. tags_by (entry_value self.now) entry.1)
@@ -65,6 +77,9 @@ impl<'a> EntryView<'a> {
         while let Some((found, _)) = up_to.next_back() {
             if !self.hidden.contains(found.as_slice()) {
                 return Ok(self.tags.get(found.as_slice()));
+            }
+            if let Some((first, _)) = self.runs.run_of(found) {
+                up_to = self.entries.serving_before(first)?;
             }
         }
         Ok(None)

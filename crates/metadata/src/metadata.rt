@@ -12,6 +12,7 @@ ghost use Rattle.model.specs.Metadata.{Entries, routing, tags, tags_of_key};
 ghost use Rattle.metadata.specs.CachedTags.{TagsTakeBack, changed_tags, may_tag_some};
 ghost use Rattle.metadata.specs.Overwrites.{IsOverwritten, IsPutOver, TakesBack};
 ghost use Rattle.metadata.specs.Overwrites.{entries_without};
+ghost use Rattle.metadata.specs.HiddenRuns.{AreHiddenRuns};
 ghost use Rattle.metadata.specs.ServerTables.{AreServerKeys, ServersTakeBack};
 ghost use Rattle.metadata.specs.Started.{after_rows, IsStarted, HasStarted};
 
@@ -19,6 +20,7 @@ use crate::applying::{any_applied, only_change};
 use crate::changing::{all_tags, changed_tags};
 use crate::entry_view::EntryView;
 use crate::kept_entries::KeptEntries;
+use crate::key_runs::KeyRuns;
 use crate::key_set::KeySet;
 use crate::routes::routes;
 use crate::server_table::ServerTable;
@@ -43,6 +45,8 @@ pub struct Metadata {
     servers: ServerTable,
     /// The empty set of hidden keys.
     none: KeySet,
+    /// No runs of hidden keys.
+    no_runs: KeyRuns,
 }
 
 impl Model for Metadata {
@@ -55,7 +59,7 @@ impl Model for Metadata {
 
     ghost view = { λ m. m.entries };
 
-    ghost invariant = { λ m. AreTags (tags_at m.tags) (entry_value m.entries) × (m.none ≡ []) × AreServers m.servers.tags (entry_value m.entries) };
+    ghost invariant = { λ m. AreTags (tags_at m.tags) (entry_value m.entries) × (m.none ≡ []) × AreServers m.servers.tags (entry_value m.entries) × (m.no_runs ≡ []) };
 }
 
 impl Metadata {
@@ -68,6 +72,7 @@ impl Metadata {
             tags: TagMap::new(alloc),
             servers: ServerTable::new(alloc),
             none: KeySet::new(alloc),
+            no_runs: KeyRuns::new(alloc),
         }
     }
 
@@ -86,6 +91,7 @@ impl Metadata {
             tags,
             servers,
             none: KeySet::new(alloc),
+            no_runs: KeyRuns::new(alloc),
         })
     }
 
@@ -195,8 +201,10 @@ impl Metadata {
         let mut puts = staged.puts;
         puts.blank(&removed)?;
         let put = self.put_over(puts)?;
+        let runs = KeyRuns::of(self.entries.map(), &removed);
         Ok(StartedRows {
             removed,
+            runs,
             put,
             locked,
         })
@@ -254,7 +262,21 @@ impl Metadata {
         if self.entries.map().may_tag_some(&started.removed) {
             return self.whole();
         }
-        EntryView::new(self.entries.map(), &self.tags, &started.removed)
+        let runs = self.hidden_runs(started);
+        EntryView::new(self.entries.map(), &self.tags, &started.removed, runs)
+    }
+
+    /// The runs of the entries that the started rows remove, and none if the entries are no longer
+    /// those that were started from. Does not allocate; takes a step for each entry of the runs.
+    fn hidden_runs<'a>(&'a self, started: &'a StartedRows) -> &'a KeyRuns
+        ensures { AreHiddenRuns started.now.removed self.now result.now }
+    {
+        let map = self.entries.map();
+        if map.are_hidden_runs(&started.runs, &started.removed) {
+            &started.runs
+        } else {
+            &self.no_runs
+        }
     }
 
     /// Removes what the rows that were started remove: the metadata is then that after them. Does
@@ -301,7 +323,7 @@ impl Metadata {
     fn whole(&self) -> EntryView<'_>
         ensures { result ≡ self.now }
     {
-        EntryView::new(self.entries.map(), &self.tags, &self.none)
+        EntryView::new(self.entries.map(), &self.tags, &self.none, &self.no_runs)
     }
 
     /// The metadata after the rows of the journal, applied in order without copying the metadata.

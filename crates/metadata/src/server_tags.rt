@@ -12,6 +12,7 @@ ghost use Rattle.metadata.specs.CachedTags.{names_put, tag_by, tags_by};
 ghost use Rattle.metadata.specs.Overwrites.{has_entry};
 ghost use Rattle.metadata.specs.ServerTables.{values_after};
 
+use crate::raw_ids::may_name_put;
 use crate::server_view::ServerView;
 use std::alloc::Global;
 use std::collections::BTreeSet;
@@ -77,11 +78,14 @@ fn add_tag(tags: &mut BTreeSet<Tag>, tag: Option<Tag>) -> Result<(), OutOfMemory
     Ok(())
 }
 
-/// Whether a keyServers value names a server of which an entry is put. Fails only with
-/// `OutOfMemory`.
+/// Whether a keyServers value names a server of which an entry is put. A value in which no id of
+/// such a server stands does not allocate. Fails only with `OutOfMemory`.
 pub(crate) fn names_put(over: &ServerView<'_>, value: &[u8]) -> Result<bool, OutOfMemory>
     ensures { IfOk result (λ named. named ≡ names_put over.now.puts value.now) }
 {
+    if !may_name_put(over, value) {
+        return Ok(false);
+    }
     match decode_key_servers(over.alloc(), value) {
         Ok(teams) => Ok(any_put(over, teams.sources()) || any_put(over, teams.destinations())),
         Err(RowFault::OutOfMemory) => Err(OutOfMemory),

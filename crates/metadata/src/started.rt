@@ -3,6 +3,7 @@
 ghost use Rattle.std.specs.Prelude.{◌≡◌};
 
 use crate::entry_map::Undo;
+use crate::key_runs::KeyRuns;
 use crate::key_set::KeySet;
 use crate::tag_map::TagRow;
 use std::marker::Model;
@@ -13,6 +14,8 @@ use std::marker::Model;
 #[derive(Drop)]
 pub struct StartedRows {
     pub(crate) removed: KeySet,
+    /// Runs of the keyServers entries among those to be removed.
+    pub(crate) runs: KeyRuns,
     pub(crate) put: Put,
     pub(crate) locked: bool,
 }

@@ -64,7 +64,8 @@ fn add_tags_of_key(
 }
 
 /// Adds the tags of each keyServers entry after the begin of the range and before its end (release
-/// 7.1). Fails only with `OutOfMemory`.
+/// 7.1). Takes a step for each of them, and for each run of hidden ones. Fails only with
+/// `OutOfMemory`.
 fn add_tags_inside(
     entries: &EntryView,
     range: &KeyRange,
@@ -74,8 +75,12 @@ fn add_tags_inside(
         (flat_map (entry_tags entries.now)
         (filter (is_entry_inside range.now) (key_servers_entries entries.now)))) }
 {
-    for (key, _) in entries.entries.serving_inside(range)? {
+    let mut inside = entries.entries.serving_inside(range)?;
+    while let Some((key, _)) = inside.next() {
         add_unless_hidden(entries.hidden, entries.tags, key.as_slice(), tags)?;
+        if let Some((_, last)) = entries.runs.run_of(key) {
+            inside = entries.entries.serving_after(last, range)?;
+        }
     }
     Ok(())
 }

@@ -1,19 +1,6 @@
--- A range never runs backwards; and the entries of the map between its ends are those that it holds.
-use Rattle.std.proofs.Common.{◌≡◌, ◌∙◌, ◌++◌, ap, List}
-use Rattle.system_keys.specs.Keys.{Key}
-use Rattle.std.specs.Map.{keys_of}
-use Rattle.std.specs.declared.ops.Bound.TheVariants.{Included, Excluded}
-use Rattle.std.specs.BTreeMap.Range.{entries_between}
-use Rattle.metadata.specs.MapEntries.{entries_of, bytes_of_keys}
-use Rattle.metadata.proofs.MapEntries.{vec_cmp}
-use Rattle.metadata.proofs.RangeEntries.{runs_forward, keys_held}
+-- A range begins below its end.
+use Rattle.system_keys.proofs.KeyLaws.{begins_below}
 use Rattle.metadata.proofs.entry_map.EntryMap.list_keys_inside.Goals as goal
 
-pub range-key-items-requires : goal.range-key-items-requires
-range-key-items-requires c = rw (c.in_ok-begin.ensures.items, c.in_ok-end.ensures.items, c.begin.ensures.value, c.end.ensures.value) (runs_forward c.args.range.now.begin c.args.range.now.end c.begin.ensures.kept)
-
-pub loop-key-init : goal.loop-key-init
-loop-key-init c =
-    let is : c.into_iter-key-iterator.result ≡ entries_between vec_cmp (Included c.in_ok-begin.begin) (Excluded c.in_ok-end.end) c.self.inside.values.entries = c.into_iter-key-iterator.ensures.into_iter_gives ∙ c.range-key-items.ensures.between tt in
-    ap (λ es. bytes_of_keys c.args.keys.now.items ++ keys_of (entries_of es)) is
-    ∙ ap (λ (more : List Key). bytes_of_keys c.args.keys.now.items ++ more) (keys_held c.self.inside.values.entries c.in_ok-begin.begin c.in_ok-end.end c.args.range.now (c.in_ok-begin.ensures.items ∙ c.begin.ensures.value) (c.in_ok-end.ensures.items ∙ c.end.ensures.value))
+pub list_keys_between-requires : goal.list_keys_between-requires
+list_keys_between-requires c = rw (c.begin.ensures.value, c.end.ensures.value) (begins_below c.args.range.now.begin c.args.range.now.end c.begin.ensures.kept)

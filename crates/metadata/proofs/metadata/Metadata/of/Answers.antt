@@ -13,4 +13,5 @@ invariant_of-result c = (
       c.in_ok-tags.ensures,
   c.new.ensures,
   subst (λ (entries : Entries). AreServers c.in_ok-servers.servers.tags (entry_value entries)) c.map-map.ensures.entries c.in_ok-servers.ensures,
+  c.new-2.ensures,
 )

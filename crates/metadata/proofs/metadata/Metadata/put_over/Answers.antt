@@ -25,6 +25,7 @@ invariant_of-self-2 c = (
       (subst (AreServerKeys c.in_ok-servers.servers) c.map.ensures.entries c.in_ok-servers.ensures) c.in_ok-undo.ensures.ok
       (subst (λ (entries : Entries). AreRefreshed c.in_ok-servers.servers (entry_value entries) c.reserve-2.new.self.tags c.refresh.new.self.tags) c.map-2.ensures.entries c.refresh.ensures)
       (subst (λ (servers : ServerTags). AreServers servers (entry_value c.self.inside.entries)) (sym c.reserve-2.ensures.tags) c.self.invariant.2),
+  c.self.invariant.3,
 )
 
 pub returns-clause-tags : goal.returns-clause-tags

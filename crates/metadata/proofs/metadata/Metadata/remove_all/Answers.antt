@@ -14,6 +14,7 @@ invariant_of-self c = (
   servers_left c.args.keys.now c.self.inside.entries c.remove_all.new.self c.self.inside.servers.tags c.refresh.new.self.tags c.remove_all.ensures
       (subst (λ (entries : Entries). AreRefreshed c.args.keys.now (entry_value entries) c.self.inside.servers.tags c.refresh.new.self.tags) c.map.ensures.entries c.refresh.ensures)
       c.self.invariant.2,
+  c.self.invariant.3,
 )
 
 pub refresh-requires : goal.refresh-requires

@@ -28,6 +28,7 @@ invariant_of-self c =
           same
           (subst (λ (entries : Entries). AreRefreshed c.started.inside.put.servers (entry_value entries) c.self.inside.servers.tags c.refresh.new.self.tags) c.map.ensures.entries c.refresh.ensures)
           c.self.invariant.2,
+      c.self.invariant.3,
     )
 
 pub refresh-requires : goal.refresh-requires

@@ -1,0 +1,505 @@
+-- Rows before a run of hidden rows: what is left of them is what is left of the rows before its last.
+use Rattle.std.proofs.Common.{◌≡◌, refl, sym, ap, ◌∙◌, subst, ℕ, ◌+◌, ◌<◌, ◌≤◌, suc, length, drop, List, [], ◌∷◌, ◌++◌, append_assoc, map, Bool, true, false, cond, not, ◌&&◌, Some, None, filter, inl, inr, is_lt, is_gt, is_le, is_eq, Ordering, Less, Equal, Greater, nat_cmp, nat_eq, length-append, arith}
+use Rattle.std.specs.Global.{Vec}
+use Rattle.std.specs.List.{Contains, last_or, list_all, starts_with}
+use Rattle.std.specs.Ordering.{ordering_reverse, ordering_then}
+use Rattle.std.specs.Cmp.{nat_cmp_total}
+use Rattle.std.specs.declared.ops.Bound.TheVariants.{Included, Excluded}
+use Rattle.std.specs.BTreeMap.Range.{entries_between}
+use Rattle.std.proofs.lemmas.Cmp.{tied_itself, nat_list_cmp_total}
+use Rattle.std.proofs.lemmas.Bool.{eqb-true}
+use Rattle.std.specs.Option.{is_some}
+use Rattle.system_keys.specs.Keys.{Key, Range, is_key_below, is_key_up_to}
+use Rattle.system_keys.specs.Families.{key_servers_family, is_in}
+use Rattle.system_keys.proofs.KeyOrder.{below_trans, up_to_trans, up_to_below, not_below_back, not_below_itself, up_to_is}
+use Rattle.model.specs.Metadata.{Entry, Entries, IsInOrder, entry_value, is_key_servers, behind_prefix, is_entry_inside}
+use Rattle.model.proofs.Members.{Has, Has-from_Contains, Contains-from_Has, Has-map, Has-from_filter, Has-split}
+use Rattle.model.proofs.Metadata.Entries.{filter_in_order}
+use Rattle.metadata.specs.MapEntries.{entry_from, entries_of, is_serving_up_to, is_serving_inside}
+use Rattle.metadata.specs.Overwrites.{is_same_key, is_listed, has_entry}
+use Rattle.metadata.specs.HiddenRuns.{Run, runs_of, IsHiddenRun, AreHiddenRuns, is_serving_before, is_serving_after}
+use Rattle.metadata.proofs.KeyValues.{key_cmp, same_key, Behind, first_behind, rest_in_order}
+use Rattle.metadata.proofs.MapEntries.{vec_cmp, filtered}
+use Rattle.metadata.proofs.KeptTags.{AreKeyServers}
+use Rattle.metadata.proofs.ServingEntries.{is_left, last_left, same_number, not_up_to, up_to_behind, inside_behind}
+
+abbrev is_before : Key → Entry → Bool
+is_before key row = is_key_below row.0 key
+
+-- ---- rows before a key
+
+-- a test of keys that no key passes above one that does not
+pub record IsOfFront (test : Key → Bool) : Type 0 where
+  pub closed : (a b : Key) → is_key_below a b ≡ true → test a ≡ false → test b ≡ false
+
+before_of_front : (key : Key) → IsOfFront (λ (k : Key). is_key_below k key)
+before_of_front key = record { closed = λ a b h out. up_to_trans key a b out (not_below_back a b h) }
+
+none_passes : (test : Key → Bool) (row : Entry) (rows : Entries) → IsOfFront test → test row.0 ≡ false → IsInOrder (row ∷ rows) → filter (λ (r : Entry). test r.0) (row ∷ rows) ≡ []
+none_passes test row [] front h s = rw h refl
+none_passes test row (next ∷ rows) front h s =
+    let later : test next.0 ≡ false = front.closed row.0 next.0 (ap is_lt (first_behind row (next ∷ rows) s).0) h in
+    rw h (none_passes test next rows front later (rest_in_order row (next ∷ rows) s))
+
+none_before : (key : Key) (row : Entry) (rows : Entries) → is_key_below row.0 key ≡ false → IsInOrder (row ∷ rows) → filter (is_before key) (row ∷ rows) ≡ []
+none_before key row rows h s = none_passes (λ (k : Key). is_key_below k key) row rows (before_of_front key) h s
+
+-- the rows that pass such a test are the front of rows in order
+rows_in_front : (test : Key → Bool) (rows : Entries) → IsOfFront test → IsInOrder rows → (rest : Entries) × (filter (λ (row : Entry). test row.0) rows ++ rest ≡ rows)
+rows_in_front test [] front s = ([], refl)
+rows_in_front test (row ∷ rows) front s = by (test row.0) refl (rows_in_front test rows front (rest_in_order row rows s))
+  where
+    some : Entries
+    some = filter (λ (r : Entry). test r.0) rows
+
+    by : (t : Bool) → test row.0 ≡ t → (rest : Entries) × (some ++ rest ≡ rows) → (rest : Entries) × (cond t (row ∷ some) some ++ rest ≡ row ∷ rows)
+    by true h later = (later.0, ap (λ (more : Entries). row ∷ more) later.1)
+    by false h later =
+        let none : some ≡ [] = sym (rw h refl) ∙ none_passes test row rows front h s in
+        (row ∷ rows, ap (λ (list : Entries). list ++ row ∷ rows) none)
+
+-- only rows in front of one that is not before the key are
+before_in_front : (key : Key) (front : Entries) (row : Entry) (rest : Entries) → is_key_below row.0 key ≡ false → IsInOrder (front ++ row ∷ rest) → filter (is_before key) (front ++ row ∷ rest) ≡ filter (is_before key) front
+before_in_front key [] row rest h s = none_before key row rest h s
+before_in_front key (first ∷ front) row rest h s = by (is_key_below first.0 key) (before_in_front key front row rest h (rest_in_order first (front ++ row ∷ rest) s))
+  where
+    by : (t : Bool) → filter (is_before key) (front ++ row ∷ rest) ≡ filter (is_before key) front
+        → cond t (first ∷ filter (is_before key) (front ++ row ∷ rest)) (filter (is_before key) (front ++ row ∷ rest)) ≡ cond t (first ∷ filter (is_before key) front) (filter (is_before key) front)
+    by true later = ap (λ (more : Entries). first ∷ more) later
+    by false later = later
+
+behind_at : (key : Key) (front : Entries) (row : Entry) (rest : Entries) → Behind key (front ++ row ∷ rest) → is_key_below key row.0 ≡ true
+behind_at key [] row rest all = ap is_lt all.0
+behind_at key (first ∷ front) row rest all = behind_at key front row rest all.1
+
+-- a row in front of another is below it
+front_below : (front : Entries) (row : Entry) (rest : Entries) (other : Entry) → IsInOrder (front ++ row ∷ rest) → Has front other → is_key_below other.0 row.0 ≡ true
+front_below [] row rest other s h = absurd h
+front_below (first ∷ front) row rest other s (inl same) = ap (λ (e : Entry). is_key_below e.0 row.0) (sym same) ∙ behind_at first.0 front row rest (first_behind first (front ++ row ∷ rest) s)
+front_below (first ∷ front) row rest other s (inr there) = front_below front row rest other (rest_in_order first (front ++ row ∷ rest) s) there
+
+-- ---- tests one after the other
+
+left_of_before : (p q : Entry → Bool) (rows : Entries) → ((row : Entry) → Has rows row → q row ≡ false → p row ≡ false) → filter p (filter q rows) ≡ filter p rows
+left_of_before p q [] all = refl
+left_of_before p q (row ∷ rows) all = by (q row) refl (p row) refl (left_of_before p q rows (λ r there. all r (inr there)))
+  where
+    by : (t : Bool) → q row ≡ t → (u : Bool) → p row ≡ u → filter p (filter q rows) ≡ filter p rows → filter p (cond t (row ∷ filter q rows) (filter q rows)) ≡ cond u (row ∷ filter p rows) (filter p rows)
+    by true h true k rest = rw k (ap (λ (more : Entries). row ∷ more) rest)
+    by true h false k rest = rw k rest
+    by false h true k rest = let two : true ≡ false = sym k ∙ all row (inl refl) h in absurd (cc)
+    by false h false k rest = rest
+
+both_tests : (p q : Entry → Bool) (rows : Entries) → filter (λ (row : Entry). p row && q row) rows ≡ filter q (filter p rows)
+both_tests p q [] = refl
+both_tests p q (row ∷ rows) = by (p row) (q row) refl (both_tests p q rows)
+  where
+    by : (t u : Bool) → q row ≡ u → filter (λ (r : Entry). p r && q r) rows ≡ filter q (filter p rows)
+        → cond (t && u) (row ∷ filter (λ (r : Entry). p r && q r) rows) (filter (λ (r : Entry). p r && q r) rows) ≡ filter q (cond t (row ∷ filter p rows) (filter p rows))
+    by true true k rest = rw k (ap (λ (more : Entries). row ∷ more) rest)
+    by true false k rest = rw k rest
+    by false u k rest = rest
+
+-- ---- a jump over a run
+
+-- the entries of the map are those in front of all
+pub record IsFront (es : List (Vec ℕ × List ℕ)) (all : Entries) : Type 0 where
+  pub rest : Entries
+  pub parts : entries_of es ++ rest ≡ all
+
+abbrev pub own_rows : Entries → Entries
+own_rows rows = filter is_key_servers rows
+
+entries_append : (es fs : List (Vec ℕ × List ℕ)) → entries_of (es ++ fs) ≡ entries_of es ++ entries_of fs
+entries_append [] fs = refl
+entries_append (e ∷ es) fs = ap (λ (rows : Entries). entry_from e ∷ rows) (entries_append es fs)
+
+parts_stepped : (front : List (Vec ℕ × List ℕ)) (e : Vec ℕ × List ℕ) (rest all : Entries) → entries_of (front ++ e ∷ []) ++ rest ≡ all → entries_of front ++ (entry_from e ∷ rest) ≡ all
+parts_stepped front e rest all parts = sym (append_assoc (entries_of front) (entry_from e ∷ []) rest) ∙ ap (λ (rows : Entries). rows ++ rest) (sym (entries_append front (e ∷ []))) ∙ parts
+
+-- one step back
+pub front_stepped : (front : List (Vec ℕ × List ℕ)) (e : Vec ℕ × List ℕ) (all : Entries) → IsFront (front ++ e ∷ []) all → IsFront front all
+front_stepped front e all is = record { rest = entry_from e ∷ is.rest; parts = parts_stepped front e is.rest all is.parts }
+
+front_before : (rows : Entries) (new : List (Vec ℕ × List ℕ)) (key : Key) → IsInOrder rows → entries_of new ≡ filter (is_serving_before key) rows → IsFront new (own_rows rows)
+front_before rows new key s is =
+    let some = rows_in_front (λ (k : Key). is_key_below k key) (own_rows rows) (before_of_front key) (filter_in_order is_key_servers rows s) in
+    record { rest = some.0; parts = ap (λ (front : Entries). front ++ some.0) (is ∙ both_tests is_key_servers (is_before key) rows) ∙ some.1 }
+
+length_filter : (p : Entry → Bool) (rows : Entries) → length (filter p rows) ≤ length rows
+length_filter p [] = omega arith
+length_filter p (row ∷ rows) = by (p row) (length_filter p rows)
+  where
+    by : (t : Bool) → length (filter p rows) ≤ length rows → length (cond t (row ∷ filter p rows) (filter p rows)) ≤ suc (length rows)
+    by true h = omega arith
+    by false h = omega arith
+
+length_entries : (es : List (Vec ℕ × List ℕ)) → length (entries_of es) ≡ length es
+length_entries [] = refl
+length_entries (e ∷ es) = ap suc (length_entries es)
+
+-- the rows before a run of hidden rows
+pub record IsJump (hidden : List Key) (rows : Entries) (front new : List (Vec ℕ × List ℕ)) : Type 0 where
+  pub left : last_left None hidden new ≡ last_left None hidden front
+  pub front_is : IsFront new (own_rows rows)
+  pub fewer : length new ≤ length front
+
+pub jump_to : (hidden : List Key) (rows : Entries) (front new : List (Vec ℕ × List ℕ)) (e : Vec ℕ × List ℕ) (run : Run) → IsInOrder rows → IsFront (front ++ e ∷ []) (own_rows rows)
+    → ((row : Entry) → Has (entries_of front) row → entry_value rows row.0 ≡ Some row.1) → IsHiddenRun hidden rows run → is_key_below e.0.items run.0 ≡ false → is_key_below run.1 e.0.items ≡ false
+    → entries_of new ≡ filter (is_serving_before run.0) rows → IsJump hidden rows front new
+jump_to hidden rows front new e run s is there hides begins reaches new_is = record {
+  left = ap (λ (list : Entries). last_or None (map behind_prefix list)) same;
+  front_is = front_before rows new run.0 s new_is;
+  fewer =
+      let short : length (entries_of new) ≤ length (entries_of front) = subst (λ (list : Entries). length list ≤ length (entries_of front)) (sym new_front) (length_filter (is_before run.0) (entries_of front)) in
+      omega (arith, short, length_entries new, length_entries front);
+}
+  where
+    all_is : entries_of front ++ (entry_from e ∷ is.rest) ≡ own_rows rows
+    all_is = parts_stepped front e is.rest (own_rows rows) is.parts
+
+    in_order : IsInOrder (entries_of front ++ (entry_from e ∷ is.rest))
+    in_order = subst IsInOrder (sym all_is) (filter_in_order is_key_servers rows s)
+
+    new_front : entries_of new ≡ filter (is_before run.0) (entries_of front)
+    new_front =
+        new_is ∙ both_tests is_key_servers (is_before run.0) rows
+        ∙ ap (filter (is_before run.0)) (sym all_is)
+        ∙ before_in_front run.0 (entries_of front) (entry_from e) is.rest begins in_order
+
+    hidden_unless : (row : Entry) → Has (entries_of front) row → is_key_below row.0 run.0 ≡ false → not (is_listed hidden row.0) ≡ false
+    hidden_unless row has out =
+        let below : is_key_below row.0 e.0.items ≡ true = front_below (entries_of front) (entry_from e) is.rest row in_order has in
+        let within : is_key_below run.1 row.0 ≡ false = up_to_trans row.0 e.0.items run.1 (not_below_back row.0 e.0.items below) reaches in
+        ap not (hides.hides row.0 (ap is_some (there row has)) out within)
+
+    same : filter (is_left hidden) (entries_of new) ≡ filter (is_left hidden) (entries_of front)
+    same = ap (filter (is_left hidden)) new_front ∙ left_of_before (is_left hidden) (is_before run.0) (entries_of front) hidden_unless
+
+pub jump_fewer : (hidden : List Key) (rows : Entries) (front new left : List (Vec ℕ × List ℕ)) (e : Vec ℕ × List ℕ) → IsJump hidden rows front new → left ≡ front ++ e ∷ [] → length new < length left
+jump_fewer hidden rows front new left e jump steps =
+    let longer : length left ≡ length front + 1 = ap length steps ∙ length-append front (e ∷ []) in
+    omega (arith, longer, jump.fewer)
+
+-- ---- a run that was gone over
+
+abbrev are_listed : List Key → Entries → Bool
+are_listed hidden rows = list_all (λ (row : Entry). is_listed hidden row.0) rows
+
+pub listed_next : (hidden : List Key) (e : Vec ℕ × List ℕ) (es left : List (Vec ℕ × List ℕ)) (total : Bool) → left ≡ e ∷ es → is_listed hidden e.0.items ≡ true → are_listed hidden (entries_of left) ≡ total → are_listed hidden (entries_of es) ≡ total
+listed_next hidden e es left total steps hides so_far = ap (λ (t : Bool). t && are_listed hidden (entries_of es)) (sym hides) ∙ ap (λ (list : List (Vec ℕ × List ℕ)). are_listed hidden (entries_of list)) (sym steps) ∙ so_far
+
+both_true : (a b : Bool) → (a && b) ≡ true → (a ≡ true) × (b ≡ true)
+both_true true b h = (refl, h)
+both_true false b h = absurd (cc)
+
+one_listed : (p : Key → Bool) (hidden : List Key) (rows : Entries) (key : Key) → are_listed hidden (filter (λ (row : Entry). p row.0) rows) ≡ true → p key ≡ true → has_entry rows key ≡ true → is_listed hidden key ≡ true
+one_listed p hidden [] key all passes has = absurd (cc)
+one_listed p hidden (row ∷ rows) key all passes has = by (is_same_key key row.0) refl (p row.0) refl (one_listed p hidden rows key) all has
+  where
+    by : (s : Bool) → is_same_key key row.0 ≡ s → (t : Bool) → p row.0 ≡ t → (are_listed hidden (filter (λ (r : Entry). p r.0) rows) ≡ true → p key ≡ true → has_entry rows key ≡ true → is_listed hidden key ≡ true)
+        → are_listed hidden (cond t (row ∷ filter (λ (r : Entry). p r.0) rows) (filter (λ (r : Entry). p r.0) rows)) ≡ true → is_some (cond s (Some row.1) (entry_value rows key)) ≡ true → is_listed hidden key ≡ true
+    by true same true h rest listed there = ap (is_listed hidden) (same_key key row.0 same) ∙ (both_true (is_listed hidden row.0) (are_listed hidden (filter (λ (r : Entry). p r.0) rows)) listed).0
+    by true same false h rest listed there = let two : true ≡ false = sym passes ∙ ap p (same_key key row.0 same) ∙ h in absurd (cc)
+    by false same true h rest listed there = rest (both_true (is_listed hidden row.0) (are_listed hidden (filter (λ (r : Entry). p r.0) rows)) listed).1 passes there
+    by false same false h rest listed there = rest listed passes there
+
+-- the keys from one up to another, both with them
+abbrev pub is_from_up_to : (first last : Key) → Key → Bool
+is_from_up_to first last key = is_key_up_to first key && not (is_key_below last key)
+
+pub hidden_run : (hidden : List Key) (rows : Entries) (first last : Key) → is_in key_servers_family first ≡ true → true ≡ are_listed hidden (filter (λ (row : Entry). is_from_up_to first last row.0) rows) → IsHiddenRun hidden rows (first, last)
+hidden_run hidden rows first last own all = record {
+  own = own;
+  hides = λ key has low high.
+      one_listed (is_from_up_to first last) hidden rows key (sym all)
+      (ap (λ (t : Bool). t && not (is_key_below last key)) (up_to_is first key ∙ ap not low) ∙ ap not high) has;
+}
+
+-- the entries of a map from one key up to another
+pub between_both : (es : List (Vec ℕ × List ℕ)) (first last : Vec ℕ) → entries_of (entries_between vec_cmp (Included first) (Included last) es) ≡ filter (λ (row : Entry). is_from_up_to first.items last.items row.0) (entries_of es)
+between_both es first last = filtered (λ (row : Entry). is_key_up_to first.items row.0 && not (is_key_below last.items row.0)) es
+
+forward : (r : Ordering) → is_gt (ordering_reverse r) ≡ is_lt r
+forward Less = refl
+forward Equal = refl
+forward Greater = refl
+
+pub not_backwards : (first last : Key) → is_key_below last first ≡ false → is_gt (key_cmp first last) ≡ false
+not_backwards first last h = ap is_gt (nat_list_cmp_total.antisymm first last) ∙ forward (key_cmp last first) ∙ h
+
+-- ---- the entries before a key behind the prefix
+
+before_behind : (p b k : Key) → (is_key_up_to p k && not (is_key_up_to (p ++ b) k)) ≡ (starts_with nat_eq k p && not (is_key_up_to (p ++ b) k))
+before_behind [] b [] = refl
+before_behind [] b (y ∷ k) = refl
+before_behind (x ∷ p) b [] = refl
+before_behind (x ∷ p) b (y ∷ k) =
+    by (nat_cmp x y) (before_behind p b k) ∙ ap (λ (t : Bool). (t && starts_with nat_eq k p) && not (is_le (ordering_then (nat_cmp x y) (key_cmp (p ++ b) k)))) (sym (same_number x y))
+  where
+    by : (r : Ordering) → (is_key_up_to p k && not (is_key_up_to (p ++ b) k)) ≡ (starts_with nat_eq k p && not (is_key_up_to (p ++ b) k))
+        → (is_le (ordering_then r (key_cmp p k)) && not (is_le (ordering_then r (key_cmp (p ++ b) k)))) ≡ ((is_eq r && starts_with nat_eq k p) && not (is_le (ordering_then r (key_cmp (p ++ b) k))))
+    by Less rest = refl
+    by Equal rest = rest
+    by Greater rest = refl
+
+prefix_first : (p b : Key) → is_gt (key_cmp p (p ++ b)) ≡ false
+prefix_first [] [] = refl
+prefix_first [] (y ∷ b) = refl
+prefix_first (x ∷ p) b = rw (tied_itself nat_cmp_total x) (prefix_first p b)
+
+begun : (p k : Key) → starts_with nat_eq k p ≡ true → k ≡ p ++ drop (length p) k
+begun [] k h = refl
+begun (x ∷ p) [] h = absurd (cc)
+begun (x ∷ p) (y ∷ k) h =
+    let parts : (nat_eq x y ≡ true) × (starts_with nat_eq k p ≡ true) = both_true (nat_eq x y) (starts_with nat_eq k p) h in
+    let same : y ≡ x = sym (eqb-true x y parts.0) in
+    let rest = begun p k parts.1 in
+    λ i. same i ∷ rest i
+
+abbrev prefix : Key
+prefix = key_servers_family.prefix
+
+abbrev behind_of : Key → Key
+behind_of key = drop (length prefix) key
+
+pub least_first : (least key : Key) → least ≡ prefix ++ [] → is_in key_servers_family key ≡ true → is_gt (key_cmp least key) ≡ false
+least_first least key low own = ap (λ (k : Key). is_gt (key_cmp k key)) low ∙ ap (λ (k : Key). is_gt (key_cmp prefix k)) (begun prefix key own) ∙ prefix_first prefix (behind_of key)
+
+pub between_before : (es : List (Vec ℕ × List ℕ)) (least key : Vec ℕ) → least.items ≡ prefix ++ [] → is_in key_servers_family key.items ≡ true
+    → entries_of (entries_between vec_cmp (Included least) (Excluded key) es) ≡ filter (is_serving_before key.items) (entries_of es)
+between_before es least key low own =
+    let same : (row : Entry) → (is_key_up_to least.items row.0 && not (is_key_up_to key.items row.0)) ≡ is_serving_before key.items row =
+    λ row.
+    ap (λ (k : Key). is_key_up_to k row.0 && not (is_key_up_to key.items row.0)) low
+    ∙ ap (λ (k : Key). is_key_up_to prefix row.0 && not (is_key_up_to k row.0)) (begun prefix key.items own)
+    ∙ before_behind prefix (behind_of key.items) row.0
+    ∙ ap (λ (k : Key). is_key_servers row && not (is_key_up_to k row.0)) (sym (begun prefix key.items own))
+    ∙ ap (λ (t : Bool). is_key_servers row && t) (not_up_to key.items row.0) in
+    filtered (λ (row : Entry). is_key_up_to least.items row.0 && not (is_key_up_to key.items row.0)) es
+    ∙ ap (λ (p : Entry → Bool). filter p (entries_of es)) (λ i row. same row i)
+
+-- ---- the entries up to a key behind the prefix
+
+up_to_whole : (p b k : Key) → (is_key_up_to p k && not (is_key_below (p ++ b) k)) ≡ (starts_with nat_eq k p && not (is_key_below (p ++ b) k))
+up_to_whole [] b [] = refl
+up_to_whole [] b (y ∷ k) = refl
+up_to_whole (x ∷ p) b [] = refl
+up_to_whole (x ∷ p) b (y ∷ k) =
+    by (nat_cmp x y) (up_to_whole p b k) ∙ ap (λ (t : Bool). (t && starts_with nat_eq k p) && not (is_lt (ordering_then (nat_cmp x y) (key_cmp (p ++ b) k)))) (sym (same_number x y))
+  where
+    by : (r : Ordering) → (is_key_up_to p k && not (is_key_below (p ++ b) k)) ≡ (starts_with nat_eq k p && not (is_key_below (p ++ b) k))
+        → (is_le (ordering_then r (key_cmp p k)) && not (is_lt (ordering_then r (key_cmp (p ++ b) k)))) ≡ ((is_eq r && starts_with nat_eq k p) && not (is_lt (ordering_then r (key_cmp (p ++ b) k))))
+    by Less rest = refl
+    by Equal rest = rest
+    by Greater rest = refl
+
+up_to_of_front : (key : Key) → IsOfFront (λ (k : Key). not (is_key_below key k))
+up_to_of_front key = record { closed = λ a b h out. ap not (below_trans key a b (turned (is_key_below key a) out) h) }
+  where
+    turned : (t : Bool) → not t ≡ false → t ≡ true
+    turned true e = refl
+    turned false e = absurd (cc)
+
+pub front_up_to : (rows : Entries) (es : List (Vec ℕ × List ℕ)) (key : Key) → IsInOrder rows → entries_of es ≡ filter (is_serving_up_to key) rows → IsFront es (own_rows rows)
+front_up_to rows es key s is =
+    let some = rows_in_front (λ (k : Key). not (is_key_below (prefix ++ key) k)) (own_rows rows) (up_to_of_front (prefix ++ key)) (filter_in_order is_key_servers rows s) in
+    let same : (row : Entry) → is_serving_up_to key row ≡ (is_key_servers row && not (is_key_below (prefix ++ key) row.0)) =
+    λ row. sym (up_to_behind prefix key row.0) ∙ up_to_whole prefix key row.0 in
+    record {
+      rest = some.0;
+      parts =
+          ap (λ (front : Entries). front ++ some.0)
+          (is ∙ ap (λ (p : Entry → Bool). filter p rows) (λ i row. same row i) ∙ both_tests is_key_servers (λ (row : Entry). not (is_key_below (prefix ++ key) row.0)) rows)
+          ∙ some.1;
+    }
+
+-- ---- the run that a key is in
+
+pub one_run : (hidden : List Key) (rows : Entries) (runs : List Run) (run : Run) → AreHiddenRuns hidden rows runs → Contains runs run → IsHiddenRun hidden rows run
+one_run hidden rows runs run all has = at runs all (Has-from_Contains runs run has)
+  where
+    at : (some : List Run) → AreHiddenRuns hidden rows some → Has some run → IsHiddenRun hidden rows run
+    at [] each h = absurd h
+    at (first ∷ some) each (inl same) = subst (IsHiddenRun hidden rows) same each.0
+    at (first ∷ some) each (inr there) = at some each.1 there
+
+-- the last of the runs in a part of the map is one of the runs
+pub run_listed : (p : Vec ℕ × Vec ℕ → Bool) (es part front : List (Vec ℕ × Vec ℕ)) (e : Vec ℕ × Vec ℕ) → part ≡ filter p es → part ≡ front ++ e ∷ [] → Contains (runs_of es) (e.0.items, e.1.items)
+run_listed p es part front e is steps =
+    Contains-from_Has (runs_of es) (e.0.items, e.1.items)
+    (Has-map (λ (run : Vec ℕ × Vec ℕ). (run.0.items, run.1.items)) es e (Has-from_filter p es e (subst (λ (list : List (Vec ℕ × Vec ℕ)). Has list e) (sym steps ∙ is) (Has-split front [] e))).0)
+
+-- ---- rows after a key
+
+abbrev is_after : Key → Entry → Bool
+is_after key row = is_key_below key row.0
+
+all_after : (key : Key) (row : Entry) (rows : Entries) → IsInOrder (row ∷ rows) → is_key_below key row.0 ≡ true → filter (is_after key) (row ∷ rows) ≡ row ∷ rows
+all_after key row [] s h = rw h refl
+all_after key row (next ∷ rows) s h =
+    let later : is_key_below key next.0 ≡ true = below_trans key row.0 next.0 h (ap is_lt (first_behind row (next ∷ rows) s).0) in
+    rw h (ap (λ (more : Entries). row ∷ more) (all_after key next rows (rest_in_order row (next ∷ rows) s) later))
+
+-- the rows after a key are the back of rows in order
+rows_after : (key : Key) (rows : Entries) → IsInOrder rows → (front : Entries) × (front ++ filter (is_after key) rows ≡ rows)
+rows_after key [] s = ([], refl)
+rows_after key (row ∷ rows) s = by (is_key_below key row.0) refl (rows_after key rows (rest_in_order row rows s))
+  where
+    some : Entries
+    some = filter (is_after key) rows
+
+    by : (t : Bool) → is_key_below key row.0 ≡ t → (front : Entries) × (front ++ some ≡ rows) → (front : Entries) × (front ++ cond t (row ∷ some) some ≡ row ∷ rows)
+    by true h later =
+        let whole : row ∷ some ≡ row ∷ rows = sym (rw h refl) ∙ all_after key row rows s h in
+        ([], whole)
+    by false h later = (row ∷ later.0, ap (λ (more : Entries). row ∷ more) later.1)
+
+-- only rows behind one that is not after the key are
+after_in_back : (key : Key) (front : Entries) (row : Entry) (rest : Entries) → IsInOrder (front ++ row ∷ rest) → is_key_below key row.0 ≡ false → filter (is_after key) (front ++ row ∷ rest) ≡ filter (is_after key) rest
+after_in_back key [] row rest s h = rw h refl
+after_in_back key (first ∷ front) row rest s h =
+    let below : is_key_below first.0 row.0 ≡ true = front_below (first ∷ front) row rest first s (inl refl) in
+    let out : is_key_below key first.0 ≡ false = up_to_trans first.0 row.0 key (not_below_back first.0 row.0 below) h in
+    rw out (after_in_back key front row rest (rest_in_order first (front ++ row ∷ rest) s) h)
+
+back_in_order : (front rest : Entries) → IsInOrder (front ++ rest) → IsInOrder rest
+back_in_order [] rest s = s
+back_in_order (first ∷ front) rest s = back_in_order front rest (rest_in_order first (front ++ rest) s)
+
+behind_has : (key : Key) (rows : Entries) (row : Entry) → Behind key rows → Has rows row → is_key_below key row.0 ≡ true
+behind_has key [] row all h = absurd h
+behind_has key (first ∷ rows) row all (inl same) = ap (λ (e : Entry). is_key_below key e.0) (sym same) ∙ ap is_lt all.0
+behind_has key (first ∷ rows) row all (inr there) = behind_has key rows row all.1 there
+
+-- the entries of the map are those at the back of all
+pub record IsBack (es : List (Vec ℕ × List ℕ)) (all : Entries) : Type 0 where
+  pub front : Entries
+  pub parts : front ++ entries_of es ≡ all
+
+pub whole_back : (es : List (Vec ℕ × List ℕ)) (all : Entries) → entries_of es ≡ all → IsBack es all
+whole_back es all is = record { front = []; parts = is }
+
+-- one step on
+pub back_stepped : (e : Vec ℕ × List ℕ) (es left : List (Vec ℕ × List ℕ)) (all : Entries) → left ≡ e ∷ es → IsBack left all → IsBack es all
+back_stepped e es left all steps is = record {
+  front = is.front ++ entry_from e ∷ [];
+  parts = append_assoc is.front (entry_from e ∷ []) (entries_of es) ∙ ap (λ (list : List (Vec ℕ × List ℕ)). is.front ++ entries_of list) (sym steps) ∙ is.parts;
+}
+
+abbrev pub inside_rows : Range → Entries → Entries
+inside_rows range rows = filter (is_serving_inside range) rows
+
+-- the rows after a run of hidden rows
+pub record IsJumpOn (hidden : List Key) (rows : Entries) (range : Range) (rest new : List (Vec ℕ × List ℕ)) : Type 0 where
+  pub left : filter (is_left hidden) (entries_of new) ≡ filter (is_left hidden) (entries_of rest)
+  pub back_is : IsBack new (inside_rows range rows)
+  pub fewer : length new ≤ length rest
+
+pub jump_on : (hidden : List Key) (rows : Entries) (range : Range) (rest new left : List (Vec ℕ × List ℕ)) (e : Vec ℕ × List ℕ) (run : Run) → IsInOrder rows → left ≡ e ∷ rest → IsBack left (inside_rows range rows)
+    → ((row : Entry) → Has (entries_of rest) row → entry_value rows row.0 ≡ Some row.1) → IsHiddenRun hidden rows run → is_key_below e.0.items run.0 ≡ false → is_key_below run.1 e.0.items ≡ false
+    → entries_of new ≡ filter (is_serving_after run.1 range) rows → IsJumpOn hidden rows range rest new
+jump_on hidden rows range rest new left e run s steps is there hides begins reaches new_is = record {
+  left = ap (filter (is_left hidden)) new_rest ∙ left_of_before (is_left hidden) (is_after run.1) (entries_of rest) hidden_unless;
+  back_is = record { front = some.0; parts = ap (λ (list : Entries). some.0 ++ list) new_all ∙ some.1 };
+  fewer =
+      let short : length (entries_of new) ≤ length (entries_of rest) = subst (λ (list : Entries). length list ≤ length (entries_of rest)) (sym new_rest) (length_filter (is_after run.1) (entries_of rest)) in
+      omega (arith, short, length_entries new, length_entries rest);
+}
+  where
+    inside : Entries
+    inside = inside_rows range rows
+
+    ordered : IsInOrder inside
+    ordered = filter_in_order (is_serving_inside range) rows s
+
+    some : (front : Entries) × (front ++ filter (is_after run.1) inside ≡ inside)
+    some = rows_after run.1 inside ordered
+
+    new_all : entries_of new ≡ filter (is_after run.1) inside
+    new_all = new_is ∙ both_tests (is_serving_inside range) (is_after run.1) rows
+
+    all_is : is.front ++ entry_from e ∷ entries_of rest ≡ inside
+    all_is = ap (λ (list : List (Vec ℕ × List ℕ)). is.front ++ entries_of list) (sym steps) ∙ is.parts
+
+    in_order : IsInOrder (is.front ++ entry_from e ∷ entries_of rest)
+    in_order = subst IsInOrder (sym all_is) ordered
+
+    new_rest : entries_of new ≡ filter (is_after run.1) (entries_of rest)
+    new_rest = new_all ∙ ap (filter (is_after run.1)) (sym all_is) ∙ after_in_back run.1 is.front (entry_from e) (entries_of rest) in_order reaches
+
+    hidden_unless : (row : Entry) → Has (entries_of rest) row → is_key_below run.1 row.0 ≡ false → not (is_listed hidden row.0) ≡ false
+    hidden_unless row has out =
+        let above : is_key_below e.0.items row.0 ≡ true = behind_has e.0.items (entries_of rest) row (first_behind (entry_from e) (entries_of rest) (back_in_order is.front (entry_from e ∷ entries_of rest) in_order)) has in
+        let within : is_key_below row.0 run.0 ≡ false = up_to_trans run.0 e.0.items row.0 begins (not_below_back e.0.items row.0 above) in
+        ap not (hides.hides row.0 (ap is_some (there row has)) within out)
+
+pub jump_on_fewer : (hidden : List Key) (rows : Entries) (range : Range) (rest new left : List (Vec ℕ × List ℕ)) (e : Vec ℕ × List ℕ) → IsJumpOn hidden rows range rest new → left ≡ e ∷ rest → length new < length left
+jump_on_fewer hidden rows range rest new left e jump steps =
+    let longer : length left ≡ suc (length rest) = ap length steps in
+    omega (arith, longer, jump.fewer)
+
+-- the key at which a run ends that an entry inside a range is in is not before the range
+pub run_inside : (rows : Entries) (range : Range) (e : Vec ℕ × List ℕ) (es left : List (Vec ℕ × List ℕ)) (last : Key) → left ≡ e ∷ es → IsBack left (inside_rows range rows) → is_key_below last e.0.items ≡ false → is_key_below last (prefix ++ range.begin) ≡ false
+run_inside rows range e es left last steps is reaches =
+    let parts : is.front ++ entry_from e ∷ entries_of es ≡ inside_rows range rows = ap (λ (list : List (Vec ℕ × List ℕ)). is.front ++ entries_of list) (sym steps) ∙ is.parts in
+    let inside : is_serving_inside range (entry_from e) ≡ true = (Has-from_filter (is_serving_inside range) rows (entry_from e) (subst (λ (list : Entries). Has list (entry_from e)) parts (Has-split is.front (entries_of es) (entry_from e)))).1 in
+    let after : is_key_below (prefix ++ range.begin) e.0.items ≡ true =
+    (both_true (is_key_below (prefix ++ range.begin) e.0.items) (not (is_key_up_to (prefix ++ range.end) e.0.items)) (inside_behind prefix range.begin range.end e.0.items ∙ inside)).0 in
+    up_to_trans (prefix ++ range.begin) e.0.items last (not_below_back (prefix ++ range.begin) e.0.items after) reaches
+
+-- ---- the entries of the map after a key and inside a range
+
+pub below_less : (a b : Key) → is_key_below a b ≡ true → key_cmp a b ≡ Less
+below_less a b h = less (key_cmp a b) h
+  where
+    less : (r : Ordering) → is_lt r ≡ true → r ≡ Less
+    less Less e = refl
+    less Equal e = absurd (cc)
+    less Greater e = absurd (cc)
+
+pub same_forward : (key : Key) → is_gt (key_cmp key key) ≡ false
+same_forward key = not_backwards key key (not_below_itself key)
+
+after_begin : (k b n : Bool) → (k ≡ true → b ≡ true) → (k && n) ≡ ((b && n) && k)
+after_begin true true true h = refl
+after_begin true true false h = refl
+after_begin true false n h = let two : false ≡ true = h refl in absurd (cc)
+after_begin false true true h = refl
+after_begin false true false h = refl
+after_begin false false n h = refl
+
+past_end : (u b k : Bool) → (k ≡ true → u ≡ true) → (u && not u) ≡ ((b && not u) && k)
+past_end true true k h = refl
+past_end true false k h = refl
+past_end false true true h = let two : false ≡ true = h refl in absurd (cc)
+past_end false true false h = refl
+past_end false false k h = refl
+
+pub between_after : (es : List (Vec ℕ × List ℕ)) (key end : Vec ℕ) (range : Range) → end.items ≡ prefix ++ range.end → is_key_below key.items (prefix ++ range.begin) ≡ false
+    → entries_of (entries_between vec_cmp (Excluded key) (Excluded end) es) ≡ filter (is_serving_after key.items range) (entries_of es)
+between_after es key end range high late =
+    let same : (row : Entry) → (is_key_below key.items row.0 && not (is_key_up_to end.items row.0)) ≡ is_serving_after key.items range row =
+    λ row.
+    ap (λ (k : Key). is_key_below key.items row.0 && not (is_key_up_to k row.0)) high
+    ∙ after_begin (is_key_below key.items row.0) (is_key_below (prefix ++ range.begin) row.0) (not (is_key_up_to (prefix ++ range.end) row.0)) (up_to_below (prefix ++ range.begin) key.items row.0 late)
+    ∙ ap (λ (t : Bool). t && is_key_below key.items row.0) (inside_behind prefix range.begin range.end row.0) in
+    filtered (λ (row : Entry). is_key_below key.items row.0 && not (is_key_up_to end.items row.0)) es
+    ∙ ap (λ (p : Entry → Bool). filter p (entries_of es)) (λ i row. same row i)
+
+pub none_after : (es : List (Vec ℕ × List ℕ)) (key end : Vec ℕ) (range : Range) → end.items ≡ prefix ++ range.end → is_key_below key.items end.items ≡ false
+    → entries_of (entries_between vec_cmp (Included end) (Excluded end) es) ≡ filter (is_serving_after key.items range) (entries_of es)
+none_after es key end range high past =
+    let same : (row : Entry) → (is_key_up_to end.items row.0 && not (is_key_up_to end.items row.0)) ≡ is_serving_after key.items range row =
+    λ row.
+    past_end (is_key_up_to end.items row.0) (is_key_below (prefix ++ range.begin) row.0) (is_key_below key.items row.0)
+    (λ h. up_to_is end.items row.0 ∙ ap not (up_to_trans end.items key.items row.0 past (not_below_back key.items row.0 h)))
+    ∙ ap (λ (k : Key). (is_key_below (prefix ++ range.begin) row.0 && not (is_key_up_to k row.0)) && is_key_below key.items row.0) high
+    ∙ ap (λ (t : Bool). t && is_key_below key.items row.0) (inside_behind prefix range.begin range.end row.0) in
+    filtered (λ (row : Entry). is_key_up_to end.items row.0 && not (is_key_up_to end.items row.0)) es
+    ∙ ap (λ (p : Entry → Bool). filter p (entries_of es)) (λ i row. same row i)
+
+pub own_after : (rows : Entries) (key : Key) (range : Range) (es : List (Vec ℕ × List ℕ)) → entries_of es ≡ filter (is_serving_after key range) rows → AreKeyServers es
+own_after rows key range es is = λ entry has.
+    let passes : is_serving_after key range entry ≡ true = (Has-from_filter (is_serving_after key range) rows entry (subst (λ (list : Entries). Has list entry) is has)).1 in
+    (both_true (is_key_servers entry) (is_entry_inside range (behind_prefix entry)) (both_true (is_serving_inside range entry) (is_key_below key entry.0) passes).0).0

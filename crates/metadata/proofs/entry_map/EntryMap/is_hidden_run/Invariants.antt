@@ -1,0 +1,12 @@
+-- All entries from the first to the last key are hidden if those that are left are.
+use Rattle.std.proofs.Common.{◌≡◌, filter}
+use Rattle.std.specs.List.{list_all}
+use Rattle.metadata.specs.MapEntries.{entries_of}
+use Rattle.metadata.specs.Overwrites.{is_listed}
+use Rattle.metadata.proofs.HiddenRuns.{is_from_up_to}
+use Rattle.metadata.proofs.entry_map.EntryMap.is_hidden_run.Given as goal
+
+abbrev pub invariant-loop-key : goal.invariant-loop-key
+invariant-loop-key l =
+    list_all (λ entry. is_listed l.hidden entry.0) (entries_of l.key-iterator)
+    ≡ list_all (λ entry. is_listed l.hidden entry.0) (filter (λ entry. is_from_up_to l.first.items l.last.items entry.0) l.self)

@@ -1,0 +1,103 @@
+//! Runs of keys.
+
+ghost use Rattle.std.specs.Prelude.{◌≡◌, [], false, IfSome};
+ghost use Rattle.std.specs.List.{Contains};
+ghost use Rattle.system_keys.specs.Keys.{is_key_below};
+ghost use Rattle.metadata.specs.HiddenRuns.{runs_of};
+
+use crate::entry_map::EntryMap;
+use crate::key_set::KeySet;
+use crate::order::is_between;
+use std::alloc::Global;
+use std::collections::BTreeMap;
+use std::collections::btree_map::Iter;
+use std::marker::Model;
+use std::ops::Bound;
+use system_keys::{KEY_SERVERS_PREFIX, OutOfMemory};
+
+/// Runs of keys. Contracts see the first and the last key of each.
+#[derive(Drop)]
+pub(crate) struct KeyRuns {
+    alloc: Global,
+    /// The last key of each run at its first key.
+    ends: BTreeMap<Vec<u8>, Vec<u8>>,
+}
+
+impl Model for KeyRuns {
+    ghost use Rattle.std.specs.Prelude.{List};
+    ghost use Rattle.metadata.specs.HiddenRuns.{Run, runs_of};
+
+    ghost Value = { List Run };
+
+    ghost view = { λ r. runs_of r.ends.entries };
+}
+
+impl KeyRuns {
+    /// No runs. Does not allocate.
+    pub(crate) fn new(alloc: Global) -> KeyRuns
+        ensures { result ≡ [] }
+    {
+        KeyRuns {
+            alloc,
+            ends: BTreeMap::new(alloc),
+        }
+    }
+
+    /// Runs of the keyServers keys among these: a key is in one run with the entry before it if that
+    /// is among these too. Some are left out if memory runs out.
+    pub(crate) fn of(entries: &EntryMap, keys: &KeySet) -> KeyRuns {
+        let mut runs = KeyRuns::new(entries.alloc());
+        for key in keys.iter() {
+            if key.as_slice().starts_with(KEY_SERVERS_PREFIX) && runs.add(entries, key).is_err() {
+                break;
+            }
+        }
+        runs
+    }
+
+    /// Adds a key to the run of the entry before it, or begins a run with it. Fails only with
+    /// `OutOfMemory`; the runs are then unchanged.
+    fn add(&mut self, entries: &EntryMap, key: &Vec<u8>) -> Result<(), OutOfMemory> {
+        let first = match self.first_before(entries, key) {
+            Some(first) => first,
+            None => key,
+        };
+        let first = Vec::from_slice(self.alloc, first.as_slice())?;
+        let last = Vec::from_slice(self.alloc, key.as_slice())?;
+        self.ends.insert(first, last)?;
+        Ok(())
+    }
+
+    /// The first key of the run that the entry before the key is in. Does not allocate.
+    fn first_before(&self, entries: &EntryMap, key: &Vec<u8>) -> Option<&Vec<u8>> {
+        let before = entries.before(key)?;
+        let (first, _) = self.run_of(before)?;
+        Some(first)
+    }
+
+    /// The runs. Does not allocate.
+    pub(crate) fn iter(&self) -> Iter<'_, Vec<u8>, Vec<u8>>
+        ensures { runs_of result ≡ self.now }
+    {
+        self.ends.iter()
+    }
+
+    /// The run that begins last at or before the key, if it reaches up to the key. Does not
+    /// allocate.
+    pub(crate) fn run_of(&self, key: &Vec<u8>) -> Option<(&Vec<u8>, &Vec<u8>)>
+        ensures listed { IfSome result (λ run.
+            Contains self.now (run.0.now.items, run.1.now.items)) }
+        ensures begins { IfSome result (λ run.
+            is_key_below key.now.items run.0.now.items ≡ false) }
+        ensures reaches { IfSome result (λ run.
+            is_key_below run.1.now.items key.now.items ≡ false) }
+    {
+        let bounds = (Bound::Unbounded, Bound::Included(key));
+        let (first, last) = self.ends.range(bounds).next_back()?;
+        if is_between(key.as_slice(), first.as_slice(), last.as_slice()) {
+            Some((first, last))
+        } else {
+            None
+        }
+    }
+}
