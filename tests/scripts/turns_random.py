@@ -178,6 +178,54 @@ class Nested(Drawn):
         return turns(*events, proxies=self.proxies, resolvers=self.resolvers, window=self.window, step=self.step)
 
 
+class Cleared(Drawn):
+    """A script of many keyServers rows and of Clears of them that nest, repeat and overlap, with Sets of rows, tags and keys in
+    the same batches, so that tags are looked up where many rows are gone or have come back."""
+
+    PLACES = [b"%02d" % number for number in range(20)]
+
+    def __init__(self, rng):
+        super().__init__(rng)
+        self.step, self.window, self.proxies, self.resolvers = 10, 300, rng.choice([1, 2]), 1
+
+    def row(self, place):
+        return {"set": [text(b"\xff/keyServers/" + place), text(team(self.rng) + team(self.rng))]}
+
+    def tag(self, server):
+        return {"set": [text(b"\xff/serverTag/" + server), text(self.rng.choice(TAGS))]}
+
+    def cleared(self, prefix):
+        begin, end = sorted(self.rng.sample([*self.PLACES, b"", b"\xfe"], 2))
+        return {"clear": [text(prefix + begin), text(prefix + end)]}
+
+    def mutation(self):
+        rng = self.rng
+        kind = rng.random()
+        if kind < 0.35:
+            return self.cleared(b"\xff/keyServers/")
+        if kind < 0.55:
+            return self.row(rng.choice(self.PLACES))
+        if kind < 0.62:
+            return self.tag(rng.choice(SERVERS))
+        if kind < 0.66:
+            return {"clear": [text(b"\xff/serverTag/" + rng.choice(SERVERS)), text(b"\xff/serverTag0")]}
+        if kind < 0.8:
+            return self.cleared(b"")
+        return {"set": [text(rng.choice(self.PLACES) + b"x"), "v"]}
+
+    def script(self):
+        rng = self.rng
+        filling = [self.tag(server) for server in SERVERS] + [self.row(place) for place in self.PLACES]
+        events = [sequence(0, transaction(0, [], [], filling, True)), offer(0, 0), finish(0)]
+        for number in range(1, rng.choice([3, 8, 20])):
+            made = [transaction(0, [], [], [self.mutation() for _ in range(rng.choice([1, 3, 8]))], True) for _ in range(rng.choice([1, 2]))]
+            proxy = number % self.proxies
+            events += [sequence(proxy, *made), offer(number, 0), finish(proxy)]
+        return turns(
+            *events, ask=[text(place) for place in self.PLACES[::3]], proxies=self.proxies, resolvers=1, window=self.window, step=self.step
+        )
+
+
 def right_script(rng):
     return Drawn(rng).script()
 
@@ -263,6 +311,13 @@ def nested_turns(seeds):
     for seed in seeds:
         rng = random.Random("nested %d" % seed)
         yield "turns", "random_nested", "seed %d" % seed, spell(rng, Nested(rng).script()).encode(), None
+
+
+def cleared_turns(seeds):
+    """Each case of Clears of many rows, as `random_turns` gives them."""
+    for seed in seeds:
+        rng = random.Random("cleared %d" % seed)
+        yield "turns", "random_cleared", "seed %d" % seed, spell(rng, Cleared(rng).script()).encode(), None
 
 
 # ---- what the scripts meet

@@ -1,8 +1,8 @@
 -- The second map of owners of a proxy: it catches up with the newest one, and gains further moves in its place.
-use Rattle.std.proofs.Common.{◌≡◌, refl, sym, ap, ◌∙◌, subst, ℕ, ◌≤◌, max, List, ◌++◌, arith}
+use Rattle.std.proofs.Common.{◌≡◌, refl, sym, ap, ◌∙◌, subst, ℕ, max, List, ◌++◌, arith}
 use Rattle.model.specs.declared.moves.Move.{Move}
-use Rattle.model.specs.Owners.{Owner, owners, trimmed}
-use Rattle.model.specs.OwnerMaps.{OwnerMapView, StandsForMoves, owners_left}
+use Rattle.model.specs.Owners.{owners, trimmed}
+use Rattle.model.specs.OwnerMaps.{OwnerMapView, StandsForMoves}
 use Rattle.model.specs.Finishing.{MayBeMade}
 use Rattle.model.proofs.Owners.Maps.{same_left}
 use Rattle.dated_owners.specs.Answers.{KeepsMoves}
