@@ -186,7 +186,7 @@ class Cleared(Drawn):
 
     def __init__(self, rng):
         super().__init__(rng)
-        self.step, self.window, self.proxies, self.resolvers = 10, 300, rng.choice([1, 2]), 1
+        self.step, self.window, self.proxies, self.resolvers = 10, 300, rng.choice([1, 2, 3]), 1
 
     def row(self, place):
         return {"set": [text(b"\xff/keyServers/" + place), text(team(self.rng) + team(self.rng))]}
@@ -219,7 +219,7 @@ class Cleared(Drawn):
         events = [sequence(0, transaction(0, [], [], filling, True)), offer(0, 0), finish(0)]
         for number in range(1, rng.choice([3, 8, 20])):
             made = [transaction(0, [], [], [self.mutation() for _ in range(rng.choice([1, 3, 8]))], True) for _ in range(rng.choice([1, 2]))]
-            proxy = number % self.proxies
+            proxy = rng.randrange(self.proxies)
             events += [sequence(proxy, *made), offer(number, 0), finish(proxy)]
         return turns(
             *events, ask=[text(place) for place in self.PLACES[::3]], proxies=self.proxies, resolvers=1, window=self.window, step=self.step
