@@ -1,8 +1,11 @@
 //! Fold scripts: rows of a journal to fold, and keys whose tags are asked.
 
+ghost use Rattle.std.specs.Prelude.{◌≡◌, IfOk};
+
 use model::{JournalRow, Verdict};
 use scripts::RawChange;
-use system_keys::{Bytes, Items};
+use std::alloc::Global;
+use system_keys::{Bytes, Items, OutOfMemory};
 
 /// A fold script: the rows of a journal, and the keys whose tags are asked (this project's
 /// profile).
@@ -12,6 +15,20 @@ pub struct FoldScript {
     pub rows: Items<JournalRow>,
     /// The keys whose tags are printed: any bytes.
     pub ask: Items<Bytes>,
+}
+
+impl FoldScript {
+    /// Returns a deep copy. Fails only with `OutOfMemory`.
+    pub fn copy(&self) -> Result<FoldScript, OutOfMemory>
+        ensures { IfOk result (λ copy. copy ≡ self.now) }
+    {
+        let ask = copy_keys(&self.ask)?;
+        let rows = copy_rows(*ask.allocator(), self.rows.as_slice())?;
+        Ok(FoldScript {
+            rows,
+            ask: Items::from(ask),
+        })
+    }
 }
 
 /// A fold script as it is written, before its keys, values and ranges are checked.
@@ -43,4 +60,23 @@ pub(crate) struct RawState {
     pub(crate) lock_aware: bool,
     /// The verdict of each resolver.
     pub(crate) verdicts: Items<Verdict>,
+}
+
+/// A deep copy of the rows.
+fn copy_rows(alloc: Global, rows: &[JournalRow]) -> Result<Items<JournalRow>, OutOfMemory>
+    ensures { IfOk result (λ copy. copy ≡ rows.now) }
+{
+    let mut copies = Vec::with_capacity(alloc, rows.len())?;
+    for row in rows {
+        copies.push(row.copy()?)?;
+    }
+    Ok(Items::from(copies))
+}
+
+/// A deep copy of the keys.
+fn copy_keys(keys: &Items<Bytes>) -> Result<Vec<Bytes>, OutOfMemory>
+    ensures { IfOk result (λ copy. copy.items ≡ keys.now) }
+{
+    let copy = keys.clone()?;
+    Ok(Vec::from(copy))
 }

@@ -1,9 +1,11 @@
 //! Changes, as scripts have them.
 
-use system_keys::Bytes;
+ghost use Rattle.std.specs.Prelude.{◌≡◌, IfOk};
+
+use system_keys::{Bytes, OutOfMemory};
 
 /// A change as it is written, before its key, value or range is checked.
-#[derive(Drop)]
+#[derive(Clone, Debug, Drop)]
 pub enum RawChange {
     /// Puts the value at the key.
     Set {
@@ -19,4 +21,13 @@ pub enum RawChange {
         /// The end.
         end: Bytes,
     },
+}
+
+impl RawChange {
+    /// Returns a deep copy. Fails only with `OutOfMemory`.
+    pub fn copy(&self) -> Result<RawChange, OutOfMemory>
+        ensures { IfOk result (λ copy. copy ≡ self.now) }
+    {
+        Ok(self.clone()?)
+    }
 }

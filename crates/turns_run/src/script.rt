@@ -1,9 +1,12 @@
 //! Turns scripts: the events of a cluster without threads, and keys whose tags are asked.
 
+ghost use Rattle.std.specs.Prelude.{◌≡◌, IfOk};
+
 use cluster_scripts::GivenMove;
 use model::Config;
 use mutation::Transaction;
-use system_keys::{Bytes, Items};
+use std::alloc::Global;
+use system_keys::{Bytes, Items, OutOfMemory};
 use turn_world::Event;
 
 /// A turns script: the numbers of a cluster, its events, and the keys whose tags are asked (this
@@ -16,6 +19,21 @@ pub struct TurnsScript {
     pub events: Items<Event>,
     /// The keys whose tags are printed of each proxy: any bytes.
     pub ask: Items<Bytes>,
+}
+
+impl TurnsScript {
+    /// Returns a deep copy. Fails only with `OutOfMemory`.
+    pub fn copy(&self) -> Result<TurnsScript, OutOfMemory>
+        ensures { IfOk result (λ copy. copy ≡ self.now) }
+    {
+        let ask = copy_keys(&self.ask)?;
+        let events = copy_events(*ask.allocator(), self.events.as_slice())?;
+        Ok(TurnsScript {
+            config: self.config.copy()?,
+            events,
+            ask: Items::from(ask),
+        })
+    }
 }
 
 /// A turns script as it is written, before its keys, values and ranges are checked.
@@ -53,4 +71,23 @@ pub(crate) enum RawEvent {
         /// The number of the proxy.
         proxy: usize,
     },
+}
+
+/// A deep copy of the events.
+fn copy_events(alloc: Global, events: &[Event]) -> Result<Items<Event>, OutOfMemory>
+    ensures { IfOk result (λ copy. copy ≡ events.now) }
+{
+    let mut copies = Vec::with_capacity(alloc, events.len())?;
+    for event in events {
+        copies.push(event.copy()?)?;
+    }
+    Ok(Items::from(copies))
+}
+
+/// A deep copy of the keys.
+fn copy_keys(keys: &Items<Bytes>) -> Result<Vec<Bytes>, OutOfMemory>
+    ensures { IfOk result (λ copy. copy.items ≡ keys.now) }
+{
+    let copy = keys.clone()?;
+    Ok(Vec::from(copy))
 }
