@@ -1,4 +1,6 @@
--- Rows before a run of hidden rows: what is left of them is what is left of the rows before its last.
+-- Look-ups that jump over a run of hidden rows. One that goes back from a row of the run goes on with
+-- the rows before the first key of the run, and one that goes forward with the rows after its last key.
+-- Either jump leaves out hidden rows alone, so the rows that are shown stay the same.
 use Rattle.std.proofs.Common.{◌≡◌, refl, sym, ap, ◌∙◌, subst, ℕ, ◌+◌, ◌<◌, ◌≤◌, suc, length, drop, List, [], ◌∷◌, ◌++◌, append_assoc, map, Bool, true, false, cond, not, ◌&&◌, Some, None, filter, inl, inr, is_lt, is_gt, is_le, is_eq, Ordering, Less, Equal, Greater, nat_cmp, nat_eq, length-append, arith}
 use Rattle.std.specs.Global.{Vec}
 use Rattle.std.specs.List.{Contains, last_or, list_all, starts_with}
@@ -23,28 +25,32 @@ use Rattle.metadata.proofs.MapEntries.{vec_cmp, filtered}
 use Rattle.metadata.proofs.KeptTags.{AreKeyServers}
 use Rattle.metadata.proofs.ServingEntries.{is_left, last_left, same_number, not_up_to, up_to_behind, inside_behind}
 
+-- the row is before the key
 abbrev is_before : Key → Entry → Bool
 is_before key row = is_key_below row.0 key
 
 -- ---- rows before a key
 
--- a test of keys that no key passes above one that does not
+-- a test that a key fails if a smaller key fails it
 pub record IsOfFront (test : Key → Bool) : Type 0 where
   pub closed : (a b : Key) → is_key_below a b ≡ true → test a ≡ false → test b ≡ false
 
+-- to be before a key is such a test
 before_of_front : (key : Key) → IsOfFront (λ (k : Key). is_key_below k key)
 before_of_front key = record { closed = λ a b h out. up_to_trans key a b out (not_below_back a b h) }
 
+-- if the first of rows in order fails such a test, none passes it
 none_passes : (test : Key → Bool) (row : Entry) (rows : Entries) → IsOfFront test → test row.0 ≡ false → IsInOrder (row ∷ rows) → filter (λ (r : Entry). test r.0) (row ∷ rows) ≡ []
 none_passes test row [] front h s = rw h refl
 none_passes test row (next ∷ rows) front h s =
     let later : test next.0 ≡ false = front.closed row.0 next.0 (ap is_lt (first_behind row (next ∷ rows) s).0) h in
     rw h (none_passes test next rows front later (rest_in_order row (next ∷ rows) s))
 
+-- if the first of rows in order is not before the key, none is
 none_before : (key : Key) (row : Entry) (rows : Entries) → is_key_below row.0 key ≡ false → IsInOrder (row ∷ rows) → filter (is_before key) (row ∷ rows) ≡ []
 none_before key row rows h s = none_passes (λ (k : Key). is_key_below k key) row rows (before_of_front key) h s
 
--- the rows that pass such a test are the front of rows in order
+-- of rows in order, those that pass such a test come first, and `rest` after them
 rows_in_front : (test : Key → Bool) (rows : Entries) → IsOfFront test → IsInOrder rows → (rest : Entries) × (filter (λ (row : Entry). test row.0) rows ++ rest ≡ rows)
 rows_in_front test [] front s = ([], refl)
 rows_in_front test (row ∷ rows) front s = by (test row.0) refl (rows_in_front test rows front (rest_in_order row rows s))
@@ -58,7 +64,7 @@ rows_in_front test (row ∷ rows) front s = by (test row.0) refl (rows_in_front 
         let none : some ≡ [] = sym (rw h refl) ∙ none_passes test row rows front h s in
         (row ∷ rows, ap (λ (list : Entries). list ++ row ∷ rows) none)
 
--- only rows in front of one that is not before the key are
+-- If a row is not before the key, then of rows in order only those in front of that row can be.
 before_in_front : (key : Key) (front : Entries) (row : Entry) (rest : Entries) → is_key_below row.0 key ≡ false → IsInOrder (front ++ row ∷ rest) → filter (is_before key) (front ++ row ∷ rest) ≡ filter (is_before key) front
 before_in_front key [] row rest h s = none_before key row rest h s
 before_in_front key (first ∷ front) row rest h s = by (is_key_below first.0 key) (before_in_front key front row rest h (rest_in_order first (front ++ row ∷ rest) s))
@@ -68,18 +74,20 @@ before_in_front key (first ∷ front) row rest h s = by (is_key_below first.0 ke
     by true later = ap (λ (more : Entries). first ∷ more) later
     by false later = later
 
+-- a key that is below all rows is below the one in the middle
 behind_at : (key : Key) (front : Entries) (row : Entry) (rest : Entries) → Behind key (front ++ row ∷ rest) → is_key_below key row.0 ≡ true
 behind_at key [] row rest all = ap is_lt all.0
 behind_at key (first ∷ front) row rest all = behind_at key front row rest all.1
 
--- a row in front of another is below it
+-- of rows in order, each in front of `row` has a smaller key
 front_below : (front : Entries) (row : Entry) (rest : Entries) (other : Entry) → IsInOrder (front ++ row ∷ rest) → Has front other → is_key_below other.0 row.0 ≡ true
 front_below [] row rest other s h = absurd h
 front_below (first ∷ front) row rest other s (inl same) = ap (λ (e : Entry). is_key_below e.0 row.0) (sym same) ∙ behind_at first.0 front row rest (first_behind first (front ++ row ∷ rest) s)
 front_below (first ∷ front) row rest other s (inr there) = front_below front row rest other (rest_in_order first (front ++ row ∷ rest) s) there
 
--- ---- tests one after the other
+-- ---- two tests, one after the other
 
+-- if each row that fails `q` fails `p` too, then it changes nothing to leave out first what fails `q`
 left_of_before : (p q : Entry → Bool) (rows : Entries) → ((row : Entry) → Has rows row → q row ≡ false → p row ≡ false) → filter p (filter q rows) ≡ filter p rows
 left_of_before p q [] all = refl
 left_of_before p q (row ∷ rows) all = by (q row) refl (p row) refl (left_of_before p q rows (λ r there. all r (inr there)))
@@ -90,6 +98,7 @@ left_of_before p q (row ∷ rows) all = by (q row) refl (p row) refl (left_of_be
     by false h true k rest = let two : true ≡ false = sym k ∙ all row (inl refl) h in absurd (cc)
     by false h false k rest = rest
 
+-- the rows that pass both tests are those that pass `q`, of those that pass `p`
 both_tests : (p q : Entry → Bool) (rows : Entries) → filter (λ (row : Entry). p row && q row) rows ≡ filter q (filter p rows)
 both_tests p q [] = refl
 both_tests p q (row ∷ rows) = by (p row) (q row) refl (both_tests p q rows)
@@ -100,32 +109,37 @@ both_tests p q (row ∷ rows) = by (p row) (q row) refl (both_tests p q rows)
     by true false k rest = rw k rest
     by false u k rest = rest
 
--- ---- a jump over a run
+-- ---- a jump back over a run
 
--- the entries of the map are those in front of all
+-- the entries of the map are the first of all, and `rest` are the others
 pub record IsFront (es : List (Vec ℕ × List ℕ)) (all : Entries) : Type 0 where
   pub rest : Entries
   pub parts : entries_of es ++ rest ≡ all
 
+-- the keyServers rows
 abbrev pub own_rows : Entries → Entries
 own_rows rows = filter is_key_servers rows
 
+-- the entries of two parts of a map, one after the other
 entries_append : (es fs : List (Vec ℕ × List ℕ)) → entries_of (es ++ fs) ≡ entries_of es ++ entries_of fs
 entries_append [] fs = refl
 entries_append (e ∷ es) fs = ap (λ (rows : Entries). entry_from e ∷ rows) (entries_append es fs)
 
+-- the last entry of the front may be taken for the first of the rest
 parts_stepped : (front : List (Vec ℕ × List ℕ)) (e : Vec ℕ × List ℕ) (rest all : Entries) → entries_of (front ++ e ∷ []) ++ rest ≡ all → entries_of front ++ (entry_from e ∷ rest) ≡ all
 parts_stepped front e rest all parts = sym (append_assoc (entries_of front) (entry_from e ∷ []) rest) ∙ ap (λ (rows : Entries). rows ++ rest) (sym (entries_append front (e ∷ []))) ∙ parts
 
--- one step back
+-- after a step back, what is left is still the first of all
 pub front_stepped : (front : List (Vec ℕ × List ℕ)) (e : Vec ℕ × List ℕ) (all : Entries) → IsFront (front ++ e ∷ []) all → IsFront front all
 front_stepped front e all is = record { rest = entry_from e ∷ is.rest; parts = parts_stepped front e is.rest all is.parts }
 
+-- the keyServers rows before a key are the first of all keyServers rows
 front_before : (rows : Entries) (new : List (Vec ℕ × List ℕ)) (key : Key) → IsInOrder rows → entries_of new ≡ filter (is_serving_before key) rows → IsFront new (own_rows rows)
 front_before rows new key s is =
     let some = rows_in_front (λ (k : Key). is_key_below k key) (own_rows rows) (before_of_front key) (filter_in_order is_key_servers rows s) in
     record { rest = some.0; parts = ap (λ (front : Entries). front ++ some.0) (is ∙ both_tests is_key_servers (is_before key) rows) ∙ some.1 }
 
+-- a test leaves no more rows than there were
 length_filter : (p : Entry → Bool) (rows : Entries) → length (filter p rows) ≤ length rows
 length_filter p [] = omega arith
 length_filter p (row ∷ rows) = by (p row) (length_filter p rows)
@@ -134,16 +148,20 @@ length_filter p (row ∷ rows) = by (p row) (length_filter p rows)
     by true h = omega arith
     by false h = omega arith
 
+-- a map has as many entries as the list of them in the model
 length_entries : (es : List (Vec ℕ × List ℕ)) → length (entries_of es) ≡ length es
 length_entries [] = refl
 length_entries (e ∷ es) = ap suc (length_entries es)
 
--- the rows before a run of hidden rows
+-- A jump back from the rows `front` to the rows `new`: the last row that is shown is the same, `new`
+-- are the first of all keyServers rows, and they are no more than `front`.
 pub record IsJump (hidden : List Key) (rows : Entries) (front new : List (Vec ℕ × List ℕ)) : Type 0 where
   pub left : last_left None hidden new ≡ last_left None hidden front
   pub front_is : IsFront new (own_rows rows)
   pub fewer : length new ≤ length front
 
+-- If the last row, `e`, is in a hidden run, then from the rows in front of it to those before the
+-- first key of the run is such a jump.
 pub jump_to : (hidden : List Key) (rows : Entries) (front new : List (Vec ℕ × List ℕ)) (e : Vec ℕ × List ℕ) (run : Run) → IsInOrder rows → IsFront (front ++ e ∷ []) (own_rows rows)
     → ((row : Entry) → Has (entries_of front) row → entry_value rows row.0 ≡ Some row.1) → IsHiddenRun hidden rows run → is_key_below e.0.items run.0 ≡ false → is_key_below run.1 e.0.items ≡ false
     → entries_of new ≡ filter (is_serving_before run.0) rows → IsJump hidden rows front new
@@ -176,23 +194,28 @@ jump_to hidden rows front new e run s is there hides begins reaches new_is = rec
     same : filter (is_left hidden) (entries_of new) ≡ filter (is_left hidden) (entries_of front)
     same = ap (filter (is_left hidden)) new_front ∙ left_of_before (is_left hidden) (is_before run.0) (entries_of front) hidden_unless
 
+-- with the row `e` that was looked at, a jump leaves fewer rows than there were
 pub jump_fewer : (hidden : List Key) (rows : Entries) (front new left : List (Vec ℕ × List ℕ)) (e : Vec ℕ × List ℕ) → IsJump hidden rows front new → left ≡ front ++ e ∷ [] → length new < length left
 jump_fewer hidden rows front new left e jump steps =
     let longer : length left ≡ length front + 1 = ap length steps ∙ length-append front (e ∷ []) in
     omega (arith, longer, jump.fewer)
 
--- ---- a run that was gone over
+-- ---- a run whose entries were looked at, one after another
 
+-- all rows are hidden
 abbrev are_listed : List Key → Entries → Bool
 are_listed hidden rows = list_all (λ (row : Entry). is_listed hidden row.0) rows
 
+-- a hidden entry may be left out of a look at all
 pub listed_next : (hidden : List Key) (e : Vec ℕ × List ℕ) (es left : List (Vec ℕ × List ℕ)) (total : Bool) → left ≡ e ∷ es → is_listed hidden e.0.items ≡ true → are_listed hidden (entries_of left) ≡ total → are_listed hidden (entries_of es) ≡ total
 listed_next hidden e es left total steps hides so_far = ap (λ (t : Bool). t && are_listed hidden (entries_of es)) (sym hides) ∙ ap (λ (list : List (Vec ℕ × List ℕ)). are_listed hidden (entries_of list)) (sym steps) ∙ so_far
 
+-- both parts of a conjunction are true if it is
 both_true : (a b : Bool) → (a && b) ≡ true → (a ≡ true) × (b ≡ true)
 both_true true b h = (refl, h)
 both_true false b h = absurd (cc)
 
+-- if all rows whose keys pass a test are hidden, then so is a key of a row that passes it
 one_listed : (p : Key → Bool) (hidden : List Key) (rows : Entries) (key : Key) → are_listed hidden (filter (λ (row : Entry). p row.0) rows) ≡ true → p key ≡ true → has_entry rows key ≡ true → is_listed hidden key ≡ true
 one_listed p hidden [] key all passes has = absurd (cc)
 one_listed p hidden (row ∷ rows) key all passes has = by (is_same_key key row.0) refl (p row.0) refl (one_listed p hidden rows key) all has
@@ -204,10 +227,11 @@ one_listed p hidden (row ∷ rows) key all passes has = by (is_same_key key row.
     by false same true h rest listed there = rest (both_true (is_listed hidden row.0) (are_listed hidden (filter (λ (r : Entry). p r.0) rows)) listed).1 passes there
     by false same false h rest listed there = rest listed passes there
 
--- the keys from one up to another, both with them
+-- the key is one from `first` up to `last`, both with them
 abbrev pub is_from_up_to : (first last : Key) → Key → Bool
 is_from_up_to first last key = is_key_up_to first key && not (is_key_below last key)
 
+-- a run is hidden if all rows from its first to its last key are
 pub hidden_run : (hidden : List Key) (rows : Entries) (first last : Key) → is_in key_servers_family first ≡ true → true ≡ are_listed hidden (filter (λ (row : Entry). is_from_up_to first last row.0) rows) → IsHiddenRun hidden rows (first, last)
 hidden_run hidden rows first last own all = record {
   own = own;
@@ -216,20 +240,23 @@ hidden_run hidden rows first last own all = record {
       (ap (λ (t : Bool). t && not (is_key_below last key)) (up_to_is first key ∙ ap not low) ∙ ap not high) has;
 }
 
--- the entries of a map from one key up to another
+-- what a map lists from one key up to another, both with them
 pub between_both : (es : List (Vec ℕ × List ℕ)) (first last : Vec ℕ) → entries_of (entries_between vec_cmp (Included first) (Included last) es) ≡ filter (λ (row : Entry). is_from_up_to first.items last.items row.0) (entries_of es)
 between_both es first last = filtered (λ (row : Entry). is_key_up_to first.items row.0 && not (is_key_below last.items row.0)) es
 
+-- a comparison turned round is greater if it was less
 forward : (r : Ordering) → is_gt (ordering_reverse r) ≡ is_lt r
 forward Less = refl
 forward Equal = refl
 forward Greater = refl
 
+-- the bounds of a look at a run stand in their order
 pub not_backwards : (first last : Key) → is_key_below last first ≡ false → is_gt (key_cmp first last) ≡ false
 not_backwards first last h = ap is_gt (nat_list_cmp_total.antisymm first last) ∙ forward (key_cmp last first) ∙ h
 
--- ---- the entries before a key behind the prefix
+-- ---- what a map lists from the prefix of keyServers keys up to a key
 
+-- a key from `p` up to `p ++ b`, without that one, is one that begins with `p` and is before `p ++ b`
 before_behind : (p b k : Key) → (is_key_up_to p k && not (is_key_up_to (p ++ b) k)) ≡ (starts_with nat_eq k p && not (is_key_up_to (p ++ b) k))
 before_behind [] b [] = refl
 before_behind [] b (y ∷ k) = refl
@@ -243,11 +270,13 @@ before_behind (x ∷ p) b (y ∷ k) =
     by Equal rest = rest
     by Greater rest = refl
 
+-- a prefix of a key is not after it
 prefix_first : (p b : Key) → is_gt (key_cmp p (p ++ b)) ≡ false
 prefix_first [] [] = refl
 prefix_first [] (y ∷ b) = refl
 prefix_first (x ∷ p) b = rw (tied_itself nat_cmp_total x) (prefix_first p b)
 
+-- a key that begins with `p` is `p` and what follows it
 begun : (p k : Key) → starts_with nat_eq k p ≡ true → k ≡ p ++ drop (length p) k
 begun [] k h = refl
 begun (x ∷ p) [] h = absurd (cc)
@@ -260,12 +289,15 @@ begun (x ∷ p) (y ∷ k) h =
 abbrev prefix : Key
 prefix = key_servers_family.prefix
 
+-- what follows the prefix in a keyServers key
 abbrev behind_of : Key → Key
 behind_of key = drop (length prefix) key
 
+-- the bounds of a look at the rows before a keyServers key stand in their order
 pub least_first : (least key : Key) → least ≡ prefix ++ [] → is_in key_servers_family key ≡ true → is_gt (key_cmp least key) ≡ false
 least_first least key low own = ap (λ (k : Key). is_gt (key_cmp k key)) low ∙ ap (λ (k : Key). is_gt (key_cmp prefix k)) (begun prefix key own) ∙ prefix_first prefix (behind_of key)
 
+-- what a map lists from the prefix up to a keyServers key, without it: the keyServers rows before it
 pub between_before : (es : List (Vec ℕ × List ℕ)) (least key : Vec ℕ) → least.items ≡ prefix ++ [] → is_in key_servers_family key.items ≡ true
     → entries_of (entries_between vec_cmp (Included least) (Excluded key) es) ≡ filter (is_serving_before key.items) (entries_of es)
 between_before es least key low own =
@@ -279,8 +311,9 @@ between_before es least key low own =
     filtered (λ (row : Entry). is_key_up_to least.items row.0 && not (is_key_up_to key.items row.0)) es
     ∙ ap (λ (p : Entry → Bool). filter p (entries_of es)) (λ i row. same row i)
 
--- ---- the entries up to a key behind the prefix
+-- ---- the rows that may serve a key are the first of all keyServers rows
 
+-- a key from `p` up to `p ++ b`, with that one, is one that begins with `p` and is not after `p ++ b`
 up_to_whole : (p b k : Key) → (is_key_up_to p k && not (is_key_below (p ++ b) k)) ≡ (starts_with nat_eq k p && not (is_key_below (p ++ b) k))
 up_to_whole [] b [] = refl
 up_to_whole [] b (y ∷ k) = refl
@@ -294,6 +327,7 @@ up_to_whole (x ∷ p) b (y ∷ k) =
     by Equal rest = rest
     by Greater rest = refl
 
+-- to be at or before a key is a test that a key fails if a smaller one does
 up_to_of_front : (key : Key) → IsOfFront (λ (k : Key). not (is_key_below key k))
 up_to_of_front key = record { closed = λ a b h out. ap not (below_trans key a b (turned (is_key_below key a) out) h) }
   where
@@ -301,6 +335,7 @@ up_to_of_front key = record { closed = λ a b h out. ap not (below_trans key a b
     turned true e = refl
     turned false e = absurd (cc)
 
+-- the keyServers rows at or before a key are the first of all keyServers rows
 pub front_up_to : (rows : Entries) (es : List (Vec ℕ × List ℕ)) (key : Key) → IsInOrder rows → entries_of es ≡ filter (is_serving_up_to key) rows → IsFront es (own_rows rows)
 front_up_to rows es key s is =
     let some = rows_in_front (λ (k : Key). not (is_key_below (prefix ++ key) k)) (own_rows rows) (up_to_of_front (prefix ++ key)) (filter_in_order is_key_servers rows s) in
@@ -316,6 +351,7 @@ front_up_to rows es key s is =
 
 -- ---- the run that a key is in
 
+-- one of some hidden runs is a hidden run
 pub one_run : (hidden : List Key) (rows : Entries) (runs : List Run) (run : Run) → AreHiddenRuns hidden rows runs → Contains runs run → IsHiddenRun hidden rows run
 one_run hidden rows runs run all has = at runs all (Has-from_Contains runs run has)
   where
@@ -324,7 +360,7 @@ one_run hidden rows runs run all has = at runs all (Has-from_Contains runs run h
     at (first ∷ some) each (inl same) = subst (IsHiddenRun hidden rows) same each.0
     at (first ∷ some) each (inr there) = at some each.1 there
 
--- the last of the runs in a part of the map is one of the runs
+-- the last entry of a part of the map of runs is one of the runs
 pub run_listed : (p : Vec ℕ × Vec ℕ → Bool) (es part front : List (Vec ℕ × Vec ℕ)) (e : Vec ℕ × Vec ℕ) → part ≡ filter p es → part ≡ front ++ e ∷ [] → Contains (runs_of es) (e.0.items, e.1.items)
 run_listed p es part front e is steps =
     Contains-from_Has (runs_of es) (e.0.items, e.1.items)
@@ -332,16 +368,18 @@ run_listed p es part front e is steps =
 
 -- ---- rows after a key
 
+-- the row is after the key
 abbrev is_after : Key → Entry → Bool
 is_after key row = is_key_below key row.0
 
+-- if the first of rows in order is after the key, all are
 all_after : (key : Key) (row : Entry) (rows : Entries) → IsInOrder (row ∷ rows) → is_key_below key row.0 ≡ true → filter (is_after key) (row ∷ rows) ≡ row ∷ rows
 all_after key row [] s h = rw h refl
 all_after key row (next ∷ rows) s h =
     let later : is_key_below key next.0 ≡ true = below_trans key row.0 next.0 h (ap is_lt (first_behind row (next ∷ rows) s).0) in
     rw h (ap (λ (more : Entries). row ∷ more) (all_after key next rows (rest_in_order row (next ∷ rows) s) later))
 
--- the rows after a key are the back of rows in order
+-- of rows in order, those after a key come last, and `front` before them
 rows_after : (key : Key) (rows : Entries) → IsInOrder rows → (front : Entries) × (front ++ filter (is_after key) rows ≡ rows)
 rows_after key [] s = ([], refl)
 rows_after key (row ∷ rows) s = by (is_key_below key row.0) refl (rows_after key rows (rest_in_order row rows s))
@@ -355,7 +393,7 @@ rows_after key (row ∷ rows) s = by (is_key_below key row.0) refl (rows_after k
         ([], whole)
     by false h later = (row ∷ later.0, ap (λ (more : Entries). row ∷ more) later.1)
 
--- only rows behind one that is not after the key are
+-- If a row is not after the key, then of rows in order only those that follow that row can be.
 after_in_back : (key : Key) (front : Entries) (row : Entry) (rest : Entries) → IsInOrder (front ++ row ∷ rest) → is_key_below key row.0 ≡ false → filter (is_after key) (front ++ row ∷ rest) ≡ filter (is_after key) rest
 after_in_back key [] row rest s h = rw h refl
 after_in_back key (first ∷ front) row rest s h =
@@ -363,39 +401,48 @@ after_in_back key (first ∷ front) row rest s h =
     let out : is_key_below key first.0 ≡ false = up_to_trans first.0 row.0 key (not_below_back first.0 row.0 below) h in
     rw out (after_in_back key front row rest (rest_in_order first (front ++ row ∷ rest) s) h)
 
+-- the last of rows in order are in order
 back_in_order : (front rest : Entries) → IsInOrder (front ++ rest) → IsInOrder rest
 back_in_order [] rest s = s
 back_in_order (first ∷ front) rest s = back_in_order front rest (rest_in_order first (front ++ rest) s)
 
+-- a key that is below all rows is below each of them
 behind_has : (key : Key) (rows : Entries) (row : Entry) → Behind key rows → Has rows row → is_key_below key row.0 ≡ true
 behind_has key [] row all h = absurd h
 behind_has key (first ∷ rows) row all (inl same) = ap (λ (e : Entry). is_key_below key e.0) (sym same) ∙ ap is_lt all.0
 behind_has key (first ∷ rows) row all (inr there) = behind_has key rows row all.1 there
 
--- the entries of the map are those at the back of all
+-- ---- a jump forward over a run
+
+-- the entries of the map are the last of all, and `front` are those before them
 pub record IsBack (es : List (Vec ℕ × List ℕ)) (all : Entries) : Type 0 where
   pub front : Entries
   pub parts : front ++ entries_of es ≡ all
 
+-- before the first step all entries are left
 pub whole_back : (es : List (Vec ℕ × List ℕ)) (all : Entries) → entries_of es ≡ all → IsBack es all
 whole_back es all is = record { front = []; parts = is }
 
--- one step on
+-- after a step, what is left is still the last of all
 pub back_stepped : (e : Vec ℕ × List ℕ) (es left : List (Vec ℕ × List ℕ)) (all : Entries) → left ≡ e ∷ es → IsBack left all → IsBack es all
 back_stepped e es left all steps is = record {
   front = is.front ++ entry_from e ∷ [];
   parts = append_assoc is.front (entry_from e ∷ []) (entries_of es) ∙ ap (λ (list : List (Vec ℕ × List ℕ)). is.front ++ entries_of list) (sym steps) ∙ is.parts;
 }
 
+-- the keyServers rows inside the range
 abbrev pub inside_rows : Range → Entries → Entries
 inside_rows range rows = filter (is_serving_inside range) rows
 
--- the rows after a run of hidden rows
+-- A jump forward from the rows `rest` to the rows `new`: the rows that are shown are the same, `new`
+-- are the last of the rows inside the range, and they are no more than `rest`.
 pub record IsJumpOn (hidden : List Key) (rows : Entries) (range : Range) (rest new : List (Vec ℕ × List ℕ)) : Type 0 where
   pub left : filter (is_left hidden) (entries_of new) ≡ filter (is_left hidden) (entries_of rest)
   pub back_is : IsBack new (inside_rows range rows)
   pub fewer : length new ≤ length rest
 
+-- If the first row, `e`, is in a hidden run, then from the rows after it to those after the last key of
+-- the run is such a jump.
 pub jump_on : (hidden : List Key) (rows : Entries) (range : Range) (rest new left : List (Vec ℕ × List ℕ)) (e : Vec ℕ × List ℕ) (run : Run) → IsInOrder rows → left ≡ e ∷ rest → IsBack left (inside_rows range rows)
     → ((row : Entry) → Has (entries_of rest) row → entry_value rows row.0 ≡ Some row.1) → IsHiddenRun hidden rows run → is_key_below e.0.items run.0 ≡ false → is_key_below run.1 e.0.items ≡ false
     → entries_of new ≡ filter (is_serving_after run.1 range) rows → IsJumpOn hidden rows range rest new
@@ -434,12 +481,13 @@ jump_on hidden rows range rest new left e run s steps is there hides begins reac
         let within : is_key_below row.0 run.0 ≡ false = up_to_trans run.0 e.0.items row.0 begins (not_below_back e.0.items row.0 above) in
         ap not (hides.hides row.0 (ap is_some (there row has)) within out)
 
+-- with the row `e` that was looked at, a jump leaves fewer rows than there were
 pub jump_on_fewer : (hidden : List Key) (rows : Entries) (range : Range) (rest new left : List (Vec ℕ × List ℕ)) (e : Vec ℕ × List ℕ) → IsJumpOn hidden rows range rest new → left ≡ e ∷ rest → length new < length left
 jump_on_fewer hidden rows range rest new left e jump steps =
     let longer : length left ≡ suc (length rest) = ap length steps in
     omega (arith, longer, jump.fewer)
 
--- the key at which a run ends that an entry inside a range is in is not before the range
+-- if an entry inside a range is in a run, then the last key of the run is not before the range
 pub run_inside : (rows : Entries) (range : Range) (e : Vec ℕ × List ℕ) (es left : List (Vec ℕ × List ℕ)) (last : Key) → left ≡ e ∷ es → IsBack left (inside_rows range rows) → is_key_below last e.0.items ≡ false → is_key_below last (prefix ++ range.begin) ≡ false
 run_inside rows range e es left last steps is reaches =
     let parts : is.front ++ entry_from e ∷ entries_of es ≡ inside_rows range rows = ap (λ (list : List (Vec ℕ × List ℕ)). is.front ++ entries_of list) (sym steps) ∙ is.parts in
@@ -448,19 +496,14 @@ run_inside rows range e es left last steps is reaches =
     (both_true (is_key_below (prefix ++ range.begin) e.0.items) (not (is_key_up_to (prefix ++ range.end) e.0.items)) (inside_behind prefix range.begin range.end e.0.items ∙ inside)).0 in
     up_to_trans (prefix ++ range.begin) e.0.items last (not_below_back (prefix ++ range.begin) e.0.items after) reaches
 
--- ---- the entries of the map after a key and inside a range
+-- ---- what a map lists after a key and inside a range
 
-pub below_less : (a b : Key) → is_key_below a b ≡ true → key_cmp a b ≡ Less
-below_less a b h = less (key_cmp a b) h
-  where
-    less : (r : Ordering) → is_lt r ≡ true → r ≡ Less
-    less Less e = refl
-    less Equal e = absurd (cc)
-    less Greater e = absurd (cc)
-
+-- the bounds of an empty look stand in their order
 pub same_forward : (key : Key) → is_gt (key_cmp key key) ≡ false
 same_forward key = not_backwards key key (not_below_itself key)
 
+-- If to be after the key (`k`) is to be after the begin too (`b`), and `n` is to be before the end:
+-- after the key and before the end is inside the range and after the key.
 after_begin : (k b n : Bool) → (k ≡ true → b ≡ true) → (k && n) ≡ ((b && n) && k)
 after_begin true true true h = refl
 after_begin true true false h = refl
@@ -469,6 +512,8 @@ after_begin false true true h = refl
 after_begin false true false h = refl
 after_begin false false n h = refl
 
+-- If to be after the key (`k`) is to be at or after the end too (`u`): no key is at or after the end
+-- and before it, and none is inside the range and after the key.
 past_end : (u b k : Bool) → (k ≡ true → u ≡ true) → (u && not u) ≡ ((b && not u) && k)
 past_end true true k h = refl
 past_end true false k h = refl
@@ -476,6 +521,7 @@ past_end false true true h = let two : false ≡ true = h refl in absurd (cc)
 past_end false true false h = refl
 past_end false false k h = refl
 
+-- what a map lists after the key and before the end are the rows inside the range after the key
 pub between_after : (es : List (Vec ℕ × List ℕ)) (key end : Vec ℕ) (range : Range) → end.items ≡ prefix ++ range.end → is_key_below key.items (prefix ++ range.begin) ≡ false
     → entries_of (entries_between vec_cmp (Excluded key) (Excluded end) es) ≡ filter (is_serving_after key.items range) (entries_of es)
 between_after es key end range high late =
@@ -487,6 +533,7 @@ between_after es key end range high late =
     filtered (λ (row : Entry). is_key_below key.items row.0 && not (is_key_up_to end.items row.0)) es
     ∙ ap (λ (p : Entry → Bool). filter p (entries_of es)) (λ i row. same row i)
 
+-- if the key is not before the end, the map lists nothing, and no row inside the range is after the key
 pub none_after : (es : List (Vec ℕ × List ℕ)) (key end : Vec ℕ) (range : Range) → end.items ≡ prefix ++ range.end → is_key_below key.items end.items ≡ false
     → entries_of (entries_between vec_cmp (Included end) (Excluded end) es) ≡ filter (is_serving_after key.items range) (entries_of es)
 none_after es key end range high past =
@@ -499,6 +546,7 @@ none_after es key end range high past =
     filtered (λ (row : Entry). is_key_up_to end.items row.0 && not (is_key_up_to end.items row.0)) es
     ∙ ap (λ (p : Entry → Bool). filter p (entries_of es)) (λ i row. same row i)
 
+-- what is inside a range and after a key are keyServers rows
 pub own_after : (rows : Entries) (key : Key) (range : Range) (es : List (Vec ℕ × List ℕ)) → entries_of es ≡ filter (is_serving_after key range) rows → AreKeyServers es
 own_after rows key range es is = λ entry has.
     let passes : is_serving_after key range entry ≡ true = (Has-from_filter (is_serving_after key range) rows entry (subst (λ (list : Entries). Has list entry) is has)).1 in

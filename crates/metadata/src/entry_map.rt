@@ -387,8 +387,8 @@ impl EntryMap {
         let _ = self.values.insert(key, value);
     }
 
-    /// The keyServers entries at or before the key, in the order of their keys. Fails only with
-    /// `OutOfMemory`.
+    /// The keyServers entries at or before the key, which stands without their prefix, in the order
+    /// of their keys. Fails only with `OutOfMemory`.
     pub(crate) fn serving_up_to<'a>(
         &'a self,
         key: &[u8],
@@ -403,8 +403,8 @@ impl EntryMap {
         Ok(self.values.range(bounds))
     }
 
-    /// The keyServers entries before the key, which is that of one, in the order of their keys. Fails
-    /// only with `OutOfMemory`.
+    /// The keyServers entries before this key, in the order of their keys. The key is a whole one: it
+    /// begins with the prefix of keyServers keys. Fails only with `OutOfMemory`.
     pub(crate) fn serving_before<'a>(
         &'a self,
         key: &Vec<u8>,
@@ -425,8 +425,9 @@ impl EntryMap {
         Some(before)
     }
 
-    /// Whether each of the runs is of keyServers entries, and the entries from its first to its last
-    /// key are hidden. Does not allocate.
+    /// Whether each of the runs begins with the prefix of keyServers keys, and the entries from its
+    /// first to its last key are hidden. False too if the last key of a run is before its first. Does
+    /// not allocate; takes a step for each of these entries.
     pub(crate) fn are_hidden_runs(&self, runs: &KeyRuns, hidden: &KeySet) -> bool
         ensures { result ≡ true → AreHiddenRuns hidden.now self.now runs.now }
     {
@@ -455,8 +456,8 @@ impl EntryMap {
         true
     }
 
-    /// The keyServers entries after the begin of the range and before its end, in the order of
-    /// their keys. Fails only with `OutOfMemory`.
+    /// The keyServers entries after the begin of the range and before its end, which stand without
+    /// their prefix, in the order of their keys. Fails only with `OutOfMemory`.
     pub(crate) fn serving_inside<'a>(
         &'a self,
         range: &KeyRange,
@@ -471,8 +472,9 @@ impl EntryMap {
         Ok(self.values.range(bounds))
     }
 
-    /// Those of the keyServers entries inside the range that are after a key, which is not before the
-    /// range, in the order of their keys. Fails only with `OutOfMemory`.
+    /// Those of `serving_inside` the range that are after this key, in the order of their keys. The key
+    /// is a whole one, with the prefix of keyServers keys, and not before the begin of the range; it
+    /// may be past its end, and then there are none. Fails only with `OutOfMemory`.
     pub(crate) fn serving_after<'a>(
         &'a self,
         key: &Vec<u8>,

@@ -44,35 +44,55 @@ impl KeyRuns {
     }
 
     /// Runs of the keyServers keys among these: a key is in one run with the entry before it if that
-    /// is among these too. Some are left out if memory runs out.
+    /// is among these too. Takes a look-up for each of them, and copies two keys for each run. Some
+    /// runs are left out if memory runs out.
     pub(crate) fn of(entries: &EntryMap, keys: &KeySet) -> KeyRuns {
         let mut runs = KeyRuns::new(entries.alloc());
-        for key in keys.iter() {
-            if key.as_slice().starts_with(KEY_SERVERS_PREFIX) && runs.add(entries, key).is_err() {
-                break;
-            }
-        }
+        let _ = runs.add_runs_of(entries, keys);
         runs
     }
 
-    /// Adds a key to the run of the entry before it, or begins a run with it. Fails only with
-    /// `OutOfMemory`; the runs are then unchanged.
-    fn add(&mut self, entries: &EntryMap, key: &Vec<u8>) -> Result<(), OutOfMemory> {
-        let first = match self.first_before(entries, key) {
-            Some(first) => first,
-            None => key,
-        };
-        let first = Vec::from_slice(self.alloc, first.as_slice())?;
-        let last = Vec::from_slice(self.alloc, key.as_slice())?;
-        self.ends.insert(first, last)?;
-        Ok(())
+    /// Adds the runs of the keyServers keys among these. Fails only with `OutOfMemory`; some of the
+    /// runs are then added.
+    fn add_runs_of(&mut self, entries: &EntryMap, keys: &KeySet) -> Result<(), OutOfMemory> {
+        let mut run = None;
+        for key in keys.iter() {
+            if key.as_slice().starts_with(KEY_SERVERS_PREFIX) {
+                run = Some(self.run_up_to(entries, run, key)?);
+            }
+        }
+        match run {
+            Some((first, last)) => self.add(first, last),
+            None => Ok(()),
+        }
     }
 
-    /// The first key of the run that the entry before the key is in. Does not allocate.
-    fn first_before(&self, entries: &EntryMap, key: &Vec<u8>) -> Option<&Vec<u8>> {
-        let before = entries.before(key)?;
-        let (first, _) = self.run_of(before)?;
-        Some(first)
+    /// The run that ends with the key: the one before goes on if its last key is that of the entry
+    /// before the key, and else it is added, and a run begins. Fails only with `OutOfMemory`; the runs
+    /// are then unchanged.
+    fn run_up_to<'a>(
+        &mut self,
+        entries: &EntryMap,
+        before: Option<(&'a Vec<u8>, &'a Vec<u8>)>,
+        key: &'a Vec<u8>,
+    ) -> Result<(&'a Vec<u8>, &'a Vec<u8>), OutOfMemory> {
+        let Some((first, last)) = before else {
+            return Ok((key, key));
+        };
+        if is_entry_before(entries, last, key) {
+            return Ok((first, key));
+        }
+        self.add(first, last)?;
+        Ok((key, key))
+    }
+
+    /// Adds a run with copies of its first and its last key. Fails only with `OutOfMemory`; the runs
+    /// are then unchanged.
+    fn add(&mut self, first: &Vec<u8>, last: &Vec<u8>) -> Result<(), OutOfMemory> {
+        let first = Vec::from_slice(self.alloc, first.as_slice())?;
+        let last = Vec::from_slice(self.alloc, last.as_slice())?;
+        self.ends.insert(first, last)?;
+        Ok(())
     }
 
     /// The runs. Does not allocate.
@@ -99,5 +119,13 @@ impl KeyRuns {
         } else {
             None
         }
+    }
+}
+
+/// Whether the entry before the key has this other key. Does not allocate.
+fn is_entry_before(entries: &EntryMap, other: &Vec<u8>, key: &Vec<u8>) -> bool {
+    match entries.before(key) {
+        Some(before) => before.as_slice() == other.as_slice(),
+        None => false,
     }
 }

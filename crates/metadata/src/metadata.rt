@@ -1,6 +1,6 @@
 //! The metadata that every commit proxy keeps the same.
 
-ghost use Rattle.std.specs.Prelude.{◌≡◌, ◌++◌, [], false, IsOk, IfOk, OnOk, OnErr};
+ghost use Rattle.std.specs.Prelude.{◌≡◌, [], false, IsOk, IfOk, OnOk, OnErr};
 ghost use Rattle.std.specs.Prelude.{option_map, fold, slice_get};
 ghost use Rattle.std.specs.List.{list_any};
 ghost use Rattle.system_keys.specs.declared.change.Change.TheVariants.{Set, Clear};
@@ -160,7 +160,7 @@ impl Metadata {
             self.apply(change)?;
             return Ok(());
         }
-        let started = self.start_rows(&[], row)?;
+        let started = self.start_without_runs(&[], row)?;
         self.finish_rows(started);
         Ok(())
     }
@@ -181,6 +181,23 @@ impl Metadata {
             started.locked ≡ is_locked (after_rows self.old rows.now)) }
         ensures err { OnErr result (self.new ≡ self.old) }
     {
+        let started = self.start_without_runs(rows, last)?;
+        Ok(started.with_runs(self.entries.map()))
+    }
+
+    /// Starts to apply the rows as [`Metadata::start_rows`] does, for a caller that finishes them
+    /// before it looks anything up: makes no runs of what is to be removed.
+    fn start_without_runs(
+        &mut self,
+        rows: &[JournalRow],
+        last: &JournalRow,
+    ) -> Result<StartedRows, OutOfMemory>
+        ensures ok { let after = after_journal_row (after_rows self.old rows.now) last.now in
+            IfOk result (λ started. IsStarted started self.old after self.new) }
+        ensures locked { IfOk result (λ started.
+            started.locked ≡ is_locked (after_rows self.old rows.now)) }
+        ensures err { OnErr result (self.new ≡ self.old) }
+    {
         let mut staged = self.entries.stage_rows(rows)?;
         let locked = self.entries.is_locked_after(&staged);
         self.entries.stage_row(last, &mut staged)?;
@@ -188,8 +205,8 @@ impl Metadata {
     }
 
     /// Starts to change what is staged: puts what is put, and over the serverTag entries that are
-    /// to be removed an empty value, which gives no tag. Fails only with `OutOfMemory`; the metadata
-    /// is then unchanged.
+    /// to be removed an empty value, which gives no tag. There are no runs of what is to be removed.
+    /// Fails only with `OutOfMemory`; the metadata is then unchanged.
     fn start(&mut self, staged: Staged, locked: bool) -> Result<StartedRows, OutOfMemory>
         ensures ok { IfOk result (λ started. (after : Entries) → IsInOrder after
             → IsOverwritten staged.cleared staged.puts self.old after
@@ -201,10 +218,9 @@ impl Metadata {
         let mut puts = staged.puts;
         puts.blank(&removed)?;
         let put = self.put_over(puts)?;
-        let runs = KeyRuns::of(self.entries.map(), &removed);
         Ok(StartedRows {
             removed,
-            runs,
+            runs: KeyRuns::new(self.entries.map().alloc()),
             put,
             locked,
         })

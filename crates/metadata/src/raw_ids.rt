@@ -13,8 +13,8 @@ use system_keys::ServerId;
 /// How many bytes an id has.
 const ID_LENGTH: usize = 16;
 
-/// Whether a keyServers value may name a server of which an entry is put: the id of one stands among
-/// its bytes, or it does not decode. Does not allocate.
+/// Whether a keyServers value may name a server of which an entry is put: if the id of one stands
+/// among its ids, or if the value ends before the ids that it counts. Does not allocate.
 pub(crate) fn may_name_put(over: &ServerView<'_>, value: &[u8]) -> bool
     ensures { result ≡ false → names_put over.now.puts value.now ≡ false }
 {

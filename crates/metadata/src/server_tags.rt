@@ -78,8 +78,9 @@ fn add_tag(tags: &mut BTreeSet<Tag>, tag: Option<Tag>) -> Result<(), OutOfMemory
     Ok(())
 }
 
-/// Whether a keyServers value names a server of which an entry is put. A value in which no id of
-/// such a server stands does not allocate. Fails only with `OutOfMemory`.
+/// Whether a keyServers value names a server of which an entry is put; a value that does not decode
+/// names none. Allocates only for a value that decodes, and among whose ids one of such a server
+/// stands. Fails only with `OutOfMemory`.
 pub(crate) fn names_put(over: &ServerView<'_>, value: &[u8]) -> Result<bool, OutOfMemory>
     ensures { IfOk result (λ named. named ≡ names_put over.now.puts value.now) }
 {

@@ -2,7 +2,7 @@
 
 ghost use Rattle.std.specs.Prelude.{◌≡◌};
 
-use crate::entry_map::Undo;
+use crate::entry_map::{EntryMap, Undo};
 use crate::key_runs::KeyRuns;
 use crate::key_set::KeySet;
 use crate::tag_map::TagRow;
@@ -14,7 +14,7 @@ use std::marker::Model;
 #[derive(Drop)]
 pub struct StartedRows {
     pub(crate) removed: KeySet,
-    /// Runs of the keyServers entries among those to be removed.
+    /// Runs of the keyServers entries among those to be removed; not each of these has to be in one.
     pub(crate) runs: KeyRuns,
     pub(crate) put: Put,
     pub(crate) locked: bool,
@@ -45,6 +45,15 @@ impl Model for StartedRows {
 }
 
 impl StartedRows {
+    /// The same, with runs of what is to be removed from these entries, so that a look-up takes a step
+    /// for each run. Some runs are left out if memory runs out.
+    pub(crate) fn with_runs(mut self, entries: &EntryMap) -> StartedRows
+        ensures { result ≡ self }
+    {
+        self.runs = KeyRuns::of(entries, &self.removed);
+        self
+    }
+
     /// Whether the database was locked before the last of the rows. Does not allocate.
     pub fn was_locked(&self) -> bool
         ensures { result ≡ self.now.locked }

@@ -5,7 +5,7 @@ use Rattle.model.specs.Metadata.{Entries, IsInOrder, is_locked, after_journal_ro
 use Rattle.metadata.specs.Overwrites.{IsOverwritten}
 use Rattle.metadata.specs.Started.{after_rows}
 use Rattle.metadata.proofs.PutEntries.{row_kept, rows_kept_in_order, lock_staged}
-use Rattle.metadata.proofs.metadata.Metadata.start_rows.Goals as goal
+use Rattle.metadata.proofs.metadata.Metadata.start_without_runs.Goals as goal
 
 pub returns-clause-ok : goal.returns-clause-ok
 returns-clause-ok c =
