@@ -78,7 +78,8 @@ def many_mutations():
 def many_tags():
     """A row with as many sources and destinations as there may be, each with a tag of its own; and as many asked keys."""
     servers = ["server%010d" % it for it in range(510)]
-    tags = [tag(server, "\\x07" + "".join("\\x%02x" % (0x80 + byte) for byte in divmod(509 - it, 100))) for it, server in enumerate(servers)]
+    ids = ["".join("\\x%02x" % (0x80 + byte) for byte in divmod(509 - it, 100)) for it in range(510)]
+    tags = [tag(server, "\\x07" + spelled) for server, spelled in zip(servers, ids)]
     value = "\\xff%s\\xff%s" % ("".join(servers[:255]), "".join(servers[255:]))
     numbers = sorted((0x80 + high) * 256 + 0x80 + low for high, low in (divmod(it, 100) for it in range(510)))
     listed = " ".join("7:%d" % it for it in numbers)

@@ -41,7 +41,8 @@ def with_asked(form, lines):
 
 def nested_alone(form):
     """Nothing but brackets, up to those of 127 lists and objects in each other, and past that."""
-    for depth, answer in ((1, BAD_SHAPE), (2, BAD_SHAPE), (126, BAD_SHAPE), (127, BAD_SHAPE), (128, NOT_JSON), (200, NOT_JSON), (5000, NOT_JSON)):
+    for depth in (1, 2, 126, 127, 128, 200, 5000):
+        answer = BAD_SHAPE if depth <= 127 else NOT_JSON
         yield "%d lists" % depth, "[" * depth + "]" * depth, answer
         yield "%d objects" % depth, '{"a":' * depth + "0" + "}" * depth, answer
         half, rest = divmod(depth, 2)

@@ -32,7 +32,8 @@ def full_cluster():
 def full_batches():
     """Batches of 1,024 transactions that each read what the one before wrote, and write what the next one reads."""
     count = 1024
-    chains = [[transaction(0, [one_key("%s%04d" % (name, it))], [one_key("%s%04d" % (name, it + 1))]) for it in range(count)] for name in "ab"]
+    keys = [[one_key("%s%04d" % (name, it)) for it in range(count + 1)] for name in "ab"]
+    chains = [[transaction(0, [own[it]], [own[it + 1]]) for it in range(count)] for own in keys]
     said = words(count, lambda it: "conflict" if it % 2 else COMMITTED)
     yield case(
         "1,024 transactions that each read and write", threads([chains[0]], resolvers=1), outcomes(0, said), closings(20), shown(0, 20),

@@ -109,7 +109,7 @@ def many_ranges():
         transaction(0, [one_key("i")] * count + [["j\\x00", "k0000\\x00"]]), transaction(0, [["a", "j"]] * count + [one_key("j")]),
     ]
     said = ["committed", "conflict", "committed", "committed", "conflict", "conflict"]
-    numbered = ["txn %d committed 10 %d" % (it, it) if word == "committed" else "txn %d conflict 1020" % it for it, word in enumerate(said)]
+    numbered = ["txn %d conflict 1020" % it if word == "conflict" else "txn %d committed 10 %d" % (it, it) for it, word in enumerate(said)]
     yield case(
         "1,000 reads and 1,000 writes of a transaction", turns(sequence(0, *batch), offer(0, 0), finish(0), proxies=1, resolvers=1),
         sequenced(1), offered(0, 0, " ".join(said)), finished(0, 10, *numbered), shown(0, 10),
@@ -245,8 +245,8 @@ def greatest_dates():
         "refused 51 VersionsEnd", *[offered_to_both(row) for row in range(6)], offered(6, 0, "too_old too_old"),
         offered(6, 1, "too_old too_old too_old committed committed conflict"), *[finished(0, step * (row + 1)) for row in range(6)],
         finished(
-            0, GREATEST, *["txn %d too_old 1007" % it for it in range(3)], *["txn %d committed %d %d" % (it, GREATEST, it) for it in (3, 4)],
-            "txn 5 conflict 1020",
+            0, GREATEST, *["txn %d too_old 1007" % it for it in range(3)], "txn 3 committed %d 3" % GREATEST,
+            "txn 4 committed %d 4" % GREATEST, "txn 5 conflict 1020",
         ),
         shown(0, GREATEST),
     )
@@ -295,7 +295,8 @@ def begun_before_any_is_finished():
             offers(count), [offer(row, 0) for row in rows], [finish(0)] * (half + 1), proxies=1,
         ),
         sequenced(count), *[offered_to_both(row, "committed") for row in rows],
-        [offered(row, 0, "committed", how="again") for row in rows], *done[:half], "sequence row %d version %d" % (count, end), offered_to_both(count),
+        [offered(row, 0, "committed", how="again") for row in rows], *done[:half], "sequence row %d version %d" % (count, end),
+        offered_to_both(count),
         ["refused 31 GivenUp %d" % (10 * half)] * half, [offered(row, 0, "committed", how="again") for row in rows[half:]], *done[half:],
         finished(0, end), shown(0, end, metadata_version='"%d"' % (count - 1)),
     )
