@@ -45,7 +45,7 @@ def under_the_lock():
         yield "%d transactions under the lock" % count, script([(YES, [*TAGGED, LOCK])], states), text
 
 
-def many_rows():
+def rows_up_to_the_greatest_version():
     """4,096 rows and more, up to the greatest version."""
     for count in (4096, 5000):
         last = 2**63 - 1
@@ -103,4 +103,4 @@ def long_values():
         yield "a row's key of 10,000 bytes with %s" % unit, script([(NO, [row])], ask=[key]), head(10) + text
 
 
-CASES = (many_states, under_the_lock, many_rows, many_mutations, many_tags, long_values)
+CASES = (many_states, under_the_lock, rows_up_to_the_greatest_version, many_mutations, many_tags, long_values)

@@ -114,7 +114,7 @@ def many_batches():
     )
 
 
-def full_ledgers():
+def greatest_ledgers():
     """A ledger of 4,096 rows: all are used, and the next batch and the closing are refused."""
     rows = 4096
     full = "refused 50 LedgerFull %d" % rows
@@ -133,4 +133,4 @@ def full_ledgers():
     )
 
 
-CASES = (full_cluster, full_batches, many_states, many_moves, many_batches, full_ledgers)
+CASES = (full_cluster, full_batches, many_states, many_moves, many_batches, greatest_ledgers)
