@@ -8,7 +8,9 @@ import functools
 import random
 
 import content_cases
+import fold_limit_cases
 import fold_shape_cases
+import hostile_cases
 import json_cases
 import order_cases
 import right_cases
@@ -16,20 +18,28 @@ import shape_cases
 import size_cases
 import text_cases
 import threads_content_cases
+import threads_limit_cases
 import threads_order_cases
 import threads_right_cases
 import threads_shape_cases
 import turns_content_cases
+import turns_limit_cases
 import turns_order_cases
 import turns_right_cases
 import turns_shape_cases
 from forms import FOLD, THREADS, TURNS
 
-OF_EACH_FORM = [kind for part in (shape_cases, text_cases, json_cases, size_cases) for kind in part.OF_EACH_FORM]
-OF_FOLD = [kind for part in (right_cases, fold_shape_cases, content_cases, order_cases, size_cases) for kind in part.CASES]
-OF_TURNS = [kind for part in (turns_right_cases, turns_shape_cases, turns_content_cases, turns_order_cases) for kind in part.CASES]
+OF_EACH_FORM = [kind for part in (shape_cases, text_cases, json_cases, size_cases, hostile_cases) for kind in part.OF_EACH_FORM]
+OF_FOLD = [
+    kind for part in (right_cases, fold_shape_cases, content_cases, order_cases, size_cases, fold_limit_cases) for kind in part.CASES
+]
+OF_TURNS = [
+    kind for part in (turns_right_cases, turns_shape_cases, turns_content_cases, turns_order_cases, turns_limit_cases)
+    for kind in part.CASES
+]
 OF_THREADS = [
-    kind for part in (threads_right_cases, threads_shape_cases, threads_content_cases, threads_order_cases) for kind in part.CASES
+    kind for part in (threads_right_cases, threads_shape_cases, threads_content_cases, threads_order_cases, threads_limit_cases)
+    for kind in part.CASES
 ]
 
 # how many cases of a kind that each form has are tried, drawn by the kind's name; all where there is no number. Threads scripts
