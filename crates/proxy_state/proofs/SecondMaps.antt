@@ -1,12 +1,13 @@
 -- The second map of owners of a proxy: it catches up with the newest one, and gains further moves in its place.
-use Rattle.std.proofs.Common.{◌≡◌, refl, sym, ap, ◌∙◌, subst, ℕ, max, List, ◌++◌, arith}
+use Rattle.std.proofs.Common.{◌≡◌, refl, sym, ap, ◌∙◌, subst, ℕ, max, List, ◌++◌, drop, arith}
 use Rattle.model.specs.declared.moves.Move.{Move}
 use Rattle.model.specs.Owners.{owners, trimmed}
 use Rattle.model.specs.OwnerMaps.{OwnerMapView, StandsForMoves}
 use Rattle.model.specs.Finishing.{MayBeMade}
 use Rattle.model.proofs.Owners.Maps.{same_left}
 use Rattle.dated_owners.specs.Answers.{KeepsMoves}
-use Rattle.proxy_state.specs.Beginning.{MayGain, HasGained}
+use Rattle.proxy_state.specs.Beginning.{MayGain, HasGained, HasMade}
+use Rattle.proxy_state.specs.declared.owners.MovedMap.{MovedMap}
 use Rattle.proxy_state.specs.SecondMaps.{LaggingMap, IsBehind, IsAlike}
 
 -- ---- a map that is alike
@@ -30,6 +31,11 @@ alike_gained map other after further alike gained =
       resolvers = gained.resolvers ∙ alike.resolvers;
       oldest = gained.oldest ∙ alike.oldest;
     }
+
+-- so a map that is alike, with further moves made in it, is the map with them
+pub alike_made : (map other : OwnerMapView) (moved : MovedMap) → MayGain map (drop moved.from moved.moves) → IsAlike map other → HasGained other (drop moved.from moved.moves) moved.owners → HasMade map moved
+alike_made map other moved may alike gained =
+    record { may = may; gained = alike_gained map other moved.owners (drop moved.from moved.moves) alike gained }
 
 -- two maps that stand for the same moves, with one oldest version, stand for the same lists of moves
 stand_alike : (map other : OwnerMapView) (moves : List Move) → StandsForMoves map moves → StandsForMoves other moves → other.oldest ≡ map.oldest → (more : List Move) → StandsForMoves map more → StandsForMoves other more

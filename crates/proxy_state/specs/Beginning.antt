@@ -1,6 +1,6 @@
 -- Which records a proxy refuses to begin, and what becomes of its map of owners.
 use Rattle.std.specs.Prelude.{◌≡◌, ℕ, List, ◌∷◌, ◌++◌, Option, Some, None, not, nat_eq, nat_le}
-use Rattle.std.specs.Prelude.{if◌then◌else◌, filter, map, ◌≤◌}
+use Rattle.std.specs.Prelude.{if◌then◌else◌, drop, filter, map, ◌≤◌}
 use Rattle.model.specs.Configs.{Config}
 use Rattle.model.specs.declared.moves.Move.{Move}
 use Rattle.model.specs.declared.journal.JournalRow.{JournalRow}
@@ -9,6 +9,7 @@ use Rattle.model.specs.Shares.{each_below}
 use Rattle.model.specs.Requests.{Request, request}
 use Rattle.model.specs.OwnerMaps.{OwnerMapView, StandsForMoves}
 use Rattle.model.specs.Finishing.{ProxyView, MayBeMade}
+use Rattle.proxy_state.specs.declared.owners.MovedMap.{MovedMap}
 use Rattle.proxy_state.specs.declared.refusal.Refusal.{Refusal}
 use Rattle.proxy_state.specs.declared.refusal.Refusal.TheVariants.{NotMine, OutOfOrder, OutOfMemory}
 
@@ -51,6 +52,16 @@ pub record HasGained (before : OwnerMapView) (moves : List Move) (after : OwnerM
       (held : List Move) → StandsForMoves before held → StandsForMoves after (held ++ moves)
   pub resolvers : after.resolvers ≡ before.resolvers
   pub oldest : after.oldest ≡ before.oldest
+
+-- the moved map is the one before with the moves of its list from its place on, which may be made
+pub record HasMade (before : OwnerMapView) (moved : MovedMap) : Type 0 where
+  pub may : MayGain before (drop moved.from moved.moves)
+  pub gained : HasGained before (drop moved.from moved.moves) moved.owners
+
+-- the map of a proxy with the further moves of a record: the moved one, if it has any
+abbrev pub newest_of : Option MovedMap → OwnerMapView → OwnerMapView
+newest_of None owned = owned
+newest_of (Some moved) owned = moved.owners
 
 -- the map stands for the moves of the record, and remembers owners at least as far back as the record
 -- asks

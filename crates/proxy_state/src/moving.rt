@@ -1,10 +1,11 @@
 //! A proxy's map of owners: the moves of a record are made in it, and it forgets.
 
-ghost use Rattle.std.specs.Prelude.{◌≡◌, [], ◌∷◌, drop, unwrap_or, None, IfSome, OnOk};
+ghost use Rattle.std.specs.Prelude.{◌≡◌, [], ◌∷◌, drop, None, IfSome, OnOk};
 ghost use Rattle.dated_owners.specs.Refusals.{move_fault};
-ghost use Rattle.proxy_state.specs.Beginning.{MayGain, HasGained, HasMapFor, IsMapFor};
+ghost use Rattle.proxy_state.specs.Beginning.{MayGain, HasGained, HasMade};
+ghost use Rattle.proxy_state.specs.Beginning.{newest_of, HasMapFor, IsMapFor};
 
-use crate::owners::ProxyOwners;
+use crate::owners::{MovedMap, ProxyOwners};
 use dated_owners::OwnerMap;
 use model::{Config, Move};
 use request_builder::{Moves, Record};
@@ -40,28 +41,22 @@ fn make_move(owners: &mut OwnerMap, one: &Move) -> Result<(), OutOfMemory>
 }
 
 /// The map with the moves of a record: the moved one, if the record has further moves.
-pub(crate) fn newest_map<'a>(owners: &'a OwnerMap, moved: &'a Option<OwnerMap>) -> &'a OwnerMap
-    ensures { result.now ≡ unwrap_or moved.now owners.now }
+pub(crate) fn newest_map<'a>(owners: &'a OwnerMap, moved: &'a Option<MovedMap>) -> &'a OwnerMap
+    ensures { result.now ≡ newest_of moved.now owners.now }
 {
     match moved {
-        Some(moved) => moved,
+        Some(moved) => &moved.owners,
         None => owners,
     }
 }
 
 /// Takes the map with further moves, if there is one.
-pub(crate) fn keep_moved(
-    owners: &mut ProxyOwners,
-    moved: Option<OwnerMap>,
-    moves: Moves,
-    from: usize,
-)
-    requires may { IfSome moved (λ map. MayGain owners.old (drop from moves)) }
-    requires gained { IfSome moved (λ map. HasGained owners.old (drop from moves) map) }
-    ensures { owners.new ≡ unwrap_or moved owners.old }
+pub(crate) fn keep_moved(owners: &mut ProxyOwners, moved: Option<MovedMap>)
+    requires { IfSome moved (HasMade owners.old) }
+    ensures { owners.new ≡ newest_of moved owners.old }
 {
     if let Some(moved) = moved {
-        owners.replace(moved, moves, from);
+        owners.replace(moved);
     }
 }
 

@@ -3,7 +3,7 @@
 ghost use Rattle.std.specs.Prelude.{◌≡◌, ◌≤◌, [], drop, max, IfOk};
 ghost use Rattle.model.specs.OwnerMaps.{StandsForMoves};
 ghost use Rattle.dated_owners.specs.Answers.{KeepsMoves};
-ghost use Rattle.proxy_state.specs.Beginning.{MayGain, HasGained};
+ghost use Rattle.proxy_state.specs.Beginning.{MayGain, HasGained, HasMade};
 ghost use Rattle.proxy_state.specs.SecondMaps.{IsBehind, IsAlike};
 
 use crate::moving::make_moves;
@@ -17,9 +17,11 @@ use system_keys::OutOfMemory;
 
 /// The map of owners of a proxy. Contracts see this map.
 ///
-/// Beside it is a second one, which lacks the last moves. Further moves are made in the second one,
-/// which then takes the place of the first. So the map is not copied for them, and stays as it is if
-/// an allocation fails.
+/// Further moves are made in another map, which then takes its place; so it stays as it is if an
+/// allocation fails. The old one is kept as a second map, which lacks these moves, and the next moves
+/// are made in that one. So the map is copied only where there is no second map: for the first moves,
+/// for the first ones after a copy of the proxy, and after a `begin` that failed once it had taken
+/// the second map. A second map takes as much memory as the map.
 #[derive(Drop)]
 pub(crate) struct ProxyOwners {
     newest: OwnerMap,
@@ -31,6 +33,17 @@ pub(crate) struct ProxyOwners {
 struct SecondMap {
     owners: OwnerMap,
     moves: Moves,
+    from: usize,
+}
+
+/// A map of owners in which the moves of a list from a place on have been made, and these moves.
+#[derive(Drop)]
+pub(crate) struct MovedMap {
+    /// The map with the moves.
+    pub(crate) owners: OwnerMap,
+    /// The list of moves.
+    moves: Moves,
+    /// The place of the first move that was made.
     from: usize,
 }
 
@@ -76,20 +89,29 @@ impl ProxyOwners {
         &self.newest
     }
 
-    /// The map with the moves from this place on. Fails only with `OutOfMemory`. Afterwards there is
-    /// no second map.
-    #[tactic(auto, using(crate::proofs::SecondMaps::alike_may_gain, crate::proofs::SecondMaps::alike_gained))]
-    pub(crate) fn with_moves(&mut self, moves: &Moves, from: usize) -> Result<OwnerMap, OutOfMemory>
+    /// Returns the map that follows: the newest one with the moves from this place on, in which
+    /// they have been made, beside a copy of the list. Fails only with `OutOfMemory`.
+    ///
+    /// Uses up the second map, also if it fails.
+    #[tactic(auto, using(crate::proofs::SecondMaps::alike_may_gain, crate::proofs::SecondMaps::alike_made))]
+    pub(crate) fn next_map(&mut self, moves: &Moves, from: usize) -> Result<MovedMap, OutOfMemory>
         requires { MayGain self.old (drop from moves.now) }
-        ensures gained { IfOk result (λ moved. HasGained self.old (drop from moves.now) moved) }
+        ensures gained { IfOk result (λ moved.
+            HasGained self.old (drop from moves.now) moved.owners) }
+        ensures made { IfOk result (λ moved. HasMade self.old moved) }
         ensures same { self.new ≡ self.old }
     {
-        let mut moved = self.another()?;
-        make_moves(&mut moved, moves, from)?;
-        Ok(moved)
+        let mut owners = self.another()?;
+        make_moves(&mut owners, moves, from)?;
+        Ok(MovedMap {
+            owners,
+            moves: moves.copy()?,
+            from,
+        })
     }
 
     /// A map like the newest one: the second one with the moves that it lacks, or else a copy.
+    /// Afterwards there is no second map.
     #[tactic(auto, using(crate::proofs::SecondMaps::alike_itself))]
     fn another(&mut self) -> Result<OwnerMap, OutOfMemory>
         ensures alike { IfOk result (λ map. IsAlike self.old map) }
@@ -101,19 +123,18 @@ impl ProxyOwners {
         }
     }
 
-    /// Puts the map with the moves from this place on in the place of the newest one, which becomes
-    /// the second one. Does not allocate.
+    /// Puts the map with the moves in the place of the newest one, which becomes the second one.
+    /// Does not allocate.
     #[tactic(auto, using(crate::proofs::SecondMaps::is_behind))]
-    pub(crate) fn replace(&mut self, moved: OwnerMap, moves: Moves, from: usize)
-        requires may { MayGain self.old (drop from moves) }
-        requires gained { HasGained self.old (drop from moves) moved }
-        ensures { self.new ≡ moved }
+    pub(crate) fn replace(&mut self, moved: MovedMap)
+        requires { HasMade self.old moved }
+        ensures { self.new ≡ moved.owners }
     {
-        let owners = mem::replace(&mut self.newest, moved);
+        let owners = mem::replace(&mut self.newest, moved.owners);
         self.second = Some(SecondMap {
             owners,
-            moves,
-            from,
+            moves: moved.moves,
+            from: moved.from,
         });
     }
 

@@ -3,13 +3,13 @@
 //! Release 7.1, `CommitProxyServer.actor.cpp`, commitBatch; what differs is marked *profile*.
 
 ghost use Rattle.std.specs.Prelude.{◌≡◌, ◌≤◌, ◌<◌, [], map, None, Some, IfOk, IfErr, OnOk, OnErr};
-ghost use Rattle.std.specs.Prelude.{IfSome, MatchResult, MatchOption, drop, unwrap_or};
+ghost use Rattle.std.specs.Prelude.{IfSome, MatchResult, MatchOption};
 ghost use Rattle.model.specs.Metadata.{metadata as metadata_of};
 ghost use Rattle.model.specs.Shares.{asked};
 ghost use Rattle.model.specs.Finishing.{HoldsMoves, MayBegin, HasBegun, HasFinished};
 ghost use Rattle.proxy_state.specs.declared.refusal.Refusal.TheVariants as refusals;
 ghost use Rattle.proxy_state.specs.Beginning.{refusal_fault, begin_fault, requests_for, rows_up_to};
-ghost use Rattle.proxy_state.specs.Beginning.{HasGained, HasMapFor, IsFirst};
+ghost use Rattle.proxy_state.specs.Beginning.{HasMade, newest_of, HasMapFor, IsFirst};
 ghost use Rattle.proxy_state.specs.Finishing.{finish_fault, IsReplied, IsLearned};
 
 use crate::begun::BegunRecord;
@@ -17,7 +17,7 @@ use crate::finishing::finish_batch;
 use crate::learned::Learned;
 use crate::learning::{first_disagreement, first_unreplied};
 use crate::moving::{forget_owners, keep_moved, newest_map};
-use crate::owners::ProxyOwners;
+use crate::owners::{MovedMap, ProxyOwners};
 use crate::refusal::Refusal;
 use crate::replies::Replies;
 use dated_owners::OwnerMap;
@@ -177,7 +177,6 @@ impl Proxy {
                 expected: self.last_begun,
             });
         }
-        let moves = rec.moves().copy()?;
         let moved = self.moved_map(rec)?;
         let requests = self.requests_by(newest_map(self.owners.newest(), &moved), rec)?;
         let begun = BegunRecord::of_requests(rec, &requests)?;
@@ -185,7 +184,7 @@ impl Proxy {
             return Err(Refusal::OutOfMemory);
         };
         self.begun.push_back_reserved(begun);
-        keep_moved(&mut self.owners, moved, moves, self.moved);
+        keep_moved(&mut self.owners, moved);
         forget_owners(&mut self.owners, &self.config, rec);
         self.moved = rec.moves().len();
         self.last_begun = rec.version();
@@ -194,20 +193,19 @@ impl Proxy {
 
     /// The map of owners with the further moves of the record, or None if it has none.
     #[tactic(auto, using(crate::proofs::KeptProxies::may_gain, crate::proofs::KeptProxies::has_map, crate::proofs::KeptProxies::has_map_now))]
-    fn moved_map(&mut self, rec: &Record) -> Result<Option<OwnerMap>, OutOfMemory>
+    fn moved_map(&mut self, rec: &Record) -> Result<Option<MovedMap>, OutOfMemory>
         requires may { MayBegin self.old rec.now }
         requires own { begin_fault self.old rec.now ≡ None }
         ensures map { IfOk result (λ moved.
-            HasMapFor self.old.config rec.now (unwrap_or moved self.old.owned)) }
-        ensures gained { IfOk result (λ moved. IfSome moved (λ map.
-            HasGained self.old.owned (drop self.old.moved rec.now.moves) map)) }
+            HasMapFor self.old.config rec.now (newest_of moved self.old.owned)) }
+        ensures made { IfOk result (λ moved. IfSome moved (HasMade self.old.owned)) }
         ensures same { self.new ≡ self.old }
     {
         if rec.moves().len() <= self.moved {
             return Ok(None);
         }
-        let owners = self.owners.with_moves(rec.moves(), self.moved)?;
-        Ok(Some(owners))
+        let moved = self.owners.next_map(rec.moves(), self.moved)?;
+        Ok(Some(moved))
     }
 
     /// The requests for the record by this map of owners.
@@ -282,7 +280,8 @@ impl Proxy {
     }
 
     /// The earliest record that is begun and not finished, if the proxy may finish it by these
-    /// replies. Does not allocate.
+    /// replies, and otherwise the fault that `finish` returns. Does not allocate, so it never fails
+    /// with `OutOfMemory`.
     fn next_begun(&self, replies: &[Option<Reply>]) -> Result<&BegunRecord, Refusal>
         ensures fault { let fault = finish_fault self.now replies.now in
             MatchResult result (λ begun. fault ≡ None) (λ refusal. fault ≡ Some refusal) }

@@ -48,6 +48,7 @@ pub fn answer<K: ScriptKind>(alloc: Global, bytes: Vec<u8>) -> Result<Output, Ou
     }
 }
 
+/// The script that the bytes hold, or their first fault. Drops the bytes.
 fn read_of<K: ScriptKind>(alloc: Global, bytes: Vec<u8>) -> Result<K::Script, ScriptFault>
     ensures { IsReadAs (λ script. script) result
         (read_as K.Raw.shape K.Script.checked bytes.items) }

@@ -58,9 +58,8 @@ impl ProxyMemory {
         Err(Refusal::OutsideChain { version: last })
     }
 
-    /// The reply that is kept at the version.
-    ///
-    /// Halves the replies again and again, so it looks at few of them. Allocates nothing.
+    /// The kept reply of this version, or None if there is none. Searches the replies by halving,
+    /// since they are in the order of their versions. Does not allocate.
     pub(crate) fn reply_at(&self, version: Version) -> Option<&Reply>
         requires { RepliesIncrease self.now.replies.items }
         ensures { let kept = reply_at version self.now.replies.items in

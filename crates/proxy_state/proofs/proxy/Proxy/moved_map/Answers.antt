@@ -1,0 +1,15 @@
+-- The map that gained the further moves is one for the record.
+use Rattle.std.proofs.Common.{◌≡◌, ◌-◌, ◌≤◌, drop, rules}
+use Rattle.proxy_state.specs.Beginning.{HasGained}
+use Rattle.proxy_state.proofs.KeptProxies.{has_map}
+use Rattle.proxy_state.proofs.proxy.Proxy.moved_map.Goals as goal
+
+pub returns-clause-map : goal.returns-clause-map
+returns-clause-map c =
+    let v = c.args.self.now in
+    let rec = c.args.rec.now in
+    let resolvers : v.owned.resolvers ≡ v.config.resolvers = rw (← c.self.view_is) c.self.invariant.resolvers in
+    let remembered : v.owned.oldest ≤ v.last_begun - v.config.window = rw (← c.self.view_is) c.self.invariant.remembered in
+    let own : rec.own_previous ≡ v.last_begun = search rules in
+    let gained : HasGained v.owned (drop v.moved rec.moves) c.in_ok-moved.moved.owners = search rules in
+    has_map v rec c.in_ok-moved.moved.owners resolvers remembered own c.requires.may gained
