@@ -1,5 +1,5 @@
 -- Bytes as text: what a text spells is spelled so, and what was printed is read again.
-use Rattle.std.proofs.Common.{◌≡◌, ℕ, suc, ◌+◌, ◌*◌, ◌/◌, ◌%◌, ◌<◌, Bool, true, false, cond, not, ◌&&◌, List, [], ◌∷◌, ◌++◌, length, get_or, Option, Some, None, refl, sym, ap, ◌∙◌, append_assoc, arith}
+use Rattle.std.proofs.Common.{◌≡◌, ℕ, zero, suc, ◌+◌, ◌*◌, ◌/◌, ◌%◌, ◌<◌, Bool, true, false, cond, not, ◌&&◌, List, [], ◌∷◌, ◌++◌, length, get_or, take, drop, Option, Some, None, refl, sym, ap, ◌∙◌, append_assoc, arith}
 use Rattle.std.specs.Prelude.{option_map, IsSome, ◌==◌}
 use Rattle.std.specs.Char.{digit_char}
 use Rattle.std.proofs.lemmas.Bool.Decides.{nat_tests}
@@ -201,6 +201,30 @@ kept_done kept (a ∷ tail) told done e = absurd (omega arith)
 pub kept_none : (read : Option (List ℕ)) → behind_kept [] read ≡ read
 kept_none None = refl
 kept_none (Some bytes) = refl
+
+kept_many : (kept more : List ℕ) (read : Option (List ℕ)) → behind_kept (kept ++ more) read ≡ behind_kept kept (behind_kept more read)
+kept_many kept more None = refl
+kept_many kept more (Some bytes) = ap Some (append_assoc kept more bytes)
+
+-- characters that stand for themselves are kept
+pub kept_plain : (kept text : List ℕ) (n : ℕ) (told : Option (List ℕ)) → bytes_of text ≡ behind_kept (take n text) (bytes_of (drop n text)) → behind_kept kept (bytes_of text) ≡ told → behind_kept (kept ++ take n text) (bytes_of (drop n text)) ≡ told
+kept_plain kept text n told plain e = kept_many kept (take n text) (bytes_of (drop n text)) ∙ ap (behind_kept kept) (sym plain) ∙ e
+
+kept_front : (a : ℕ) (kept : List ℕ) (read : Option (List ℕ)) → behind_kept (a ∷ kept) read ≡ with_byte a (behind_kept kept read)
+kept_front a kept None = refl
+kept_front a kept (Some bytes) = refl
+
+plain_step : (n : ℕ) (text : List ℕ) → n < length text → is_plain (get_or text n 0) ≡ true → behind_kept (take n text) (bytes_of (drop n text)) ≡ behind_kept (take (suc n) text) (bytes_of (drop (suc n) text))
+plain_step n [] within plain = absurd (omega arith)
+plain_step zero (a ∷ tail) within plain = kept_none (bytes_of (a ∷ tail)) ∙ bytes_of-plain a tail plain
+plain_step (suc n) (a ∷ tail) within plain =
+    kept_front a (take n tail) (bytes_of (drop n tail)) ∙ ap (with_byte a) (plain_step n tail (omega arith) plain) ∙ sym (kept_front a (take (suc n) tail) (bytes_of (drop (suc n) tail)))
+
+-- a plain character more at the front stands for itself
+pub plain_more : (n : ℕ) (text : List ℕ) → n < length text → is_plain (get_or text n 0) ≡ true → behind_kept (take n text) (bytes_of (drop n text)) ≡ behind_kept (take (n + 1) text) (bytes_of (drop (n + 1) text))
+plain_more n text within plain =
+    let next : suc n ≡ n + 1 = omega arith in
+    plain_step n text within plain ∙ ap (λ (k : ℕ). behind_kept (take k text) (bytes_of (drop k text))) next
 
 -- the text of a loop that has printed all bytes
 pub printed_again : (text rest bytes : List ℕ) → rest ≡ [] → ((i : ℕ) → get_or bytes i 0 < 256) → text ++ text_of rest ≡ text_of bytes → bytes_of text ≡ Some bytes

@@ -3,7 +3,7 @@
 //! project's profile).
 
 ghost use Rattle.std.specs.Prelude.{◌≡◌, ◌+◌, ◌-◌, ◌^◌, ◌<◌, ◌≤◌, ◌++◌, length, min, string_bytes};
-ghost use Rattle.std.specs.Prelude.{IfOk, IfSome, OnOk, IsSome, IsTrue, Some, option_map};
+ghost use Rattle.std.specs.Prelude.{IfOk, IfSome, OnOk, IsSome, IsTrue, Some, option_map, drop, take};
 ghost use Rattle.std.specs.Char.{digit_char};
 ghost use Rattle.system_keys.specs.AsSpecified.{IsAsSpecified};
 ghost use Rattle.system_keys.specs.Refusals.{row_fault};
@@ -115,15 +115,32 @@ fn decode(alloc: Global, text: &[u8]) -> Result<Option<Vec<u8>>, OutOfMemory>
 {
     let mut bytes = Vec::with_capacity(alloc, expected_length(text))?;
     let mut rest = text;
-    while let Some((byte, behind)) = next_byte(rest) {
+    loop {
+        let (plain, behind) = rest.split_at(plain_length(rest));
+        bytes.extend_from_slice(plain)?;
+        if behind.is_empty() {
+            return Ok(Some(bytes));
+        }
+        let Some((byte, after)) = next_byte(behind) else {
+            return Ok(None);
+        };
         bytes.push(byte)?;
-        rest = behind;
+        rest = after;
     }
-    if rest.is_empty() {
-        Ok(Some(bytes))
-    } else {
-        Ok(None)
+}
+
+/// How many characters at the front of the text stand for themselves.
+#[inline(always)]
+fn plain_length(text: &[u8]) -> usize
+    ensures within { result ≤ length text.now }
+    ensures value { bytes_of text.now
+        ≡ option_map (λ bytes. take result text.now ++ bytes) (bytes_of (drop result text.now)) }
+{
+    let mut length = 0usize;
+    while length < text.len() && is_plain(text[length]) {
+        length += 1;
     }
+    length
 }
 
 /// How many bytes the text stands for, if each backslash begins an escape. It only says how much
