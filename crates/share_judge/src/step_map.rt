@@ -137,6 +137,10 @@ impl StepMap {
         ensures rising { AreRising self.new }
     {
         let over = StepMap::of_range(self.alloc, range, version)?;
+        if self.versions.is_empty() {
+            *self = over;
+            return Ok(());
+        }
         let keys = self.make_room(&over)?;
         self.fill(&keys, version);
         Ok(())
