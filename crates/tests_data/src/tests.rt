@@ -15,8 +15,12 @@ mod of_system_keys;
 use std::alloc::{AllocError, Global};
 use std::fmt::Debug;
 use std::process::Abort;
-use system_keys::{KeyRange, OutOfMemory};
+use system_keys::{Bytes, KeyRange, OutOfMemory};
 use testing::twice;
+
+fn are(bytes: &Bytes, expected: &[u8]) -> bool {
+    bytes.as_slice() == expected
+}
 
 fn is_range(range: &KeyRange, begin: &[u8], end: &[u8]) -> bool {
     range.begin() == begin && range.end() == end

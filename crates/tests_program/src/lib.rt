@@ -1,4 +1,4 @@
-//! The tests of turns_run and threads_scripts, by their public calls.
+//! The tests of cluster_scripts, turns_run and threads_scripts, by their public calls.
 #![tactic(auto)]
 
 #[cfg(test)]

@@ -1,15 +1,18 @@
 //! Tests of fold_run: how often devices are called, that each call of ours is one call of the standard
 //! library's reader or writer and none follows one that failed, and that scripts are read by their
-//! tokens alone. No clause says so.
+//! tokens alone. No clause says so. A copy of a script has the same values in all fields.
 
 use super::devices::{Faltering, Halting};
-use fold_run::{read_script, run_fold, stream_script};
+use super::{are, is_range};
+use fold_run::{FoldScript, read_script, run_fold, stream_script};
+use model::{StateTxn, Verdict};
 use scripts::{Reader, RunStatus, ScriptFault, Sink, Source, Writer};
 use std::alloc::Global;
 use std::io::ErrorKind;
 use std::process::Abort;
 use std::test::Fail;
-use testing::{list, repeated, twice};
+use system_keys::{Change, OutOfMemory};
+use testing::{Step, bytes, journal_row, list, one, repeated, twice};
 
 /// 37 bytes.
 const SCRIPT: &[u8] = br#"{"resolvers":1,"rows":[],"ask":["a"]}"#;
@@ -252,5 +255,63 @@ fn a_script_is_read_as_a_tree_where_a_field_stands_twice(rt: HostRuntime) -> Res
         ScriptFault::OutOfMemory
     )?;
     assert!(rt; script.rows.as_slice().len() == 2 && script.ask.as_slice().len() == 3);
+    Ok(())
+}
+
+/// A script of one row with one state transaction, and of one key.
+fn fold_script(alloc: Global) -> Result<FoldScript, Fail> {
+    let steps = &[Step::Set(b"a", b"1"), Step::Clear(b"m", b"t")];
+    let row = journal_row(
+        alloc,
+        10,
+        &[(&[Verdict::TooOld, Verdict::Conflict], (steps, true))],
+    )?;
+    let key = bytes(alloc, b"n")?;
+    Ok(FoldScript {
+        rows: one(alloc, row)?,
+        ask: one(alloc, key)?,
+    })
+}
+
+/// The changes are those of that script.
+fn are_changes(changes: &[Change]) -> bool {
+    match changes {
+        [Change::Set { key, value }, Change::Clear { range }] => {
+            are(key, b"a") && are(value, b"1") && is_range(range, b"m", b"t")
+        }
+        _ => false,
+    }
+}
+
+/// The only state transaction is that of that script.
+fn is_only_state(states: &[StateTxn]) -> bool {
+    match states {
+        [state] => {
+            are_changes(state.mutations.as_slice())
+                && state.lock_aware
+                && matches!(
+                    state.verdicts.as_slice(),
+                    [Verdict::TooOld, Verdict::Conflict]
+                )
+        }
+        _ => false,
+    }
+}
+
+/// The script is that one, in every field.
+fn is_fold_script(script: &FoldScript) -> bool {
+    match (script.rows.as_slice(), script.ask.as_slice()) {
+        ([row], [key]) => {
+            row.version == 10 && is_only_state(row.states.as_slice()) && are(key, b"n")
+        }
+        _ => false,
+    }
+}
+
+#[test]
+fn fold_scripts_are_copied(rt: HostRuntime) -> Result<(), Fail> {
+    let script = fold_script(rt.alloc())?;
+    let copied = twice!(script.copy(), OutOfMemory)?;
+    assert!(rt; is_fold_script(&script) && is_fold_script(&copied));
     Ok(())
 }

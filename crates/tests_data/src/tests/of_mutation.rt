@@ -1,13 +1,13 @@
 //! Tests of mutation.
 
-use super::{assert_copied, is_range};
+use super::{are, assert_copied, is_range};
 use mutation::{
     Admitted, AdmittedMutation, Batch, GivenRange, Mutation, Refusal, Stamped, Transaction, admit,
     admit_owned,
 };
 use std::alloc::Global;
 use std::test::Fail;
-use system_keys::{Bytes, Change, KeyRange};
+use system_keys::{Change, KeyRange};
 use testing::{Given, NOTHING, Step, admitted, batch, transaction};
 
 /// A value that waits for its stamp at the offset 2.
@@ -28,10 +28,6 @@ const ONE_EACH: Given<'static> = Given {
     ],
     lock_aware: true,
 };
-
-fn are(bytes: &Bytes, expected: &[u8]) -> bool {
-    bytes.as_slice() == expected
-}
 
 /// The only range is this one.
 fn is_only_range(ranges: &[KeyRange], begin: &[u8], end: &[u8]) -> bool {

@@ -1,11 +1,13 @@
-//! Tests of scripts: the words in which faults are shown, what no script prints, and batches.
+//! Tests of scripts: the words in which faults are shown, what no script prints, batches, and copies of
+//! unchecked changes.
 
-use super::assert_alike;
+use super::{are, assert_alike};
 use mutation::Batch;
-use scripts::{RunStatus, ScriptFault, read_batch, stream_batch};
+use scripts::{RawChange, RunStatus, ScriptFault, read_batch, stream_batch};
 use std::alloc::Global;
 use std::test::Fail;
-use testing::{Given, NOTHING, Step, are_shown_as, batch, twice};
+use system_keys::OutOfMemory;
+use testing::{Given, NOTHING, Step, are_shown_as, batch, bytes, twice};
 
 /// Each fault in words; those of a key, a transaction or a batch are shown alone.
 const WORDS: &[(ScriptFault, &str)] = &[
@@ -106,5 +108,38 @@ fn a_batch_is_read_as_a_tree_where_a_field_stands_twice(rt: HostRuntime) -> Resu
         ScriptFault::OutOfMemory
     )?;
     assert_alike(&rt, &read, &expected);
+    Ok(())
+}
+
+/// The change is the Set of `k` to `v`.
+fn is_raw_set(change: &RawChange) -> bool {
+    match change {
+        RawChange::Set { key, value } => are(key, b"k") && are(value, b"v"),
+        RawChange::Clear { .. } => false,
+    }
+}
+
+/// The change is the Clear from `t` up to `m`: nothing is checked.
+fn is_raw_clear(change: &RawChange) -> bool {
+    match change {
+        RawChange::Set { .. } => false,
+        RawChange::Clear { begin, end } => are(begin, b"t") && are(end, b"m"),
+    }
+}
+
+#[test]
+fn raw_changes_are_copied(rt: HostRuntime) -> Result<(), Fail> {
+    let set = RawChange::Set {
+        key: bytes(rt.alloc(), b"k")?,
+        value: bytes(rt.alloc(), b"v")?,
+    };
+    let copied = twice!(set.copy(), OutOfMemory)?;
+    assert!(rt; is_raw_set(&set) && is_raw_set(&copied));
+    let clear = RawChange::Clear {
+        begin: bytes(rt.alloc(), b"t")?,
+        end: bytes(rt.alloc(), b"m")?,
+    };
+    let copied = twice!(clear.copy(), OutOfMemory)?;
+    assert!(rt; is_raw_clear(&clear) && is_raw_clear(&copied));
     Ok(())
 }

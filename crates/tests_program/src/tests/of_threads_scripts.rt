@@ -1,9 +1,15 @@
-//! Tests of reading threads scripts: that right ones are read, and by their tokens alone. What is
-//! read is right by the contracts.
+//! Tests of threads scripts: that right ones are read, and by their tokens alone, and that a copy has the
+//! values of its original. What is read is right by the contracts.
 
+use super::{GIVEN, is_asked, is_batch, is_config, is_range};
+use model::Config;
+use mutation::Batch;
 use scripts::ScriptFault;
 use std::alloc::Global;
-use threads_scripts::{read_threads, stream_threads};
+use std::test::Fail;
+use system_keys::{Items, OutOfMemory};
+use testing::{batch, bytes, one, range, twice};
+use threads_scripts::{ThreadsScript, UndatedMove, read_threads, stream_threads};
 
 /// Right scripts: two moves and three batches, fields in any order, and each form of a move and of a
 /// batch.
@@ -120,4 +126,74 @@ fn no_refused_script_is_streamed(rt: HostRuntime) {
             "{script}"
         );
     }
+}
+
+/// The move of `[m, t)` to resolver 3.
+fn undated_move(alloc: Global) -> Result<UndatedMove, Fail> {
+    Ok(UndatedMove {
+        range: range(alloc, b"m", b"t")?,
+        dest: 3,
+    })
+}
+
+/// The move is that one, in both fields.
+fn is_undated_move(undated: &UndatedMove) -> bool {
+    is_range(&undated.range, b"m", b"t") && undated.dest == 3
+}
+
+#[test]
+fn undated_moves_are_copied(rt: HostRuntime) -> Result<(), Fail> {
+    let undated = undated_move(rt.alloc())?;
+    let copied = twice!(undated.copy(), OutOfMemory)?;
+    assert!(rt; is_undated_move(&undated) && is_undated_move(&copied));
+    Ok(())
+}
+
+/// A script of one move, one batch and one key.
+fn threads_script(alloc: Global) -> Result<ThreadsScript, Fail> {
+    let batches = one(alloc, batch(alloc, &[GIVEN])?)?;
+    let key = bytes(alloc, b"n")?;
+    Ok(ThreadsScript {
+        config: Config::new(1, 4, 100, 10)?,
+        rows: 5,
+        moves: one(alloc, undated_move(alloc)?)?,
+        work: one(alloc, batches)?,
+        ask: one(alloc, key)?,
+    })
+}
+
+/// The only move is that of the script.
+fn is_only_move(moves: &[UndatedMove]) -> bool {
+    match moves {
+        [moved] => is_undated_move(moved),
+        _ => false,
+    }
+}
+
+/// The only proxy has the batch of the script.
+fn is_work(work: &[Items<Batch>]) -> bool {
+    match work {
+        [batches] => match batches.as_slice() {
+            [batch] => is_batch(batch),
+            _ => false,
+        },
+        _ => false,
+    }
+}
+
+/// The script is that one, in every field.
+fn is_threads_script(script: &ThreadsScript) -> bool {
+    is_config(&script.config)
+        && script.rows == 5
+        && is_only_move(script.moves.as_slice())
+        && is_work(script.work.as_slice())
+        && is_asked(script.ask.as_slice())
+}
+
+#[test]
+fn threads_scripts_are_copied(rt: HostRuntime) -> Result<(), Fail> {
+    let script = threads_script(rt.alloc())?;
+    let copied = twice!(script.copy(), OutOfMemory)?;
+    assert!(rt; is_threads_script(&script) && is_threads_script(&copied));
+    Ok(())
 }

@@ -1,9 +1,15 @@
-//! Tests of reading turns scripts: that right ones are read, and by their tokens alone. What is read
-//! is right by the contracts.
+//! Tests of turns scripts: that right ones are read, and by their tokens alone, and that a copy has the
+//! values of its original. What is read is right by the contracts.
 
+use super::{GIVEN, is_asked, is_batch, is_config, is_range};
+use model::Config;
 use scripts::ScriptFault;
 use std::alloc::Global;
-use turns_run::{read_turns, stream_turns};
+use std::test::Fail;
+use system_keys::{Items, OutOfMemory};
+use testing::{batch, bytes, one, range, room, twice};
+use turn_world::Event;
+use turns_run::{TurnsScript, read_turns, stream_turns};
 
 /// A move between a write and a read of its range, offered and finished.
 const MOVED: &str = r#"{"proxies":1,"resolvers":2,"window":100,"step":10,"ask":["n"],"events":[
@@ -145,4 +151,67 @@ fn no_beginning_of_a_script_is_json(rt: HostRuntime) {
             "the first {end} bytes"
         );
     }
+}
+
+/// An event of each kind.
+fn events(alloc: Global) -> Result<Items<Event>, Fail> {
+    let batch = batch(alloc, &[GIVEN])?;
+    let range = range(alloc, b"m", b"t")?;
+    let mut events = room(alloc, 4)?;
+    events.push(Event::Sequence { proxy: 0, batch })?;
+    events.push(Event::Move { range, dest: 3 })?;
+    events.push(Event::Offer {
+        row: 1,
+        resolver: 2,
+    })?;
+    events.push(Event::Finish { proxy: 5 })?;
+    Ok(Items::from(events))
+}
+
+/// The event is the one of its kind there, in every field.
+fn is_event(event: &Event) -> bool {
+    match event {
+        Event::Sequence { proxy, batch } => *proxy == 0 && is_batch(batch),
+        Event::Move { range, dest } => is_range(range, b"m", b"t") && *dest == 3,
+        Event::Offer { row, resolver } => *row == 1 && *resolver == 2,
+        Event::Finish { proxy } => *proxy == 5,
+    }
+}
+
+/// There is one event of each kind, in their order.
+fn are_events(events: &[Event]) -> bool {
+    match events {
+        [
+            first @ Event::Sequence { .. },
+            second @ Event::Move { .. },
+            third @ Event::Offer { .. },
+            fourth @ Event::Finish { .. },
+        ] => { is_event(first) && is_event(second) && is_event(third) && is_event(fourth) }
+        _ => false,
+    }
+}
+
+/// The script of these events, and of one key.
+fn turns_script(alloc: Global) -> Result<TurnsScript, Fail> {
+    let key = bytes(alloc, b"n")?;
+    Ok(TurnsScript {
+        config: Config::new(1, 4, 100, 10)?,
+        events: events(alloc)?,
+        ask: one(alloc, key)?,
+    })
+}
+
+/// The script is that one, in every field.
+fn is_turns_script(script: &TurnsScript) -> bool {
+    is_config(&script.config)
+        && are_events(script.events.as_slice())
+        && is_asked(script.ask.as_slice())
+}
+
+#[test]
+fn turns_scripts_are_copied(rt: HostRuntime) -> Result<(), Fail> {
+    let script = turns_script(rt.alloc())?;
+    let copied = twice!(script.copy(), OutOfMemory)?;
+    assert!(rt; is_turns_script(&script) && is_turns_script(&copied));
+    Ok(())
 }
