@@ -120,11 +120,6 @@ def greatest_ledgers():
     full = "refused 50 LedgerFull %d" % rows
     marks = {0: [marking(0)], rows - 2: [marking(1)], rows - 1: [marking(2)]}
     yield case(
-        "4,095 batches and a closing in 4,096 rows", threads([marks.get(it, []) for it in range(rows - 1)], rows=rows, resolvers=1),
-        outcomes(0, *[COMMITTED if it in marks else "none" for it in range(rows - 1)]), closings(10 * rows),
-        shown(0, 10 * rows, metadata_version='"1"'),
-    )
-    yield case(
         "4,097 batches in 4,096 rows",
         threads([marks.get(it, [transaction(0, [], [], [put(METADATA_VERSION, "x")])] * (it == rows)) for it in range(rows + 1)],
                 [], rows=rows, resolvers=1),
