@@ -9,15 +9,24 @@ class Hung(Exception):
 
 def run(words, script, seconds, **how):
     """The ended run of these words on a script. Raises `Hung` if it does not end in so many seconds, and kills it then."""
-    with subprocess.Popen(words, stdin=subprocess.PIPE, stdout=subprocess.PIPE, stderr=subprocess.PIPE, **how) as process:
+    streams = {"stdout": subprocess.PIPE, "stderr": subprocess.PIPE}
+    with file_of(script) as given, subprocess.Popen(words, stdin=given, **streams, **how) as process:
         try:
-            out, err = process.communicate(script, seconds)
+            out, err = process.communicate(timeout=seconds)
         except subprocess.TimeoutExpired:
             stand = "; ".join(threads_of(process.pid))
             raise Hung("has not ended in %d seconds, and stands at %s" % (seconds, stand)) from None
         finally:
             process.kill()
     return subprocess.CompletedProcess(words, process.returncode, out, err)
+
+
+def file_of(script):
+    """A file with the script, in memory. Of a pipe it is chance how much a read gives: a long script comes in parts."""
+    file = os.fdopen(os.memfd_create("script"), "w+b")
+    file.write(script)
+    file.seek(0)
+    return file
 
 
 def threads_of(process):
