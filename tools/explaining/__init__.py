@@ -1,0 +1,1 @@
+"""What decides a line of a text: computed from the script by the second program, in tests/scripts."""

@@ -1,0 +1,75 @@
+"""Why a script is refused: the first fault that it has, and where."""
+from reference import Refused, check_change, read_json, read_script
+from threads_reference import read_threads
+from turns_reference import REFUSALS, check_mutation, read_turns
+
+MEANINGS = {
+    10: "a key, or the end of a range, is too long", 11: "a value is too long",
+    12: "a key or the begin of a range is at or past \\xff\\xff, or the end of a range past it",
+    13: "the begin of a range is not below its end",
+    14: "a keyServers or serverTag value does not decode, or a SetStamped has such a row",
+    15: "a stamped value is under four bytes, or its ten bytes go past its end", 16: "a batch has more than 1,024 transactions",
+    20: "a move goes to a missing resolver", 70: "it is not JSON",
+    71: "it does not have the form of its mode, or a number is outside its limits",
+}
+
+
+def faults_of(check_it, *given):
+    """The number of the refusal that a check ends with, or nothing."""
+    try:
+        check_it(*given)
+    except Refused as refused:
+        return refused.args[0]
+    return None
+
+
+def refusal_words(mode, script, number):
+    """Why a script is refused by this number, and where the fault stands."""
+    yield "The script is refused by %d %s: %s." % (number, REFUSALS[number], MEANINGS[number])
+    if number < 70:
+        place = next((place for place, found in places_of(mode, read_json(script)) if found == number), None)
+        if place:
+            yield "The first fault is at %s." % place
+
+
+def places_of(mode, value):
+    """Each part of a script that is checked, in order, and the number of its fault, if it has one."""
+    kinds = {"fold": fold_places, "turns": turns_places, "threads": threads_places}
+    return ((place, found) for place, found in kinds[mode](value) if found)
+
+
+def fold_places(value):
+    for row, (_, states) in enumerate(read_script(value)[0]):
+        for number, (changes, _, _) in enumerate(states):
+            for at, change in enumerate(changes):
+                yield "mutation %d of transaction %d of row %d" % (at, number, row), faults_of(check_change, change)
+
+
+def turns_places(value):
+    for number, event in enumerate(read_turns(value)[1]):
+        if event[0] == "move":
+            yield "the range of event %d" % number, faults_of(check_change, ("clear", *event[1]))
+        if event[0] == "sequence":
+            yield from batch_places("of event %d" % number, event[2])
+
+
+def threads_places(value):
+    script = read_threads(value)
+    for number, (span, _) in enumerate(script.moves):
+        yield "the range of move %d" % number, faults_of(check_change, ("clear", *span))
+    for proxy, batches in enumerate(script.work):
+        for number, batch in enumerate(batches):
+            yield from batch_places("of batch %d of proxy %d" % (number, proxy), batch)
+    for number, (_, resolver) in enumerate(script.moves):
+        yield "move %d" % number, 20 if resolver >= script.resolvers else None
+
+
+def batch_places(where, batch):
+    for number, transaction in enumerate(batch):
+        whose = "of transaction %d %s" % (number, where)
+        for name, spans in (("read", transaction.reads), ("write", transaction.writes)):
+            for at, span in enumerate(spans):
+                yield "%s %d %s" % (name, at, whose), faults_of(check_change, ("clear", *span))
+        for at, mutation in enumerate(transaction.changes):
+            yield "mutation %d %s" % (at, whose), faults_of(check_mutation, mutation)
+    yield "the batch %s" % where, 16 if len(batch) > 1024 else None
