@@ -29,6 +29,7 @@ class Records:
 
     def __init__(self, room, edits):
         self.room, self.path, self.edits = room, f"{HERE}/refused.txt", collections.defaultdict(list)
+        self.have_changed = False
         for edit in edits:
             self.edits[edit.crate].append(edit)
         files = [it for it in sorted(os.listdir(HERE)) if it == "run" or it.endswith(".py") and it not in OF_NO_VERDICT]
@@ -56,15 +57,17 @@ class Records:
     def write(self, tried):
         """Records the crates all of whose edits were tried and are refused; one with a wrong answer has no record.
 
-        What another run has written in the meantime stays. Returns whether the records have changed.
+        What another run has written in the meantime stays.
         """
         self.read_kept()
+        tried = set(tried)
         for crate, edits in self.edits.items():
             if any(it.answer and not it.is_well() for it in edits):
                 self.kept.pop(crate, None)
             elif tried.issuperset(edits) and all(it.is_well() for it in edits):
                 self.kept[crate] = self.sum(crate)
         lines = [f"{crate} {self.kept[crate]}\n" for crate in sorted(self.kept) if crate in self.edits]
-        with open(self.path, "w", encoding="utf-8") as file:
-            file.write("".join(lines))
-        return "".join(lines) != self.written
+        if "".join(lines) != self.written:
+            self.have_changed = True
+            with open(self.path, "w", encoding="utf-8") as file:
+                file.write("".join(lines))

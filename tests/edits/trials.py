@@ -12,10 +12,13 @@ LOOK = 1
 
 
 class Trials:
-    """All checks of a run: the crates as they are, lowest first, and the batches of each once it is proved."""
+    """All checks of a run: the crates as they are, lowest first, and the batches of each once it is proved.
 
-    def __init__(self, room, edits, options):
-        self.room, self.options, self.waiting, self.running = room, options, [], {}
+    What each batch has judged is recorded at once: a run that is broken off keeps the crates that it has ended.
+    """
+
+    def __init__(self, room, edits, options, records):
+        self.room, self.options, self.records, self.waiting, self.running = room, options, records, [], {}
         self.edits = [it for it in edits if not it.fault]
         self.wanted = {it.crate for it in self.edits}
         self.needed = {it for crate in self.wanted for it in (*room.all_below(crate), crate)}
@@ -59,7 +62,8 @@ class Trials:
 
     def lanes(self):
         """How many checks may run side by side now."""
-        return max(self.options.jobs // 2, 1) if self.is_beside() else self.options.jobs
+        is_shared = self.is_beside() or self.options.share and os.path.exists(self.options.share)
+        return max(self.options.jobs // 2, 1) if is_shared else self.options.jobs
 
     def ready_proofs(self):
         """The crates that are still to be proved as they are, and that stand on proved crates alone.
@@ -138,3 +142,4 @@ class Trials:
         for some in (later[:half], later[half:]):
             self.waiting += batches(some, self.room.home(crate))
         self.waiting += self.later.pop(crate, [])
+        self.records.write(self.edits)
