@@ -33,6 +33,13 @@ LIMIT = 120
 FEWER_IN_THREADS = 20
 
 
+def build_shim(folder):
+    """The path of the preloaded library, which is built in this folder."""
+    shim, source = os.path.join(folder, "refuse.so"), os.path.join(os.path.dirname(os.path.abspath(__file__)), "refuse.c")
+    subprocess.run(["gcc", "-O1", "-shared", "-fPIC", "-o", shim, source, "-ldl"], check=True)
+    return shim
+
+
 class Example(NamedTuple):
     """A stored example, and the words that run the program on it."""
 
@@ -227,6 +234,18 @@ def try_endless_inputs(trial):
     trial.expect(got[:2] == (OUT_OF_MEMORY, b""), "ends wrong on a pipe that is fed for ever: %r" % (got,))
 
 
+def try_endless_spaces(trial, words):
+    """A source that gives one space a call without end: the limit on reads ends it, and nothing is written."""
+    how = {"env": dict(os.environ, LD_PRELOAD=trial.shim, SHORT_READ="1"), "capture_output": True, "timeout": LIMIT}
+    with open("/dev/zero", "rb") as zeros, subprocess.Popen(["tr", "\\0", " "], stdin=zeros, stdout=subprocess.PIPE) as feeder:
+        try:
+            ended = subprocess.run([trial.program, *words], stdin=feeder.stdout, **how)
+        finally:
+            feeder.kill()
+    got = ended.returncode, ended.stdout, ended.stderr
+    trial.expect(got == (DEVICE_FAILED, b"", b""), "%s: ends wrong on spaces without end, one a call: %r" % (words, ended))
+
+
 def run_shell(trial, redirections, words=""):
     """One run with these redirections of a shell: its status, and what came on standard output and standard error."""
     line = 'exec "$0" %s %s' % (words, redirections)
@@ -311,7 +330,7 @@ def tried(program, shim, mark, trial_and_arguments):
     trial = Trial(program, shim, mark)
     try:
         trial_of(trial, *arguments)
-    except watched.Hung as hung:
+    except (watched.Hung, subprocess.TimeoutExpired) as hung:
         trial.expect(False, str(hung))
     return trial.runs, trial.faults
 
@@ -321,6 +340,7 @@ def try_program(program, root, shim, folder, more):
     stored = list(examples(root))
     trials = [(trial_of, example) for example in stored for trial_of in OF_EACH_EXAMPLE]
     trials += [(reach_read_limit, example) for example in (stored[0], stored[-1])]
+    trials += [(try_endless_spaces, words) for words in ([], ["turns"], ["threads"])]
     trials += [(trial_of,) for trial_of in OF_THE_PROGRAM] + [(try_devices, root, folder), *more]
 
     marks = [os.path.join(folder, "mark %d" % number) for number in range(len(trials))]

@@ -1,10 +1,10 @@
-"""Scripts made by somebody who wants the program to fail: beginnings of a long script, brackets, bytes that are changed at random.
+"""Scripts made by somebody who wants the program to fail: beginnings of a long script, brackets, one fault, bytes changed at random.
 
 Where what is left may still be a script, the second program alone says what it must be answered.
 """
 import random
 
-from script import BAD_SHAPE, NOT_JSON, Written, write
+from script import BAD_SHAPE, NOT_JSON, Written, named, write
 
 # how many scripts with changed bytes are tried of each form
 CHANGED = 150
@@ -55,6 +55,28 @@ def nested_alone(form):
         yield "200 lists at %s" % ".".join(map(str, path)), write(form.changed(path, deep)), NOT_JSON
 
 
+def one_change_at_each_place(form):
+    """One wrong number, field or text at each place, and bytes around the script. The table draws some of many such cases; these
+    are few enough that all are tried of every form."""
+    whole = write(form.good()).encode()
+    yield "nothing at all", b"", NOT_JSON
+    yield "200 lists alone", "[" * 200 + "]" * 200, NOT_JSON
+    for more in (b"x", b"\xff", b"}", b"\0"):
+        yield "%r before the script" % more, more + whole, NOT_JSON
+        yield "%r after the script" % more, whole + more, NOT_JSON
+    for path, _ in form.places("number"):
+        for new in (-1, 2**63, "0", "7"):
+            yield "%s is %r" % (named(path), new), write(form.changed(path, new)), BAD_SHAPE
+    for name in ("proxies", "resolvers"):
+        for count in (0, 65) if name in form.good() else ():
+            yield "%d %s" % (count, name), write(form.changed((name,), count)), BAD_SHAPE
+    for path, value in form.places("dict"):
+        yield "%s with one field more" % named(path), write(form.changed(path, dict(value, x=1))), BAD_SHAPE
+    for path, _ in form.places("bytes"):
+        for text in ("\\xFF", "\\x6d"):
+            yield "%s is %s" % (named(path), text), write(form.changed(path, text)), BAD_SHAPE
+
+
 def changed_bytes(form):
     """The good script with one to three bytes left out, put in, doubled or exchanged."""
     whole = write(form.good()).encode()
@@ -82,4 +104,4 @@ def change_bytes(rng, text):
         text[place:place] = text[place : place + rng.randrange(1, 20)]
 
 
-OF_EACH_FORM = (beginnings_of_a_long_script, nested_alone, changed_bytes)
+OF_EACH_FORM = (beginnings_of_a_long_script, nested_alone, one_change_at_each_place, changed_bytes)

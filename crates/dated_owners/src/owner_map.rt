@@ -1,4 +1,5 @@
-//! The map of owners.
+//! The map of owners, as its callers see it: ranges move, the resolvers asked about a range are
+//! found, and old owners are forgotten.
 
 ghost use Rattle.std.specs.Prelude.{◌≡◌, ◌≤◌, [], max, None, IfOk, OnOk, IfErr, OnErr};
 ghost use Rattle.model.specs.declared.moves.Move.{Move};

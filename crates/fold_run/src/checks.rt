@@ -1,4 +1,4 @@
-//! The checks of a fold script, in the order of its lists.
+//! The checks of the changes of a fold script, in the order of its lists.
 
 ghost use Rattle.fold_run.specs.Checks.{checked_state, checked_row, checked_script};
 

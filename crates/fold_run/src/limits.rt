@@ -1,4 +1,4 @@
-//! The limits of a fold script.
+//! The limits of a fold script: versions that rise, and a verdict of each resolver.
 
 ghost use Rattle.std.specs.Prelude.{◌≡◌};
 ghost use Rattle.std.specs.List.{list_all};
@@ -18,6 +18,7 @@ pub(crate) fn is_within_limits(script: &RawScript) -> bool
         && have_verdicts(script.resolvers, script.rows.as_slice())
 }
 
+/// Whether the versions of the rows rise strictly.
 fn are_rising(rows: &[RawRow]) -> bool
     ensures { result ≡ are_rising 0 rows.now }
 {
@@ -31,12 +32,14 @@ fn are_rising(rows: &[RawRow]) -> bool
     true
 }
 
+/// Whether each state transaction of the rows has a verdict of each resolver.
 fn have_verdicts(resolvers: u64, rows: &[RawRow]) -> bool
     ensures { result ≡ list_all (row_has_verdicts resolvers) rows.now }
 {
     rows.iter().all(|row| row_has_verdicts(resolvers, row))
 }
 
+/// Whether each state transaction of the row has a verdict of each resolver.
 fn row_has_verdicts(resolvers: u64, row: &RawRow) -> bool
     ensures { result ≡ row_has_verdicts resolvers row.now }
 {
@@ -46,6 +49,7 @@ fn row_has_verdicts(resolvers: u64, row: &RawRow) -> bool
         .all(|state| has_verdicts(resolvers, state))
 }
 
+/// Whether the state transaction has a verdict of each resolver.
 fn has_verdicts(resolvers: u64, state: &RawState) -> bool
     ensures { result ≡ has_verdicts resolvers state.now }
 {

@@ -1,4 +1,4 @@
-//! What is printed of a fold script.
+//! The whole text of a fold script: its rows are folded, and the routing is printed.
 
 ghost use Rattle.std.specs.Prelude.{◌≡◌, ◌++◌, OnOk, string_bytes};
 ghost use Rattle.model.specs.Metadata.{metadata};
@@ -28,6 +28,7 @@ pub(crate) fn print_folded(
     print_metadata(alloc, text, last_version(rows), &metadata, keys)
 }
 
+/// The version of the last row, or 0 if there is none.
 fn last_version(rows: &[JournalRow]) -> u64
     ensures { result ≡ last_version rows.now }
 {

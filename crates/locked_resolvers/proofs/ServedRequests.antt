@@ -36,15 +36,12 @@ use Rattle.agreed_ledger.specs.Cells.{AllHaveRows, AreKnownAt, Cells, ColumnView
 use Rattle.facts.specs.Unsets.{IfTaken}
 use Rattle.facts.specs.declared.setting.Unset.{Unset}
 use Rattle.facts.specs.declared.setting.Unset.TheVariants as unset
-use Rattle.share_judge.specs.Answers.{IfNotKept}
-use Rattle.share_judge.specs.declared.not_judged.NotJudged.{NotJudged}
-use Rattle.share_judge.specs.declared.not_judged.NotJudged.TheVariants as unjudged
 use Rattle.state_memory.specs.declared.refusal.Refusal.{Refusal as OfferRefusal}
 use Rattle.state_memory.specs.declared.refusal.Refusal.TheVariants as offered
 use Rattle.locked_resolvers.specs.Requests.{RequestView, IsRequestFor, HasRowVersions}
 use Rattle.locked_resolvers.specs.NotedReplies.{NotedReplyView, IsNotedReply, IsReplyToRequest}
 use Rattle.locked_resolvers.specs.Resolvers.{AnswerHas, AreReceivedBefore, HasJudged, HasOffered, HasRepeated, IsJudgedAnswer, IsLockedResolver, IsNotEarly, IsOfferRefusal, LockedResolverView, ShowsReply, StandsForRecords, TellsTaken, after_refusal, is_early, requests_to}
-use Rattle.locked_resolvers.specs.Refusals.{of_not_judged, of_offer, taken_note}
+use Rattle.locked_resolvers.specs.Refusals.{of_offer, of_unset, taken_note}
 use Rattle.locked_resolvers.specs.declared.refusal.Refusal.{Refusal}
 use Rattle.locked_resolvers.specs.declared.refusal.Refusal.TheVariants as refusals
 use Rattle.locked_resolvers.proofs.Lists.{beginning_of, first_same, one_more, same_rows, take_all, take_before}
@@ -651,26 +648,24 @@ pub served_next : (v : LockedResolverView) (q : Request) → v.closed ≡ false 
 served_next v q is_open judge = (is_open, is_served v.memory q judge)
 
 -- a request that comes next is refused only so
-pub late_refusal : (v : LockedResolverView) (q : Request) (why : NotJudged (Unset NotedVerdicts)) → v.closed ≡ false → course v.memory q ≡ Ok Judge → IsOfferRefusal v q (of_not_judged why)
-late_refusal v q unjudged.OutOfMemory is_open judge = served_next v q is_open judge
-late_refusal v q (unjudged.NotKept unset.OutOfMemory) is_open judge = served_next v q is_open judge
-late_refusal v q (unjudged.NotKept (unset.Taken note)) is_open judge = (is_open, is_judged v.memory q judge)
+pub late_refusal : (v : LockedResolverView) (q : Request) (why : Unset NotedVerdicts) → v.closed ≡ false → course v.memory q ≡ Ok Judge → IsOfferRefusal v q (of_unset why)
+late_refusal v q unset.OutOfMemory is_open judge = served_next v q is_open judge
+late_refusal v q (unset.Taken note) is_open judge = (is_open, is_judged v.memory q judge)
 
 -- with a note of the cell where that was taken
-pub tells_cell : (row r : ℕ) (why : NotJudged (Unset NotedVerdicts)) → IfNotKept why (λ (u : Unset NotedVerdicts). IfTaken u (AreKnownAt row r)) → TellsTaken row r (of_not_judged why) (taken_note why)
-tells_cell row r unjudged.OutOfMemory known = refl
-tells_cell row r (unjudged.NotKept unset.OutOfMemory) known = refl
-tells_cell row r (unjudged.NotKept (unset.Taken note)) known = (note, refl, known)
+pub tells_cell : (row r : ℕ) (why : Unset NotedVerdicts) → IfTaken why (AreKnownAt row r) → TellsTaken row r (of_unset why) (taken_note why)
+tells_cell row r unset.OutOfMemory known = refl
+tells_cell row r (unset.Taken note) known = (note, refl, known)
 
 -- the cell is that of the request's row and of the resolver
-pub tells_next : (config : Config) (v : LockedResolverView) (q : RequestView) (rec : Record) (before : ColumnView) (why : NotJudged (Unset NotedVerdicts)) → ComesNext config v q rec → IsLockedResolver config v → before.rows.first ≡ 0 → before.rows.known ≡ v.column → before.resolver ≡ v.memory.number
-    → IfNotKept why (λ (u : Unset NotedVerdicts). IfTaken u (AreKnownAt (end_of before.rows) before.resolver)) → TellsTaken q.plain.row v.memory.number (of_not_judged why) (taken_note why)
+pub tells_next : (config : Config) (v : LockedResolverView) (q : RequestView) (rec : Record) (before : ColumnView) (why : Unset NotedVerdicts) → ComesNext config v q rec → IsLockedResolver config v → before.rows.first ≡ 0 → before.rows.known ≡ v.column → before.resolver ≡ v.memory.number
+    → IfTaken why (AreKnownAt (end_of before.rows) before.resolver) → TellsTaken q.plain.row v.memory.number (of_unset why) (taken_note why)
 tells_next config v q rec before why next keeps first known own told =
     let many : length before.rows.known ≡ length v.records = ap length known ∙ keeps.cells in
     let row : end_of before.rows ≡ q.plain.row = let is = next.row in omega (arith, many, first, is) in
     tells_cell q.plain.row v.memory.number why
-    (subst (λ (n : ℕ). IfNotKept why (λ (u : Unset NotedVerdicts). IfTaken u (AreKnownAt n v.memory.number))) row
-    (subst (λ (n : ℕ). IfNotKept why (λ (u : Unset NotedVerdicts). IfTaken u (AreKnownAt (end_of before.rows) n))) own told))
+    (subst (λ (n : ℕ). IfTaken why (AreKnownAt n v.memory.number)) row
+    (subst (λ (n : ℕ). IfTaken why (AreKnownAt (end_of before.rows) n)) own told))
 
 -- no refusal of the definition is that of a taken cell
 pub tells_nothing : (row r : ℕ) (refusal : OfferRefusal) → TellsTaken row r (of_offer refusal) None

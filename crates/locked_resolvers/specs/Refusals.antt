@@ -3,8 +3,6 @@
 use Rattle.std.specs.Prelude.{ℕ, List, codes, Option, Some, None}
 use Rattle.facts.specs.declared.setting.Unset.{Unset}
 use Rattle.facts.specs.declared.setting.Unset.TheVariants as unset
-use Rattle.share_judge.specs.declared.not_judged.NotJudged.{NotJudged}
-use Rattle.share_judge.specs.declared.not_judged.NotJudged.TheVariants as unjudged
 use Rattle.locked_resolvers.specs.declared.refusal.Refusal.{Refusal}
 use Rattle.locked_resolvers.specs.declared.refusal.Refusal.TheVariants as refusals
 use Rattle.state_memory.specs.declared.refusal.Refusal.{Refusal as OfferRefusal}
@@ -50,13 +48,11 @@ of_offer offered.OutOfMemory = refusals.OutOfMemory
 
 -- The refusal that says why a request that comes next was not judged: its cell is told as taken
 -- exactly if it was.
-abbrev pub of_not_judged : {K : Type 0} → NotJudged (Unset K) → Refusal
-of_not_judged unjudged.OutOfMemory = refusals.OutOfMemory
-of_not_judged (unjudged.NotKept unset.OutOfMemory) = refusals.OutOfMemory
-of_not_judged (unjudged.NotKept (unset.Taken note)) = refusals.CellTaken
+abbrev pub of_unset : {K : Type 0} → Unset K → Refusal
+of_unset unset.OutOfMemory = refusals.OutOfMemory
+of_unset (unset.Taken note) = refusals.CellTaken
 
 -- what is known of the cell, if it is taken
-abbrev pub taken_note : {K : Type 0} → NotJudged (Unset K) → Option K
-taken_note unjudged.OutOfMemory = None
-taken_note (unjudged.NotKept unset.OutOfMemory) = None
-taken_note (unjudged.NotKept (unset.Taken note)) = Some note
+abbrev pub taken_note : {K : Type 0} → Unset K → Option K
+taken_note unset.OutOfMemory = None
+taken_note (unset.Taken note) = Some note

@@ -6,7 +6,6 @@ ghost use Rattle.facts.specs.Unsets.{IfTaken};
 ghost use Rattle.model.specs.ResolverMemory.{course};
 ghost use Rattle.model.specs.ResolverMemory as way;
 ghost use Rattle.agreed_ledger.specs.Cells.{AreKnownAt, verdict_cells, with_rows};
-ghost use Rattle.share_judge.specs.Answers.{IfNotKept};
 ghost use Rattle.state_memory.specs.Answers.{GainsRequest, RepliesAfterJudged};
 ghost use Rattle.locked_resolvers.specs.Resolvers.{HasOffered};
 ghost use Rattle.locked_resolvers.specs.Resolvers.{IsLockedResolver, IsNewLockedResolver};
@@ -228,8 +227,8 @@ impl<N: Naming> LockedResolver<N> {
                 self.column = column;
                 Ok(NotedReply::of(reply, records, noted))
             }
-            Err(why) => {
-                let refused = Refused::unjudged(why, request);
+            Err(unset) => {
+                let refused = Refused::unset(unset, request);
                 self.closed = matches!(refused.refusal, Refusal::CellTaken);
                 Err(refused)
             }
@@ -271,7 +270,7 @@ fn judged<N: Naming>(
     column: &Column<N>,
     ledger: &Ledger<N>,
     request: &PlainRequest,
-) -> Result<Gained<N>, NotJudged<Unset<VerdictNote<N>>>>
+) -> Result<Gained<N>, Unset<VerdictNote<N>>>
     requires next { course memory.old request.now ≡ Ok way.Judge }
     requires room { end_of column.now.rows < length (verdict_cells N.cells column.now.resolver) }
     ensures reply { IfOk result (λ gained.
@@ -284,8 +283,8 @@ fn judged<N: Naming>(
     ensures proxies { length memory.new.proxies ≡ length memory.old.proxies }
     ensures window { memory.new.written.window ≡ memory.old.written.window }
     ensures err { OnErr result (memory.new ≡ memory.old) }
-    ensures taken { IfErr result (λ why. IfNotKept why (λ unset.
-        IfTaken unset (AreKnownAt (end_of column.now.rows) column.now.resolver))) }
+    ensures taken { IfErr result (λ unset.
+        IfTaken unset (AreKnownAt (end_of column.now.rows) column.now.resolver)) }
 {
     match memory.judge_with(request, |verdicts| column_with(column, ledger, verdicts)) {
         Ok((reply, columns)) => {
@@ -296,7 +295,8 @@ fn judged<N: Naming>(
                 noted,
             })
         }
-        Err(why) => Err(why),
+        Err(NotJudged::OutOfMemory(_keep)) => Err(Unset::OutOfMemory),
+        Err(NotJudged::NotKept(unset)) => Err(unset),
     }
 }
 

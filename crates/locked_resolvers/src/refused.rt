@@ -1,13 +1,12 @@
 //! Why a request was not served.
 
 ghost use Rattle.std.specs.Prelude.{◌≡◌, None};
-ghost use Rattle.locked_resolvers.specs.Refusals.{of_not_judged, taken_note};
+ghost use Rattle.locked_resolvers.specs.Refusals.{of_unset, taken_note};
 
 use crate::refusal::Refusal;
 use crate::request::Request;
 use agreed_ledger::{Naming, VerdictNote};
 use facts::Unset;
-use state_memory::NotJudged;
 
 /// Why a request was not served, and the request.
 #[derive(Drop)]
@@ -34,17 +33,16 @@ impl<N: Naming> Refused<N> {
         }
     }
 
-    /// The request came next and was not judged. Want of memory is never told as a taken cell, nor
-    /// a taken cell as want of memory.
-    pub(crate) fn unjudged(why: NotJudged<Unset<VerdictNote<N>>>, request: Request<N>) -> Refused<N>
-        ensures refusal { result.refusal ≡ of_not_judged why }
+    /// The request came next, and its cell was not set. Want of memory is never told as a taken cell,
+    /// nor a taken cell as want of memory.
+    pub(crate) fn unset(why: Unset<VerdictNote<N>>, request: Request<N>) -> Refused<N>
+        ensures refusal { result.refusal ≡ of_unset why }
         ensures request { result.request ≡ request }
         ensures taken { result.taken ≡ taken_note why }
     {
         match why {
-            NotJudged::OutOfMemory => Refused::by(Refusal::OutOfMemory, request),
-            NotJudged::NotKept(Unset::OutOfMemory) => Refused::by(Refusal::OutOfMemory, request),
-            NotJudged::NotKept(Unset::Taken(note)) => Refused {
+            Unset::OutOfMemory => Refused::by(Refusal::OutOfMemory, request),
+            Unset::Taken(note) => Refused {
                 refusal: Refusal::CellTaken,
                 request,
                 taken: Some(note),

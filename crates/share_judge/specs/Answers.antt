@@ -35,9 +35,14 @@ Forgets history oldest next =
     StandsForShares next shares (max forgotten bound)
 
 -- if the verdicts were not kept, this holds of the reason
-abbrev pub IfNotKept : {E : Type 0} → NotJudged E → (E → Type 0) → Type 0
-IfNotKept OutOfMemory property = Unit {0}
+abbrev pub IfNotKept : {E F : Type 0} → NotJudged E F → (E → Type 0) → Type 0
+IfNotKept (OutOfMemory back) property = Unit {0}
 IfNotKept (NotKept reason) property = property reason
+
+-- if an allocation failed, this holds of the function that comes back
+abbrev pub IfOutOfMemory : {E F : Type 0} → NotJudged E F → (F → Type 0) → Type 0
+IfOutOfMemory (OutOfMemory back) property = property back
+IfOutOfMemory (NotKept reason) property = Unit {0}
 
 -- ---- steps
 

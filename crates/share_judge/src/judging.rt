@@ -10,8 +10,9 @@ ghost use Rattle.share_judge.specs.Judged.{is_read_overwritten, verdict_by_steps
 ghost use Rattle.share_judge.specs.Judged.{is_written_by, IsJudged, IsPlanned};
 
 use crate::step_map::StepMap;
+use crate::verdicts::{Verdicts, copy_verdicts};
 use model::{Part, Verdict, Version};
-use system_keys::{KeyRange, OutOfMemory};
+use system_keys::{Items, KeyRange, OutOfMemory};
 
 /// How a share is judged: its version, and what is known of the versions before it.
 #[derive(Clone, Copy)]
@@ -42,6 +43,28 @@ pub(crate) fn judge_with_room(
     let (verdicts, own) = judge_parts(kept, judging, parts)?;
     let keys = kept.make_room(&own)?;
     Ok((verdicts, keys))
+}
+
+/// Judges the parts of a share as [`judge_with_room`] does. Returns the verdicts, a copy of them, and
+/// the keys of the starts that the writes overwrite.
+pub(crate) fn judge_with_copy(
+    kept: &mut StepMap,
+    judging: Judging,
+    parts: &[Part],
+) -> Result<(Verdicts, Verdicts, Vec<Vec<u8>>), OutOfMemory>
+    requires rising { AreRising kept.old }
+    requires past { last_of_all 0 kept.old ≡ 0 }
+    requires below { (key : Key) → last_from 0 kept.old key < judging.version }
+    ensures same { TellTheSame kept.old kept.new }
+    ensures rising { AreRising kept.new }
+    ensures planned { IfOk result (λ made. IsPlanned judging.window judging.dropped judging.version
+        kept.old kept.new parts.now made.0 (bytes_of_keys made.2.items)) }
+    ensures copy { IfOk result (λ made. made.1 ≡ made.0) }
+{
+    let (verdicts, keys) = judge_with_room(kept, judging, parts)?;
+    let verdicts = Items::from(verdicts);
+    let copy = copy_verdicts(&verdicts)?;
+    Ok((verdicts, copy, keys))
 }
 
 /// Judges the parts of a share, one after another, and returns their verdicts and the writes of

@@ -3,11 +3,12 @@
 ghost use Rattle.std.specs.Prelude.{◌≡◌, ◌<◌, [], Ok, Err, IfOk, IfErr, OnOk, OnErr};
 ghost use Rattle.model.specs.WriteHistories.{ShareAt, StandsForShares, last_at};
 ghost use Rattle.share_judge.specs.Answers.{AreVerdicts, GainsShare, Forgets, IsCount, IfNotKept};
+ghost use Rattle.share_judge.specs.Answers.{IfOutOfMemory};
 
-use crate::judging::{Judging, judge_with_room};
+use crate::judging::{Judging, judge_with_copy, judge_with_room};
 use crate::not_judged::NotJudged;
 use crate::step_map::StepMap;
-use crate::verdicts::{Verdicts, copy_verdicts};
+use crate::verdicts::Verdicts;
 use model::Version;
 use request_builder::Share;
 use std::alloc::Global;
@@ -104,15 +105,16 @@ impl WriteHistory {
     /// verdicts. If `keep` returns a value, remembers the writes of the committed parts, and
     /// returns the verdicts and that value.
     ///
-    /// Everything is allocated before `keep` is called, and nothing fails after it (no clause says
-    /// so), so `keep` may do what cannot be undone. Fails with `NotKept` if `keep` returns an error, and otherwise
-    /// only with `OutOfMemory`. Each failure leaves the history unchanged.
+    /// Fails with `NotKept` if `keep` returns an error, and otherwise only with `OutOfMemory`, which
+    /// gives back `keep` itself. Calling `keep` uses it up, so it was then not called, and nothing
+    /// fails once it has returned a value: it may do what cannot be undone. Each failure leaves the
+    /// history unchanged.
     pub fn judge_with<K, E, F: FnOnce(Verdicts) -> Result<K, E>>(
         &mut self,
         version: Version,
         share: &Share,
         keep: F,
-    ) -> Result<(Verdicts, K), NotJudged<E>>
+    ) -> Result<(Verdicts, K), NotJudged<E, F>>
         requires above { self.old.last < version }
         requires callable { F.IsAlwaysCallable keep }
         ensures verdicts { let s : ShareAt = record { version = version; parts = share.now } in
@@ -126,15 +128,17 @@ impl WriteHistory {
         ensures why { let s : ShareAt = record { version = version; parts = share.now } in
             IfErr result (λ error. IfNotKept error (λ reason.
             (verdicts : _) × AreVerdicts self.old s verdicts × F.post keep verdicts (Err reason))) }
+        ensures back { IfErr result (λ error. IfOutOfMemory error (λ back. back ≡ keep)) }
     {
         let judging = Judging {
             window: self.window,
             dropped: self.dropped,
             version,
         };
-        let (verdicts, keys) = judge_with_room(&mut self.steps, judging, share.parts())?;
-        let verdicts = Items::from(verdicts);
-        let copy = copy_verdicts(&verdicts)?;
+        let Ok((verdicts, copy, keys)) = judge_with_copy(&mut self.steps, judging, share.parts())
+        else {
+            return Err(NotJudged::OutOfMemory(keep));
+        };
         match keep(copy) {
             Ok(kept) => {
                 self.steps.fill(&keys, version);

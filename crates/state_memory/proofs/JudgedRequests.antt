@@ -1,6 +1,6 @@
 -- A request that was judged, and what is kept of it.
 use Rattle.std.proofs.Common.{◌≡◌, sym, ap, ◌∙◌, subst, ℕ, ◌<◌, ◌-◌, max, min, ◌⊎◌, inl, inr, List, [], ◌∷◌, ◌++◌, map, filter, length, slice_get, slice_set, Some, nat_lt, arith}
-use Rattle.std.specs.Prelude.{Result, Ok, Err, IfErr}
+use Rattle.std.specs.Prelude.{Ok}
 use Rattle.std.proofs.lemmas.List.{length-map, length-set, map-append}
 use Rattle.std.proofs.lemmas.Option.{slice_get_within}
 use Rattle.model.specs.declared.reply.Reply.{Reply}
@@ -134,10 +134,6 @@ pub are_after_judged : (v : ResolverView) (q : Request) (verdicts : List Verdict
 are_after_judged v q verdicts are judged stands = verdicts_are v judged q verdicts stands are
 
 -- what follows from one property of the reason
-pub not_kept_so : {E : Type 0} (error : NotJudged E) (P Q : E → Type 0) → ((reason : E) → P reason → Q reason) → IfNotKept error P → IfNotKept error Q
-not_kept_so OutOfMemory P Q so holds = tt
+pub not_kept_so : {E F : Type 0} (error : NotJudged E F) (P Q : E → Type 0) → ((reason : E) → P reason → Q reason) → IfNotKept error P → IfNotKept error Q
+not_kept_so (OutOfMemory back) P Q so holds = tt
 not_kept_so (NotKept reason) P Q so holds = so reason holds
-
--- out of memory gives no reason
-pub no_reason : {T E : Type 0} (result : Result T (NotJudged E)) (P : E → Type 0) → result ≡ Err OutOfMemory → IfErr result (λ error. IfNotKept error P)
-no_reason result P is = subst (λ r. IfErr r (λ error. IfNotKept error P)) (sym is) tt

@@ -6,11 +6,12 @@ use Rattle.model.specs.Numbers.{Version, ProxyNumber}
 use Rattle.model.specs.declared.reply.Reply.{Reply}
 use Rattle.model.specs.declared.unseen.UnseenRow.{UnseenRow}
 use Rattle.model.specs.declared.verdict.Verdict.{Verdict}
-use Rattle.model.specs.Requests.{Request}
+use Rattle.model.specs.Requests.{Request, reply_state_of_mark}
 use Rattle.model.specs.Offers.{reply_at}
 use Rattle.model.specs.ResolverMemory.{ResolverView, ProxyMemory as Kept, is_row_above, proxy_after}
 use Rattle.state_memory.specs.Order.{RepliesIncrease}
 use Rattle.state_memory.specs.declared.proxy_memory.ProxyMemory.{ProxyMemory}
+use Rattle.state_memory.specs.declared.resolver.Prepared.{Prepared}
 
 -- what is kept of a proxy
 abbrev pub kept_of : ProxyMemory → Kept
@@ -68,6 +69,17 @@ abbrev pub HasRoom : List ProxyMemory → ProxyNumber → Type 0
 HasRoom proxies p =
     (one : ProxyMemory) → slice_get proxies p ≡ Some one
     → deque_len one.replies < deque_capacity one.replies
+
+-- What is allocated for a request before it is judged: the rows that its reply tells, which are those
+-- above the last version of its proxy, twice, its states without verdicts, and a place for each
+-- verdict.
+pub record IsPrepared
+    (proxies : List Kept) (rows : List UnseenRow) (q : Request) (made : Prepared) : Type 0 where
+  pub unseen :
+      (one : Kept) → slice_get proxies q.proxy ≡ Some one → made.unseen ≡ rows_above one.last rows
+  pub copy : made.kept_unseen ≡ made.unseen
+  pub states : made.states.items ≡ map (reply_state_of_mark [] []) q.states
+  pub places : length made.kept_verdicts.items ≡ length q.share
 
 -- the replies to each proxy are in the order of their versions
 abbrev pub AllIncrease : List ProxyMemory → Type 0

@@ -9,15 +9,17 @@ ghost use Rattle.state_memory.specs.Answers.{AnswersAfterJudged, IsAfterAnswer, 
 ghost use Rattle.state_memory.specs.Answers.{RepliesAfterJudged, IsRememberedCount, course_of};
 ghost use Rattle.state_memory.specs.Answers.{fault_of, ForgetsOldWrites, ForgetsIfJudged};
 ghost use Rattle.state_memory.specs.Answers.{AreVerdictsAfterJudged};
-ghost use Rattle.share_judge.specs.Answers.{IfNotKept};
+ghost use Rattle.share_judge.specs.Answers.{IfNotKept, IfOutOfMemory};
 ghost use Rattle.state_memory.specs.Kept.{AreNew, HasRoom, AllIncrease, HasNoted, all_kept, reply_of};
-ghost use Rattle.state_memory.specs.Kept.{kept_reply};
+ghost use Rattle.state_memory.specs.Kept.{kept_reply, IsPrepared};
+ghost use Rattle.state_memory.specs.Order.{RowsIncrease};
+ghost use Rattle.std.specs.VecDeque.{deque_len, deque_capacity};
 
 use crate::answer::{Answer, Course};
 use crate::proxy_memory::{ProxyMemory, reached_by_all};
 use crate::refusal::Refusal;
 use crate::rows::{copies_above, forget_rows, judge_states, unjudged_states};
-use model::{ProxyNumber, Reply, ResolverNumber, UnseenRow, Verdict, Version};
+use model::{ProxyNumber, Reply, ResolverNumber, UnseenRow, UnseenState, Verdict, Version};
 use request_builder::Request;
 use share_judge::{NotJudged, Verdicts, WriteHistory};
 use std::alloc::Global;
@@ -56,6 +58,19 @@ impl Model for Resolver {
 
     ghost invariant = { λ r. (r.history.last ≡ r.version)
         × AreInOrder r.version r.rows.items (all_kept r.proxies.items) };
+}
+
+/// What is allocated for a request before its verdicts are kept.
+#[derive(Drop)]
+struct Prepared {
+    /// The rows that the reply tells.
+    unseen: Items<UnseenRow>,
+    /// A copy of them, for the reply that is kept.
+    kept_unseen: Items<UnseenRow>,
+    /// The state transactions of the request, each still with the verdict Conflict.
+    states: Vec<UnseenState>,
+    /// A place for each verdict, for the reply that is kept.
+    kept_verdicts: Vec<Verdict>,
 }
 
 impl Resolver {
@@ -151,15 +166,15 @@ impl Resolver {
     /// the request is judged, and this returns the reply and that value.
     ///
     /// The request must come next, as [`Resolver::comes_next`] tells. The reply and what the
-    /// resolver then stands for are those of [`Resolver::offer`]. Everything is allocated before
-    /// `keep` is called, and nothing fails after it, so `keep` may do what cannot be undone. Fails
-    /// with `NotKept` if `keep` returns an error, and otherwise only with `OutOfMemory`. Each
-    /// failure leaves the resolver unchanged.
+    /// resolver then stands for are those of [`Resolver::offer`]. Fails with `NotKept` if `keep`
+    /// returns an error, and otherwise only with `OutOfMemory`, which gives back `keep` itself.
+    /// Calling `keep` uses it up, so it was then not called, and nothing fails once it has returned
+    /// a value: it may do what cannot be undone. Each failure leaves the resolver unchanged.
     pub fn judge_with<K, E, F: FnOnce(Verdicts) -> Result<K, E>>(
         &mut self,
         request: &Request,
         keep: F,
-    ) -> Result<(Reply, K), NotJudged<E>>
+    ) -> Result<(Reply, K), NotJudged<E, F>>
         requires next { course self.old request.now ≡ Ok way.Judge }
         requires callable { F.IsAlwaysCallable keep }
         ensures reply { IfOk result (λ made. RepliesAfterJudged self.old request.now made.0) }
@@ -173,16 +188,19 @@ impl Resolver {
         ensures why { IfErr result (λ error. IfNotKept error (λ reason. (verdicts : _)
             × AreVerdictsAfterJudged self.old request.now verdicts
             × F.post keep verdicts (Err reason))) }
+        ensures back { IfErr result (λ error. IfOutOfMemory error (λ back. back ≡ keep)) }
     {
-        let alloc: Global = *self.rows.allocator();
-        let place = request.proxy();
-        let unseen = copies_above(alloc, &self.rows, self.proxies[place].last)?;
-        let kept_unseen = copy_rows(&unseen)?;
-        let mut states = unjudged_states(alloc, request)?;
-        let parts = request.share().parts();
-        let mut kept_verdicts = vec![in alloc; Verdict::Conflict; parts.len()]?;
-        self.rows.reserve(1)?;
-        reserve_reply(&mut self.proxies, place)?;
+        let Ok(
+            Prepared {
+                unseen,
+                kept_unseen,
+                mut states,
+                mut kept_verdicts,
+            },
+        ) = prepare(&mut self.rows, &mut self.proxies, request)
+        else {
+            return Err(NotJudged::OutOfMemory(keep));
+        };
         let (verdicts, kept) = self
             .history
             .judge_with(request.version(), request.share(), keep)?;
@@ -252,7 +270,7 @@ impl Resolver {
     {
         match self.judge_with(request, |_verdicts| Ok::<(), Infallible>(())) {
             Ok((reply, ())) => Ok(reply),
-            Err(NotJudged::OutOfMemory) => Err(OutOfMemory),
+            Err(NotJudged::OutOfMemory(_keep)) => Err(OutOfMemory),
             Err(NotJudged::NotKept(never)) => match never {},
         }
     }
@@ -267,6 +285,39 @@ fn new_proxies(alloc: Global, proxies: usize) -> Result<Vec<ProxyMemory>, OutOfM
         made.push(ProxyMemory::new(alloc))?;
     }
     Ok(made)
+}
+
+/// Allocates what judging the request takes, and makes room for one more row, and for one more reply
+/// to its proxy.
+fn prepare(
+    rows: &mut VecDeque<UnseenRow>,
+    proxies: &mut Vec<ProxyMemory>,
+    request: &Request,
+) -> Result<Prepared, OutOfMemory>
+    requires there { request.now.proxy < length proxies.old.items }
+    requires order { RowsIncrease rows.old.items }
+    ensures rows { rows.new.items ≡ rows.old.items }
+    ensures row { OnOk result (deque_len rows.new < deque_capacity rows.new) }
+    ensures proxies { all_kept proxies.new.items ≡ all_kept proxies.old.items }
+    ensures room { OnOk result (HasRoom proxies.new.items request.now.proxy) }
+    ensures made { IfOk result
+        (IsPrepared (all_kept proxies.old.items) rows.old.items request.now) }
+{
+    let alloc: Global = *rows.allocator();
+    let place = request.proxy();
+    let unseen = copies_above(alloc, rows, proxies[place].last)?;
+    let kept_unseen = copy_rows(&unseen)?;
+    let states = unjudged_states(alloc, request)?;
+    let parts = request.share().parts();
+    let kept_verdicts = vec![in alloc; Verdict::Conflict; parts.len()]?;
+    rows.reserve(1)?;
+    reserve_reply(proxies, place)?;
+    Ok(Prepared {
+        unseen,
+        kept_unseen,
+        states,
+        kept_verdicts,
+    })
 }
 
 /// Makes room for one more reply to the proxy.

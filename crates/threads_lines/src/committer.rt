@@ -1,4 +1,5 @@
-//! A proxy that commits batches, and prints their answers.
+//! A proxy that commits its batches one after another, then an empty closing one, and prints the
+//! answer to each.
 
 ghost use Rattle.std.specs.Prelude.{◌≡◌, [], length, IfOk, OnOk, string_bytes};
 ghost use Rattle.threads_lines.specs.Answers.{AreBatchLines, IsClosingLine, IsCommitOf, IsLineOf};

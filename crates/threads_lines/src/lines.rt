@@ -1,4 +1,4 @@
-//! The lines that are printed of batches and closings.
+//! The lines of batches and closings, finished and refused.
 
 ghost use Rattle.std.specs.Prelude.{◌≡◌, ◌++◌, OnOk, Ok, Err, string_bytes, map, flat_map};
 ghost use Rattle.scripts.specs.Lines.{list_text, spaced};
@@ -75,6 +75,7 @@ pub(crate) fn print_refused_closing(
     Ok(())
 }
 
+/// Appends how the line of a batch begins: its proxy, and its place among those of that proxy.
 fn push_batch(text: &mut String, proxy: ProxyNumber, place: usize) -> Result<(), OutOfMemory>
     ensures { OnOk result (string_bytes text.new
         ≡ string_bytes text.old ++ batch_text proxy place) }
@@ -83,6 +84,7 @@ fn push_batch(text: &mut String, proxy: ProxyNumber, place: usize) -> Result<(),
     Ok(())
 }
 
+/// Appends how the line of a closing begins.
 fn push_closing(text: &mut String, proxy: ProxyNumber) -> Result<(), OutOfMemory>
     ensures { OnOk result (string_bytes text.new ≡ string_bytes text.old ++ closing_text proxy) }
 {
@@ -90,6 +92,7 @@ fn push_closing(text: &mut String, proxy: ProxyNumber) -> Result<(), OutOfMemory
     Ok(())
 }
 
+/// Appends the version of a commit.
 fn push_version(text: &mut String, version: Version) -> Result<(), OutOfMemory>
     ensures { OnOk result (string_bytes text.new ≡ string_bytes text.old ++ version_text version) }
 {
@@ -97,6 +100,7 @@ fn push_version(text: &mut String, version: Version) -> Result<(), OutOfMemory>
     Ok(())
 }
 
+/// Appends the outcomes of a batch, or `none`.
 fn push_outcomes(text: &mut String, outcomes: &[Outcome]) -> Result<(), OutOfMemory>
     ensures { OnOk result (string_bytes text.new
         ≡ string_bytes text.old ++ list_text (map outcome_name outcomes.now)) }
@@ -113,6 +117,7 @@ fn push_outcomes(text: &mut String, outcomes: &[Outcome]) -> Result<(), OutOfMem
     }
 }
 
+/// Appends each outcome behind a space.
 fn push_spaced_outcomes(text: &mut String, outcomes: &[Outcome]) -> Result<(), OutOfMemory>
     ensures { OnOk result (string_bytes text.new
         ≡ string_bytes text.old ++ flat_map spaced (map outcome_name outcomes.now)) }
@@ -134,6 +139,7 @@ fn push_refusal(text: &mut String, refusal: &Refusal) -> Result<(), OutOfMemory>
     push_refusal_value(text, refusal)
 }
 
+/// Appends what a refusal carries behind a space, if it carries anything.
 fn push_refusal_value(text: &mut String, refusal: &Refusal) -> Result<(), OutOfMemory>
     ensures { OnOk result (string_bytes text.new
         ≡ string_bytes text.old ++ refusal_value refusal.now) }

@@ -51,6 +51,7 @@ fn print_meetings_of<N: Naming, R: Wait>(
     Ok(())
 }
 
+/// Prints the line of two proxies that met.
 fn print_meeting(
     text: &mut String,
     one: ProxyNumber,
@@ -105,6 +106,7 @@ fn lock_resolvers<'a, N: Naming, R: Wait>(
     Ok(guards)
 }
 
+/// Prints the line of an audit of a proxy.
 fn print_audit(
     text: &mut String,
     proxy: ProxyNumber,

@@ -1,4 +1,5 @@
-//! The threads of a run: one for each proxy.
+//! The threads of a run, one for each proxy: what each commits (a trait), how they are started and
+//! joined, and their lines in order.
 
 ghost use Rattle.std.specs.Prelude.{◌≡◌, ◌++◌, ◌≤◌, ◌<◌, length, ℕ, List, IfOk, OnOk, MatchResult};
 ghost use Rattle.std.specs.Prelude.{Err, string_bytes};

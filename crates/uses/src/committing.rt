@@ -1,4 +1,5 @@
-//! A batch is committed, also after one failure.
+//! A batch is committed, and after one failure from the phase that failed: it is begun, resolved,
+//! finished.
 
 ghost use Rattle.std.specs.Prelude.{◌≡◌, IfOk};
 ghost use Rattle.locked_cluster.specs.Commits.{HoldsBatch};

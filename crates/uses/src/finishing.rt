@@ -1,4 +1,4 @@
-//! A proxy finishes two records, one after the other.
+//! A proxy commits two batches: it begins both records, and finishes one after the other.
 
 ghost use Rattle.std.specs.Prelude.{◌≡◌, IfOk};
 ghost use Rattle.locked_cluster.specs.Commits.{HoldsBatch};

@@ -1,4 +1,4 @@
-//! Answers to requests that get no reply.
+//! The answers of a worker to requests that get no reply.
 
 ghost use Rattle.std.specs.Prelude.{◌≡◌, ◌≢◌};
 ghost use Rattle.model.specs.Numbers.{Version};

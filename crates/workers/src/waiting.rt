@@ -1,4 +1,5 @@
-//! Waiting for the answers to requests.
+//! The requests of one record: whether all are of the proxy, each with room for its answer, and the
+//! answers that are waited for.
 
 ghost use Rattle.std.specs.Prelude.{◌≡◌, ◌≢◌, ◌≤◌, [], length, IfErr, IfOk, IfSome, MatchBool};
 ghost use Rattle.std.specs.Prelude.{MatchOption, vec_capacity};

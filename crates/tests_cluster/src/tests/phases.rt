@@ -1,4 +1,4 @@
-//! The phases of a commit, called by hand.
+//! The phases of a commit, called by hand in steps of a plan.
 
 use crate::tests::starting::Cluster;
 use agreed_ledger::{Naming, Ticket};

@@ -1,4 +1,4 @@
-//! Workers and proxies in threads of their own.
+//! Starting workers and proxies in threads of their own, for tests with inboxes.
 
 use crate::tests::commits::commit_once;
 use crate::tests::starting::Cluster;

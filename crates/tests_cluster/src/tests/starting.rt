@@ -1,4 +1,5 @@
-//! What the tests start from: a ledger, the parts of a cluster, inboxes, and records.
+//! What the tests start from: a ledger, the parts of a cluster, inboxes, tickets, and the requests
+//! for records.
 
 ghost use Rattle.std.specs.Prelude.{◌≡◌};
 

@@ -6,7 +6,7 @@ use Rattle.model.specs.Records.{Record}
 use Rattle.model.specs.ResolverMemory.{Judge, course}
 use Rattle.locked_resolvers.specs.NotedReplies.{IsNotedReply}
 use Rattle.agreed_ledger.specs.Cells.{NotedVerdicts}
-use Rattle.locked_resolvers.specs.Refusals.{of_not_judged}
+use Rattle.locked_resolvers.specs.Refusals.{of_unset}
 use Rattle.locked_resolvers.specs.Resolvers.{IsLockedResolver, IsOfferRefusal, LockedResolverView, TellsTaken}
 use Rattle.locked_resolvers.specs.declared.refusal.Refusal.{Refusal}
 use Rattle.locked_resolvers.proofs.Lists.{agree_from_zero}
@@ -100,8 +100,8 @@ returns-in-Ok-judged-clause-offered g c =
 
 pub returns-after-matches-clause-refused : goal.returns-after-matches-clause-refused
 returns-after-matches-clause-refused g c =
-    subst (λ (r : Refusal). IsOfferRefusal c.args.self.now c.args.request.plain r) (sym c.unjudged-refused.ensures.refusal)
-    (late_refusal c.args.self.now c.args.request.plain c.in-Err.why c.requires.open c.requires.next)
+    subst (λ (r : Refusal). IsOfferRefusal c.args.self.now c.args.request.plain r) (sym c.unset-refused.ensures.refusal)
+    (late_refusal c.args.self.now c.args.request.plain c.in-Err.unset c.requires.open c.requires.next)
 
 pub returns-after-matches-clause-taken : goal.returns-after-matches-clause-taken
 returns-after-matches-clause-taken g c =
@@ -113,7 +113,7 @@ returns-after-matches-clause-taken g c =
     let records = c.in-Ok.ensures ∙ c.records.ensures.value in
     let agree = agree_from_zero s.records c.in-Ok.records c.args.request.records c.agree.ensures from_zero records in
     let judge : course v.memory c.args.request.plain ≡ Ok Judge = ap (λ (r : LockedResolverView). course r.memory c.args.request.plain) c.self.view_is ∙ c.requires.next in
-    let told = tells_next config v c.args.request p.rec s.column c.in-Err.why (comes_next config v c.args.request p keeps agree judge) keeps column_from_zero refl own c.in-Err.ensures.taken in
-    subst (λ (r : ℕ). TellsTaken c.args.request.plain.row r c.unjudged-refused.result.refusal c.unjudged-refused.result.taken) (ap (λ (r : LockedResolverView). r.memory.number) c.self.view_is)
-    (subst (λ (refusal : Refusal). TellsTaken c.args.request.plain.row v.memory.number refusal c.unjudged-refused.result.taken) (sym c.unjudged-refused.ensures.refusal)
-    (subst (λ (taken : Option NotedVerdicts). TellsTaken c.args.request.plain.row v.memory.number (of_not_judged c.in-Err.why) taken) (sym c.unjudged-refused.ensures.taken) told))
+    let told = tells_next config v c.args.request p.rec s.column c.in-Err.unset (comes_next config v c.args.request p keeps agree judge) keeps column_from_zero refl own c.in-Err.ensures.taken in
+    subst (λ (r : ℕ). TellsTaken c.args.request.plain.row r c.unset-refused.result.refusal c.unset-refused.result.taken) (ap (λ (r : LockedResolverView). r.memory.number) c.self.view_is)
+    (subst (λ (refusal : Refusal). TellsTaken c.args.request.plain.row v.memory.number refusal c.unset-refused.result.taken) (sym c.unset-refused.ensures.refusal)
+    (subst (λ (taken : Option NotedVerdicts). TellsTaken c.args.request.plain.row v.memory.number (of_unset c.in-Err.unset) taken) (sym c.unset-refused.ensures.taken) told))
