@@ -241,8 +241,13 @@ def tags_of(kept, key):
         for server in servers_of(kept[max(before)]):
             tag = kept.get(SERVER_TAG + server)
             if tag is not None:
-                found.add((tag[0], tag[1] * 256 + tag[2]))
+                found.add(read_tag(tag))
     return sorted(found)
+
+
+def read_tag(value):
+    """The locality and the id of a serverTag value."""
+    return value[0], value[1] * 256 + value[2]
 
 
 # ---- the answer

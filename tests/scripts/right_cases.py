@@ -130,6 +130,9 @@ def small_ones():
     yield "a transaction without changes", script([(NO, [])]), head(10)
     yield "an empty metadata version", script([(NO, [{"set": [METADATA_VERSION, ""]}])]), head(10, "no", '""')
     yield "a metadata version that is gone", script([(NO, [MARK, UNMARK])]), head(10)
+    kept = [tag(SERVER_1, "\\x00\\x00\\x01"), row("", (SERVER_1,)), row("m"), LOCK, MARK]
+    everything = {"clear": ["", "\\xff\\xff"]}
+    yield "a Clear of all keys", script([(YES, kept)], [(YES, [everything])], ask=["z"]), head(20) + 'tags "z" none\n'
     yield "a metadata version set twice", script([(NO, [MARK, {"set": [METADATA_VERSION, "n"]}])]), head(10, "no", '"n"')
 
 

@@ -239,6 +239,13 @@ def metadata():
         "rows that are cleared", threads([first, cleared], [], ask=["a"]), outcomes(0, "committed", "committed"), closings(30, 40),
         shown(0, 30, 'tags "a" none'), shown(1, 40, 'tags "a" none'),
     )
+    marked = [transaction(0, [], [], [put(LOCKED, "L"), put(METADATA_VERSION, "v")], True)]
+    everything = [transaction(0, [], [], [clear("", "\\xff\\xff")], True)]
+    yield case(
+        "a Clear of all keys behind a lock and a metadata version, of which another proxy learns",
+        threads([first, marked, everything], [], ask=["a"]), outcomes(0, "committed", "committed", "committed"), closings(40, 50),
+        shown(0, 40, 'tags "a" none'), shown(1, 50, 'tags "a" none'),
+    )
     stamped = [transaction(0, [], [], [stamp(METADATA_VERSION, "\\x00" * 14)])]
     texts = ['"%s\\x%02x\\x00\\x00"' % ("\\x00" * 7, version) for version in (10, 20)]
     yield case("a stamp of the first row", threads([stamped]), outcomes(0, "committed"), closings(20),

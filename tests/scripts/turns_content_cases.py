@@ -2,11 +2,11 @@
 import content_cases
 from content_cases import FAULTS, FINE, LONG_BEGIN, LONG_OUTSIDE, LONG_VALUE, OUTSIDE, TWO_FAULTS
 from script import (
-    BAD_ROW, BAD_STAMP, BATCH_TOO_LARGE, KEY_OUTSIDE, KEY_SERVERS, KEY_TOO_LONG, LOCKED, METADATA_VERSION, SERVER_1, SERVER_TAG,
-    VALUE_TOO_LONG, write,
+    BAD_ROW, BAD_STAMP, BATCH_TOO_LARGE, KEY_OUTSIDE, KEY_SERVERS, KEY_TOO_LONG, LOCKED, METADATA_VERSION, SERVER_1, SERVER_2,
+    SERVER_TAG, VALUE_TOO_LONG, write,
 )
 from turns_words import (
-    case, finish, finished, lines, move, offer, offered, one_key, sequence, sequenced, shown, stamp, transaction, turns,
+    case, finish, finished, lines, move, offer, offered, one_key, private_tag, sequence, sequenced, shown, stamp, transaction, turns,
 )
 
 ZEROS = "\\x00" * 10
@@ -57,6 +57,9 @@ FINE_STAMPS = {
     "a stamp before the keyServers rows": stamp("\\xff/keyServers", ZEROS + offset(0)),
 }
 
+# of the mutations without a fault those that have a private copy
+FINE_COPIES = {"a tag of a server without keys": [private_tag(0, 0, SERVER_2, "255:65535")]}
+
 # stamps with two faults each: the lesser number is answered
 STAMPS_OF_TWO_FAULTS = [
     (stamp(LONG_BEGIN, LONG_VALUE), KEY_TOO_LONG),
@@ -88,10 +91,10 @@ def script_of(events):
     return turns(*events, proxies=1, resolvers=1)
 
 
-def carried_out(mutations):
-    """What is printed where they touch no kept row."""
+def carried_out(mutations, *copies):
+    """What is printed where they touch no kept row, but for a tag, of which the server gets a copy."""
     tags = ["mutation 0 %d tags none" % place for place in range(mutations)]
-    return [sequenced(1), offered(0, 0, "committed"), finished(0, 10, "txn 0 committed 10 0", *tags), shown(0, 10)]
+    return [sequenced(1), offered(0, 0, "committed"), finished(0, 10, "txn 0 committed 10 0", *tags, *copies), shown(0, 10)]
 
 
 def places_of_range(span):
@@ -123,7 +126,7 @@ def two_limits_of_one_mutation():
 def no_fault():
     """Mutations and ranges close to the limits."""
     for name, mutation in FINE.items():
-        yield case(name, script_of(events_of(mutation)), *carried_out(1))
+        yield case(name, script_of(events_of(mutation)), *carried_out(1, *FINE_COPIES.get(name, [])))
     for name, mutation in FINE.items():
         if "clear" in mutation:
             span = mutation["clear"]

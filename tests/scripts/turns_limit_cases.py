@@ -4,7 +4,8 @@ The lines are worked out by hand, by a rule for each of many alike events.
 """
 from script import KEY_SERVERS, LOCKED, METADATA_VERSION, SERVER_1, SERVER_TAG, write
 from turns_words import (
-    LOCK, case, clear, finish, finished, lines, move, offer, offered, offered_to_both, offers, one_key, put, put_servers, put_tag,
+    LOCK, case, clear, finish, finished, lines, move, offer, offered, offered_to_both, offers, one_key, private_tag, put, put_servers,
+    put_tag,
     sequence, sequenced, shown, transaction, turns,
 )
 
@@ -30,6 +31,12 @@ def row_put(number, **more):
     return transaction(mutations=[put_servers(key_of(number), SERVER_1)] + [TAG] * (number == 0), **more)
 
 
+def row_done(number, transaction=0):
+    """What is printed of its mutations, as those of this transaction."""
+    first = ["mutation %d 1 tags 0:1" % transaction, private_tag(transaction, 1, SERVER_1, "0:1")] if number == 0 else []
+    return ["mutation %d 0 tags 0:1" % transaction, *first]
+
+
 def marking(number):
     """A lock-aware state transaction that sets the metadata version to a number."""
     return transaction(0, [], [], [put(METADATA_VERSION, str(number))], True)
@@ -51,9 +58,8 @@ def full_cluster():
         return offered(row, resolver, "committed" + asked, versions(0, row - 1))
 
     def done(proxy):
-        tags = ["mutation 0 %d tags 0:1" % place for place in range(2 if proxy == 0 else 1)]
         read = "txn 1 conflict 1020" if proxy else "txn 1 committed 10 1"
-        return finished(proxy, 10 * proxy + 10, "txn 0 committed %d 0" % (10 * proxy + 10), *tags, read)
+        return finished(proxy, 10 * proxy + 10, "txn 0 committed %d 0" % (10 * proxy + 10), *row_done(proxy), read)
 
     every = range(count)
     yield case(
@@ -123,6 +129,7 @@ def many_ranges():
     ):
         mutations = [TAG, *puts, *more]
         tags = ["mutation 0 %d tags %s" % (it, "none" if one == put("a", "1") else "0:1") for it, one in enumerate(mutations)]
+        tags.insert(1, private_tag(0, 0, SERVER_1, "0:1"))
         yield case(
             name, turns(sequence(0, transaction(0, [], [], mutations)), offer(0, 0), finish(0), proxies=1, resolvers=1),
             sequenced(1), offered(0, 0, "committed"), finished(0, 10, "txn 0 committed 10 0", *tags), shown(0, 10, *routed(left)),
@@ -140,7 +147,7 @@ def many_states():
         done = []
         for it in range(count):
             done += ["txn %d committed 10 %d" % (it, it)] if it in fine else ["txn %d conflict 1020" % it]
-            done += ["mutation %d %d tags 0:1" % (it, place) for place in range(2 if it == 0 else 1)] if it in fine else []
+            done += row_done(it, it) if it in fine else []
         yield case(
             "%d state transactions of a batch" % count,
             turns(sequence(0, *batch), sequence(1, transaction(0, [], [], [put("z", "1")])), offers(0, 1), finish(0), finish(1)),
@@ -159,7 +166,7 @@ def under_the_lock():
         done = []
         for it in range(count):
             done += ["txn %d locked 1038" % it] if it % 2 else ["txn %d committed 20 %d" % (it, it)]
-            done += [] if it % 2 else ["mutation %d %d tags 0:1" % (it, place) for place in range(2 if it == 0 else 1)]
+            done += [] if it % 2 else row_done(it, it)
         later = []
         for it in range(count):
             later += ["txn %d committed 30 %d" % (it, it), "mutation %d 0 tags 0:1" % it] if it % 2 else ["txn %d locked 1038" % it]
@@ -277,8 +284,7 @@ def told_of_many():
             ),
             sequenced(count + 1), *[offered_to_both(row, "committed") for row in rows], offered_to_both(count, unseen=told),
             *[offered(count, resolver, unseen=told, how="again") for _ in range(2) for resolver in (0, 1)],
-            *[finished(0, 10 * row + 10, "txn 0 committed %d 0" % (10 * row + 10), "mutation 0 0 tags 0:1",
-                       *["mutation 0 1 tags 0:1"] * (row == 0)) for row in rows],
+            *[finished(0, 10 * row + 10, "txn 0 committed %d 0" % (10 * row + 10), *row_done(row)) for row in rows],
             finished(1, end), [offered(count, resolver, unseen=told, how="again") for resolver in (0, 1)],
             shown(0, 10 * count, *routed(rows)), shown(1, end, *routed(rows)),
         )
@@ -351,7 +357,10 @@ def tagged(row):
     unseen = "10 20"[: 5 * (row == 2)] or ("none" if row == 1 else str(version - 10))
     return [
         "sequence row %d version %d" % (row, version), *offered_to_both(row, "committed", unseen),
-        *finished(proxy, version, "txn 0 committed %d 0" % version, "mutation 0 0 tags 0:%d" % row),
+        *finished(
+            proxy, version, "txn 0 committed %d 0" % version, "mutation 0 0 tags 0:%d" % row,
+            private_tag(0, 0, SERVER_1, "0:%d" % row),
+        ),
     ]
 
 

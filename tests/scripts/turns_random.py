@@ -13,6 +13,7 @@ from turns_content_cases import MUTATION_FAULTS, RANGE_FAULTS
 from turns_words import finish, move, offer, sequence, transaction, turns
 
 POINTS = [b"a", b"b", b"c", b"d", b"e", b"m", b"n", b"\xff", b"\xff/dbLocked", b"\xff\xff"]
+SERVER_KEYS = b"\xff/serverKeys/"
 EDGES = sorted([b"", *POINTS, *(point + b"\0" for point in POINTS[:-1])])
 
 
@@ -38,6 +39,8 @@ class Drawn:
 
     def mutation(self):
         kind = self.rng.random()
+        if kind < 0.07:
+            return self.server_keys()
         if kind < 0.5:
             return change(self.rng)
         if kind < 0.7:
@@ -48,6 +51,16 @@ class Drawn:
         if kind < 0.8:
             return {"clear": [text(key) for key in clear(self.rng)]}
         return {"set": [text(self.rng.choice(POINTS[:7])), "v"]}
+
+    def server_keys(self):
+        """A Set of what a server has, now and then with another shape of key, or a Clear of some."""
+        rng, server = self.rng, self.rng.choice(SERVERS)
+        key = SERVER_KEYS + server + b"/" + rng.choice(KEYS[:4])
+        if rng.random() < 0.1:
+            return {"clear": [text(key), text(SERVER_KEYS[:-1] + b"0")]}
+        if rng.random() < 0.3:
+            key = SERVER_KEYS + rng.choice([server, server[1:] + b"/m", server + b"0/m", server + b"0", b"", b"/", b"/" * 17])
+        return {"set": [text(key), rng.choice(["", "1"])]}
 
     def transaction(self):
         rng, last = self.rng, self.last_version()
@@ -201,6 +214,8 @@ class Cleared(Drawn):
     def mutation(self):
         rng = self.rng
         kind = rng.random()
+        if kind < 0.1:
+            return self.server_keys()
         if kind < 0.35:
             return self.cleared(b"\xff/keyServers/")
         if kind < 0.55:
@@ -327,7 +342,8 @@ SCRIPT_REFUSALS = (10, 11, 12, 13, 14, 15, 16, 70, 71)
 MUST_BE_MET = [
     *("refused %d" % number for number in EVENT_REFUSALS + SCRIPT_REFUSALS), "sequence", "move", "judged", "again", "finish",
     "verdict conflict", "verdict too_old", "verdict committed", "unseen rows", "txn conflict", "txn too_old", "txn locked",
-    "txn committed", "mutation with tags", "mutation without tags", "locked yes", "metadata_version", "route with tags",
+    "txn committed", "mutation with tags", "mutation without tags", "copy of a tag", "copy of keys", "locked yes", "metadata_version",
+    "route with tags",
 ]
 
 
@@ -345,6 +361,8 @@ def met(answer):
             found["unseen rows"] += words[-1] != "none"
         elif first == "mutation":
             found["mutation without tags" if words[-1] == "none" else "mutation with tags"] += 1
+        elif first == "private":
+            found["copy of a tag" if "/serverTag/" in words[2] else "copy of keys"] += 1
         elif first == "route":
             found["route with tags"] += words[-1] != "none"
         elif words[-1] not in ("no", "none"):

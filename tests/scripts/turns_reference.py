@@ -7,8 +7,8 @@ import sys
 from typing import NamedTuple
 
 from reference import (
-    KEY_SERVERS, LOCKED, NAMES, Refused, check_change, fields, fold, is_locked, is_server_tag, items, listed, metadata_lines, read_bool,
-    read_bytes, read_json, read_number, read_pair, tags_of, want,
+    KEY_SERVERS, LOCKED, NAMES, SERVER_TAG, Refused, check_change, fields, fold, is_locked, is_server_tag, items, listed,
+    metadata_lines, quoted, read_bool, read_bytes, read_json, read_number, read_pair, read_tag, tags_of, want,
 )
 
 REFUSALS = {
@@ -17,6 +17,7 @@ REFUSALS = {
     42: "OutOfTurn", 43: "MissingReply", 50: "LedgerFull", 51: "VersionsEnd",
 }
 VERSION_LIMIT = 2**63
+SERVER_KEYS = b"\xff/serverKeys/"
 WORST_FIRST = ("conflict", "too_old", "committed")
 OUTCOMES = {"conflict": "conflict 1020", "too_old": "too_old 1007", "locked": "locked 1038"}
 
@@ -357,6 +358,9 @@ class Cluster:
             yield "txn %d committed %d %d" % (number, record.version, number)
             for place, change in enumerate(transaction.changes):
                 yield "mutation %d %d tags %s" % (number, place, listed(tags_of_change(kept, change)))
+                copy = private_copy(kept, change)
+                if copy is not None:
+                    yield "private %d %d %s %s" % (number, place, quoted(copy[0]), listed([copy[1]]))
 
     def routing_lines(self, proxy, ask):
         version = self.finished_version(proxy)
@@ -379,6 +383,23 @@ def tags_of_change(kept, change):
         if first < key < second:
             found.update(tags_of(kept, key))
     return sorted(found)
+
+
+def server_of_keys(key):
+    """The server id of a serverKeys row, or None if the key is that of none."""
+    server, slash = key[len(SERVER_KEYS) :][:16], key[len(SERVER_KEYS) + 16 :][:1]
+    return server if key.startswith(SERVER_KEYS) and slash == b"/" else None
+
+
+def private_copy(kept, change):
+    """The key and the tag of a change's private copy, or None if it has none."""
+    kind, key, value = change
+    if kind == "set" and is_server_tag(key):
+        return b"\xff" + key, read_tag(value)
+    row = SERVER_TAG + (server_of_keys(key) or b"")
+    if kind == "set" and row in kept:
+        return b"\xff" + key, read_tag(kept[row])
+    return None
 
 
 # ---- the answer

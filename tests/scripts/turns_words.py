@@ -83,6 +83,16 @@ def finished(proxy, version, *transactions):
     return ["finish proxy %d version %d" % (proxy, version), *transactions]
 
 
+def private(number, place, key, tag):
+    """The line of a private copy of a Set of this key."""
+    return 'private %d %d "\\xff%s" %s' % (number, place, key, tag)
+
+
+def private_tag(number, place, server, tag):
+    """The line of the private copy of a Set of a server's tag."""
+    return private(number, place, SERVER_TAG + server, tag)
+
+
 def shown(proxy, version, *more, locked="no", metadata_version="none"):
     """What is printed of a proxy at the end."""
     return ["proxy %d" % proxy, "version %d" % version, "locked %s" % locked, "metadata_version %s" % metadata_version, *more]

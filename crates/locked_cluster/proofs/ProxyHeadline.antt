@@ -6,7 +6,8 @@ use Rattle.model.specs.declared.journal.JournalRow.{JournalRow}
 use Rattle.model.specs.declared.outcome.Finished.{Finished}
 use Rattle.model.specs.declared.outcome.Tagged.{Tagged}
 use Rattle.model.specs.Journal.{VerdictSource, history_verdicts, journal}
-use Rattle.model.specs.Metadata.{Entries, metadata, tags}
+use Rattle.model.specs.Metadata.{Entries, metadata}
+use Rattle.model.specs.World.{IsTaggedBy}
 use Rattle.model.proofs.Agreement.Holders.{finished_tags}
 use Rattle.model.proofs.Agreement.Sources.{journal_push}
 use Rattle.locked_cluster.specs.Answers.{NotedFinishedView, IsNotedFinished}
@@ -17,11 +18,11 @@ use Rattle.locked_cluster.proofs.ProxyAudits.{is_audited}
 use Rattle.locked_resolvers.proofs.Lists.{take_all, take_next}
 use Rattle.locked_cluster.proofs.ProxyMeets.{same_journal}
 
--- the tags of an answer are those of the metadata after its record
-tags_of : (config : Config) (answer : NotedFinishedView) (tagged : Tagged) → IsNotedFinished config answer → Contains answer.finished.tagged tagged → tagged.tags ≡ tags (metadata (journal config (history_verdicts config answer.records) answer.records)) tagged.change
+-- the tags and the private copies of an answer are those of the metadata after its record
+tags_of : (config : Config) (answer : NotedFinishedView) (tagged : Tagged) → IsNotedFinished config answer → Contains answer.finished.tagged tagged → IsTaggedBy (metadata (journal config (history_verdicts config answer.records) answer.records)) tagged
 tags_of config answer tagged noted there =
-    finished_tags config verdict_by (journal config verdict_by (take row answer.records)) noted.rec tagged (subst (λ (f : Finished). Contains f.tagged tagged) noted.finished_is there)
-    ∙ ap (λ (rows : List JournalRow). tags (metadata rows) tagged.change) (sym (journal_push config verdict_by (take row answer.records) noted.rec) ∙ ap (journal config verdict_by) whole)
+    subst (λ (rows : List JournalRow). IsTaggedBy (metadata rows) tagged) (sym (journal_push config verdict_by (take row answer.records) noted.rec) ∙ ap (journal config verdict_by) whole)
+    (finished_tags config verdict_by (journal config verdict_by (take row answer.records)) noted.rec tagged (subst (λ (f : Finished). Contains f.tagged tagged) noted.finished_is there))
   where
     row : ℕ
     row = answer.finished.row

@@ -5,8 +5,9 @@ use Rattle.model.specs.Configs.{Config}
 use Rattle.model.specs.Records.{IsHistory, last_version}
 use Rattle.model.specs.declared.outcome.Tagged.{Tagged}
 use Rattle.model.specs.Journal.{history_verdicts, journal}
-use Rattle.model.specs.Metadata.{Entries, metadata, tags}
+use Rattle.model.specs.Metadata.{Entries, metadata}
 use Rattle.model.specs.Serial.{IsSerial}
+use Rattle.model.specs.World.{IsTaggedBy}
 use Rattle.locked_cluster.specs.Answers.{NotedFinishedView}
 use Rattle.locked_cluster.specs.Audits.{reached_records}
 use Rattle.locked_cluster.specs.Proxies.{LockedProxyView}
@@ -17,9 +18,9 @@ use Rattle.locked_cluster.specs.Proxies.{LockedProxyView}
 -- metadata of each is the fold, in the order of versions, of exactly the state transactions of its
 -- records that every resolver committed and that the lock rule let pass (`journal` has the verdicts
 -- of all resolvers, and `metadata` applies the rule). Two proxies at one version have the same
--- metadata. Each mutation of the answer has the tags of the metadata after its record. And of the
--- transactions that these records commit, none read a range that another wrote between its snapshot
--- and itself.
+-- metadata. Each mutation of the answer has the tags, and the private copy, that the metadata after
+-- its record gives it. And of the transactions that these records commit, none read a range that
+-- another wrote between its snapshot and itself.
 pub record Headline
     (config : Config) (one other : LockedProxyView) (mine theirs : Entries)
     (answer : NotedFinishedView) : Type 0 where
@@ -35,5 +36,5 @@ pub record Headline
   pub tags_are :
       let verdict_by = history_verdicts config answer.records in
       (tagged : Tagged) → Contains answer.finished.tagged tagged
-      → tagged.tags ≡ tags (metadata (journal config verdict_by answer.records)) tagged.change
+      → IsTaggedBy (metadata (journal config verdict_by answer.records)) tagged
   pub serial : IsSerial config (reached_records one)

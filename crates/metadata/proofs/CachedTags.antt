@@ -219,6 +219,17 @@ displaced_listed lists (row ∷ rows) key listed = by (lists row.0) (is_same_key
         same true h = refl
         same false h = later h
 
+pub displaced_some : (lists : TagLists) (rows : List KeyTags) (key : Key) → is_listed (keys_of (displaced_tags lists rows)) key ≡ true → is_some (lists key) ≡ true
+displaced_some lists [] key listed = absurd (cc)
+displaced_some lists (row ∷ rows) key listed = by (lists row.0) refl (is_same_key key row.0) refl listed (displaced_some lists rows key)
+  where
+    by : (found : Option (List Tag)) → lists row.0 ≡ found → (e : Bool) → is_same_key key row.0 ≡ e
+        → is_listed (keys_of (option_to_list (option_map (λ (tags : List Tag). let row_is : KeyTags = (row.0, tags) in row_is) found) ++ displaced_tags lists rows)) key ≡ true
+        → (is_listed (keys_of (displaced_tags lists rows)) key ≡ true → is_some (lists key) ≡ true) → is_some (lists key) ≡ true
+    by None h e same l later = later l
+    by (Some tags) h true same l later = ap (λ (k : Key). is_some (lists k)) (same_key key row.0 same) ∙ ap is_some h
+    by (Some tags) h false same l later = later (ap (λ (s : Bool). s || is_listed (keys_of (displaced_tags lists rows)) key) (sym same) ∙ l)
+
 unwritten : (lists : TagLists) (rows : List KeyTags) (key : Key) → is_listed (keys_of rows) key ≡ false → tags_written lists rows key ≡ lists key
 unwritten lists [] key out = refl
 unwritten lists (row ∷ rows) key out =
@@ -236,7 +247,7 @@ same_there true (Some was) now tags h = refl
 same_there false (Some was) now tags h = sym h
 
 -- what a key has after what was displaced is put back
-put_back : (old now : TagLists) (rows : List KeyTags) (key : Key) → tags_written now (displaced_tags old rows) key ≡ (if is_listed (keys_of rows) key && is_some (old key) then old key else now key)
+pub put_back : (old now : TagLists) (rows : List KeyTags) (key : Key) → tags_written now (displaced_tags old rows) key ≡ (if is_listed (keys_of rows) key && is_some (old key) then old key else now key)
 put_back old now [] key = refl
 put_back old now (row ∷ rows) key = by (old row.0) refl (is_same_key key row.0) refl (λ lists. put_back old lists rows key)
   where
@@ -317,6 +328,21 @@ listed_may_tag entries (k ∷ keys) key none listed = by (is_same_key key k) ref
     by true same l later = ap (may_tag entries) (same_key key k same) ∙ (either (may_tag entries k) (may_tag_some entries keys) none).0
     by false other l later = later l
 
+-- entries that may give no tag are removed, and each server keeps its tag
+pub removed_same_tag : (keys : List Key) (entries : Entries) (id : Id) → may_tag_some entries keys ≡ false → tag_by (entry_value entries) id ≡ tag_by (entry_value (entries_without keys entries)) id
+removed_same_tag keys entries id none =
+    by (is_listed keys key) refl (entry_value entries key) refl ∙ ap tag_of (sym (value_without keys entries key))
+  where
+    key : Key
+    key = server_tag_family.prefix ++ id
+
+    by : (l : Bool) → is_listed keys key ≡ l → (found : Option (List ℕ)) → entry_value entries key ≡ found → tag_of found ≡ tag_of (if l then None else found)
+    by false out found is = refl
+    by true listed None is = refl
+    by true listed (Some []) is = refl
+    by true listed (Some (byte ∷ bytes)) is =
+        let two : true ≡ false = sym (rw (begins id, is) refl) ∙ listed_may_tag entries keys key none listed in absurd (cc)
+
 pub removed_are_tags : (keys : List Key) (entries : Entries) (lists after : TagLists) → may_tag_some entries keys ≡ false → AreTags lists (entry_value entries) → ((key : Key) → is_listed keys key ≡ false → after key ≡ lists key)
     → AreTags after (entry_value (entries_without keys entries))
 unfolding tags_by
@@ -325,25 +351,13 @@ removed_are_tags keys entries lists after none are left = λ key value own there
     values : Values
     values = entry_value (entries_without keys entries)
 
-    tag_at_key : (key : Key) → names_server key ≡ true → (l : Bool) → is_listed keys key ≡ l → (found : Option (List ℕ)) → entry_value entries key ≡ found → tag_of found ≡ tag_of (if l then None else found)
-    tag_at_key key server false out found is = refl
-    tag_at_key key server true listed None is = refl
-    tag_at_key key server true listed (Some []) is = refl
-    tag_at_key key server true listed (Some (byte ∷ bytes)) is =
-        let two : true ≡ false = sym (rw (server, is) refl) ∙ listed_may_tag entries keys key none listed in absurd (cc)
-
-    same_tag : (id : Id) → tag_by (entry_value entries) id ≡ tag_by values id
-    same_tag id =
-        let key = server_tag_family.prefix ++ id in
-        tag_at_key key (begins id) (is_listed keys key) refl (entry_value entries key) refl ∙ ap tag_of (sym (value_without keys entries key))
-
     by : (key : Key) (value : List ℕ) → is_in key_servers_family key ≡ true → values key ≡ Some value → (l : Bool) → is_listed keys key ≡ l → after key ≡ Some (tags_by values value)
     by key value own there true listed =
         let none : Some value ≡ None = sym there ∙ value_without keys entries key ∙ ap (λ (t : Bool). if t then None else entry_value entries key) listed in absurd (cc)
     by key value own there false out =
         left key out
         ∙ are key value own (sym (value_without keys entries key ∙ ap (λ (t : Bool). if t then None else entry_value entries key) out) ∙ there)
-        ∙ ap (λ (f : Id → List Tag). Some (sorted_tags (flat_map f (servers_of value)))) (λ i id. same_tag id i)
+        ∙ ap (λ (f : Id → List Tag). Some (sorted_tags (flat_map f (servers_of value)))) (λ i id. removed_same_tag keys entries id none i)
 
 -- ---- entries that are blanked before they are removed
 

@@ -15,6 +15,7 @@ pub mod MetadataServers
 pub mod MetadataTags
 pub mod Outcomes
 pub mod OverwrittenEntries
+pub mod PrivateCopies
 pub mod PutEntries
 pub mod RangeEntries
 pub mod RawIds

@@ -1,5 +1,5 @@
 -- A loop over keys that gives each of them the same value, and which keys are listed.
-use Rattle.std.proofs.Common.{◌≡◌, refl, sym, ap, ◌∙◌, ℕ, zero, suc, ◌+◌, ◌<◌, ◌≤◌, length, drop, get_or, add-one, List, [], ◌∷◌, Bool, true, false, cond, if◌then◌else◌, not, ◌&&◌, ◌||◌, filter, Option, Some, None, option_map}
+use Rattle.std.proofs.Common.{◌≡◌, refl, sym, ap, ◌∙◌, ℕ, ◌+◌, ◌<◌, ◌≤◌, length, drop, get_or, add-one, List, [], ◌∷◌, Bool, true, false, cond, if◌then◌else◌, not, ◌&&◌, ◌||◌, filter, Option, Some, None, option_map}
 use Rattle.std.specs.Global.{Vec}
 use Rattle.std.specs.Option.{is_some}
 use Rattle.std.specs.Map.{keys_of}
@@ -9,8 +9,7 @@ use Rattle.system_keys.specs.Keys.{Key}
 use Rattle.model.specs.Metadata.{Entry, Entries, entry_value}
 use Rattle.metadata.specs.MapEntries.{bytes_of_keys}
 use Rattle.metadata.specs.Overwrites.{is_same_key, is_listed, has_entry, missing_keys}
-use Rattle.std.specs.BTreeMap.{insert_entry}
-use Rattle.metadata.proofs.KeyValues.{key_cmp, same_key, value_put}
+use Rattle.metadata.proofs.KeyValues.{same_key}
 
 -- the keys that are left, of those that count, are still to get the value
 abbrev pub GetValue : (value : Option (List ℕ)) (counts : Key → Bool) (keys left : List (Vec ℕ)) (old now : Entries) → Type 0
@@ -43,18 +42,6 @@ all_listed value counts keys i old now past so_far key =
     none_left (counts key) value (entry_value now key)
     ∙ ap (λ (left : List (Vec ℕ)). if counts key && is_listed (bytes_of_keys left) key then value else entry_value now key) (sym (drop_all i keys past))
     ∙ so_far key
-
--- ---- a key that is not listed
-
-either : (s l : Bool) → (s || l) ≡ false → l ≡ false
-either true l h = absurd (cc)
-either false l h = h
-
-pub left_unlisted : (keys : List (Vec ℕ)) (i : ℕ) (key : Key) → is_listed (bytes_of_keys keys) key ≡ false → is_listed (bytes_of_keys (drop i keys)) key ≡ false
-left_unlisted [] zero key h = h
-left_unlisted [] (suc i) key h = h
-left_unlisted (k ∷ keys) zero key h = h
-left_unlisted (k ∷ keys) (suc i) key h = left_unlisted keys i key (either (is_same_key key k.items) (is_listed (bytes_of_keys keys) key) h)
 
 -- ---- the keys of entries that pass a test
 
@@ -138,12 +125,3 @@ kept_there kept old key there other = by (is_same_key other key) refl (has_entry
 pub seen_there : {X : Type 0} (f : X → List ℕ) (found : Option X) (value : Option (List ℕ)) (t : Bool) → option_map f found ≡ value → is_some found ≡ t → is_some value ≡ t
 seen_there f None value t is e = ap is_some (sym is) ∙ e
 seen_there f (Some x) value t is e = ap is_some (sym is) ∙ e
-
--- a put at a key
-pub put_at : (old new : Entries) (key seen : Key) (value : List ℕ) → new ≡ insert_entry key_cmp old key value → key ≡ seen → value ≡ [] → (other : Key) → entry_value new other ≡ (if is_same_key other seen then Some [] else entry_value old other)
-put_at old new key seen value is same none other = ap (λ (rows : Entries). entry_value rows other) is ∙ value_put old key other value ∙ rw (same, none) refl
-
--- a key that is not listed keeps its value through the loop
-pub others_keep : (value : Option (List ℕ)) (keys : List (Vec ℕ)) (i : ℕ) (old now : Entries) (key : Key) → is_listed (bytes_of_keys keys) key ≡ false → GetValue value (λ (k : Key). true) keys (drop i keys) old now → entry_value now key ≡ entry_value old key
-others_keep value keys i old now key out so_far =
-    ap (λ (t : Bool). if t then value else entry_value now key) (sym (left_unlisted keys i key out)) ∙ so_far key ∙ ap (λ (t : Bool). if t then value else entry_value old key) out

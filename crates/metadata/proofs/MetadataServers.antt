@@ -1,16 +1,16 @@
 -- The servers that a metadata lists, when entries are put over it and taken back, and when some are removed.
-use Rattle.std.proofs.Common.{◌≡◌, sym, ap, ◌∙◌, ℕ, List, ◌++◌, if◌then◌else◌, Bool, true, false, ◌&&◌, Option, Some, None, inr}
+use Rattle.std.proofs.Common.{◌≡◌, sym, ap, ◌∙◌, ℕ, List, [], ◌++◌, if◌then◌else◌, Bool, true, false, ◌&&◌, Option, Some, None, inr}
 use Rattle.std.specs.Option.{is_some, option_or}
 use Rattle.system_keys.specs.Keys.{Key}
 use Rattle.system_keys.specs.Families.{server_tag_family}
 use Rattle.system_keys.specs.Rows.{Id}
-use Rattle.model.specs.Metadata.{Entries, entry_value}
+use Rattle.model.specs.Metadata.{Entries, entry_value, server_tags}
 use Rattle.metadata.specs.Overwrites.{is_listed, has_entry, entries_without, IsPutOver}
-use Rattle.metadata.specs.CachedTags.{names_server}
-use Rattle.metadata.specs.ServerTables.{ServerTags, TaggedServers, AreServers, AreServerKeys, AreRefreshed, HasPlaces, ServersTakeBack}
-use Rattle.metadata.proofs.CachedTags.{begins}
-use Rattle.metadata.proofs.EntriesLeft.{value_without}
-use Rattle.metadata.proofs.ServerTables.{row_there, there_mapped, servers_refreshed}
+use Rattle.metadata.specs.CachedTags.{names_server, may_tag_some}
+use Rattle.metadata.specs.ServerTables.{ServerTags, TaggedServers, AreServers, AreServerKeys, AreRefreshed, GiveTags, HasPlaces, ServersTakeBack}
+use Rattle.metadata.proofs.CachedTags.{begins, removed_same_tag}
+use Rattle.metadata.proofs.EntriesLeft.{value_without, without_none}
+use Rattle.metadata.proofs.ServerTables.{listed_tag, row_there, there_mapped, servers_refreshed}
 
 abbrev key_of : Id → Key
 key_of id = server_tag_family.prefix ++ id
@@ -67,3 +67,15 @@ places_left keys entries left table same = inr (λ id size listed has.
 pub servers_left : (keys : List Key) (entries left : Entries) (old new : ServerTags) → left ≡ entries_without keys entries → AreRefreshed keys (entry_value left) old new → AreServers old (entry_value entries) → AreServers new (entry_value left)
 servers_left keys entries left old new same refreshed are =
     servers_refreshed keys (entry_value entries) (entry_value left) old new (λ id size out. sym (value_left keys entries left (key_of id) false out same)) refreshed are
+
+-- ---- entries that are hidden
+
+-- the tags of the servers are still listed, if no hidden entry may give one
+pub removed_give_tags : (keys : List Key) (entries : Entries) (servers : ServerTags) → may_tag_some entries keys ≡ false → AreServers servers (entry_value entries) → GiveTags servers (entries_without keys entries)
+unfolding server_tags
+removed_give_tags keys entries servers none are id size = listed_tag servers entries id size are ∙ removed_same_tag keys entries id none
+
+-- and if no entry is hidden
+pub all_give_tags : (hidden : List Key) (entries : Entries) (servers : ServerTags) → hidden ≡ [] → AreServers servers (entry_value entries) → GiveTags servers (entries_without hidden entries)
+unfolding server_tags
+all_give_tags hidden entries servers none are id size = listed_tag servers entries id size are ∙ ap (λ (rows : Entries). server_tags rows id) (sym (without_none hidden entries none))

@@ -1,33 +1,21 @@
 -- The tags that a metadata keeps, when it is made, when entries are put over it, and when some are removed.
-use Rattle.std.proofs.Common.{◌≡◌, refl, sym, ap, ◌∙◌, subst, List, [], ◌++◌, if◌then◌else◌, Bool, true, false, Some, None}
+use Rattle.std.proofs.Common.{◌≡◌, refl, sym, ap, ◌∙◌, subst, ℕ, List, [], ◌++◌, if◌then◌else◌, ◌&&◌, Bool, true, false, Some, None}
 use Rattle.std.specs.Option.{is_some}
 use Rattle.std.specs.Map.{keys_of}
 use Rattle.system_keys.specs.Keys.{Key}
+use Rattle.system_keys.specs.Families.{key_servers_family, is_in}
 use Rattle.model.specs.Metadata.{Entry, Entries, IsInOrder, entry_value, is_key_servers}
 use Rattle.metadata.specs.Overwrites.{is_listed, entries_without, IsPutOver}
-use Rattle.metadata.specs.CachedTags.{Values, TagLists, KeyTags, AreTags, tags_at, tags_written, displaced_tags, values_over, changed_tags, chosen_tags, is_row_named, puts_server, may_tag_some, TagsTakeBack}
+use Rattle.metadata.specs.CachedTags.{Values, TagLists, KeyTags, AreTags, tags_at, tags_by, tags_written, displaced_tags, values_over, changed_tags, chosen_tags, is_row_named, puts_server, may_tag_some, TagsTakeBack}
 use Rattle.metadata.proofs.KeptInOrder.{none_kept_in_order}
 use Rattle.metadata.proofs.EntriesLeft.{without_none}
 use Rattle.metadata.proofs.ServerTables.{or_none}
-use Rattle.metadata.proofs.TagEntries.{reserved_are_tags}
-use Rattle.metadata.proofs.CachedTags.{changed_are_tags, changed_after, displaced_take_back, removed_are_tags}
+use Rattle.metadata.proofs.CachedTags.{changed_are_tags, changed_after, displaced_take_back, displaced_some, put_back, removed_are_tags}
 
 -- without any entry, any tags will do
 pub no_rows : (entries : Entries) (lists : TagLists) → entries ≡ [] → AreTags lists (entry_value entries)
 no_rows entries lists none = λ key value own there.
     let two : None ≡ Some value = sym (ap (λ (rows : Entries). entry_value rows key) none) ∙ there in absurd (cc)
-
--- what was kept, with places made, and the tags that change put there
-pub record ArePut (lists reserved written : TagLists) (rows : List KeyTags) : Type 0 where
-  pub kept : (key : Key) → is_some (lists key) ≡ true → reserved key ≡ lists key
-  pub there : (key : Key) → is_listed (keys_of rows) key ≡ true → is_some (reserved key) ≡ true
-  pub put :
-      ((key : Key) → is_listed (keys_of rows) key ≡ true → is_some (reserved key) ≡ true)
-      → (key : Key) → written key ≡ tags_written reserved rows key
-
-put_at : (lists reserved written : TagLists) (rows : List KeyTags) → ArePut lists reserved written rows → tags_written reserved rows ≡ written
-put_at lists reserved written rows calls =
-    let path : written ≡ tags_written reserved rows = λ i key. calls.put calls.there key i in sym path
 
 nothing_named : (values : Values) (p : Entry → Bool) (t : Bool) (rest : List KeyTags) → (if t then chosen_tags values p [] else []) ++ rest ≡ rest
 nothing_named values p true rest = refl
@@ -45,12 +33,34 @@ made_tags entries written rows s is put =
     (changed_are_tags entries [] (tags_at []) s (none_kept_in_order [] refl).0 (no_rows [] (tags_at []) refl))))
 
 -- the tags after entries are put
-pub tags_put_over : (puts old new : Entries) (lists reserved written : TagLists) (rows : List KeyTags) → IsInOrder puts → IsInOrder old → IsPutOver puts old new → rows ≡ changed_tags puts old → ArePut lists reserved written rows
+pub tags_put_over : (puts old new : Entries) (lists written : TagLists) (rows : List KeyTags) → IsInOrder puts → IsInOrder old → IsPutOver puts old new → rows ≡ changed_tags puts old → ((key : Key) → written key ≡ tags_written lists rows key)
     → AreTags lists (entry_value old) → AreTags written (entry_value new)
-tags_put_over puts old new lists reserved written rows s t over is calls are =
-    subst (λ (found : TagLists). AreTags found (entry_value new)) (put_at lists reserved written rows calls)
-    (subst (λ (changed : List KeyTags). AreTags (tags_written reserved changed) (entry_value new)) (sym is)
-    (changed_after puts old new reserved s t over (reserved_are_tags lists reserved (entry_value old) calls.kept are)))
+tags_put_over puts old new lists written rows s t over is put are =
+    let path : tags_written lists rows ≡ written = λ i key. sym (put key) i in
+    subst (λ (found : TagLists). AreTags found (entry_value new)) path
+    (subst (λ (changed : List KeyTags). AreTags (tags_written lists changed) (entry_value new)) (sym is)
+    (changed_after puts old new lists s t over are))
+
+-- what was displaced, put back where at most the tags of the rows have changed
+pub tags_restored : (entries after : Entries) (lists partial written : TagLists) (rows displaced : List KeyTags) → displaced ≡ displaced_tags lists rows → after ≡ entries
+    → ((key : Key) → is_listed (keys_of rows) key ≡ false → partial key ≡ lists key) → ((key : Key) → is_some (lists key) ≡ true → is_some (partial key) ≡ true)
+    → (((key : Key) → is_listed (keys_of displaced) key ≡ true → is_some (partial key) ≡ true) → (key : Key) → written key ≡ tags_written partial displaced key)
+    → AreTags lists (entry_value entries) → AreTags written (entry_value after)
+tags_restored entries after lists partial written rows displaced is same others there put are =
+    subst (λ (found : Entries). AreTags written (entry_value found)) (sym same)
+    (λ key value own has.
+    put still key
+    ∙ ap (λ (back : List KeyTags). tags_written partial back key) is
+    ∙ put_back lists partial rows key
+    ∙ by key value own has (is_listed (keys_of rows) key) refl)
+  where
+    still : (key : Key) → is_listed (keys_of displaced) key ≡ true → is_some (partial key) ≡ true
+    still key listed = there key (displaced_some lists rows key (ap (λ (back : List KeyTags). is_listed (keys_of back) key) (sym is) ∙ listed))
+
+    by : (key : Key) (value : List ℕ) → is_in key_servers_family key ≡ true → entry_value entries key ≡ Some value → (l : Bool) → is_listed (keys_of rows) key ≡ l
+        → (if l && is_some (lists key) then lists key else partial key) ≡ Some (tags_by (entry_value entries) value)
+    by key value own has true listed = rw (are key value own has) refl
+    by key value own has false out = others key out ∙ are key value own has
 
 -- what takes back the tags
 pub tags_displaced : (puts old new : Entries) (lists : TagLists) (rows displaced : List KeyTags) → IsInOrder puts → IsInOrder old → IsPutOver puts old new → rows ≡ changed_tags puts old → displaced ≡ displaced_tags lists rows

@@ -13,59 +13,9 @@ use Rattle.model.specs.declared.journal.JournalRow.{JournalRow}
 use Rattle.model.specs.Metadata.{Entry, Entries, IsInOrder, entry_value, AreKept, after_change, after_changes, is_locked, after_state, after_journal_row}
 use Rattle.model.proofs.Metadata.Entries.{states_let_pass, after_row_in_order, filter_in_order}
 use Rattle.model.proofs.Metadata.Changes.{changed_cleared, changed_left, kept_after_row}
-use Rattle.metadata.specs.Overwrites.{is_same_key, is_listed, has_entry, missing_keys, IsOverwritten, changes_of, keys_cleared, cleared_keys}
+use Rattle.metadata.specs.Overwrites.{is_same_key, is_listed, has_entry, IsOverwritten, changes_of, keys_cleared, cleared_keys}
 use Rattle.metadata.proofs.KeyValues.{key_cmp, same_entries, value_put}
-use Rattle.metadata.proofs.ListedKeys.{filtered_keys, listed_missing}
-
--- ---- added, removed and put
-
--- the value of a key: among the entries that are put, before, after the missing keys were added, and after others were removed
-record AreSteps (put old added left : Option (List ℕ)) (removed : Bool) : Type 0 where
-  pub added_is : added ≡ (if not (is_some old) && is_some put then Some [] else old)
-  pub left_is : left ≡ (if not (is_some put) && removed then None else added)
-
-there_to_put : (put old added left : Option (List ℕ)) (removed : Bool) → AreSteps put old added left removed → is_some put ≡ true → is_some left ≡ true
-there_to_put None old added left removed steps h = absurd (cc)
-there_to_put (Some value) None added left removed steps h = ap is_some (steps.left_is ∙ steps.added_is)
-there_to_put (Some value) (Some was) added left removed steps h = ap is_some (steps.left_is ∙ steps.added_is)
-
-put_over_left : (put old added left : Option (List ℕ)) (removed : Bool) → AreSteps put old added left removed → option_or put left ≡ option_or put (if removed then None else old)
-put_over_left (Some value) old added left removed steps = refl
-put_over_left None None added left true steps = steps.left_is
-put_over_left None None added left false steps = steps.left_is ∙ steps.added_is
-put_over_left None (Some was) added left true steps = steps.left_is
-put_over_left None (Some was) added left false steps = steps.left_is ∙ steps.added_is
-
--- the calls of an overwriting, one after another
-pub record AreOverwriting (missing removed : List Key) (puts old added left new : Entries) : Type 0 where
-  pub missing_is : missing ≡ missing_keys old puts
-  pub added_is : (key : Key) → entry_value added key ≡ (if is_listed missing key then Some [] else entry_value old key)
-  pub left_is : (key : Key) → entry_value left key ≡ (if not (has_entry puts key) && is_listed removed key then None else entry_value added key)
-  pub new_is : ((key : Key) → has_entry puts key ≡ true → has_entry left key ≡ true) → (key : Key) → entry_value new key ≡ option_or (entry_value puts key) (entry_value left key)
-
-is_missing : (missing : List Key) (old puts : Entries) (key : Key) → missing ≡ missing_keys old puts → is_listed missing key ≡ (not (has_entry old key) && has_entry puts key)
-is_missing missing old puts key is = ap (λ (keys : List Key). is_listed keys key) is ∙ listed_missing old puts key
-
-pub overwritten : (missing removed : List Key) (puts old added left new : Entries) → AreOverwriting missing removed puts old added left new → IsOverwritten removed puts old new
-overwritten missing removed puts old added left new calls = λ key.
-    calls.new_is (λ k has. there_to_put (entry_value puts k) (entry_value old k) (entry_value added k) (entry_value left k) (is_listed removed k) (steps k) has) key
-    ∙ put_over_left (entry_value puts key) (entry_value old key) (entry_value added key) (entry_value left key) (is_listed removed key) (steps key)
-  where
-    steps : (key : Key) → AreSteps (entry_value puts key) (entry_value old key) (entry_value added key) (entry_value left key) (is_listed removed key)
-    steps key = record { added_is = calls.added_is key ∙ ap (λ (t : Bool). if t then Some [] else entry_value old key) (is_missing missing old puts key calls.missing_is); left_is = calls.left_is key }
-
--- ---- the keys that were added are removed again
-
-pub rolled_back : (missing : List Key) (puts kept old added new : Entries) → IsInOrder old → IsInOrder new → missing ≡ missing_keys old puts → kept ≡ []
-    → ((key : Key) → is_listed missing key ≡ false → entry_value added key ≡ entry_value old key)
-    → ((key : Key) → entry_value new key ≡ (if not (has_entry kept key) && is_listed missing key then None else entry_value added key)) → new ≡ old
-rolled_back missing puts kept old added new s t is none others removed = same_entries new old t s (λ key. removed key ∙ rw none (by key (is_listed missing key) refl (entry_value old key) refl))
-  where
-    by : (key : Key) (m : Bool) → is_listed missing key ≡ m → (was : Option (List ℕ)) → entry_value old key ≡ was → (if m then None else entry_value added key) ≡ was
-    by key false e was h = others key e ∙ h
-    by key true e None h = refl
-    by key true e (Some value) h =
-        let listed : true ≡ false = sym e ∙ is_missing missing old puts key is ∙ ap (λ (found : Option (List ℕ)). not (is_some found) && has_entry puts key) h in absurd (cc)
+use Rattle.metadata.proofs.ListedKeys.{filtered_keys}
 
 -- ---- a range is cleared
 

@@ -1,5 +1,6 @@
 -- Entries that are put over others, and taken back; and what rows of a journal change, one after another.
-use Rattle.std.proofs.Common.{◌≡◌, refl, sym, ap, ◌∙◌, ℕ, ◌+◌, ◌<◌, length, drop, get_or, add-one, List, [], ◌∷◌, Bool, true, false, cond, if◌then◌else◌, not, ◌&&◌, ◌||◌, fold, Option, Some, None}
+use Rattle.std.proofs.Common.{◌≡◌, refl, sym, ap, ◌∙◌, ℕ, ◌+◌, ◌<◌, length, drop, get_or, add-one, List, [], ◌∷◌, ◌++◌, append_assoc, Bool, true, false, cond, if◌then◌else◌, not, ◌&&◌, ◌||◌, fold, Option, Some, None}
+use Rattle.std.specs.Global.{Vec}
 use Rattle.std.specs.Option.{is_some, option_or}
 use Rattle.std.specs.BTreeMap.{insert_entry}
 use Rattle.system_keys.specs.declared.change.Change.{Change}
@@ -10,6 +11,7 @@ use Rattle.model.specs.declared.journal.JournalRow.{JournalRow}
 use Rattle.model.specs.Metadata.{Entry, Entries, IsInOrder, entry_value, is_filled, is_locked, after_changes, after_state, after_journal_row}
 use Rattle.model.proofs.Metadata.Entries.{states_let_pass, after_row_in_order}
 use Rattle.model.proofs.Metadata.Changes.{kept_after_row}
+use Rattle.metadata.specs.MapEntries.{bytes_of_keys}
 use Rattle.metadata.specs.Started.{after_rows}
 use Rattle.metadata.proofs.KeptInOrder.{AreKeptInOrder}
 use Rattle.std.proofs.Math.Seq.{drop-cons}
@@ -66,6 +68,39 @@ nothing_more false h = h
 pub displacing_last : (entries puts displaced : Entries) → AreDisplacing entries puts displaced [] → AreDisplaced entries puts displaced
 displacing_last entries puts displaced done = record { same = done.same; all = λ key put there. nothing_more (has_entry displaced key) (done.all key put there) }
 
+-- ---- the missing keys and the entries that are displaced
+
+-- of the entries so far; those of the rest are still to come
+abbrev pub IsUndoing : (entries puts : Entries) (missing : List Key) (displaced rest : Entries) → Type 0
+IsUndoing entries puts missing displaced rest = (missing ++ missing_keys entries rest ≡ missing_keys entries puts) × AreDisplacing entries puts displaced rest
+
+-- the entry at the key of one is displaced
+pub undo_displaced : (entries puts : Entries) (missing : List Key) (before after : Entries) (row : Entry) (value : List ℕ) (rest : Entries) → entry_value entries row.0 ≡ Some value → after ≡ insert_entry key_cmp before row.0 value
+    → IsUndoing entries puts missing before (row ∷ rest) → IsUndoing entries puts missing after rest
+undo_displaced entries puts missing before after row value rest there put so_far = (
+  ap (λ (t : Bool). missing ++ cond (not t) (row.0 ∷ missing_keys entries rest) (missing_keys entries rest)) (sym (ap is_some there)) ∙ so_far.0,
+  displacing_next entries puts before after row rest (copied_entry entries before after row.0 value there put) so_far.1,
+)
+
+nothing_there : (t : Bool) (here found : Option (List ℕ)) → here ≡ None → found ≡ (if t then option_or here found else found)
+nothing_there true here found none = ap (λ (h : Option (List ℕ)). option_or h found) (sym none)
+nothing_there false here found none = refl
+
+-- the key of one is missing
+pub undo_missing : (entries puts : Entries) (missing after : List Key) (displaced : Entries) (row : Entry) (rest : Entries) → entry_value entries row.0 ≡ None → after ≡ missing ++ row.0 ∷ []
+    → IsUndoing entries puts missing displaced (row ∷ rest) → IsUndoing entries puts after displaced rest
+undo_missing entries puts missing after displaced row rest none added so_far = (
+  ap (λ (keys : List Key). keys ++ missing_keys entries rest) added
+      ∙ append_assoc missing (row.0 ∷ []) (missing_keys entries rest)
+      ∙ ap (λ (t : Bool). missing ++ cond (not t) (row.0 ∷ missing_keys entries rest) (missing_keys entries rest)) (sym (ap is_some none))
+      ∙ so_far.0,
+  displacing_next entries puts displaced displaced row rest (λ key. nothing_there (is_same_key key row.0) (entry_value entries row.0) (entry_value displaced key) none) so_far.1,
+)
+
+pub bytes_one_more : (keys : List (Vec ℕ)) (key : Vec ℕ) → bytes_of_keys (keys ++ key ∷ []) ≡ bytes_of_keys keys ++ key.items ∷ []
+bytes_one_more [] key = refl
+bytes_one_more (k ∷ keys) key = ap (λ (found : List Key). k.items ∷ found) (bytes_one_more keys key)
+
 -- ---- entries that are put can be taken back
 
 others_at : (put old new displaced : Option (List ℕ)) (listed : Bool) → new ≡ option_or put old → listed ≡ (not (is_some old) && is_some put) → (is_some put ≡ true → is_some old ≡ true → is_some displaced ≡ true) → listed ≡ false → is_some displaced ≡ false → new ≡ old
@@ -88,6 +123,24 @@ takes_back missing puts displaced old new is are over =
       displaced_before = are.same;
       displaced_there = λ key has. there_at (entry_value puts key) (entry_value old key) (entry_value new key) (entry_value displaced key) (over key) (are.same key has) has;
       others = λ key out none. others_at (entry_value puts key) (entry_value old key) (entry_value new key) (entry_value displaced key) (is_listed missing key) (over key) (listed key) (are.all key) out none;
+    }
+  where
+    listed : (key : Key) → is_listed missing key ≡ (not (has_entry old key) && has_entry puts key)
+    listed key = ap (λ (keys : List Key). is_listed keys key) is ∙ listed_missing old puts key
+
+-- the same where only some of the entries are put
+not_put : (put old displaced : Option (List ℕ)) (listed : Bool) → listed ≡ (not (is_some old) && is_some put) → (is_some put ≡ true → is_some old ≡ true → is_some displaced ≡ true) → listed ≡ false → is_some displaced ≡ false → is_some put ≡ false
+not_put None old displaced listed listed_is all out none = refl
+not_put (Some put) None displaced listed listed_is all out none = absurd (cc)
+not_put (Some put) (Some old) displaced listed listed_is all out none = let there = all refl refl in absurd (cc)
+
+pub takes_back_some : (missing : List Key) (puts displaced old new : Entries) → missing ≡ missing_keys old puts → AreDisplaced old puts displaced → ((key : Key) → has_entry puts key ≡ false → entry_value new key ≡ entry_value old key) → ((key : Key) → has_entry old key ≡ true → has_entry new key ≡ true) → TakesBack missing displaced old new
+takes_back_some missing puts displaced old new is are others there =
+    record {
+      missing_before = λ key listed_there. missing_at (entry_value puts key) (entry_value old key) (is_listed missing key) (listed key) listed_there;
+      displaced_before = are.same;
+      displaced_there = λ key has. there key (ap is_some (sym (are.same key has)) ∙ has);
+      others = λ key out none. others key (not_put (entry_value puts key) (entry_value old key) (entry_value displaced key) (is_listed missing key) (listed key) (are.all key) out none);
     }
   where
     listed : (key : Key) → is_listed missing key ≡ (not (has_entry old key) && has_entry puts key)

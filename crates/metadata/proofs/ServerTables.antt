@@ -2,7 +2,7 @@
 use Rattle.std.proofs.Common.{◌≡◌, refl, sym, ap, ◌∙◌, subst, ℕ, ◌+◌, ◌<◌, ◌≤◌, length, drop, List, [], ◌∷◌, ◌++◌, Bool, true, false, cond, if◌then◌else◌, ◌||◌, ◌&&◌, Option, Some, None, Result, Ok, Err, IsOk, OnOk, OnErr, ◌⊎◌, inl, inr, arith}
 use Rattle.std.specs.Prelude.{bytes_eq, option_map, option_to_list}
 use Rattle.std.specs.Global.{Vec}
-use Rattle.std.specs.Option.{is_some, option_or}
+use Rattle.std.specs.Option.{is_some, option_flatten, option_or}
 use Rattle.std.specs.Result.{result_ok}
 use Rattle.std.specs.Cmp.Lexicographic.{bytes_decides}
 use Rattle.system_keys.specs.declared.tag.Tag.{Tag}
@@ -196,6 +196,14 @@ from_result (Err fault) = refl
 row_tag : (found : Option (List ℕ)) → beside (option_map decoded_tag found) ≡ tag_of found
 row_tag None = refl
 row_tag (Some value) = from_result (tag_at value)
+
+-- the tag listed for a server is that of its row
+pub listed_tag : (servers : ServerTags) (entries : Entries) (id : Id) → length id ≡ server_id_length → AreServers servers (entry_value entries) → option_to_list (option_flatten (server_at servers id)) ≡ tag_by (entry_value entries) id
+listed_tag servers entries id size are = flat (server_at servers id) ∙ ap beside (are id size) ∙ row_tag (entry_value entries (key_of id))
+  where
+    flat : (found : Option (Option Tag)) → option_to_list (option_flatten found) ≡ beside found
+    flat None = refl
+    flat (Some tag) = refl
 
 none_first : (found other : Option (List ℕ)) → None ≡ option_map decoded_tag found → tag_of other ≡ tag_of (option_or found other)
 none_first None other h = refl

@@ -1,5 +1,5 @@
 -- What the calls of the map to tags do to the tags at each key.
-use Rattle.std.proofs.Common.{◌≡◌, refl, sym, ap, ◌∙◌, Result, Ok, Err, OnOk, OnErr, ℕ, ◌+◌, ◌<◌, length, drop, get_or, add-one, List, [], ◌∷◌, Bool, true, false, cond, if◌then◌else◌, ◌||◌, Option, Some, None, option_map, Ordering, Less, Equal, Greater, nat_cmp}
+use Rattle.std.proofs.Common.{◌≡◌, refl, sym, ap, ◌∙◌, Result, Ok, Err, OnOk, OnErr, ℕ, length, List, [], ◌∷◌, Bool, true, false, cond, if◌then◌else◌, ◌||◌, Option, Some, None, Ordering, Less, Equal, Greater, nat_cmp}
 use Rattle.std.specs.Global.{Vec}
 use Rattle.std.specs.Option.{is_some}
 use Rattle.std.specs.Ordering.{match_ordering}
@@ -8,12 +8,11 @@ use Rattle.std.specs.BTreeMap.{insert_entry, is_at}
 use Rattle.std.specs.Cmp.Lexicographic.{slice_cmp}
 use Rattle.std.proofs.lemmas.Cmp.{tied_itself, nat_list_cmp_total}
 use Rattle.std.proofs.lemmas.Map.Lookups.{exact_bytes}
-use Rattle.std.proofs.Math.Seq.{drop-cons}
 use Rattle.system_keys.specs.declared.tag.Tag.{Tag}
 use Rattle.system_keys.specs.Keys.{Key}
 use Rattle.metadata.specs.MapEntries.{bytes_of_keys}
 use Rattle.metadata.specs.Overwrites.{is_same_key, is_listed}
-use Rattle.metadata.specs.CachedTags.{TagLists, KeyTags, tags_at, tags_written, Values, AreTags}
+use Rattle.metadata.specs.CachedTags.{TagLists, KeyTags, tags_at, tags_written}
 use Rattle.metadata.specs.TagEntries.{rows_of}
 use Rattle.metadata.proofs.KeyValues.{key_cmp, same_key, same_itself}
 use Rattle.metadata.proofs.MapEntries.{vec_cmp}
@@ -97,51 +96,6 @@ putting_next old rows now next row left put so_far =
       same = λ key. ap (λ (lists : TagLists). tags_written lists left key) (λ i k. is k i) ∙ so_far.same key;
     }
 
--- the places so far, and the keys that are left
-abbrev pub AreReserved : (rows left : List KeyTags) (old now : TagLists) → Type 0
-AreReserved rows left old now =
-    ((key : Key) → is_some (old key) ≡ true → now key ≡ old key)
-    × ((key : Key) → is_listed (keys_of rows) key ≡ true → (is_some (now key) || is_listed (keys_of left) key) ≡ true)
-
-first_reserved : (rows : List KeyTags) (old : TagLists) → AreReserved rows rows old old
-first_reserved rows old = (λ key there. refl, λ key listed. or_right (is_some (old key)) (is_listed (keys_of rows) key) listed)
-
-pub reserved_first : (rows : List KeyTags) (old : TagLists) → AreReserved rows rows old old
-reserved_first rows old = first_reserved rows old
-
-pub kept_step : (old before after : TagLists) (key : Key) → (is_some (old key) ≡ true → before key ≡ old key) → (is_some (before key) ≡ true → after key ≡ before key) → is_some (old key) ≡ true → after key ≡ old key
-kept_step old before after key first next there = next (ap is_some (first there) ∙ there) ∙ first there
-
-pub reserved_next : (rows : List KeyTags) (d : KeyTags) (i : ℕ) (old before after : TagLists) → i < length rows → ((key : Key) → is_some (before key) ≡ true → after key ≡ before key) → is_some (after (get_or rows i d).0) ≡ true
-    → AreReserved rows (drop i rows) old before → AreReserved rows (drop (i + 1) rows) old after
-reserved_next rows d i old before after within kept there so_far = (
-  (λ key was. kept_step old before after key (so_far.0 key) (kept key) was),
-  (λ key listed. by key (is_same_key key row.0) refl (is_some (before key)) refl (ap (λ (left : List KeyTags). is_some (before key) || is_listed (keys_of left) key) split ∙ so_far.1 key listed)),
-)
-  where
-    row : KeyTags
-    row = get_or rows i d
-
-    split : row ∷ drop (i + 1) rows ≡ drop i rows
-    split = sym (rw (add-one, drop-cons rows i d) refl)
-
-    by : (key : Key) (s : Bool) → is_same_key key row.0 ≡ s → (b : Bool) → is_some (before key) ≡ b → (is_some (before key) || is_listed (keys_of (row ∷ drop (i + 1) rows)) key) ≡ true → (is_some (after key) || is_listed (keys_of (drop (i + 1) rows)) key) ≡ true
-    by key true same b is h = let some : is_some (after key) ≡ true = ap (λ (k : Key). is_some (after k)) (same_key key row.0 same) ∙ there in rw some refl
-    by key false other true is h = let some : is_some (after key) ≡ true = ap is_some (kept key is) ∙ is in rw some refl
-    by key false other false is h = or_right (is_some (after key)) (is_listed (keys_of (drop (i + 1) rows)) key) (sym (rw (other, is) refl) ∙ h)
-
-nothing_more : (b : Bool) → (b || false) ≡ true → b ≡ true
-nothing_more true h = refl
-nothing_more false h = h
-
-pub all_reserved : (rows : List KeyTags) (old now : TagLists) → AreReserved rows [] old now → (key : Key) → is_listed (keys_of rows) key ≡ true → is_some (now key) ≡ true
-all_reserved rows old now done key listed = nothing_more (is_some (now key)) (done.1 key listed)
-
--- tags that are kept stay those of the rows
-pub reserved_are_tags : (old now : TagLists) (values : Values) → ((key : Key) → is_some (old key) ≡ true → now key ≡ old key) → AreTags old values → AreTags now values
-reserved_are_tags old now values kept are = λ key value own there.
-    let tags = are key value own there in kept key (ap is_some tags) ∙ tags
-
 -- ---- keys that are removed
 
 -- the keys that are left are among the keys, and no other key has changed
@@ -158,27 +112,6 @@ removing_next keys k left old before after one so_far = λ key out.
     let apart = either (is_same_key key k.items) (is_listed (bytes_of_keys left) key) was.0 in
     (apart.1, one key apart.0 ∙ was.1)
 
--- ---- a place at a key
-
--- whether tags are there does not depend on how they are seen
-pub seen : {X Y : Type 0} (f : X → Y) (found : Option X) (value : Option Y) (t : Bool) → option_map f found ≡ value → is_some found ≡ t → is_some value ≡ t
-seen f None value t is e = ap is_some (sym is) ∙ e
-seen f (Some x) value t is e = ap is_some (sym is) ∙ e
-
-placed_at : (s : Bool) (key other : Key) (old : TagLists) → is_same_key other key ≡ s → is_some (old key) ≡ false → is_some (old other) ≡ true → (if s then Some [] else old other) ≡ old other
-placed_at false key other old apart none there = refl
-placed_at true key other old same none there =
-    let two : true ≡ false = sym there ∙ ap (λ (k : Key). is_some (old k)) (same_key other key same) ∙ none in absurd (cc)
-
-pub placed_kept : {X Y : Type 0} (r : Result X Y) (key : Key) (old new : TagLists) → is_some (old key) ≡ false → OnOk r ((other : Key) → new other ≡ (if is_same_key other key then Some [] else old other)) → OnErr r ((other : Key) → new other ≡ old other)
-    → (other : Key) → is_some (old other) ≡ true → new other ≡ old other
-placed_kept (Ok x) key old new none ok err other there = ok other ∙ placed_at (is_same_key other key) key other old refl none there
-placed_kept (Err e) key old new none ok err other there = err other
-
-pub placed_there : {X Y : Type 0} (r : Result X Y) (key : Key) (old new : TagLists) → OnOk r ((other : Key) → new other ≡ (if is_same_key other key then Some [] else old other)) → OnOk r (is_some (new key) ≡ true)
-placed_there (Ok x) key old new ok = ap is_some (ok key) ∙ rw (same_itself key) refl
-placed_there (Err e) key old new ok = tt
-
 -- ---- the first and the last of those that are put
 
 pub putting_last : (old : TagLists) (rows : List KeyTags) (now : TagLists) → IsPutting old rows now [] → (key : Key) → now key ≡ tags_written old rows key
@@ -187,3 +120,36 @@ putting_last old rows now done = done.same
 pub none_left : {X : Type 0} (xs : List X) → length xs ≡ 0 → xs ≡ []
 none_left [] none = refl
 none_left (x ∷ xs) none = absurd (cc)
+
+-- ---- tags that are put, also where there were none
+
+-- what is left to put gives what all give, no other key has changed, and no tags are gone
+pub record IsPuttingAll (old : TagLists) (rows : List KeyTags) (now : TagLists) (left : List KeyTags) : Type 0 where
+  pub same : (key : Key) → tags_written now left key ≡ tags_written old rows key
+  pub among : (key : Key) → is_listed (keys_of left) key ≡ true → is_listed (keys_of rows) key ≡ true
+  pub others : (key : Key) → is_listed (keys_of rows) key ≡ false → now key ≡ old key
+  pub there : (key : Key) → is_some (old key) ≡ true → is_some (now key) ≡ true
+
+pub putting_all_first : (old : TagLists) (rows left : List KeyTags) → left ≡ rows → IsPuttingAll old rows old left
+putting_all_first old rows left is =
+    record {
+      same = λ key. ap (λ (list : List KeyTags). tags_written old list key) is;
+      among = λ key listed. ap (λ (list : List KeyTags). is_listed (keys_of list) key) (sym is) ∙ listed;
+      others = λ key out. refl;
+      there = λ key some. some;
+    }
+
+pub putting_all_next : (old : TagLists) (rows : List KeyTags) (now next : TagLists) (row : KeyTags) (left : List KeyTags) → ((key : Key) → next key ≡ (if is_same_key key row.0 then Some row.1 else now key))
+    → IsPuttingAll old rows now (row ∷ left) → IsPuttingAll old rows next left
+putting_all_next old rows now next row left put so_far =
+    record {
+      same = λ key. written_next now next row left put key ∙ so_far.same key;
+      among = λ key listed. so_far.among key (or_right (is_same_key key row.0) (is_listed (keys_of left) key) listed);
+      others = λ key out. put key ∙ unlike key (is_same_key key row.0) refl out ∙ so_far.others key out;
+      there = λ key some. ap is_some (put key) ∙ some_kept (is_same_key key row.0) row.1 (now key) (so_far.there key some);
+    }
+  where
+    unlike : (key : Key) (t : Bool) → is_same_key key row.0 ≡ t → is_listed (keys_of rows) key ≡ false → (if t then Some row.1 else now key) ≡ now key
+    unlike key false same out = refl
+    unlike key true same out =
+        let two : true ≡ false = sym (so_far.among key (ap (λ (s : Bool). s || is_listed (keys_of left) key) same)) ∙ out in absurd (cc)

@@ -1,5 +1,5 @@
--- Entries that are put one after another, where each of their keys has an entry already.
-use Rattle.std.proofs.Common.{◌≡◌, refl, ap, ◌∙◌, ℕ, List, [], ◌∷◌, Bool, true, false, cond, if◌then◌else◌, fold, Option, Some, None}
+-- Entries that are put one after another.
+use Rattle.std.proofs.Common.{◌≡◌, refl, sym, ap, ◌∙◌, ℕ, List, [], ◌∷◌, Bool, true, false, cond, if◌then◌else◌, fold, Option, Some, None}
 use Rattle.std.specs.Option.{is_some, option_or}
 use Rattle.std.specs.BTreeMap.{insert_entry}
 use Rattle.system_keys.specs.Keys.{Key}
@@ -53,3 +53,41 @@ written_value rows (put ∷ puts) key s =
 
 pub all_written : (old puts now : Entries) (key : Key) → IsInOrder puts → IsWriting old puts now [] → entry_value now key ≡ option_or (entry_value puts key) (entry_value old key)
 all_written old puts now key s done = ap (λ (rows : Entries). entry_value rows key) done.left ∙ written_value old puts key s
+
+-- ---- where some of the keys may have no entry yet
+
+-- the rest gives from here what all give from the start, no other key has changed, and no entry is gone
+pub record IsPuttingOver (old puts now rest : Entries) : Type 0 where
+  pub left : written now rest ≡ written old puts
+  pub among : (key : Key) → has_entry rest key ≡ true → has_entry puts key ≡ true
+  pub others : (key : Key) → has_entry puts key ≡ false → entry_value now key ≡ entry_value old key
+  pub there : (key : Key) → has_entry old key ≡ true → has_entry now key ≡ true
+
+pub putting_over_first : (old puts rest : Entries) → rest ≡ puts → IsPuttingOver old puts old rest
+putting_over_first old puts rest is =
+    record {
+      left = ap (written old) is;
+      among = λ key has. ap (λ (rows : Entries). has_entry rows key) (sym is) ∙ has;
+      others = λ key out. refl;
+      there = λ key has. has;
+    }
+
+pub putting_over_next : (old puts now next : Entries) (row : Entry) (rest : Entries) → next ≡ insert_entry key_cmp now row.0 row.1 → IsPuttingOver old puts now (row ∷ rest) → IsPuttingOver old puts next rest
+putting_over_next old puts now next row rest put so_far =
+    record {
+      left = ap (λ (rows : Entries). written rows rest) put ∙ so_far.left;
+      among = λ key has. so_far.among key (later_there (is_same_key key row.0) row.1 (entry_value rest key) has);
+      others = λ key out. put_is key ∙ unlike key (is_same_key key row.0) refl out ∙ so_far.others key out;
+      there = λ key has. ap is_some (put_is key) ∙ put_there (is_same_key key row.0) row.1 (entry_value now key) (so_far.there key has);
+    }
+  where
+    put_is : (key : Key) → entry_value next key ≡ (if is_same_key key row.0 then Some row.1 else entry_value now key)
+    put_is key = ap (λ (rows : Entries). entry_value rows key) put ∙ value_put now row.0 key row.1
+
+    unlike : (key : Key) (t : Bool) → is_same_key key row.0 ≡ t → has_entry puts key ≡ false → (if t then Some row.1 else entry_value now key) ≡ entry_value now key
+    unlike key false same out = refl
+    unlike key true same out =
+        let two : true ≡ false = sym (so_far.among row.0 (has_first row rest)) ∙ ap (has_entry puts) (sym (same_key key row.0 same)) ∙ out in absurd (cc)
+
+pub putting_over_last : (old puts now : Entries) (key : Key) → IsInOrder puts → IsPuttingOver old puts now [] → entry_value now key ≡ option_or (entry_value puts key) (entry_value old key)
+putting_over_last old puts now key s done = ap (λ (rows : Entries). entry_value rows key) done.left ∙ written_value old puts key s

@@ -1,14 +1,14 @@
 -- The table of the servers' tags that is kept beside the entries, and what brings it up to date.
 use Rattle.std.specs.Prelude.{◌≡◌, ℕ, ◌≤◌, List, ◌++◌, length, true, false, ◌&&◌, Option, ◌⊎◌}
-use Rattle.std.specs.Prelude.{if◌then◌else◌, option_map, bytes_eq}
-use Rattle.std.specs.Option.{is_some}
+use Rattle.std.specs.Prelude.{if◌then◌else◌, option_map, option_to_list, bytes_eq}
+use Rattle.std.specs.Option.{is_some, option_flatten}
 use Rattle.std.specs.Result.{result_ok}
 use Rattle.std.specs.Map.{lookup}
 use Rattle.system_keys.specs.declared.tag.Tag.{Tag}
 use Rattle.system_keys.specs.Keys.{Key}
 use Rattle.system_keys.specs.Families.{server_tag_family, server_id_length}
 use Rattle.system_keys.specs.Rows.{Id, tag_at}
-use Rattle.model.specs.Metadata.{Entries}
+use Rattle.model.specs.Metadata.{Entries, server_tags}
 use Rattle.metadata.specs.Overwrites.{is_listed, has_entry}
 use Rattle.metadata.specs.CachedTags.{Values, names_server, values_over}
 
@@ -38,6 +38,13 @@ server_by values id = option_map decoded_tag (values (server_tag_family.prefix +
 abbrev pub AreServers : ServerTags → Values → Type 0
 AreServers servers values =
     (id : Id) → length id ≡ server_id_length → server_at servers id ≡ server_by values id
+
+-- The tag listed for a server is that which the entries give it. A server may be listed without a
+-- tag though it has no serverTag row.
+abbrev pub GiveTags : ServerTags → Entries → Type 0
+GiveTags servers entries =
+    (id : Id) → length id ≡ server_id_length
+    → option_to_list (option_flatten (server_at servers id)) ≡ server_tags entries id
 
 -- ---- entries that are put over others
 

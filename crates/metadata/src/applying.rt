@@ -100,6 +100,7 @@ fn add_cleared_ranges<'a>(
     Ok(())
 }
 
+/// Whether every verdict is Committed.
 fn are_committed(verdicts: &[Verdict]) -> bool
     ensures { result ≡ list_all is_committed verdicts.now }
 {

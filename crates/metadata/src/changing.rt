@@ -1,4 +1,5 @@
-//! Which tags change when entries are put over others.
+//! Which keyServers rows get new tags when entries are put over others: those that are put, and
+//! those that name a server of which an entry is put.
 
 ghost use Rattle.std.specs.Prelude.{◌≡◌, ◌++◌, ◌∷◌, [], IfOk, OnOk};
 ghost use Rattle.model.specs.Metadata.{entry_value, is_key_servers};

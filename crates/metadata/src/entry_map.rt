@@ -13,7 +13,7 @@ ghost use Rattle.model.specs.Metadata.{Entries, IsInOrder, entry_value};
 ghost use Rattle.metadata.specs.MapEntries.{entries_of, bytes_of_keys};
 ghost use Rattle.metadata.specs.MapEntries.{is_serving_up_to, is_serving_inside};
 ghost use Rattle.metadata.specs.Overwrites.{is_same_key, is_listed, has_entry, missing_keys};
-ghost use Rattle.metadata.specs.Overwrites.{IsOverwritten, IsPutOver, TakesBack, AreDisplaced};
+ghost use Rattle.metadata.specs.Overwrites.{IsPutOver, TakesBack, AreDisplaced};
 ghost use Rattle.metadata.specs.Overwrites.{entries_without, is_held, lent_ranges};
 ghost use Rattle.metadata.specs.CachedTags.{may_tag, may_tag_some};
 ghost use Rattle.metadata.specs.HiddenRuns.{IsHiddenRun, AreHiddenRuns, is_serving_before};
@@ -102,7 +102,16 @@ impl EntryMap {
         ensures err { OnErr result (self.new ≡ self.old) }
     {
         let key = Vec::from_slice(self.alloc, key)?;
-        let value = value.copy()?;
+        self.put_owned(key, value.copy()?)
+    }
+
+    /// Sets the value at the key. Fails only with `OutOfMemory`; the map is then unchanged.
+    fn put_owned(&mut self, key: Vec<u8>, value: Bytes) -> Result<(), OutOfMemory>
+        ensures ok { OnOk result
+            (self.new ≡ insert_entry (slice_cmp nat_cmp) self.old key.items value) }
+        ensures order { IsInOrder self.new }
+        ensures err { OnErr result (self.new ≡ self.old) }
+    {
         self.values.insert(key, value)?;
         Ok(())
     }
@@ -243,71 +252,68 @@ impl EntryMap {
         self.values.remove(key);
     }
 
-    /// Removes the entries at the keys, and then puts all entries of the other map.
-    ///
-    /// What can fail comes first: an entry is added at each key of the other map that this one
-    /// lacks. Fails only with `OutOfMemory`; the map is then unchanged.
-    pub(crate) fn overwrite(
-        &mut self,
-        removed: &[Vec<u8>],
-        puts: EntryMap,
-    ) -> Result<(), OutOfMemory>
-        ensures ok { OnOk result
-            (IsOverwritten (bytes_of_keys removed.now) puts self.old self.new) }
-        ensures order { IsInOrder self.new }
-        ensures err { OnErr result (self.new ≡ self.old) }
-    {
-        let missing = self.missing_keys(&puts)?;
-        match self.add_keys(&missing) {
-            Ok(()) => {
-                self.remove_listed(removed, &puts);
-                self.write(puts);
-                Ok(())
-            }
-            Err(OutOfMemory) => {
-                self.remove_listed(&missing, &EntryMap::new(self.alloc));
-                Err(OutOfMemory)
-            }
-        }
-    }
-
     /// Puts all entries of the other map, and returns what takes them back. Fails only with
     /// `OutOfMemory`; the map is then unchanged.
+    ///
+    /// What takes the entries back is made first. It also takes back those that were put before an
+    /// allocation fails.
     pub(crate) fn put_all(&mut self, puts: EntryMap) -> Result<Undo, OutOfMemory>
         ensures ok { OnOk result (IsPutOver puts self.old self.new) }
         ensures undo { IfOk result (λ undo. TakesBack undo.0 undo.1 self.old self.new) }
         ensures order { IsInOrder self.new }
         ensures err { OnErr result (self.new ≡ self.old) }
     {
-        let missing = self.missing_keys(&puts)?;
-        let displaced = self.displaced_by(&puts)?;
-        self.overwrite(&[], puts)?;
+        let undo = self.undo_of(&puts)?;
+        match self.put_each(puts) {
+            Ok(()) => Ok(undo),
+            Err(OutOfMemory) => {
+                self.take_back(undo);
+                Err(OutOfMemory)
+            }
+        }
+    }
+
+    /// The keys of the other map that this one lacks, and the entries at its other keys. Fails only
+    /// with `OutOfMemory`.
+    fn undo_of(&self, puts: &EntryMap) -> Result<Undo, OutOfMemory>
+        ensures missing { IfOk result (λ undo. undo.0 ≡ missing_keys self.now puts.now) }
+        ensures displaced { IfOk result (λ undo. AreDisplaced self.now puts.now undo.1) }
+        ensures order { IsInOrder self.now }
+    {
+        let mut missing = Vec::new(self.alloc);
+        let mut displaced = EntryMap::new(self.alloc);
+        for (key, _) in puts.iter() {
+            match self.get(key.as_slice()) {
+                Some(value) => displaced.put_copy(key.as_slice(), value)?,
+                None => missing.push(Vec::from_slice(self.alloc, key.as_slice())?)?,
+            }
+        }
         Ok(Undo { missing, displaced })
     }
 
-    /// The entries at the keys of the other map. Fails only with `OutOfMemory`.
-    fn displaced_by(&self, puts: &EntryMap) -> Result<EntryMap, OutOfMemory>
-        ensures { IfOk result (λ displaced. AreDisplaced self.now puts.now displaced) }
+    /// Sets a copy of the value at the key. Fails only with `OutOfMemory`; the map is then unchanged.
+    fn put_copy(&mut self, key: &[u8], value: &[u8]) -> Result<(), OutOfMemory>
+        ensures { OnOk result
+            (self.new ≡ insert_entry (slice_cmp nat_cmp) self.old key.now value.now) }
     {
-        let mut displaced = EntryMap::new(self.alloc);
-        for (key, _) in puts.iter() {
-            self.copy_entry(key.as_slice(), &mut displaced)?;
-        }
-        Ok(displaced)
+        let key = Vec::from_slice(self.alloc, key)?;
+        let value = Vec::from_slice(self.alloc, value)?;
+        self.put_owned(key, Bytes::from(value))
     }
 
-    /// Puts a copy of the entry at the key in the other map, if there is one.
-    fn copy_entry(&self, key: &[u8], other: &mut EntryMap) -> Result<(), OutOfMemory>
-        ensures { OnOk result ((at : Key) → entry_value other.new at
-            ≡ (if is_same_key at key.now
-            then option_or (entry_value self.now key.now) (entry_value other.old at)
-            else entry_value other.old at)) }
+    /// Puts the entries of the other map, one after another. Fails only with `OutOfMemory`; some of
+    /// them are then put.
+    fn put_each(&mut self, puts: EntryMap) -> Result<(), OutOfMemory>
+        ensures ok { OnOk result (IsPutOver puts self.old self.new) }
+        ensures others { (key : Key) → has_entry puts key ≡ false
+            → entry_value self.new key ≡ entry_value self.old key }
+        ensures there { (key : Key) → has_entry self.old key ≡ true
+            → has_entry self.new key ≡ true }
+        ensures order { IsInOrder self.old → IsInOrder self.new }
     {
-        let Some(value) = self.get(key) else {
-            return Ok(());
-        };
-        let value = Bytes::from(Vec::from_slice(self.alloc, value)?);
-        other.put(key, &value)?;
+        for (key, value) in puts.values {
+            self.put_owned(key, value)?;
+        }
         Ok(())
     }
 
@@ -332,37 +338,6 @@ impl EntryMap {
             }
         }
         Ok(lacked)
-    }
-
-    /// The keys of the other map that this one lacks, in order. Fails only with `OutOfMemory`.
-    fn missing_keys(&self, puts: &EntryMap) -> Result<Vec<Vec<u8>>, OutOfMemory>
-        ensures keys { IfOk result (λ keys. bytes_of_keys keys.items
-            ≡ missing_keys self.now puts.now) }
-        ensures order { IsInOrder self.now }
-    {
-        let mut keys = Vec::new(self.alloc);
-        for (key, _) in puts.iter() {
-            if self.get(key.as_slice()).is_none() {
-                keys.push(Vec::from_slice(self.alloc, key.as_slice())?)?;
-            }
-        }
-        Ok(keys)
-    }
-
-    /// Puts an empty value at each of the keys. Fails only with `OutOfMemory`; only entries at these
-    /// keys may then have changed.
-    fn add_keys(&mut self, keys: &[Vec<u8>]) -> Result<(), OutOfMemory>
-        ensures ok { OnOk result ((key : Key) → entry_value self.new key
-            ≡ (if is_listed (bytes_of_keys keys.now) key then Some [] else entry_value self.old key)) }
-        ensures others { (key : Key) → is_listed (bytes_of_keys keys.now) key ≡ false
-            → entry_value self.new key ≡ entry_value self.old key }
-        ensures order { IsInOrder self.new }
-    {
-        let empty = Bytes::from(Vec::new(self.alloc));
-        for key in keys {
-            self.put(key.as_slice(), &empty)?;
-        }
-        Ok(())
     }
 
     /// Puts all entries of the other map, if this one has an entry at each of their keys. Does not

@@ -1,18 +1,22 @@
 //! The entries of a metadata without those at some keys, as they are looked up.
 
 ghost use Rattle.std.specs.Prelude.{◌≡◌, IfOk, option_map};
+ghost use Rattle.std.specs.Option.{option_to_list};
 ghost use Rattle.model.specs.Metadata.{entry_value, serving_entry, key_servers_entries};
+ghost use Rattle.model.specs.Metadata.{server_tags};
 ghost use Rattle.metadata.specs.CachedTags.{AreTags, tags_at, tags_by};
 ghost use Rattle.metadata.specs.HiddenRuns.{AreHiddenRuns};
 ghost use Rattle.metadata.specs.Overwrites.{entries_without};
+ghost use Rattle.metadata.specs.ServerTables.{GiveTags};
 
 use crate::entry_map::EntryMap;
 use crate::key_runs::KeyRuns;
 use crate::key_set::KeySet;
+use crate::server_table::ServerTable;
 use crate::tag_map::TagMap;
 use std::alloc::Global;
 use std::marker::Model;
-use system_keys::{OutOfMemory, Tag};
+use system_keys::{OutOfMemory, ServerId, Tag};
 
 /// The entries of a metadata, except for those at hidden keys. Contracts see the list of the
 /// entries that are not hidden, in the order of their keys.
@@ -23,6 +27,8 @@ pub struct EntryView<'a> {
     pub(crate) hidden: &'a KeySet,
     /// Runs of hidden keyServers entries; not each hidden one has to be in one.
     pub(crate) runs: &'a KeyRuns,
+    /// The tag of each server; one whose serverTag entry is hidden may be listed without a tag.
+    servers: &'a ServerTable,
 }
 
 impl<'a> Model for EntryView<'a> {
@@ -30,26 +36,29 @@ impl<'a> Model for EntryView<'a> {
     ghost use Rattle.metadata.specs.CachedTags.{AreTags, tags_at};
     ghost use Rattle.metadata.specs.HiddenRuns.{AreHiddenRuns};
     ghost use Rattle.metadata.specs.Overwrites.{entries_without};
+    ghost use Rattle.metadata.specs.ServerTables.{GiveTags};
 
     ghost Value = { Entries };
 
     ghost view = { λ v. entries_without v.hidden.now v.entries.now };
 
-    ghost invariant = { λ v. AreTags (tags_at v.tags.now) (entry_value (entries_without v.hidden.now v.entries.now)) × AreHiddenRuns v.hidden.now v.entries.now v.runs.now };
+    ghost invariant = { λ v. AreTags (tags_at v.tags.now) (entry_value (entries_without v.hidden.now v.entries.now)) × AreHiddenRuns v.hidden.now v.entries.now v.runs.now × GiveTags v.servers.now.tags (entries_without v.hidden.now v.entries.now) };
 }
 
 impl<'a> EntryView<'a> {
-    /// The entries of the map, except for those at hidden keys, with the tags kept for them, and with
-    /// runs of the hidden ones. Does not allocate.
+    /// The entries of the map, except for those at hidden keys, with the tags kept for them, with
+    /// runs of the hidden ones, and with the tags of the servers. Does not allocate.
     pub(crate) fn new(
         entries: &'a EntryMap,
         tags: &'a TagMap,
         hidden: &'a KeySet,
         runs: &'a KeyRuns,
+        servers: &'a ServerTable,
     ) -> EntryView<'a>
         requires tags { AreTags (tags_at tags.now)
             (entry_value (entries_without hidden.now entries.now)) }
         requires runs { AreHiddenRuns hidden.now entries.now runs.now }
+        requires servers { GiveTags servers.now.tags (entries_without hidden.now entries.now) }
         ensures { result ≡ entries_without hidden.now entries.now }
     {
         EntryView {
@@ -57,12 +66,21 @@ impl<'a> EntryView<'a> {
             tags,
             hidden,
             runs,
+            servers,
         }
     }
 
     /// The allocator of the map.
     pub(crate) fn alloc(&self) -> Global {
         self.entries.alloc()
+    }
+
+    /// The tag of a server. A server without a serverTag entry has none (this project's profile). Does
+    /// not allocate.
+    pub(crate) fn server_tag(&self, server: &ServerId) -> Option<Tag>
+        ensures { option_to_list result ≡ server_tags self.now server.now }
+    {
+        self.servers.get(server).flatten()
     }
 
     /// The tags kept for the keyServers entry that serves a key: the greatest one at or before it

@@ -1,4 +1,4 @@
-//! Runs of keys.
+//! Runs of hidden keys, over which look-ups step at once.
 
 ghost use Rattle.std.specs.Prelude.{◌≡◌, [], false, IfSome};
 ghost use Rattle.std.specs.List.{Contains};

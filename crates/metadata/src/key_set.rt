@@ -1,4 +1,4 @@
-//! Sets of keys.
+//! Sets of keys, such as those that are hidden.
 
 ghost use Rattle.std.specs.Prelude.{◌≡◌, ◌||◌, [], OnOk, length};
 ghost use Rattle.system_keys.specs.Keys.{Key};

@@ -1,9 +1,9 @@
 //! The metadata that every commit proxy keeps the same: the entries that it keeps, how a row of the
-//! journal changes them, the lock, and the tags of the keys.
+//! journal changes them, the lock, the tags of the keys, and the private copies of changes.
 //!
 //! Sources: FoundationDB release 7.1 (how commit proxies apply the state transactions, and which
-//! tags a mutation gets) and this project's profile (the values of entries, a server without a
-//! serverTag entry).
+//! tags and private copies a mutation gets) and this project's profile (the values of entries, a
+//! server without a serverTag entry).
 #![tactic(auto)]
 
 mod applying;
@@ -15,6 +15,7 @@ mod key_runs;
 mod key_set;
 mod metadata;
 mod order;
+mod private_copies;
 mod raw_ids;
 mod routes;
 mod server_table;
@@ -27,5 +28,6 @@ mod tagging;
 
 pub use entry_view::EntryView;
 pub use metadata::Metadata;
+pub use private_copies::private_of;
 pub use started::StartedRows;
 pub use tagging::tags_of;

@@ -1,6 +1,7 @@
-//! The metadata that every commit proxy keeps the same.
+//! The metadata that every commit proxy keeps the same, as its callers see it: changes and rows are
+//! applied, and the lock, tags and routing are read.
 
-ghost use Rattle.std.specs.Prelude.{◌≡◌, [], false, IsOk, IfOk, OnOk, OnErr};
+ghost use Rattle.std.specs.Prelude.{◌≡◌, [], false, None, IsOk, IfOk, OnOk, OnErr};
 ghost use Rattle.std.specs.Prelude.{option_map, fold, slice_get};
 ghost use Rattle.std.specs.List.{list_any};
 ghost use Rattle.system_keys.specs.declared.change.Change.TheVariants.{Set, Clear};
@@ -9,6 +10,7 @@ ghost use Rattle.system_keys.specs.Families.{is_kept};
 ghost use Rattle.model.specs.Metadata.{IsInOrder, AreKept, entry_value, is_locked, after_change};
 ghost use Rattle.model.specs.Metadata.{is_applied, after_journal_row, key_servers_entries};
 ghost use Rattle.model.specs.Metadata.{Entries, routing, tags, tags_of_key};
+ghost use Rattle.model.specs.PrivateCopies.{private_copy};
 ghost use Rattle.metadata.specs.CachedTags.{TagsTakeBack, changed_tags, may_tag_some};
 ghost use Rattle.metadata.specs.Overwrites.{IsOverwritten, IsPutOver, TakesBack};
 ghost use Rattle.metadata.specs.Overwrites.{entries_without};
@@ -22,6 +24,7 @@ use crate::entry_view::EntryView;
 use crate::kept_entries::KeptEntries;
 use crate::key_runs::KeyRuns;
 use crate::key_set::KeySet;
+use crate::private_copies::private_of;
 use crate::routes::routes;
 use crate::server_table::ServerTable;
 use crate::server_view::ServerView;
@@ -29,7 +32,7 @@ use crate::staged::Staged;
 use crate::started::{Put, StartedRows};
 use crate::tag_map::{TagMap, TagRow};
 use crate::tagging::{tags_of, tags_of_key};
-use model::{JournalRow, Routing, Version};
+use model::{JournalRow, PrivateCopy, Routing, Version};
 use std::alloc::Global;
 use std::marker::Model;
 use system_keys::{Bytes, Change, Items, KEY_SERVERS_PREFIX, KeyRange, OutOfMemory, Tag, is_kept};
@@ -244,10 +247,15 @@ impl Metadata {
         let servers = puts.map().server_keys()?;
         let changed = self.changed_by(&puts, &servers)?;
         let tags = self.tags.displaced_by(&changed)?;
-        self.tags.reserve(&changed)?;
         self.servers.reserve(&servers)?;
-        let undo = self.entries.put_over(puts)?;
-        self.tags.write(changed);
+        let Ok(()) = self.tags.put_each(changed) else {
+            self.tags.write(tags);
+            return Err(OutOfMemory);
+        };
+        let Ok(undo) = self.entries.put_over(puts) else {
+            self.tags.write(tags);
+            return Err(OutOfMemory);
+        };
         self.servers.refresh(&servers, self.entries.map());
         Ok(Put {
             undo,
@@ -279,7 +287,8 @@ impl Metadata {
             return self.whole();
         }
         let runs = self.hidden_runs(started);
-        EntryView::new(self.entries.map(), &self.tags, &started.removed, runs)
+        let entries = self.entries.map();
+        EntryView::new(entries, &self.tags, &started.removed, runs, &self.servers)
     }
 
     /// The runs of the entries that the started rows remove, and none if the entries are no longer
@@ -339,7 +348,14 @@ impl Metadata {
     fn whole(&self) -> EntryView<'_>
         ensures { result ≡ self.now }
     {
-        EntryView::new(self.entries.map(), &self.tags, &self.none, &self.no_runs)
+        let entries = self.entries.map();
+        EntryView::new(
+            entries,
+            &self.tags,
+            &self.none,
+            &self.no_runs,
+            &self.servers,
+        )
     }
 
     /// The metadata after the rows of the journal, applied in order without copying the metadata.
@@ -388,6 +404,18 @@ impl Metadata {
         ensures { IfOk result (λ found. found ≡ tags_of_key self.now key.now) }
     {
         tags_of_key(&self.whole(), key)
+    }
+
+    /// The private copy of a change, if it has one: a Set of a serverKeys row has one for the server
+    /// that its key names, if that has a tag, and a Set of a serverTag row one for the tag that it
+    /// sets (release 7.1). One more `\xff` stands before its key.
+    ///
+    /// A change without one does not allocate. Fails only with `OutOfMemory`.
+    pub fn private_of(&self, change: &Change) -> Result<Option<PrivateCopy>, OutOfMemory>
+        ensures value { IfOk result (λ found. found ≡ private_copy self.now change.now) }
+        ensures no_allocation { private_copy self.now change.now ≡ None → IsOk result }
+    {
+        private_of(&self.whole(), change)
     }
 
     /// The routing of the whole key space at this version: the lock, the version of the metadata,

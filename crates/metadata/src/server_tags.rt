@@ -94,6 +94,7 @@ pub(crate) fn names_put(over: &ServerView<'_>, value: &[u8]) -> Result<bool, Out
     }
 }
 
+/// Whether an entry of one of these servers is put.
 fn any_put(over: &ServerView<'_>, servers: &[ServerId]) -> bool
     ensures { result
         ≡ list_any (λ id. has_entry over.now.puts (server_tag_family.prefix ++ id)) servers.now }

@@ -112,40 +112,19 @@ impl TagMap {
         let _ = self.lists.insert(row.key, row.tags);
     }
 
-    /// Makes a place for tags at each of the keys. Fails only with `OutOfMemory`. What is kept at a
-    /// key stays, also then.
-    pub(crate) fn reserve(&mut self, rows: &[TagRow]) -> Result<(), OutOfMemory>
-        ensures kept { (key : Key) → is_some (tags_at self.old key) ≡ true
+    /// Puts the tags at the keys. Fails only with `OutOfMemory`; those of some rows are then put. What
+    /// is kept at other keys stays, also then.
+    pub(crate) fn put_each(&mut self, rows: Vec<TagRow>) -> Result<(), OutOfMemory>
+        ensures ok { OnOk result ((key : Key)
+            → tags_at self.new key ≡ tags_written (tags_at self.old) rows.items key) }
+        ensures others { (key : Key) → is_listed (keys_of rows.items) key ≡ false
             → tags_at self.new key ≡ tags_at self.old key }
-        ensures there { OnOk result ((key : Key) → is_listed (keys_of rows.now) key ≡ true
-            → is_some (tags_at self.new key) ≡ true) }
+        ensures there { (key : Key) → is_some (tags_at self.old key) ≡ true
+            → is_some (tags_at self.new key) ≡ true }
     {
         for row in rows {
-            self.reserve_key(row.key())?;
+            self.insert(row)?;
         }
-        Ok(())
-    }
-
-    fn reserve_key(&mut self, key: &[u8]) -> Result<(), OutOfMemory>
-        ensures kept { (other : Key) → is_some (tags_at self.old other) ≡ true
-            → tags_at self.new other ≡ tags_at self.old other }
-        ensures there { OnOk result (is_some (tags_at self.new key.now) ≡ true) }
-    {
-        if self.get(key).is_none() {
-            self.place(key)
-        } else {
-            Ok(())
-        }
-    }
-
-    fn place(&mut self, key: &[u8]) -> Result<(), OutOfMemory>
-        ensures ok { OnOk result ((other : Key) → tags_at self.new other
-            ≡ (if is_same_key other key.now then Some [] else tags_at self.old other)) }
-        ensures err { OnErr result ((other : Key)
-            → tags_at self.new other ≡ tags_at self.old other) }
-    {
-        let none = Items::from(Vec::new(self.alloc));
-        self.insert(TagRow::new(self.alloc, key, none)?)?;
         Ok(())
     }
 

@@ -38,6 +38,7 @@ pub(crate) fn tags_of_key(entries: &EntryView, key: &[u8]) -> Result<Items<Tag>,
     }
 }
 
+/// The tags of a Clear of the range.
 fn tags_of_range(entries: &EntryView, range: &KeyRange) -> Result<Items<Tag>, OutOfMemory>
     ensures { IfOk result (λ found. found ≡ tags entries.now (Clear range.now)) }
 {

@@ -5,6 +5,7 @@ pub mod Verdicts
 pub mod Shares
 pub mod Journal
 pub mod Metadata
+pub mod PrivateCopies
 pub mod Outcomes
 pub mod Serializability
 pub mod Agreement

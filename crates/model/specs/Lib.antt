@@ -22,6 +22,8 @@ pub mod Verdicts
 pub mod Metadata
 -- which keyServers row serves a key, and which tags a change has
 pub mod Routes
+-- the private copy of a change, for the storage server that it concerns
+pub mod PrivateCopies
 -- each record's state transactions with all verdicts, from any source; what a resolver reports
 pub mod Journal
 -- what a proxy sends to a resolver for a record, and what follows from requests alone

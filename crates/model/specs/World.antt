@@ -25,6 +25,7 @@ use Rattle.model.specs.Records.{Record, MovesFollow, last_version, records_of_pr
 use Rattle.model.specs.Shares.{each_below}
 use Rattle.model.specs.Verdicts.{share_verdicts}
 use Rattle.model.specs.Metadata.{Entries, metadata, tags, routing}
+use Rattle.model.specs.PrivateCopies.{private_copy}
 use Rattle.model.specs.Journal.{VerdictSource, history_verdicts, journal_row, journal, unseen}
 use Rattle.model.specs.Journal.{remembered}
 use Rattle.model.specs.Outcomes.{outcomes_after}
@@ -216,13 +217,25 @@ handle_offer config w row r (Some rec) =
 
 -- ---- a proxy finishes a record
 
--- the mutations of transaction `number`, from place n on, each with its tags in these entries
+-- the mutations of transaction `number`, from place n on, each with its tags and its private copy by
+-- these entries
 abbrev pub tagged_from :
     Entries → (number : TransactionNumber) (n : ℕ) → List Change → List Tagged
 tagged_from entries number n [] = []
 tagged_from entries number n (change ∷ changes) =
-    record { number = number; place = n; change = change; tags = tags entries change }
+    record {
+      number = number;
+      place = n;
+      change = change;
+      tags = tags entries change;
+      private = private_copy entries change;
+    }
     ∷ tagged_from entries number (suc n) changes
+
+-- the mutation has the tags and the private copy that these entries give its change
+pub record IsTaggedBy (entries : Entries) (mutation : Tagged) : Type 0 where
+  pub tags : mutation.tags ≡ tags entries mutation.change
+  pub private : mutation.private ≡ private_copy entries mutation.change
 
 -- the tagged mutations of a transaction, state mutations too, if it is committed; otherwise none
 abbrev pub tagged_one : Entries → Transaction → Outcome → List Tagged
@@ -239,7 +252,7 @@ tagged_all entries (t ∷ ts) (outcome ∷ outcomes) =
     tagged_one entries t outcome ++ tagged_all entries ts outcomes
 
 -- A finished record, after a journal of the records before it: its outcomes, and its mutations with
--- their tags in the metadata after the whole batch.
+-- their tags and their private copies by the metadata after the whole batch.
 unfoldable pub finished_after :
     Config → VerdictSource → (journal_before : List JournalRow) (rec : Record) → Finished
 finished_after config verdict_by journal_before rec =

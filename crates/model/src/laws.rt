@@ -19,7 +19,7 @@ pub use agreement::{
 };
 pub use history::{chain_law, history_law, next_law, rows_law, split_law, unseen_law};
 pub use journal::{journal_law, journal_rows_law, reply_rows_law, version_law};
-pub use metadata::{change_law, fold_law, lock_law, route_law, tags_law};
+pub use metadata::{change_law, fold_law, lock_law, private_law, route_law, tags_law};
 pub use outcomes::{committed_law, finished_law, finished_numbers_law, held_lock_law, outcome_law};
 pub use owners::{
     asked_law, moves_law, overlap_law, owner_law, stand_answers_law, stand_law, trimmed_law,

@@ -23,7 +23,7 @@ pub use finish_edges::{disagreement_edges, other_record_edges, reply_edges};
 pub use journal::{JournalRow, StateTxn};
 pub use moves::Move;
 pub use numbers::{ProxyNumber, ResolverNumber, RowNumber, TransactionNumber, Version};
-pub use outcome::{Finished, Outcome, Tagged};
+pub use outcome::{Finished, Outcome, PrivateCopy, Tagged};
 pub use part::Part;
 pub use refusal::Refusal;
 pub use reply::Reply;

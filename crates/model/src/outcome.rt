@@ -1,12 +1,13 @@
 //! The outcomes that a proxy returns to its clients, and the mutations that it sends to the logs.
 //!
 //! Release 7.1, `CommitProxyServer.actor.cpp`, determineCommittedTransactions and
-//! assignMutationsToStorageServers; what differs is marked *profile*.
+//! assignMutationsToStorageServers, and `ApplyMetadataMutation.cpp`, for the private copies; what
+//! differs is marked *profile*.
 
 ghost use Rattle.std.specs.Prelude.{◌≡◌, IfOk};
 
 use crate::numbers::{RowNumber, TransactionNumber, Version};
-use system_keys::{Change, Items, OutOfMemory, Tag};
+use system_keys::{Bytes, Change, Items, OutOfMemory, Tag};
 
 /// The outcome of a transaction, which its client gets. *Profile*: Locked is a separate outcome.
 #[derive(Clone, Copy, Debug, PartialEq, Eq)]
@@ -35,6 +36,27 @@ impl Outcome {
     }
 }
 
+/// A Set that concerns one storage server, as the logs keep it for that server alone. The limit of
+/// keys does not hold for its key.
+#[derive(Clone, Debug, Drop)]
+pub struct PrivateCopy {
+    /// The key of the Set, with one more `\xff` before it.
+    pub key: Bytes,
+    /// The value of the Set.
+    pub value: Bytes,
+    /// The tag of the server.
+    pub tag: Tag,
+}
+
+impl PrivateCopy {
+    /// Returns a deep copy. Fails only with `OutOfMemory`.
+    pub fn copy(&self) -> Result<PrivateCopy, OutOfMemory>
+        ensures { IfOk result (λ copy. copy ≡ self.now) }
+    {
+        Ok(self.clone()?)
+    }
+}
+
 /// A mutation of a committed transaction, with the tags under which the logs store it.
 #[derive(Clone, Debug, Drop)]
 pub struct Tagged {
@@ -46,6 +68,8 @@ pub struct Tagged {
     pub change: Change,
     /// The tags, strictly increasing.
     pub tags: Items<Tag>,
+    /// The copy for the storage server that the mutation concerns, if there is one.
+    pub private: Option<PrivateCopy>,
 }
 
 impl Tagged {

@@ -180,11 +180,7 @@ faultless_from_limits t h =
 any_value : (kind : RowKind) (value : List ℕ) → is_formed kind ≡ false → is_row_value kind value ≡ true
 any_value kinds.KeyServers value h = cc
 any_value kinds.ServerTag value h = cc
-any_value kinds.DatabaseLocked value h = refl
-any_value kinds.MetadataVersion value h = refl
-any_value kinds.OtherSystem value h = refl
-any_value kinds.NonMetadata value h = refl
-any_value kinds.Normal value h = refl
+any_value _ value h = refl
 
 length-stamp : (version number : ℕ) → length (stamp version number) ≡ 10
 length-stamp version number = refl

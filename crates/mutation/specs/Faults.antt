@@ -33,11 +33,7 @@ fault_of_set key value = option_map refusals.Key (set_fault key value)
 abbrev pub is_formed : RowKind → Bool
 is_formed kinds.KeyServers = true
 is_formed kinds.ServerTag = true
-is_formed kinds.DatabaseLocked = false
-is_formed kinds.MetadataVersion = false
-is_formed kinds.OtherSystem = false
-is_formed kinds.NonMetadata = false
-is_formed kinds.Normal = false
+is_formed _ = false
 
 -- the value has an offset of four bytes, and before them room for the ten bytes of a stamp at that
 -- offset

@@ -1,6 +1,7 @@
 -- Which records a proxy refuses to begin, and what becomes of its map of owners.
 use Rattle.std.specs.Prelude.{◌≡◌, ℕ, List, ◌∷◌, ◌++◌, Option, Some, None, not, nat_eq, nat_le}
-use Rattle.std.specs.Prelude.{if◌then◌else◌, drop, filter, map, ◌≤◌}
+use Rattle.std.specs.Prelude.{if◌then◌else◌, drop, filter, map, ◌≤◌, Bool}
+use Rattle.std.specs.List.{list_any}
 use Rattle.model.specs.Configs.{Config}
 use Rattle.model.specs.declared.moves.Move.{Move}
 use Rattle.model.specs.declared.journal.JournalRow.{JournalRow}
@@ -33,6 +34,11 @@ requests_for v rec = map (request v.config rec v.version) (each_below v.config.r
 abbrev pub rows_up_to : ℕ → List JournalRow → List JournalRow
 rows_up_to version journal =
     filter (λ (row : JournalRow). nat_le row.version version) journal
+
+-- the journal has a row up to a version
+abbrev pub has_row_up_to : ℕ → List JournalRow → Bool
+has_row_up_to version journal =
+    list_any (λ (row : JournalRow). nat_le row.version version) journal
 
 -- the record is the first of these
 abbrev pub IsFirst : List Record → Record → Type 0

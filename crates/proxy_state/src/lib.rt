@@ -21,7 +21,9 @@ mod telling;
 
 pub use joining::join;
 pub use metadata::Metadata;
-pub use model::{Finished, JournalRow, Outcome, Route, Routing, StateTxn, Tagged, Verdict};
+pub use model::{
+    Finished, JournalRow, Outcome, PrivateCopy, Route, Routing, StateTxn, Tagged, Verdict,
+};
 pub use proxy::Proxy;
 pub use refusal::Refusal;
 pub use replies::Replies;

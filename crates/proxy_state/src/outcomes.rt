@@ -1,4 +1,4 @@
-//! The outcomes of a proxy's own batch, and its mutations with their tags.
+//! The outcomes of a proxy's own batch, and its mutations with their tags and private copies.
 //!
 //! Release 7.1, `CommitProxyServer.actor.cpp`, determineCommittedTransactions and
 //! assignMutationsToStorageServers; what differs is marked *profile*.
@@ -11,7 +11,7 @@ ghost use Rattle.proxy_state.specs.Finishing.{outcome_asked, outcomes_by, finish
 
 use crate::begun::BegunRecord;
 use crate::columns::joined_by;
-use metadata::{EntryView, tags_of};
+use metadata::{EntryView, private_of, tags_of};
 use model::{
     Config, Finished, Outcome, ResolverNumber, Tagged, TransactionNumber, Verdict, Version,
 };
@@ -128,7 +128,7 @@ fn outcome_by(
     }
 }
 
-/// The mutations of the committed transactions, each with its tags.
+/// The mutations of the committed transactions, each with its tags and its private copy.
 fn tagged_all(
     alloc: Global,
     entries: &EntryView,
@@ -148,7 +148,7 @@ fn tagged_all(
     Ok(tagged)
 }
 
-/// Adds the mutations of the transaction of this number, each with its tags.
+/// Adds the mutations of the transaction of this number, each with its tags and its private copy.
 fn add_tagged(
     entries: &EntryView,
     number: TransactionNumber,
@@ -164,6 +164,7 @@ fn add_tagged(
             place,
             change: change.copy()?,
             tags: tags_of(entries, change)?,
+            private: private_of(entries, change)?,
         })?;
     }
     Ok(())

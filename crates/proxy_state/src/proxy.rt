@@ -3,13 +3,13 @@
 //! Release 7.1, `CommitProxyServer.actor.cpp`, commitBatch; what differs is marked *profile*.
 
 ghost use Rattle.std.specs.Prelude.{◌≡◌, ◌≤◌, ◌<◌, [], map, None, Some, IfOk, IfErr, OnOk, OnErr};
-ghost use Rattle.std.specs.Prelude.{IfSome, MatchResult, MatchOption};
+ghost use Rattle.std.specs.Prelude.{IfSome, IsOk, MatchResult, MatchOption, false};
 ghost use Rattle.model.specs.Metadata.{metadata as metadata_of};
 ghost use Rattle.model.specs.Shares.{asked};
 ghost use Rattle.model.specs.Finishing.{HoldsMoves, MayBegin, HasBegun, HasFinished};
 ghost use Rattle.proxy_state.specs.declared.refusal.Refusal.TheVariants as refusals;
 ghost use Rattle.proxy_state.specs.Beginning.{refusal_fault, begin_fault, requests_for, rows_up_to};
-ghost use Rattle.proxy_state.specs.Beginning.{HasMade, newest_of, HasMapFor, IsFirst};
+ghost use Rattle.proxy_state.specs.Beginning.{HasMade, newest_of, HasMapFor, IsFirst, has_row_up_to};
 ghost use Rattle.proxy_state.specs.Finishing.{finish_fault, IsReplied, IsLearned};
 
 use crate::begun::BegunRecord;
@@ -133,7 +133,7 @@ impl Proxy {
     /// Returns the metadata at a version: the fold of the rows of the journal up to it.
     ///
     /// Fails with `NotReached` and the proxy's version if `version` is above it, and otherwise only
-    /// with `OutOfMemory`.
+    /// with `OutOfMemory`. Does not allocate if the journal has no row up to the version.
     pub fn metadata_at(&self, version: Version) -> Result<Metadata, Refusal>
         ensures value { IfOk result (λ found.
             (version ≤ self.now.version)
@@ -141,6 +141,8 @@ impl Proxy {
         ensures refused { IfErr result (λ refusal.
             (self.now.version < version → refusal ≡ refusals.NotReached self.now.version)
             × (version ≤ self.now.version → refusal ≡ refusals.OutOfMemory)) }
+        ensures no_allocation { version ≤ self.now.version
+            → has_row_up_to version self.now.journal ≡ false → IsOk result }
     {
         if self.version < version {
             return Err(Refusal::NotReached {
@@ -224,7 +226,8 @@ impl Proxy {
     /// Finishes the earliest record that is begun and not finished, by the replies to it. The journal
     /// grows by the rows that the replies tell and by the record's own row, the metadata follows it,
     /// and the version is that of the record. Returns the outcome of each transaction of the batch,
-    /// and each mutation of the committed ones with its tags in the metadata after the whole batch.
+    /// and each mutation of the committed ones with its tags and its private copy, by the metadata
+    /// after the whole batch.
     ///
     /// Fails with `OutOfTurn` if no record is begun, otherwise with `MissingReply` and the least
     /// resolver that has not replied, otherwise with `RepliesDisagree` and the first version at which
@@ -328,14 +331,15 @@ fn copied_rows(rows: &Vec<JournalRow>) -> Result<Vec<JournalRow>, OutOfMemory>
     Ok(copied)
 }
 
-/// The fold of the rows up to a version.
+/// The fold of the rows up to a version. Does not allocate if there is none.
 #[tactic(auto, unfolding(model::specs::Metadata::metadata))]
 fn folded_up_to(
     alloc: Global,
     version: Version,
     journal: &[JournalRow],
 ) -> Result<Metadata, OutOfMemory>
-    ensures { IfOk result (λ found. found ≡ metadata_of (rows_up_to version journal.now)) }
+    ensures value { IfOk result (λ found. found ≡ metadata_of (rows_up_to version journal.now)) }
+    ensures no_allocation { has_row_up_to version journal.now ≡ false → IsOk result }
 {
     let mut metadata = Metadata::new(alloc);
     for row in journal {

@@ -17,6 +17,8 @@ use Rattle.scenarios.specs.MemoryScenarios.{RowsAreRememberedForAProxyThatIsLate
 use Rattle.scenarios.specs.MemoryScenarios.{RepeatsAndRepliesGivenUp, TwoRecordsBegunAtOnce}
 use Rattle.scenarios.specs.MemoryScenarios.{TwoProxiesMeet}
 use Rattle.scenarios.specs.ClearScenarios.{TheTagsOfAClear, AClearOfEverything}
+use Rattle.scenarios.specs.PrivateScenarios.{OnlyServersWithATagGetCopies, OtherKeysGetNoCopies}
+use Rattle.scenarios.specs.PrivateScenarios.{TheTagAfterTheBatchIsTaken, AClearedTagGetsNoCopies}
 use Rattle.scenarios.specs.ProxyScenarios.{AProxyThatIsBehind}
 use Rattle.scenarios.specs.RefusalScenarios.{RefusalsInOrder, WhatIsCheckedFirst, TheLastVersion}
 use Rattle.scenarios.specs.RefusalScenarios.{TheGreatestVersion, WhatAProxyHasAcknowledged}
@@ -125,6 +127,22 @@ the_tags_of_a_clear = refl
 pub a_clear_of_everything : AClearOfEverything
 unfolding the_definitions
 a_clear_of_everything = (refl, refl)
+
+pub only_servers_with_a_tag_get_copies : OnlyServersWithATagGetCopies
+unfolding the_definitions
+only_servers_with_a_tag_get_copies = refl
+
+pub other_keys_get_no_copies : OtherKeysGetNoCopies
+unfolding the_definitions
+other_keys_get_no_copies = refl
+
+pub the_tag_after_the_batch_is_taken : TheTagAfterTheBatchIsTaken
+unfolding the_definitions
+the_tag_after_the_batch_is_taken = refl
+
+pub a_cleared_tag_gets_no_copies : AClearedTagGetsNoCopies
+unfolding the_definitions
+a_cleared_tag_gets_no_copies = refl
 
 pub a_proxy_that_is_behind : AProxyThatIsBehind
 unfolding the_definitions

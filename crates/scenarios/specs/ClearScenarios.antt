@@ -1,6 +1,5 @@
 -- The tags of a Clear.
-use Rattle.std.specs.Prelude.{◌≡◌, ℕ, suc, List, [], ◌∷◌, ◌++◌, codes, false, None}
-use Rattle.system_keys.specs.declared.change.Change.{Change}
+use Rattle.std.specs.Prelude.{◌≡◌, ℕ, List, [], ◌∷◌, ◌++◌, codes, false, None}
 use Rattle.system_keys.specs.declared.change.Change.TheVariants as changes
 use Rattle.system_keys.specs.declared.tag.Tag.{Tag}
 use Rattle.system_keys.specs.Keys.{Range}
@@ -13,7 +12,7 @@ use Rattle.model.specs.Metadata.{tags}
 use Rattle.model.specs.World.{Event, Sequence, Finish, Answer, Sequenced, proxy_routing}
 use Rattle.model.specs.Examples.{cluster, told, a, b, range, mutating, judged, completed, tag, s1}
 use Rattle.model.specs.Examples.{s2, s3, one_source, source_and_destination, tag_row, servers_row}
-use Rattle.scenarios.specs.Vocabulary.{after, lock_aware, to_both, tagged, s4, tag_bytes}
+use Rattle.scenarios.specs.Vocabulary.{after, lock_aware, to_both, tagged, copied, s4, tag_bytes}
 
 abbrev pub four_servers : List Mutation
 four_servers =
@@ -23,23 +22,25 @@ four_servers =
     ∷ Set (servers_row (codes "f")) (source_and_destination s1 s3)
     ∷ Set (servers_row (codes "q")) (one_source s4) ∷ []
 
-abbrev pub four_servers_set : List Change
+abbrev pub last_tags : List Tag
+last_tags = tag 4 ∷ []
+
+-- the mutations of that transaction, all with the tag of the last keyServers row; the server of each
+-- serverTag row gets a private copy
+abbrev pub four_servers_set : List Tagged
 four_servers_set =
-    changes.Set (tag_row s1) (tag_bytes 1) ∷ changes.Set (tag_row s2) (tag_bytes 2)
-    ∷ changes.Set (tag_row s3) (tag_bytes 3) ∷ changes.Set (tag_row s4) (tag_bytes 4)
-    ∷ changes.Set (servers_row []) (one_source s1) ∷ changes.Set (servers_row b) (one_source s2)
-    ∷ changes.Set (servers_row (codes "f")) (source_and_destination s1 s3)
-    ∷ changes.Set (servers_row (codes "q")) (one_source s4) ∷ []
+    copied 0 0 (tag_row s1) (tag_bytes 1) last_tags 1
+    ∷ copied 0 1 (tag_row s2) (tag_bytes 2) last_tags 2
+    ∷ copied 0 2 (tag_row s3) (tag_bytes 3) last_tags 3
+    ∷ copied 0 3 (tag_row s4) (tag_bytes 4) last_tags 4
+    ∷ tagged 0 4 (changes.Set (servers_row []) (one_source s1)) last_tags
+    ∷ tagged 0 5 (changes.Set (servers_row b) (one_source s2)) last_tags
+    ∷ tagged 0 6 (changes.Set (servers_row (codes "f")) (source_and_destination s1 s3)) last_tags
+    ∷ tagged 0 7 (changes.Set (servers_row (codes "q")) (one_source s4)) last_tags ∷ []
 
 -- proxy 0 commits a batch of one transaction
 abbrev pub alone : ℕ → Given → List Event
 alone row t = Sequence 0 (t ∷ []) ∷ to_both row ++ Finish 0 ∷ []
-
--- the mutations of transaction 0, from this place on, with the same tags
-abbrev pub all_tagged : ℕ → List Change → List Tag → List Tagged
-all_tagged place [] tags = []
-all_tagged place (change ∷ rest) tags =
-    tagged 0 place change tags ∷ all_tagged (suc place) rest tags
 
 -- the answers: its verdicts by both resolvers, none if it asks none, and its mutations with their
 -- tags
@@ -60,11 +61,11 @@ abbrev pub TheTagsOfAClear : Type 0
 TheTagsOfAClear =
     told cluster (alone 0 (mutating four_servers) ++ alone 1 (mutating (Clear all_users ∷ []))
     ++ alone 2 (lock_aware (mutating (Set a [] ∷ Clear all_routes ∷ []))))
-    ≡ told_alone 0 10 (Committed ∷ []) (all_tagged 0 four_servers_set (tag 4 ∷ []))
+    ≡ told_alone 0 10 (Committed ∷ []) four_servers_set
     ++ told_alone 1 20 []
     (tagged 0 0 (changes.Clear all_users) (tag 1 ∷ tag 2 ∷ tag 3 ∷ tag 4 ∷ []) ∷ [])
     ++ told_alone 2 30 (Committed ∷ [])
-    (all_tagged 0 (changes.Set a [] ∷ changes.Clear all_routes ∷ []) [])
+    (tagged 0 0 (changes.Set a []) [] ∷ tagged 0 1 (changes.Clear all_routes) [] ∷ [])
 
 abbrev pub everything : Range
 everything = range [] (255 ∷ 255 ∷ [])
@@ -77,7 +78,7 @@ clear_of_everything =
 abbrev pub AClearOfEverything : Type 0
 AClearOfEverything =
     (told cluster clear_of_everything
-    ≡ told_alone 0 10 (Committed ∷ []) (all_tagged 0 four_servers_set (tag 4 ∷ []))
+    ≡ told_alone 0 10 (Committed ∷ []) four_servers_set
     ++ told_alone 1 20 (Committed ∷ []) (tagged 0 0 (changes.Clear everything) [] ∷ []))
     × (proxy_routing cluster (after cluster clear_of_everything) 0
     ≡ record { version = 20; locked = false; metadata_version = None; routes = [] })

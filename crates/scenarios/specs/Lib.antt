@@ -16,6 +16,8 @@ pub mod LockScenarios
 pub mod MemoryScenarios
 -- Clears
 pub mod ClearScenarios
+-- private copies
+pub mod PrivateScenarios
 -- proxies
 pub mod ProxyScenarios
 -- refused events, the last versions, and replies given up

@@ -1,6 +1,7 @@
 -- The small values that scenarios speak of, beside those of the model's examples.
 use Rattle.std.specs.Prelude.{ℕ, List, [], ◌∷◌, codes, true, false, Some, None}
 use Rattle.system_keys.specs.declared.change.Change.{Change}
+use Rattle.system_keys.specs.declared.change.Change.TheVariants as changes
 use Rattle.system_keys.specs.declared.tag.Tag.{Tag}
 use Rattle.system_keys.specs.Keys.{Key, only}
 use Rattle.model.specs.Configs.{Config}
@@ -11,7 +12,7 @@ use Rattle.model.specs.declared.outcome.Tagged.{Tagged}
 use Rattle.model.specs.Stamps.{Set, Given}
 use Rattle.model.specs.Metadata.{tags}
 use Rattle.model.specs.World.{World, Event, Offer, Answer, Again, initial_world, world_after}
-use Rattle.model.specs.Examples.{cluster, blank}
+use Rattle.model.specs.Examples.{cluster, blank, tag}
 
 -- the world after some events from the start
 abbrev pub after : Config → List Event → World
@@ -71,10 +72,21 @@ abbrev pub set_row_by_1 : ℕ → Verdict → UnseenRow
 set_row_by_1 version verdict =
     record { version = version; states = (record { verdict = verdict; carried = None }) ∷ [] }
 
--- a mutation with its tags
+-- a mutation with its tags, of which no server gets a private copy
 abbrev pub tagged : (number place : ℕ) → Change → List Tag → Tagged
 tagged number place change tags =
-    record { number = number; place = place; change = change; tags = tags }
+    record { number = number; place = place; change = change; tags = tags; private = None }
+
+-- the Set of a key with its tags, of which the server with tag `0:id` gets a private copy
+abbrev pub copied : (number place : ℕ) → Key → (value : List ℕ) → List Tag → (id : ℕ) → Tagged
+copied number place key value tags id =
+    record {
+      number = number;
+      place = place;
+      change = changes.Set key value;
+      tags = tags;
+      private = Some (record { key = 255 ∷ key; value = value; tag = tag id });
+    }
 
 abbrev pub s4 : Key
 s4 = codes "server0000000004"

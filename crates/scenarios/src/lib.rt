@@ -6,5 +6,6 @@ mod stories;
 
 pub use stories::{
     clear_scenarios, fold_scenarios, lock_scenarios, memory_scenarios, owner_scenarios,
-    proxy_scenarios, refusal_scenarios, resolver_scenarios, stamp_scenarios, verdict_scenarios,
+    private_scenarios, proxy_scenarios, refusal_scenarios, resolver_scenarios, stamp_scenarios,
+    verdict_scenarios,
 };

@@ -20,6 +20,9 @@ ghost use Rattle.scenarios.specs.MemoryScenarios.{RowsAreRememberedForAProxyThat
 ghost use Rattle.scenarios.specs.MemoryScenarios.{RepeatsAndRepliesGivenUp, TwoRecordsBegunAtOnce};
 ghost use Rattle.scenarios.specs.MemoryScenarios.{TwoProxiesMeet};
 ghost use Rattle.scenarios.specs.ClearScenarios.{TheTagsOfAClear, AClearOfEverything};
+ghost use Rattle.scenarios.specs.PrivateScenarios.{OnlyServersWithATagGetCopies, OtherKeysGetNoCopies};
+ghost use Rattle.scenarios.specs.PrivateScenarios.{TheTagAfterTheBatchIsTaken};
+ghost use Rattle.scenarios.specs.PrivateScenarios.{AClearedTagGetsNoCopies};
 ghost use Rattle.scenarios.specs.ProxyScenarios.{AProxyThatIsBehind};
 ghost use Rattle.scenarios.specs.RefusalScenarios.{RefusalsInOrder, WhatIsCheckedFirst};
 ghost use Rattle.scenarios.specs.RefusalScenarios.{TheLastVersion, TheGreatestVersion};
@@ -77,6 +80,14 @@ pub fn memory_scenarios()
 pub fn clear_scenarios()
     ensures tags { TheTagsOfAClear }
     ensures everything { AClearOfEverything }
+{}
+
+/// The private copies of a batch.
+pub fn private_scenarios()
+    ensures tagged { OnlyServersWithATagGetCopies }
+    ensures others { OtherKeysGetNoCopies }
+    ensures after { TheTagAfterTheBatchIsTaken }
+    ensures cleared { AClearedTagGetsNoCopies }
 {}
 
 /// The routing of a proxy that is behind another one.

@@ -32,7 +32,7 @@ pub use batch_checks::admit_batch;
 pub use batch_reading::{read_batch, stream_batch};
 pub use checks::{Checked, check_each, check_range};
 pub use devices::{Failed, ReadFault, Reader, Sink, Source, Writer, read_all, write_all};
-pub use lines::{print_asked, print_routing, push_tags};
+pub use lines::{print_asked, print_routing, push_quoted, push_tag, push_tags};
 pub use output::{Output, refused};
 pub use raw_change::RawChange;
 pub use reading::{read_checked, stream_checked};

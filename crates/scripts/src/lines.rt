@@ -1,4 +1,4 @@
-//! The lines that are printed of a folded journal.
+//! The lines of a routing, of tags that are asked, and of a refused script.
 
 ghost use Rattle.std.specs.Prelude.{◌≡◌, ◌++◌, OnOk, string_bytes, map};
 ghost use Rattle.std.specs.List.{flat_map};
@@ -122,7 +122,8 @@ fn print_route(alloc: Global, text: &mut String, route: &Route) -> Result<(), Ou
     Ok(())
 }
 
-fn push_quoted(alloc: Global, text: &mut String, bytes: &[u8]) -> Result<(), OutOfMemory>
+/// Appends the text of the bytes between double quotes. Fails only with `OutOfMemory`.
+pub fn push_quoted(alloc: Global, text: &mut String, bytes: &[u8]) -> Result<(), OutOfMemory>
     ensures { OnOk result (string_bytes text.new ≡ string_bytes text.old ++ quoted bytes.now) }
 {
     let printed = print_bytes(alloc, bytes)?;
@@ -160,7 +161,8 @@ fn push_spaced_tags(text: &mut String, tags: &[Tag]) -> Result<(), OutOfMemory>
     Ok(())
 }
 
-fn push_tag(text: &mut String, tag: &Tag) -> Result<(), OutOfMemory>
+/// Appends a tag: its locality, a colon, its id. Fails only with `OutOfMemory`.
+pub fn push_tag(text: &mut String, tag: &Tag) -> Result<(), OutOfMemory>
     ensures { OnOk result (string_bytes text.new ≡ string_bytes text.old ++ tag_text tag.now) }
 {
     write!(text, "{}:{}", tag.locality, tag.id)?;

@@ -1,4 +1,5 @@
-//! Values that have a shape: what is read of a JSON value.
+//! Values that have a shape: what is read of a JSON value that is a number, a boolean, a text, a
+//! verdict, a list, a pair or an object.
 
 ghost use Rattle.std.specs.Prelude.{◌≡◌, Option};
 ghost use Rattle.serde_json.specs.Data.{Data};

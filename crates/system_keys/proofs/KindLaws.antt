@@ -1,5 +1,5 @@
 -- Each key is of one kind: the families keep apart.
-use Rattle.std.proofs.Common.{◌≡◌, ℕ, ◌+◌, Bool, true, false, cond, not, ◌&&◌, ◌||◌, List, [], ◌∷◌, length, refl, sym, ap, subst, ◌∙◌, eq-eqb}
+use Rattle.std.proofs.Common.{◌≡◌, ℕ, ◌+◌, Bool, true, false, cond, not, ◌&&◌, ◌||◌, List, [], ◌∷◌, length, drop, refl, sym, ap, subst, ◌∙◌, eq-eqb}
 use Rattle.std.specs.Prelude.{nat_eq, IsTrue, ◌↔◌, codes}
 use Rattle.std.specs.List.{starts_with}
 use Rattle.std.specs.Cmp.Lexicographic.{pointwise}
@@ -7,7 +7,7 @@ use Rattle.std.proofs.lemmas.Bool.{and_parts, eqb-true}
 use Rattle.system_keys.specs.declared.kind.RowKind.{RowKind}
 use Rattle.system_keys.specs.declared.kind.RowKind.TheVariants as kinds
 use Rattle.system_keys.specs.Keys.{Key}
-use Rattle.system_keys.specs.Families.{kind_of, is_of_kind, is_in, key_servers_family, server_tag_family, locked_family, metadata_version_family, system_prefix, non_metadata_prefix, server_id_length}
+use Rattle.system_keys.specs.Families.{kind_of, is_of_kind, is_in, key_servers_family, server_tag_family, locked_family, metadata_version_family, server_keys_family, system_prefix, non_metadata_prefix, server_id_length, id_end}
 
 -- ---- what starts with one text does not start with another
 
@@ -64,45 +64,51 @@ locked_starts key h = same_starts key (locked_family.prefix) h
 version_starts : (key : Key) → is_in metadata_version_family key ≡ true → first_text key (metadata_version_family.prefix)
 version_starts key h = same_starts key (metadata_version_family.prefix) h
 
+server_keys_starts : (key : Key) → is_in server_keys_family key ≡ true → first_text key (server_keys_family.prefix)
+server_keys_starts key h = (and_parts (starts_with nat_eq key (server_keys_family.prefix)) (starts_with nat_eq (drop (length (server_keys_family.prefix) + server_id_length) key) id_end) h).0
+
 system_starts : (key ps : List ℕ) → starts_with nat_eq key (255 ∷ ps) ≡ true → starts_with nat_eq key system_prefix ≡ true
 system_starts [] ps h = absurd (cc)
 system_starts (x ∷ key) ps h =
     let parts = and_parts (nat_eq 255 x) (starts_with nat_eq key ps) h in
     rw (parts.0) refl
 
--- ---- the kind by six tests
+-- ---- the kind by seven tests
 
-abbrev kind_by : Bool → Bool → Bool → Bool → Bool → Bool → RowKind
-kind_by a b c d e f =
-    cond a kinds.KeyServers (cond b kinds.ServerTag (cond c kinds.DatabaseLocked (cond d kinds.MetadataVersion (cond e kinds.NonMetadata (cond f kinds.OtherSystem kinds.Normal)))))
+abbrev kind_by : Bool → Bool → Bool → Bool → Bool → Bool → Bool → RowKind
+kind_by a b c d s e f =
+    cond a kinds.KeyServers (cond b kinds.ServerTag (cond c kinds.DatabaseLocked (cond d kinds.MetadataVersion (cond s kinds.ServerKeys (cond e kinds.NonMetadata (cond f kinds.OtherSystem kinds.Normal))))))
 
-abbrev test_by : RowKind → Bool → Bool → Bool → Bool → Bool → Bool → Bool
-test_by kinds.KeyServers a b c d e f = a
-test_by kinds.ServerTag a b c d e f = b
-test_by kinds.DatabaseLocked a b c d e f = c
-test_by kinds.MetadataVersion a b c d e f = d
-test_by kinds.OtherSystem a b c d e f = f && not e && not (a || (b || (c || (d || false))))
-test_by kinds.NonMetadata a b c d e f = e
-test_by kinds.Normal a b c d e f = not f
+abbrev test_by : RowKind → Bool → Bool → Bool → Bool → Bool → Bool → Bool → Bool
+test_by kinds.KeyServers a b c d s e f = a
+test_by kinds.ServerTag a b c d s e f = b
+test_by kinds.DatabaseLocked a b c d s e f = c
+test_by kinds.MetadataVersion a b c d s e f = d
+test_by kinds.ServerKeys a b c d s e f = s
+test_by kinds.OtherSystem a b c d s e f = f && not e && not (a || (b || (c || (d || (s || false)))))
+test_by kinds.NonMetadata a b c d s e f = e
+test_by kinds.Normal a b c d s e f = not f
 
-own_test : (a b c d e f : Bool) → test_by (kind_by a b c d e f) a b c d e f ≡ true
-own_test true b c d e f = refl
-own_test false true c d e f = refl
-own_test false false true d e f = refl
-own_test false false false true e f = refl
-own_test false false false false true f = refl
-own_test false false false false false true = refl
-own_test false false false false false false = refl
+own_test : (a b c d s e f : Bool) → test_by (kind_by a b c d s e f) a b c d s e f ≡ true
+own_test true b c d s e f = refl
+own_test false true c d s e f = refl
+own_test false false true d s e f = refl
+own_test false false false true s e f = refl
+own_test false false false false true e f = refl
+own_test false false false false false true f = refl
+own_test false false false false false false true = refl
+own_test false false false false false false false = refl
 
 abbrev tested : RowKind → Key → Bool
 tested kind key =
-    test_by kind (is_in key_servers_family key) (is_in server_tag_family key) (is_in locked_family key) (is_in metadata_version_family key) (starts_with nat_eq key non_metadata_prefix) (starts_with nat_eq key system_prefix)
+    test_by kind (is_in key_servers_family key) (is_in server_tag_family key) (is_in locked_family key) (is_in metadata_version_family key) (is_in server_keys_family key) (starts_with nat_eq key non_metadata_prefix) (starts_with nat_eq key system_prefix)
 
 is_of_kind_tested : (kind : RowKind) (key : Key) → is_of_kind kind key ≡ tested kind key
 is_of_kind_tested kinds.KeyServers key = refl
 is_of_kind_tested kinds.ServerTag key = refl
 is_of_kind_tested kinds.DatabaseLocked key = refl
 is_of_kind_tested kinds.MetadataVersion key = refl
+is_of_kind_tested kinds.ServerKeys key = refl
 is_of_kind_tested kinds.OtherSystem key = refl
 is_of_kind_tested kinds.NonMetadata key = refl
 is_of_kind_tested kinds.Normal key = refl
@@ -111,7 +117,7 @@ is_of_kind_tested kinds.Normal key = refl
 pub of_its_kind : (key : Key) → is_of_kind (kind_of key) key ≡ true
 unfolding kind_of
 of_its_kind key =
-    is_of_kind_tested (kind_of key) key ∙ own_test (is_in key_servers_family key) (is_in server_tag_family key) (is_in locked_family key) (is_in metadata_version_family key) (starts_with nat_eq key non_metadata_prefix) (starts_with nat_eq key system_prefix)
+    is_of_kind_tested (kind_of key) key ∙ own_test (is_in key_servers_family key) (is_in server_tag_family key) (is_in locked_family key) (is_in metadata_version_family key) (is_in server_keys_family key) (starts_with nat_eq key non_metadata_prefix) (starts_with nat_eq key system_prefix)
 
 -- ---- the condition of a kind leaves no other
 
@@ -126,6 +132,9 @@ not_locked key qs d q = false_by _ (λ p. apart key (locked_family.prefix) qs d 
 
 not_version : (key qs : List ℕ) → differ (metadata_version_family.prefix) qs ≡ true → starts_with nat_eq key qs ≡ true → is_in metadata_version_family key ≡ false
 not_version key qs d q = false_by _ (λ p. apart key (metadata_version_family.prefix) qs d (version_starts key p) q)
+
+not_server_keys : (key qs : List ℕ) → differ (server_keys_family.prefix) qs ≡ true → starts_with nat_eq key qs ≡ true → is_in server_keys_family key ≡ false
+not_server_keys key qs d q = false_by _ (λ p. apart key (server_keys_family.prefix) qs d (server_keys_starts key p) q)
 
 -- a key that does not start with `\xff` is of no family
 outside : (key : Key) (b : Bool) → starts_with nat_eq key system_prefix ≡ false → (b ≡ true → starts_with nat_eq key system_prefix ≡ true) → b ≡ false
@@ -157,28 +166,38 @@ kind_from kinds.MetadataVersion key h =
     let b = not_server_tag key (metadata_version_family.prefix) refl p in
     let c = not_locked key (metadata_version_family.prefix) refl p in
     rw (a, b, c, h) refl
+kind_from kinds.ServerKeys key h =
+    let p = server_keys_starts key h in
+    let a = not_key_servers key (server_keys_family.prefix) refl p in
+    let b = not_server_tag key (server_keys_family.prefix) refl p in
+    let c = not_locked key (server_keys_family.prefix) refl p in
+    let d = not_version key (server_keys_family.prefix) refl p in
+    rw (a, b, c, d, h) refl
 kind_from kinds.NonMetadata key h =
     let a = not_key_servers key non_metadata_prefix refl h in
     let b = not_server_tag key non_metadata_prefix refl h in
     let c = not_locked key non_metadata_prefix refl h in
     let d = not_version key non_metadata_prefix refl h in
-    rw (a, b, c, d, h) refl
+    let s = not_server_keys key non_metadata_prefix refl h in
+    rw (a, b, c, d, s, h) refl
 kind_from kinds.OtherSystem key h =
     let p = and_parts (starts_with nat_eq key system_prefix && not (starts_with nat_eq key non_metadata_prefix)) _ h in
     let q = and_parts (starts_with nat_eq key system_prefix) (not (starts_with nat_eq key non_metadata_prefix)) p.0 in
     let a = or_parts (is_in key_servers_family key) _ p.1 in
     let b = or_parts (is_in server_tag_family key) _ (ap not a.1) in
     let c = or_parts (is_in locked_family key) _ (ap not b.1) in
-    let d = or_parts (is_in metadata_version_family key) false (ap not c.1) in
-    rw (a.0, b.0, c.0, d.0, not_true _ q.1, q.0) refl
+    let d = or_parts (is_in metadata_version_family key) _ (ap not c.1) in
+    let s = or_parts (is_in server_keys_family key) false (ap not d.1) in
+    rw (a.0, b.0, c.0, d.0, s.0, not_true _ q.1, q.0) refl
 kind_from kinds.Normal key h =
     let f = not_true (starts_with nat_eq key system_prefix) h in
     let a = outside key (is_in key_servers_family key) f (λ e. system_starts key (codes "/keyServers/") e) in
     let b = outside key (is_in server_tag_family key) f (λ e. system_starts key (codes "/serverTag/") (server_tag_starts key e)) in
     let c = outside key (is_in locked_family key) f (λ e. system_starts key (codes "/dbLocked") (locked_starts key e)) in
     let d = outside key (is_in metadata_version_family key) f (λ e. system_starts key (codes "/metadataVersion") (version_starts key e)) in
+    let s = outside key (is_in server_keys_family key) f (λ e. system_starts key (codes "/serverKeys/") (server_keys_starts key e)) in
     let e = outside key (starts_with nat_eq key non_metadata_prefix) f (λ e. system_starts key (2 ∷ []) e) in
-    rw (a, b, c, d, e, f) refl
+    rw (a, b, c, d, s, e, f) refl
 
 pub kind_both_ways : (key : Key) (kind : RowKind) → IsTrue (is_of_kind kind key) ↔ (kind_of key ≡ kind)
 kind_both_ways key kind = (kind_from kind key, λ e. subst (λ (k : RowKind). is_of_kind k key ≡ true) e (of_its_kind key))

@@ -1,7 +1,7 @@
--- The families of rows that the metadata keeps, and the kind of each key (release 7.1; that no
--- other family is kept is this project's profile).
-use Rattle.std.specs.Prelude.{ℕ, ◌+◌, List, [], ◌∷◌, length, codes, nat_eq, Bool, true, false, ◌&&◌}
-use Rattle.std.specs.Prelude.{◌||◌, not, if◌then◌else◌}
+-- The families of rows that the metadata keeps, that of server keys, which it does not keep, and the
+-- kind of each key (release 7.1; that no other family is kept is this project's profile).
+use Rattle.std.specs.Prelude.{ℕ, ◌+◌, List, [], ◌∷◌, ◌++◌, length, drop, codes, nat_eq, Bool, true}
+use Rattle.std.specs.Prelude.{false, ◌&&◌, ◌||◌, not, if◌then◌else◌}
 use Rattle.std.specs.List.{starts_with}
 use Rattle.std.specs.Cmp.Lexicographic.{pointwise}
 use Rattle.system_keys.specs.declared.kind.RowKind.{RowKind}
@@ -12,9 +12,10 @@ use Rattle.system_keys.specs.Keys.{Key}
 pub data Following : Type 0 where
   Nothing : Following
   OneServerId : Following
+  OneServerIdAndAnyBytes : Following
   AnyBytes : Following
 
--- a family of kept rows: its kind, how its keys begin, and what follows
+-- a family of rows: its kind, how its keys begin, and what follows
 pub record Family : Type 0 where
   pub kind : RowKind
   pub prefix : Key
@@ -52,20 +53,41 @@ metadata_version_family =
       following = Nothing;
     }
 
+-- which keys a storage server has: a server id, a slash, and the key from which on it has them (this
+-- project's profile)
+abbrev pub server_keys_family : Family
+server_keys_family =
+    record {
+      kind = kinds.ServerKeys;
+      prefix = 255 ∷ codes "/serverKeys/";
+      following = OneServerIdAndAnyBytes;
+    }
+
 -- the families that the metadata keeps, and no others
 abbrev pub kept_families : List Family
 kept_families =
     key_servers_family ∷ server_tag_family ∷ locked_family ∷ metadata_version_family ∷ []
 
+-- all families
+abbrev pub families : List Family
+families = kept_families ++ server_keys_family ∷ []
+
 -- the length of a server id (this project's profile)
 abbrev pub server_id_length : ℕ
 server_id_length = 16
+
+-- what stands between a server id and the bytes that follow it
+abbrev pub id_end : Key
+id_end = codes "/"
 
 -- the key is the prefix and what may follow it
 abbrev pub is_prefixed : Following → Key → Key → Bool
 is_prefixed Nothing prefix key = pointwise nat_eq key prefix
 is_prefixed OneServerId prefix key =
     starts_with nat_eq key prefix && nat_eq (length key) (length prefix + server_id_length)
+is_prefixed OneServerIdAndAnyBytes prefix key =
+    starts_with nat_eq key prefix
+    && starts_with nat_eq (drop (length prefix + server_id_length) key) id_end
 is_prefixed AnyBytes prefix key = starts_with nat_eq key prefix
 
 -- the key is of the family
@@ -83,7 +105,7 @@ kind_among (family ∷ families) key =
 
 -- the kind of a key
 unfoldable pub kind_of : Key → RowKind
-kind_of key = kind_among kept_families key
+kind_of key = kind_among families key
 
 -- rows of this kind are kept by the metadata
 abbrev pub is_kept_kind : RowKind → Bool
@@ -91,6 +113,7 @@ is_kept_kind kinds.KeyServers = true
 is_kept_kind kinds.ServerTag = true
 is_kept_kind kinds.DatabaseLocked = true
 is_kept_kind kinds.MetadataVersion = true
+is_kept_kind kinds.ServerKeys = false
 is_kept_kind kinds.OtherSystem = false
 is_kept_kind kinds.NonMetadata = false
 is_kept_kind kinds.Normal = false
@@ -99,7 +122,7 @@ is_kept_kind kinds.Normal = false
 abbrev pub is_kept : Key → Bool
 is_kept key = is_kept_kind (kind_of key)
 
--- some kept family has the key
+-- some of the families has the key
 abbrev pub is_in_some : List Family → Key → Bool
 is_in_some [] key = false
 is_in_some (family ∷ families) key = is_in family key || is_in_some families key
@@ -110,9 +133,10 @@ is_of_kind kinds.KeyServers key = is_in key_servers_family key
 is_of_kind kinds.ServerTag key = is_in server_tag_family key
 is_of_kind kinds.DatabaseLocked key = is_in locked_family key
 is_of_kind kinds.MetadataVersion key = is_in metadata_version_family key
+is_of_kind kinds.ServerKeys key = is_in server_keys_family key
 is_of_kind kinds.OtherSystem key =
     starts_with nat_eq key system_prefix
     && not (starts_with nat_eq key non_metadata_prefix)
-    && not (is_in_some kept_families key)
+    && not (is_in_some families key)
 is_of_kind kinds.NonMetadata key = starts_with nat_eq key non_metadata_prefix
 is_of_kind kinds.Normal key = not (starts_with nat_eq key system_prefix)

@@ -2,7 +2,8 @@
 
 -- a key, the order of keys, a range, which keys it holds, and when two ranges overlap
 pub mod Keys
--- the four families of rows that the metadata keeps, as data, and the kind of any key
+-- the families of rows, as data: the four that the metadata keeps, and that of server keys; and the
+-- kind of any key
 pub mod Families
 -- what servers and tags a row value names: its encoding, and reading it from the front
 pub mod Rows

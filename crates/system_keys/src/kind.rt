@@ -1,7 +1,7 @@
 //! The kinds of keys.
 
 ghost use Rattle.std.specs.Prelude.{◌≡◌};
-ghost use Rattle.system_keys.specs.Families.{is_kept, kind_of};
+ghost use Rattle.system_keys.specs.Families.{is_in, is_kept, kind_of, server_keys_family};
 
 /// What a key is to the metadata (release 7.1; that the four families are all that is kept is this
 /// project's profile).
@@ -15,6 +15,9 @@ pub enum RowKind {
     DatabaseLocked,
     /// `\xff/metadataVersion`: a version of the metadata for clients.
     MetadataVersion,
+    /// `\xff/serverKeys/`, a server id of 16 bytes, `/` and any bytes: that this server has the keys
+    /// from there on, or has them no more. The metadata keeps no such entry.
+    ServerKeys,
     /// Any other key that starts with `\xff` and not with `\xff\x02`.
     OtherSystem,
     /// A key that starts with `\xff\x02`.
@@ -35,6 +38,9 @@ pub const LOCKED_KEY: &[u8] = b"\xff/dbLocked";
 /// The key of the version of the metadata.
 pub const METADATA_VERSION_KEY: &[u8] = b"\xff/metadataVersion";
 
+/// How the keys of serverKeys rows begin.
+pub const SERVER_KEYS_PREFIX: &[u8] = b"\xff/serverKeys/";
+
 /// The bytes of a server id (this project's profile).
 pub const SERVER_ID_LENGTH: usize = 16;
 
@@ -53,6 +59,8 @@ pub fn classify(key: &[u8]) -> RowKind
         RowKind::DatabaseLocked
     } else if key == METADATA_VERSION_KEY {
         RowKind::MetadataVersion
+    } else if is_server_keys(key) {
+        RowKind::ServerKeys
     } else if key.starts_with(b"\xff\x02") {
         RowKind::NonMetadata
     } else if key.starts_with(b"\xff") {
@@ -60,6 +68,18 @@ pub fn classify(key: &[u8]) -> RowKind
     } else {
         RowKind::Normal
     }
+}
+
+/// Whether the key is the prefix of serverKeys rows, a server id, a slash and any bytes.
+fn is_server_keys(key: &[u8]) -> bool
+    ensures { result ≡ is_in server_keys_family key.now }
+{
+    let id_end = SERVER_KEYS_PREFIX.len() + SERVER_ID_LENGTH;
+    if key.len() < id_end {
+        return false;
+    }
+    let behind = &key[id_end..];
+    key.starts_with(SERVER_KEYS_PREFIX) && behind.starts_with(b"/")
 }
 
 /// Whether the metadata keeps an entry at this key (release 7.1).
@@ -71,6 +91,8 @@ pub fn is_kept(key: &[u8]) -> bool
         | RowKind::ServerTag
         | RowKind::DatabaseLocked
         | RowKind::MetadataVersion => true,
-        RowKind::OtherSystem | RowKind::NonMetadata | RowKind::Normal => false,
+        RowKind::ServerKeys | RowKind::OtherSystem | RowKind::NonMetadata | RowKind::Normal => {
+            false
+        }
     }
 }

@@ -26,6 +26,7 @@ pub fn is_state(change: &Change) -> bool
     }
 }
 
+/// Whether the key starts with `\xff` and not with `\xff\x02`.
 fn is_metadata_key(key: &[u8]) -> bool
     ensures { result ≡ (starts_with nat_eq key.now system_prefix
         && not (starts_with nat_eq key.now non_metadata_prefix)) }
@@ -33,6 +34,7 @@ fn is_metadata_key(key: &[u8]) -> bool
     key.starts_with(b"\xff") && !key.starts_with(b"\xff\x02")
 }
 
+/// Whether the end has more than one byte and starts with `\xff`.
 fn ends_past_system_prefix(end: &[u8]) -> bool
     ensures { result ≡ is_past_system_prefix end.now }
 {
@@ -42,6 +44,7 @@ fn ends_past_system_prefix(end: &[u8]) -> bool
     }
 }
 
+/// Whether the range lies inside `[\xff\x02, \xff\x03)`.
 fn is_inside_non_metadata(range: &KeyRange) -> bool
     ensures { result ≡ is_inside_non_metadata range.now }
 {

@@ -108,6 +108,7 @@ impl Teams {
 
 ghost use Rattle.system_keys.specs.Rows.{team_fault, are_rising};
 
+/// The first fault of the ids as one list of a team: too many, or not rising.
 fn team_fault(ids: &[ServerId]) -> Option<TeamsFault>
     ensures { result ≡ team_fault ids.now }
 {
@@ -120,6 +121,7 @@ fn team_fault(ids: &[ServerId]) -> Option<TeamsFault>
     }
 }
 
+/// Whether the ids rise strictly.
 fn are_rising(ids: &[ServerId]) -> bool
     ensures { result ≡ are_rising None ids.now }
 {

@@ -4,12 +4,12 @@ use Rattle.std.specs.List.{flat_map}
 use Rattle.std.proofs.lemmas.Bool.{and_from, and_parts, eq-eqb, le-leb, leb-true, ne_eqb}
 use Rattle.model.specs.declared.outcome.Outcome.{Outcome}
 use Rattle.model.specs.declared.outcome.Tagged.{Tagged}
-use Rattle.turns_run.specs.Lines.{mutation_line, mutations_of, transaction_line, transactions_text}
+use Rattle.turns_run.specs.Lines.{mutation_text, mutations_of, transaction_line, transactions_text}
 use Rattle.turns_run.specs.OrderOfMutations.{IsAfter, are_in_order}
 
 -- the mutations of transaction n were printed up to `later`
 pub record HasPrinted (n : ℕ) (tagged later : List Tagged) (start now : List ℕ) : Type 0 where
-  pub printed : now ++ flat_map mutation_line (mutations_of n later) ≡ start ++ flat_map mutation_line (mutations_of n tagged)
+  pub printed : now ++ flat_map mutation_text (mutations_of n later) ≡ start ++ flat_map mutation_text (mutations_of n tagged)
   pub in_order : are_in_order n later ≡ true
   pub all : (k : ℕ) → n < k → mutations_of k later ≡ mutations_of k tagged
 
@@ -19,15 +19,15 @@ printed_none n tagged start ordered = record { printed = refl; in_order = ordere
 
 -- one more was printed
 pub printed_one : (n : ℕ) (tagged later rest : List Tagged) (first : Tagged) (start now new : List ℕ)
-    → HasPrinted n tagged later start now → later ≡ first ∷ rest → first.number ≡ n → new ≡ now ++ mutation_line first → HasPrinted n tagged rest start new
+    → HasPrinted n tagged later start now → later ≡ first ∷ rest → first.number ≡ n → new ≡ now ++ mutation_text first → HasPrinted n tagged rest start new
 printed_one n tagged later rest first start now new so_far split its more =
     let front : HasPrinted n tagged (first ∷ rest) start now = rw split at so_far in
     let yes : nat_eq first.number n ≡ true = eq-eqb first.number n its in
-    let text : now ++ (mutation_line first ++ flat_map mutation_line (mutations_of n rest)) ≡ start ++ flat_map mutation_line (mutations_of n tagged) =
+    let text : now ++ (mutation_text first ++ flat_map mutation_text (mutations_of n rest)) ≡ start ++ flat_map mutation_text (mutations_of n tagged) =
     rw yes at front.printed in
     let parts = and_parts (nat_le n first.number) (are_in_order first.number rest) front.in_order in
     record {
-      printed = rw more (append_assoc now (mutation_line first) (flat_map mutation_line (mutations_of n rest)) ∙ text);
+      printed = rw more (append_assoc now (mutation_text first) (flat_map mutation_text (mutations_of n rest)) ∙ text);
       in_order = rw its at parts.1;
       all = λ k above. others k above (front.all k above);
     }
@@ -49,7 +49,7 @@ none_of n least (first ∷ rest) below ordered =
 
 -- all mutations were printed
 pub printed_all : (n : ℕ) (tagged later : List Tagged) (start now : List ℕ) → HasPrinted n tagged later start now → later ≡ []
-    → (now ≡ start ++ flat_map mutation_line (mutations_of n tagged)) × IsAfter n tagged later
+    → (now ≡ start ++ flat_map mutation_text (mutations_of n tagged)) × IsAfter n tagged later
 printed_all n tagged later start now so_far ended =
     let none : HasPrinted n tagged [] start now = rw ended at so_far in
     let ordered : are_in_order (suc n) later ≡ true = rw ended refl in
@@ -58,7 +58,7 @@ printed_all n tagged later start now so_far ended =
 -- the next mutation is of another transaction
 pub printed_its : (n : ℕ) (tagged later rest : List Tagged) (first : Tagged) (start now : List ℕ)
     → HasPrinted n tagged later start now → later ≡ first ∷ rest → first.number ≢ n
-    → (now ≡ start ++ flat_map mutation_line (mutations_of n tagged)) × IsAfter n tagged later
+    → (now ≡ start ++ flat_map mutation_text (mutations_of n tagged)) × IsAfter n tagged later
 printed_its n tagged later rest first start now so_far split other =
     let front : HasPrinted n tagged (first ∷ rest) start now = rw split at so_far in
     let parts = and_parts (nat_le n first.number) (are_in_order first.number rest) front.in_order in
@@ -67,7 +67,7 @@ printed_its n tagged later rest first start now so_far split other =
     let ordered : are_in_order (suc n) (first ∷ rest) ≡ true = and_from (nat_le (suc n) first.number) (are_in_order first.number rest) (le-leb (suc n) first.number further) parts.1 in
     let below : n < suc n = omega arith in
     let none : mutations_of n (first ∷ rest) ≡ [] = none_of n (suc n) (first ∷ rest) below ordered in
-    let text : now ++ [] ≡ start ++ flat_map mutation_line (mutations_of n tagged) = sym (ap (λ its. now ++ flat_map mutation_line its) none) ∙ front.printed in
+    let text : now ++ [] ≡ start ++ flat_map mutation_text (mutations_of n tagged) = sym (ap (λ its. now ++ flat_map mutation_text its) none) ∙ front.printed in
     let later_ordered : are_in_order (suc n) later ≡ true = rw split ordered in
     (sym (append-nil now) ∙ text, record { in_order = later_ordered; all = so_far.all })
 
@@ -77,16 +77,16 @@ same_lines : (n : ℕ) (tagged later : List Tagged) → ((k : ℕ) → n ≤ k �
 same_lines n tagged later all [] = refl
 same_lines n tagged later all (outcome ∷ outcomes) =
     let here : n ≤ n = omega arith in
-    ap₂ (λ its others. (transaction_line n outcome ++ flat_map mutation_line its) ++ others) (all n here)
+    ap₂ (λ its others. (transaction_line n outcome ++ flat_map mutation_text its) ++ others) (all n here)
     (same_lines (suc n) tagged later (λ k above. all k (let reached : n ≤ k = omega arith in reached)) outcomes)
 
 -- one more transaction was printed
 pub printed_transaction : (n : ℕ) (tagged later : List Tagged) (outcome : Outcome) (outcomes all : List Outcome) (before between now : List ℕ)
     → all ≡ outcome ∷ outcomes → IsAfter n tagged later → between ≡ before ++ transaction_line n outcome
-    → now ≡ between ++ flat_map mutation_line (mutations_of n tagged)
+    → now ≡ between ++ flat_map mutation_text (mutations_of n tagged)
     → now ++ transactions_text later (n + 1) outcomes ≡ before ++ transactions_text tagged n all
 printed_transaction n tagged later outcome outcomes all before between now split after line its =
-    let own = flat_map mutation_line (mutations_of n tagged) in
+    let own = flat_map mutation_text (mutations_of n tagged) in
     let others = transactions_text tagged (suc n) outcomes in
     let same : transactions_text later (suc n) outcomes ≡ others = same_lines (suc n) tagged later (λ k above. after.all k (let reached : n < k = omega arith in reached)) outcomes in
     let joined : now ≡ before ++ (transaction_line n outcome ++ own) = its ∙ ap (λ text. text ++ own) line ∙ append_assoc before (transaction_line n outcome) own in

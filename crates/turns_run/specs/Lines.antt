@@ -1,19 +1,21 @@
 -- The lines that are printed for the events of a turns script, by the answers to them (this
 -- project's profile).
 use Rattle.std.specs.Prelude.{ℕ, suc, List, [], ◌∷◌, ◌++◌, map, flat_map, filter, nat_eq, codes}
+use Rattle.std.specs.Prelude.{Option, Some, None}
 use Rattle.std.specs.Fmt.{decimal}
 use Rattle.model.specs.Numbers.{Version, ProxyNumber, ResolverNumber, RowNumber}
 use Rattle.model.specs.Numbers.{TransactionNumber}
 use Rattle.model.specs.declared.outcome.Finished.{Finished}
 use Rattle.model.specs.declared.outcome.Outcome.{Outcome}
 use Rattle.model.specs.declared.outcome.Outcome.TheVariants as outcomes
+use Rattle.model.specs.declared.outcome.PrivateCopy.{PrivateCopy}
 use Rattle.model.specs.declared.outcome.Tagged.{Tagged}
 use Rattle.model.specs.declared.reply.Reply.{Reply}
 use Rattle.model.specs.declared.unseen.UnseenRow.{UnseenRow}
 use Rattle.model.specs.World.{Event, Sequence, MoveRange, Offer, Finish, Answer}
 use Rattle.model.specs.World.{Sequenced, Moved, Judged, Again, Completed, Refused}
 use Rattle.model.specs.World as world
-use Rattle.scripts.specs.Lines.{line, spaced, list_text, tags_text}
+use Rattle.scripts.specs.Lines.{line, quoted, spaced, list_text, tag_text, tags_text}
 use Rattle.cluster_lines.specs.Names.{outcome_name, verdict_name}
 use Rattle.cluster_lines.specs.Refusals.{number_or_none, refused_text}
 use Rattle.turn_world.specs.Events.{refusal_number, refusal_name}
@@ -79,6 +81,23 @@ mutation_line tagged =
     line (codes "mutation " ++ decimal tagged.number ++ spaced (decimal tagged.place)
     ++ codes " tags " ++ tags_text tagged.tags)
 
+-- the private copy of the mutation at this place of transaction n: its key between quotes, and the
+-- tag
+abbrev pub copy_line : TransactionNumber → (place : ℕ) → PrivateCopy → List ℕ
+copy_line n place copy =
+    line (codes "private " ++ decimal n ++ spaced (decimal place)
+    ++ spaced (quoted copy.key) ++ spaced (tag_text copy.tag))
+
+-- its line, if it has one
+abbrev pub private_text : TransactionNumber → (place : ℕ) → Option PrivateCopy → List ℕ
+private_text n place None = []
+private_text n place (Some copy) = copy_line n place copy
+
+-- a mutation, and after it its private copy
+abbrev pub mutation_text : Tagged → List ℕ
+mutation_text tagged =
+    mutation_line tagged ++ private_text tagged.number tagged.place tagged.private
+
 -- the mutations of transaction n
 abbrev pub mutations_of : TransactionNumber → List Tagged → List Tagged
 mutations_of n tagged = filter (λ (mutation : Tagged). nat_eq mutation.number n) tagged
@@ -86,7 +105,7 @@ mutations_of n tagged = filter (λ (mutation : Tagged). nat_eq mutation.number n
 -- a transaction, and after it its mutations
 abbrev pub transaction_text : List Tagged → TransactionNumber → Outcome → List ℕ
 transaction_text tagged n outcome =
-    transaction_line n outcome ++ flat_map mutation_line (mutations_of n tagged)
+    transaction_line n outcome ++ flat_map mutation_text (mutations_of n tagged)
 
 -- the transactions from number n on
 abbrev pub transactions_text : List Tagged → TransactionNumber → List Outcome → List ℕ

@@ -43,6 +43,7 @@ fn take_event(
     }
 }
 
+/// Takes the value of a sequence event from the tokens.
 fn take_sequence(alloc: Global, reader: &mut TokenReader<'_>, depth: usize) -> Option<RawEvent>
     ensures { IfSome result (λ event. Takes sequence_shape depth reader.old event reader.new) }
 {
@@ -53,12 +54,14 @@ fn take_sequence(alloc: Global, reader: &mut TokenReader<'_>, depth: usize) -> O
     })
 }
 
+/// Takes the value of a move event from the tokens.
 fn take_move(alloc: Global, reader: &mut TokenReader<'_>, depth: usize) -> Option<RawEvent>
     ensures { IfSome result (λ event. Takes move_event_shape depth reader.old event reader.new) }
 {
     Some(RawEvent::Move(GivenMove::from_tokens(alloc, reader, depth)?))
 }
 
+/// Takes the value of an offer event from the tokens.
 fn take_offer(alloc: Global, reader: &mut TokenReader<'_>, depth: usize) -> Option<RawEvent>
     ensures { IfSome result (λ event. Takes offer_shape depth reader.old event reader.new) }
 {
@@ -69,6 +72,7 @@ fn take_offer(alloc: Global, reader: &mut TokenReader<'_>, depth: usize) -> Opti
     })
 }
 
+/// Takes the value of a finish event from the tokens.
 fn take_finish(alloc: Global, reader: &mut TokenReader<'_>, depth: usize) -> Option<RawEvent>
     ensures { IfSome result (λ event. Takes finish_shape depth reader.old event reader.new) }
 {

@@ -1,4 +1,5 @@
-//! The lines of events, printed as they are carried out.
+//! Each event of a script is carried out, and its answer or its refusal is printed: which line that
+//! is, and the lines of a finish.
 
 ghost use Rattle.std.specs.Prelude.{◌≡◌, ◌++◌, IsSome, OnOk, string_bytes, map};
 ghost use Rattle.model.specs.Turns.{after_event};
@@ -49,6 +50,7 @@ fn print_event(text: &mut String, event: &Event, world: &mut TurnWorld) -> Resul
     }
 }
 
+/// Prints the lines of an event that was carried out.
 fn print_answer(text: &mut String, event: &Event, answer: &Answer) -> Result<(), OutOfMemory>
     ensures { OnOk result (string_bytes text.new
         ≡ string_bytes text.old ++ event_text (event_of event.now) (answer_of answer.now)) }
@@ -73,6 +75,7 @@ fn print_completed(text: &mut String, event: &Event, finished: &Finished) -> Res
     }
 }
 
+/// Prints the line of a finish, and then those of the transactions of its batch.
 fn print_finished(text: &mut String, proxy: usize, finished: &Finished) -> Result<(), OutOfMemory>
     ensures { OnOk result (string_bytes text.new
         ≡ string_bytes text.old ++ finished_text proxy finished.now) }
@@ -86,6 +89,7 @@ fn print_finished(text: &mut String, proxy: usize, finished: &Finished) -> Resul
     )
 }
 
+/// Appends the line of a finish.
 fn push_finish(text: &mut String, proxy: usize, version: u64) -> Result<(), OutOfMemory>
     ensures { OnOk result (string_bytes text.new
         ≡ string_bytes text.old ++ finish_text proxy version) }
@@ -107,6 +111,7 @@ fn print_refusal(text: &mut String, refusal: &Refusal) -> Result<(), OutOfMemory
     Ok(())
 }
 
+/// Appends what a refusal carries after a space, if it carries anything.
 fn push_refusal_value(text: &mut String, refusal: &Refusal) -> Result<(), OutOfMemory>
     ensures { OnOk result (string_bytes text.new
         ≡ string_bytes text.old ++ refusal_value refusal.now) }

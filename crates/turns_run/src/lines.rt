@@ -1,4 +1,4 @@
-//! The lines that are printed of the answers to events.
+//! The lines of what was sequenced, moved and offered, with verdicts and unseen rows.
 
 ghost use Rattle.std.specs.Prelude.{◌≡◌, ◌++◌, OnOk, string_bytes, map, flat_map};
 ghost use Rattle.scripts.specs.Lines.{list_text, spaced};
@@ -21,6 +21,7 @@ pub fn print_sequence(text: &mut String, row: usize, version: u64) -> Result<(),
     Ok(())
 }
 
+/// Appends the line of a sequenced row.
 fn push_sequence(text: &mut String, row: usize, version: u64) -> Result<(), OutOfMemory>
     ensures { OnOk result (string_bytes text.new
         ≡ string_bytes text.old ++ sequence_text row version) }
@@ -52,6 +53,7 @@ pub fn print_offer(text: &mut String, word: &str, reply: &Reply) -> Result<(), O
     Ok(())
 }
 
+/// Appends how the line of an offer begins, up to its verdicts.
 fn push_offered(text: &mut String, row: usize, resolver: usize) -> Result<(), OutOfMemory>
     ensures { OnOk result (string_bytes text.new
         ≡ string_bytes text.old ++ offered_text row resolver) }
@@ -60,6 +62,7 @@ fn push_offered(text: &mut String, row: usize, resolver: usize) -> Result<(), Ou
     Ok(())
 }
 
+/// Appends the verdicts of a reply, or `none`.
 fn push_verdicts(text: &mut String, verdicts: &[Verdict]) -> Result<(), OutOfMemory>
     ensures { OnOk result (string_bytes text.new
         ≡ string_bytes text.old ++ list_text (map verdict_name verdicts.now)) }
@@ -76,6 +79,7 @@ fn push_verdicts(text: &mut String, verdicts: &[Verdict]) -> Result<(), OutOfMem
     }
 }
 
+/// Appends each verdict after a space.
 fn push_spaced_verdicts(text: &mut String, verdicts: &[Verdict]) -> Result<(), OutOfMemory>
     ensures { OnOk result (string_bytes text.new
         ≡ string_bytes text.old ++ flat_map spaced (map verdict_name verdicts.now)) }
@@ -87,6 +91,7 @@ fn push_spaced_verdicts(text: &mut String, verdicts: &[Verdict]) -> Result<(), O
     Ok(())
 }
 
+/// Appends the versions of the unseen rows of a reply, or `none`.
 fn push_unseen(text: &mut String, rows: &[UnseenRow]) -> Result<(), OutOfMemory>
     ensures { OnOk result (string_bytes text.new
         ≡ string_bytes text.old ++ list_text (map unseen_version rows.now)) }
@@ -103,6 +108,7 @@ fn push_unseen(text: &mut String, rows: &[UnseenRow]) -> Result<(), OutOfMemory>
     }
 }
 
+/// Appends the version of each unseen row after a space.
 fn push_spaced_unseen(text: &mut String, rows: &[UnseenRow]) -> Result<(), OutOfMemory>
     ensures { OnOk result (string_bytes text.new
         ≡ string_bytes text.old ++ flat_map spaced (map unseen_version rows.now)) }

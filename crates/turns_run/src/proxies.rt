@@ -1,4 +1,4 @@
-//! The lines that are printed of the proxies of a cluster.
+//! The lines of each proxy at the end of a script: its version, and what its metadata says.
 
 ghost use Rattle.std.specs.Prelude.{◌≡◌, ◌++◌, OnOk, string_bytes};
 ghost use Rattle.model.specs.Metadata.{metadata as metadata_of};
@@ -34,6 +34,7 @@ pub fn print_proxies(
     Ok(())
 }
 
+/// Prints the lines of one proxy.
 fn print_proxy(
     alloc: Global,
     text: &mut String,

@@ -57,6 +57,7 @@ fn named_event(alloc: Global, value: &Value) -> Result<RawEvent, ScriptFault>
     }
 }
 
+/// What is read of the value of a sequence event.
 fn sequence(alloc: Global, value: &Value) -> Result<RawEvent, ScriptFault>
     ensures { IsReadAs (λ found. found) result (or_bad_shape (sequence_shape (view value.now))) }
 {
@@ -69,12 +70,14 @@ fn sequence(alloc: Global, value: &Value) -> Result<RawEvent, ScriptFault>
     })
 }
 
+/// What is read of the value of a move event.
 fn move_range(alloc: Global, value: &Value) -> Result<RawEvent, ScriptFault>
     ensures { IsReadAs (λ found. found) result (or_bad_shape (move_event_shape (view value.now))) }
 {
     Ok(RawEvent::Move(GivenMove::shaped(alloc, value)?))
 }
 
+/// What is read of the value of an offer event.
 fn offer(alloc: Global, value: &Value) -> Result<RawEvent, ScriptFault>
     ensures { IsReadAs (λ found. found) result (or_bad_shape (offer_shape (view value.now))) }
 {
@@ -87,6 +90,7 @@ fn offer(alloc: Global, value: &Value) -> Result<RawEvent, ScriptFault>
     })
 }
 
+/// What is read of the value of a finish event.
 fn finish(alloc: Global, value: &Value) -> Result<RawEvent, ScriptFault>
     ensures { IsReadAs (λ found. found) result (or_bad_shape (finish_shape (view value.now))) }
 {

@@ -1,18 +1,20 @@
-//! The lines that are printed of the transactions of a finished batch.
+//! The lines of a finished batch: each transaction's outcome, then its mutations with their tags and
+//! private copies.
 
 ghost use Rattle.std.specs.Prelude.{◌≡◌, ◌++◌, IfOk, OnOk, string_bytes, flat_map, true};
-ghost use Rattle.turns_run.specs.Lines.{mutation_line, mutations_of, outcome_numbers};
+ghost use Rattle.turns_run.specs.Lines.{copy_line, mutation_line, mutation_text, mutations_of};
+ghost use Rattle.turns_run.specs.Lines.{outcome_numbers, private_text};
 ghost use Rattle.turns_run.specs.Lines.{outcome_text, transaction_line, transactions_text};
 ghost use Rattle.turns_run.specs.OrderOfMutations.{IsAfter, are_in_order};
 
 use cluster_lines::outcome_name;
-use model::{Outcome, Tagged};
-use scripts::push_tags;
+use model::{Outcome, PrivateCopy, Tagged};
+use scripts::{push_quoted, push_tag, push_tags};
 use std::fmt::Write;
 use system_keys::OutOfMemory;
 
-/// Prints the outcome of each transaction of a batch, and after it the tags of each of its
-/// mutations. Fails only with `OutOfMemory`.
+/// Prints the outcome of each transaction of a batch, and after it the tags and the private copy of
+/// each of its mutations. Fails only with `OutOfMemory`.
 pub fn print_transactions(
     text: &mut String,
     tagged: &[Tagged],
@@ -30,6 +32,7 @@ pub fn print_transactions(
     }
 }
 
+/// Whether the numbers of the transactions of these mutations never fall.
 fn are_in_order(tagged: &[Tagged]) -> bool
     ensures { result ≡ are_in_order 0 tagged.now }
 {
@@ -71,7 +74,7 @@ fn print_first_mutations<'a>(
 ) -> Result<&'a [Tagged], OutOfMemory>
     requires { are_in_order number tagged.now ≡ true }
     ensures printed { OnOk result (string_bytes text.new
-        ≡ string_bytes text.old ++ flat_map mutation_line (mutations_of number tagged.now)) }
+        ≡ string_bytes text.old ++ flat_map mutation_text (mutations_of number tagged.now)) }
     ensures later { IfOk result (λ later. IsAfter number tagged.now later.now) }
 {
     let mut later = tagged;
@@ -106,7 +109,7 @@ fn print_in_any_order(
 // Prints the mutations of this transaction.
 fn print_mutations(text: &mut String, number: usize, tagged: &[Tagged]) -> Result<(), OutOfMemory>
     ensures { OnOk result (string_bytes text.new
-        ≡ string_bytes text.old ++ flat_map mutation_line (mutations_of number tagged.now)) }
+        ≡ string_bytes text.old ++ flat_map mutation_text (mutations_of number tagged.now)) }
 {
     for mutation in tagged {
         if mutation.number == number {
@@ -116,6 +119,7 @@ fn print_mutations(text: &mut String, number: usize, tagged: &[Tagged]) -> Resul
     Ok(())
 }
 
+/// Prints the line of a transaction: its number and its outcome.
 fn print_transaction(text: &mut String, number: usize, outcome: Outcome) -> Result<(), OutOfMemory>
     ensures { OnOk result (string_bytes text.new
         ≡ string_bytes text.old ++ transaction_line number outcome) }
@@ -126,6 +130,7 @@ fn print_transaction(text: &mut String, number: usize, outcome: Outcome) -> Resu
     Ok(())
 }
 
+/// Appends the name of an outcome.
 fn push_outcome(text: &mut String, outcome: Outcome) -> Result<(), OutOfMemory>
     ensures { OnOk result (string_bytes text.new ≡ string_bytes text.old ++ outcome_text outcome) }
 {
@@ -133,6 +138,7 @@ fn push_outcome(text: &mut String, outcome: Outcome) -> Result<(), OutOfMemory>
     push_outcome_numbers(text, outcome)
 }
 
+/// Appends the numbers of an outcome that has some.
 fn push_outcome_numbers(text: &mut String, outcome: Outcome) -> Result<(), OutOfMemory>
     ensures { OnOk result (string_bytes text.new
         ≡ string_bytes text.old ++ outcome_numbers outcome) }
@@ -146,7 +152,17 @@ fn push_outcome_numbers(text: &mut String, outcome: Outcome) -> Result<(), OutOf
     Ok(())
 }
 
+/// Prints the line of a mutation of a finished batch, with its tags, and after it its private copy.
 fn print_mutation(text: &mut String, mutation: &Tagged) -> Result<(), OutOfMemory>
+    ensures { OnOk result (string_bytes text.new
+        ≡ string_bytes text.old ++ mutation_text mutation.now) }
+{
+    print_tags(text, mutation)?;
+    print_private(text, mutation)
+}
+
+/// Prints the tags of a mutation.
+fn print_tags(text: &mut String, mutation: &Tagged) -> Result<(), OutOfMemory>
     ensures { OnOk result (string_bytes text.new
         ≡ string_bytes text.old ++ mutation_line mutation.now) }
 {
@@ -156,6 +172,36 @@ fn print_mutation(text: &mut String, mutation: &Tagged) -> Result<(), OutOfMemor
         mutation.number, mutation.place
     )?;
     push_tags(text, mutation.tags.as_slice())?;
+    text.push_str("\n")?;
+    Ok(())
+}
+
+/// Prints the private copy of a mutation, if it has one.
+fn print_private(text: &mut String, mutation: &Tagged) -> Result<(), OutOfMemory>
+    ensures { OnOk result (string_bytes text.new ≡ string_bytes text.old
+        ++ private_text mutation.now.number mutation.now.place mutation.now.private) }
+{
+    match &mutation.private {
+        Some(copy) => print_copy(text, mutation.number, mutation.place, copy),
+        None => Ok(()),
+    }
+}
+
+/// Prints a private copy of a mutation: its key and its tag.
+fn print_copy(
+    text: &mut String,
+    number: usize,
+    place: usize,
+    copy: &PrivateCopy,
+) -> Result<(), OutOfMemory>
+    ensures { OnOk result (string_bytes text.new
+        ≡ string_bytes text.old ++ copy_line number place copy.now) }
+{
+    let alloc = *text.allocator();
+    write!(text, "private {number} {place} ")?;
+    push_quoted(alloc, text, copy.key.as_slice())?;
+    text.push_str(" ")?;
+    push_tag(text, &copy.tag)?;
     text.push_str("\n")?;
     Ok(())
 }

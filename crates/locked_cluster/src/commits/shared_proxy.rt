@@ -1,4 +1,5 @@
-//! The proxy that threads share.
+//! The proxy that threads share, with whole commits, and its guard, which begins and finishes
+//! records.
 
 ghost use Rattle.std.specs.Prelude.{◌≡◌, ◌<◌, ◌≤◌, IfOk, IfErr, MatchBool, MatchResult, OnErr};
 ghost use Rattle.model.specs.Metadata.{metadata as metadata_of};

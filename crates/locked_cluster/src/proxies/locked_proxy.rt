@@ -1,4 +1,4 @@
-//! A proxy as it stands under its lock.
+//! A proxy as it stands under its lock, without the lock.
 
 ghost use Rattle.std.specs.Prelude.{◌≡◌, ◌<◌, ◌≤◌, slice_get, Some, IfOk, IfErr, MatchBool, OnErr};
 ghost use Rattle.model.specs.Metadata.{metadata as metadata_of};
@@ -303,8 +303,8 @@ impl<N: Naming> LockedProxy<N> {
     }
 
     /// Whether the proxy has come to the version of an answer, of any proxy of the cluster. The
-    /// outcomes and the tags of the answer are then those that the proxy's records and verdict cells
-    /// give for its row. Needs no memory.
+    /// outcomes, the tags and the private copies of the answer are then those that the proxy's records
+    /// and verdict cells give for its row. Needs no memory.
     pub fn confirm(&self, answer: &NotedFinished<N>) -> bool
         ensures { MatchBool result
             (IsConfirmed N.cells.config self.now answer.now)

@@ -10,9 +10,9 @@ use std::marker::Model;
 
 /// A finished batch, with the records up to its row and the verdict cells of each resolver.
 ///
-/// By its type the outcomes and the tags are the definition's for the record of the row, after these
-/// records: the tags are those of the metadata after the whole batch. Each of the cells holds the
-/// verdicts of the definition.
+/// By its type the outcomes, the tags and the private copies are the definition's for the record of
+/// the row, after these records: tags and copies are those of the metadata after the whole batch. Each
+/// of the cells holds the verdicts of the definition.
 #[derive(Drop)]
 pub struct NotedFinished<N: Naming> {
     finished: Finished,

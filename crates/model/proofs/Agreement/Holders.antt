@@ -11,10 +11,10 @@ use Rattle.model.specs.declared.outcome.Tagged.{Tagged}
 use Rattle.model.specs.Transactions.{Transaction}
 use Rattle.model.specs.Records.{Record, IsHistory}
 use Rattle.model.specs.Verdicts.{share_verdicts}
-use Rattle.model.specs.Metadata.{Entries, metadata, tags}
+use Rattle.model.specs.Metadata.{Entries, metadata}
 use Rattle.model.specs.Journal.{VerdictSource, AgreeOn, list_at, cell_verdicts, journal_row, journal}
 use Rattle.model.specs.Outcomes.{outcomes_after}
-use Rattle.model.specs.World.{tagged_from, tagged_one, tagged_all, finished_after, finished_batch, up_to_version}
+use Rattle.model.specs.World.{IsTaggedBy, tagged_from, tagged_one, tagged_all, finished_after, finished_batch, up_to_version}
 use Rattle.model.specs.Agreed.{Column, Columns, IsVerdictColumn}
 use Rattle.model.proofs.Members.{Has, Has-from_Contains, Has-append_cases}
 use Rattle.model.proofs.History.Growth.{push_cases}
@@ -78,27 +78,27 @@ rows_up_to_version config verdict_by (rec ∷ h) version = by (nat_le rec.versio
 
 -- ---- tags
 
-from_changes : (rows : Entries) (number n : ℕ) (changes : List Change) (x : Tagged) → Has (tagged_from rows number n changes) x → x.tags ≡ tags rows x.change
+from_changes : (rows : Entries) (number n : ℕ) (changes : List Change) (x : Tagged) → Has (tagged_from rows number n changes) x → IsTaggedBy rows x
 from_changes rows number n [] x has = absurd has
-from_changes rows number n (change ∷ changes) x (inl same) = subst (λ (y : Tagged). y.tags ≡ tags rows y.change) same refl
+from_changes rows number n (change ∷ changes) x (inl same) = subst (IsTaggedBy rows) same (record { tags = refl; private = refl })
 from_changes rows number n (change ∷ changes) x (inr later) = from_changes rows number (suc n) changes x later
 
-from_one : (rows : Entries) (t : Transaction) (outcome : Outcome) (x : Tagged) → Has (tagged_one rows t outcome) x → x.tags ≡ tags rows x.change
+from_one : (rows : Entries) (t : Transaction) (outcome : Outcome) (x : Tagged) → Has (tagged_one rows t outcome) x → IsTaggedBy rows x
 from_one rows t (Committed version number) x has = from_changes rows number 0 t.changes x has
 from_one rows t Conflict x has = absurd has
 from_one rows t TooOld x has = absurd has
 from_one rows t Locked x has = absurd has
 
-from_all : (rows : Entries) (ts : List Transaction) (outcomes : List Outcome) (x : Tagged) → Has (tagged_all rows ts outcomes) x → x.tags ≡ tags rows x.change
+from_all : (rows : Entries) (ts : List Transaction) (outcomes : List Outcome) (x : Tagged) → Has (tagged_all rows ts outcomes) x → IsTaggedBy rows x
 from_all rows [] outcomes x has = absurd has
 from_all rows (t ∷ ts) [] x has = absurd has
 from_all rows (t ∷ ts) (outcome ∷ outcomes) x has = by (Has-append_cases (tagged_one rows t outcome) (tagged_all rows ts outcomes) x has) (from_all rows ts outcomes x)
   where
-    by : Has (tagged_one rows t outcome) x ⊎ Has (tagged_all rows ts outcomes) x → (Has (tagged_all rows ts outcomes) x → x.tags ≡ tags rows x.change) → x.tags ≡ tags rows x.change
+    by : Has (tagged_one rows t outcome) x ⊎ Has (tagged_all rows ts outcomes) x → (Has (tagged_all rows ts outcomes) x → IsTaggedBy rows x) → IsTaggedBy rows x
     by (inl here) rest = from_one rows t outcome x here
     by (inr later) rest = rest later
 
-pub finished_tags : (config : Config) (verdict_by : VerdictSource) (journal_before : List JournalRow) (rec : Record) (x : Tagged) → Contains (finished_after config verdict_by journal_before rec).tagged x → x.tags ≡ tags (metadata (journal_before ++ journal_row config verdict_by rec ∷ [])) x.change
+pub finished_tags : (config : Config) (verdict_by : VerdictSource) (journal_before : List JournalRow) (rec : Record) (x : Tagged) → Contains (finished_after config verdict_by journal_before rec).tagged x → IsTaggedBy (metadata (journal_before ++ journal_row config verdict_by rec ∷ [])) x
 unfolding finished_after
 finished_tags config verdict_by journal_before rec x there =
     from_all (metadata (journal_before ++ journal_row config verdict_by rec ∷ [])) rec.batch (outcomes_after config verdict_by journal_before rec) x

@@ -6,10 +6,10 @@ use Rattle.model.specs.declared.journal.JournalRow.{JournalRow}
 use Rattle.model.specs.declared.outcome.Tagged.{Tagged}
 use Rattle.model.specs.Transactions.{Transaction}
 use Rattle.model.specs.Records.{Record}
-use Rattle.model.specs.Metadata.{is_locked, metadata, tags}
+use Rattle.model.specs.Metadata.{is_locked, metadata}
 use Rattle.model.specs.Journal.{VerdictSource, journal_row, journal}
 use Rattle.model.specs.Outcomes.{is_refused, outcome, outcomes_after, outcomes}
-use Rattle.model.specs.World.{finished_after}
+use Rattle.model.specs.World.{IsTaggedBy, finished_after}
 
 -- the outcome of each transaction of a batch stands at its number, after any journal before
 abbrev pub OutcomesStandAtTheirNumbers : Type 0
@@ -45,14 +45,14 @@ FinishedOutcomesAreOfTheRecord =
     → (finished_after config verdict_by journal_before rec).outcomes
     ≡ outcomes_after config verdict_by journal_before rec
 
--- each mutation in a finished batch has the tags of the metadata after the record's own row
+-- each mutation in a finished batch has the tags, and the private copy, that the metadata after the
+-- record's own row gives it
 abbrev pub FinishedTagsAreAfterTheRow : Type 0
 FinishedTagsAreAfterTheRow =
     (config : Config) (verdict_by : VerdictSource) (journal_before : List JournalRow)
     (rec : Record) (tagged : Tagged)
     → Contains (finished_after config verdict_by journal_before rec).tagged tagged
-    → tagged.tags
-    ≡ tags (metadata (journal_before ++ journal_row config verdict_by rec ∷ [])) tagged.change
+    → IsTaggedBy (metadata (journal_before ++ journal_row config verdict_by rec ∷ [])) tagged
 
 -- a finished batch has the row of its record
 abbrev pub FinishedBatchesHaveTheRow : Type 0

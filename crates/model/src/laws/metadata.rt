@@ -1,5 +1,5 @@
-//! Laws of the metadata: its order, the lock, the entries that serve keys, and tags. No code: each
-//! function's contract is a law of the definitions.
+//! Laws of the metadata: its order, the lock, the entries that serve keys, tags, and private copies.
+//! No code: each function's contract is a law of the definitions.
 
 ghost use Rattle.model.specs.Laws.Metadata.{MetadataIsInOrder, MetadataKeysAreKept};
 ghost use Rattle.model.specs.Laws.Metadata.{MetadataContinues, ChangesKeepTheOrder};
@@ -15,6 +15,9 @@ ghost use Rattle.model.specs.Laws.Metadata.{NoServingEntryMeansNoneBefore};
 ghost use Rattle.model.specs.Laws.Metadata.{TagsAreSortedAndDistinct, TagsAreOfTheTouchedServers};
 ghost use Rattle.model.specs.Laws.Metadata.{ASetTouchesTheServingEntry};
 ghost use Rattle.model.specs.Laws.Metadata.{AClearTouchesTheServingEntries};
+ghost use Rattle.model.specs.Laws.PrivateCopies.{ServerKeysGoToTheirServer};
+ghost use Rattle.model.specs.Laws.PrivateCopies.{ServerTagsGoToTheirServer};
+ghost use Rattle.model.specs.Laws.PrivateCopies.{OtherSetsHaveNoCopy, ClearsHaveNoCopy};
 
 /// The entries of every metadata are in strict order of their keys, which are all kept ones. The
 /// metadata of a longer journal continues from that of its first rows. Each change, and so each row
@@ -66,4 +69,14 @@ pub fn tags_law()
     ensures exact { TagsAreOfTheTouchedServers }
     ensures set { ASetTouchesTheServingEntry }
     ensures cleared { AClearTouchesTheServingEntries }
+{}
+
+/// Which changes have a private copy, and of which tag. A Set of a serverKeys row has exactly the copy
+/// for the server that its key names, if that server's serverTag row gives a tag. A Set of a
+/// serverTag row has exactly the copy for the tag that it sets. No other change has one.
+pub fn private_law()
+    ensures server_keys { ServerKeysGoToTheirServer }
+    ensures server_tag { ServerTagsGoToTheirServer }
+    ensures other { OtherSetsHaveNoCopy }
+    ensures cleared { ClearsHaveNoCopy }
 {}

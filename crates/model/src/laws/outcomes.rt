@@ -34,7 +34,7 @@ pub fn held_lock_law()
 {}
 
 /// The outcomes in a finished batch are those of its record, and each mutation in it has the tags
-/// of the metadata after the record's own row.
+/// and the private copy that the metadata after the record's own row gives it.
 pub fn finished_law()
     ensures told { FinishedOutcomesAreOfTheRecord }
     ensures tagged { FinishedTagsAreAfterTheRow }

@@ -2,8 +2,8 @@
 
 use super::assert_copied;
 use model::{
-    Carried, Config, Finished, JournalRow, Move, Outcome, Part, Refusal, Reply, Route, Routing,
-    StateMark, StateTxn, Tagged, UnseenRow, UnseenState, Verdict,
+    Carried, Config, Finished, JournalRow, Move, Outcome, Part, PrivateCopy, Refusal, Reply, Route,
+    Routing, StateMark, StateTxn, Tagged, UnseenRow, UnseenState, Verdict,
 };
 use std::test::Fail;
 use system_keys::Tag;
@@ -102,11 +102,18 @@ fn routings_are_copied(rt: HostRuntime) -> Result<(), Fail> {
 fn finished_batches_are_copied(rt: HostRuntime) -> Result<(), Fail> {
     let tags = one(rt.alloc(), TAG)?;
     let outcomes = one(rt.alloc(), Outcome::Locked)?;
+    let private = PrivateCopy {
+        key: bytes(rt.alloc(), b"\xffa")?,
+        value: bytes(rt.alloc(), b"1")?,
+        tag: TAG,
+    };
+    assert_copied(&rt, &private, PrivateCopy::copy);
     let tagged = Tagged {
         number: 1,
         place: 2,
         change: change(rt.alloc(), Step::Set(b"a", b"1"))?,
         tags,
+        private: Some(private),
     };
     assert_copied(&rt, &tagged, Tagged::copy);
     let finished = Finished {

@@ -198,6 +198,30 @@ fn dates_may_be_equal_but_not_go_back(rt: HostRuntime) -> Result<(), Fail> {
     are_right_after_moves(&rt, &mut map, REFUSED)
 }
 
+/// Two moves at the greatest date. None is dated later, and forgetting keeps what came before them.
+const AT_THE_GREATEST_DATE: &[Call] = &[
+    Call::Read(ALL, u64::MAX, &[0]),
+    Call::Move(M_TO_T, u64::MAX, 1, None),
+    Call::Move(A_TO_B, u64::MAX - 1, 2, Some(Refusal::DateGoesBack)),
+    Call::Move(P_TO_Q, u64::MAX, 2, None),
+    Call::Pieces(5),
+    Call::Read((b"m", b"p"), u64::MAX, &[0, 1]),
+    Call::Read(P_TO_Q, u64::MAX, &[0, 1, 2]),
+    Call::Write(M_TO_T, &[1, 2]),
+    Call::Forget(u64::MAX),
+    Call::Read(P_TO_Q, 0, &[0, 1, 2]),
+    Call::Write(A_TO_B, &[0]),
+    Call::Pieces(5),
+];
+
+#[test]
+fn moves_are_made_at_the_greatest_date(rt: HostRuntime) -> Result<(), Fail> {
+    let mut map = new_map(rt.alloc())?;
+    are_right(&rt, &mut map, AT_THE_GREATEST_DATE)?;
+    assert!(rt; map.last_date() == u64::MAX);
+    Ok(())
+}
+
 /// Each refusal with the number and the name that are printed.
 const PRINTED: &[(Refusal, Option<u32>, &str)] = &[
     (Refusal::NoSuchResolver, Some(20), "NoSuchResolver"),

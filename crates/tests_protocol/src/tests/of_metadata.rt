@@ -272,6 +272,50 @@ fn a_value_that_does_not_decode_gives_no_tags(rt: HostRuntime) -> Result<(), Fai
     gives_no_tags(&rt, &mut metadata)
 }
 
+// ---- private copies
+
+/// A key and a value, and the tag of the private copy of their Set, if it has one.
+type SetWithCopy = (&'static [u8], &'static [u8], Option<Tag>);
+
+/// Sets after that of the tag of server 1 alone.
+const SETS: &[SetWithCopy] = &[
+    (TAG_ROW_1, b"\x00\x00\x02", Some(TAG_2)),
+    (b"\xff/serverKeys/server0000000001/m", b"1", Some(TAG_1)),
+    (b"\xff/serverKeys/server0000000002/m", b"1", None),
+    (b"a", b"1", None),
+];
+
+/// Whether the Set has a private copy with the tag, or none without one.
+fn has_copy(metadata: &Metadata, change: &Change, set: SetWithCopy) -> Result<bool, OutOfMemory> {
+    let (key, value, tag) = set;
+    match metadata.private_of(change)? {
+        Some(copy) => {
+            let [255, rest @ ..] = copy.key.as_slice() else {
+                return Ok(false);
+            };
+            Ok(rest == key && copy.value.as_slice() == value && Some(copy.tag) == tag)
+        }
+        None => Ok(tag.is_none()),
+    }
+}
+
+fn gives_copies<R: Abort + AllocGlobal>(rt: &R, metadata: &mut Metadata) -> Result<(), Fail> {
+    apply_step(rt, metadata, Step::Set(TAG_ROW_1, b"\x00\x00\x01"))?;
+    for set in SETS {
+        let change = change(rt.alloc(), Step::Set(set.0, set.1))?;
+        assert!(rt; twice!(has_copy(metadata, &change, *set), OutOfMemory)?);
+    }
+    let cleared = change(rt.alloc(), Step::Clear(TAG_ROW_1, TAG_ROW_2))?;
+    assert!(rt; twice!(metadata.private_of(&cleared), OutOfMemory)?.is_none());
+    Ok(())
+}
+
+#[test]
+fn sets_that_concern_a_server_have_a_private_copy(rt: HostRuntime) -> Result<(), Fail> {
+    let mut metadata = Metadata::new(rt.alloc());
+    gives_copies(&rt, &mut metadata)
+}
+
 // ---- rows
 
 const BOTH: &[Verdict] = &[COMMITTED, COMMITTED];

@@ -204,14 +204,22 @@ fn gives_on_many(
     Ok(gives(history, version, &Share::new(Items::from(parts)), verdicts)?)
 }
 
-/// A write of `b`, a read of it at a snapshot past the version, and a read of `c`.
+/// A write of `b`, and reads of it and of `c` at snapshots past the version, the greatest one among them.
 const WRITE_AND_READ: &[PartLine<'static>] = &[
     (0, &[], &[B]),
     (1000, &[B], &[]),
+    (u64::MAX, &[B], &[]),
     (1000, &[C], &[]),
+    (u64::MAX, &[C], &[]),
 ];
 
-const ONLY_B_CONFLICTS: &[Verdict] = &[Verdict::Committed, Verdict::Conflict, Verdict::Committed];
+const READS_OF_B_CONFLICT: &[Verdict] = &[
+    Verdict::Committed,
+    Verdict::Conflict,
+    Verdict::Conflict,
+    Verdict::Committed,
+    Verdict::Committed,
+];
 
 /// Many parts are written at version 10, and then read.
 fn judges_many_parts<R: Abort + AllocGlobal>(
@@ -235,7 +243,7 @@ fn judges_many_shares<R: Abort + AllocGlobal>(
             history,
             version,
             WRITE_AND_READ,
-            ONLY_B_CONFLICTS,
+            READS_OF_B_CONFLICT,
         )?;
         assert!(rt; is_right, "at {version}");
         history.forget(version);

@@ -59,7 +59,7 @@ fn the_least_verdict_is_the_answer(rt: HostRuntime) {
 }
 
 /// A reply to row 0 without verdicts. The proxy's number tells it from others.
-pub(crate) fn reply_of(alloc: Global, resolver: usize, proxy: usize) -> Reply {
+fn reply_of(alloc: Global, resolver: usize, proxy: usize) -> Reply {
     Reply {
         resolver,
         proxy,

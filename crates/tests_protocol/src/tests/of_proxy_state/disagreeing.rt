@@ -1,11 +1,12 @@
-//! A test of replies that are refused: a proxy that has begun row 3 is given replies to it.
+//! Tests of replies that are refused: a proxy that has begun one row is given replies to it.
 
-use crate::tests::of_proxy_state::collecting::reply_of;
-use crate::tests::of_proxy_state::finishing::finishes;
+use crate::tests::of_proxy_state::finishing::{
+    REPLIES_TO_ROW_0, TO_ROW_0, entries_by_call, finishes, has_entries,
+};
 use crate::tests::of_proxy_state::tested::{Tested, is_seen};
 use crate::tests::of_proxy_state::{COMMITTED, TAG_ROW_1, replies_of};
-use proxy_state::{Refusal, Replies};
-use std::alloc::Global;
+use crate::tests::{are_alike, copy_of};
+use proxy_state::Refusal;
 use std::process::Abort;
 use std::test::Fail;
 use testing::{Content, ReplyLine, Step, Told, ToldRow};
@@ -189,17 +190,7 @@ const WRONG: &[Wrong] = &[
     (&[0, 1], &[OF_0, OF_1], AT_10),
 ];
 
-/// Whether all these replies are there.
-fn are_there(alloc: Global, replies: &mut Replies, lines: &[ReplyLine<'_>]) -> bool {
-    for line in lines {
-        if replies.put(reply_of(alloc, line.resolver, 0)).is_ok() {
-            return false;
-        }
-    }
-    true
-}
-
-/// The replies are refused and come back. Those of the carriers have the content.
+/// The replies are refused, and come back as they were. Those of the carriers have the content.
 fn refuses<R: Abort + AllocGlobal>(
     rt: &R,
     tested: &mut Tested,
@@ -208,11 +199,12 @@ fn refuses<R: Abort + AllocGlobal>(
     refusal: Refusal,
 ) -> Result<(), Fail> {
     let replies = replies_of(rt.alloc(), carriers, lines)?;
-    let Err((found, mut back)) = tested.finish(rt, replies) else {
+    let given = copy_of(&replies)?;
+    let Err((found, back)) = tested.finish(rt, replies) else {
         return Err(Fail::from("the replies are not refused"));
     };
     assert!(rt; found == refusal, "must be refused: {refusal:?}");
-    assert!(rt; are_there(rt.alloc(), &mut back, lines));
+    assert!(rt; are_alike(rt.alloc(), &back, &given)?);
     Ok(())
 }
 
@@ -241,4 +233,35 @@ fn finishes_by_right_replies<R: Abort + AllocGlobal>(
 fn replies_that_are_missing_or_disagree_are_refused(rt: HostRuntime) -> Result<(), Fail> {
     let mut tested = Tested::new(rt.alloc())?;
     finishes_by_right_replies(&rt, &mut tested)
+}
+
+/// Replies to row 0, of which that of resolver 1 is to another version.
+const OF_TWO_VERSIONS: &[ReplyLine<'static>] = &[
+    TO_ROW_0,
+    ReplyLine {
+        resolver: 1,
+        version: 20,
+        ..TO_ROW_0
+    },
+];
+
+/// Row 0 is begun, and its version is reached by the right replies alone. The one call for what was
+/// before every row succeeds whatever allocation fails.
+fn reaches_by_right_replies<R: Abort + AllocGlobal>(
+    rt: &R,
+    tested: &mut Tested,
+) -> Result<(), Fail> {
+    tested.begin_contents(rt.alloc(), 0, 0, 0, &[TAGS])?;
+    refuses(rt, tested, &[0], OF_TWO_VERSIONS, AT_10)?;
+    assert!(rt; has_entries(&tested.proxy, 10, Err(Refusal::NotReached { version: 0 })));
+    finishes(rt, tested, REPLIES_TO_ROW_0)?;
+    assert!(rt; has_entries(&tested.proxy, 10, Ok([true, false, false, false])));
+    assert!(rt; entries_by_call(&tested.proxy, 0) == Ok([false; 4]));
+    Ok(())
+}
+
+#[test]
+fn a_version_is_reached_when_its_record_is_finished(rt: HostRuntime) -> Result<(), Fail> {
+    let mut tested = Tested::new(rt.alloc())?;
+    reaches_by_right_replies(&rt, &mut tested)
 }

@@ -5,12 +5,13 @@ use crate::tests::of_proxy_state::{
     COMMITTED, LOCK, ROW_OF_ALL, SERVER_1, SERVER_2, TAG_1, TAG_ROW_1, TAG_ROW_2, replies_of,
 };
 use crate::tests::{Copied, copy_of};
+use model::Tagged;
 use mutation::Batch;
 use proxy_state::{Finished, Outcome, Proxy, Refusal, Verdict};
 use request_builder::Requests;
 use std::process::Abort;
 use std::test::Fail;
-use system_keys::OutOfMemory;
+use system_keys::{OutOfMemory, Tag};
 use testing::{Content, ReplyLine, Step, content_batch, twice};
 
 // ---- records that are begun
@@ -19,13 +20,13 @@ use testing::{Content, ReplyLine, Step, content_batch, twice};
 type Entries = Result<[bool; 4], Refusal>;
 
 /// One call for which entries are there at the version, if it is reached.
-fn entries_by_call(proxy: &Proxy, version: u64) -> Entries {
+pub(crate) fn entries_by_call(proxy: &Proxy, version: u64) -> Entries {
     let metadata = proxy.metadata_at(version)?;
     Ok(entries_there(&metadata))
 }
 
 /// Whether those are the entries at the version.
-fn has_entries(proxy: &Proxy, version: u64, entries: Entries) -> bool {
+pub(crate) fn has_entries(proxy: &Proxy, version: u64, entries: Entries) -> bool {
     let found = twice!(entries_by_call(proxy, version), Refusal::OutOfMemory);
     found == entries
 }
@@ -130,6 +131,8 @@ const SPLIT: Content<'static> = (
     true,
 );
 
+const TAG_2: Tag = Tag { locality: 0, id: 2 };
+
 /// The row at `m` goes.
 const JOINED: Content<'static> = (&[Step::Clear(ROW_OF_M, b"\xff/keyServers/n")], true);
 
@@ -142,7 +145,7 @@ const WITHOUT_TAG_2: Content<'static> = (
     true,
 );
 
-const TO_ROW_0: ReplyLine<'static> = ReplyLine {
+pub(crate) const TO_ROW_0: ReplyLine<'static> = ReplyLine {
     resolver: 0,
     proxy: 0,
     row: 0,
@@ -160,7 +163,7 @@ const TO_ROW_2: ReplyLine<'static> = ReplyLine {
     ..TO_ROW_0
 };
 
-const REPLIES_TO_ROW_0: &[ReplyLine<'static>] = &[
+pub(crate) const REPLIES_TO_ROW_0: &[ReplyLine<'static>] = &[
     TO_ROW_0,
     ReplyLine {
         resolver: 1,
@@ -216,10 +219,36 @@ fn is_row_2(finished: &Finished) -> bool {
         && finished.outcomes.as_slice() == [committed, Outcome::Conflict].as_slice()
 }
 
+/// Whether the mutation has a private copy with the tag.
+fn is_copied(tagged: &Tagged, tag: Tag) -> bool {
+    match &tagged.private {
+        Some(copy) => copy.tag == tag,
+        None => false,
+    }
+}
+
+/// Whether the Sets of serverTag rows of row 0 have private copies with the tags that they set, and no
+/// other Set has one.
+fn is_row_0(finished: &Finished) -> bool {
+    let [first, second, third, last] = finished.tagged.as_slice() else {
+        return false;
+    };
+    is_copied(first, TAG_1)
+        && is_copied(second, TAG_2)
+        && third.private.is_none()
+        && last.private.is_none()
+}
+
 impl Copied for Proxy {
     fn copied(&self) -> Result<Proxy, OutOfMemory> {
         self.copy()
     }
+}
+
+fn finishes_row_0<R: Abort + AllocGlobal>(rt: &R, tested: &mut Tested) -> Result<(), Fail> {
+    let finished = finished(rt, tested, REPLIES_TO_ROW_0)?;
+    assert!(rt; is_row_0(&finished));
+    Ok(())
 }
 
 fn finishes_row_2<R: Abort + AllocGlobal>(rt: &R, tested: &mut Tested) -> Result<(), Fail> {
@@ -243,6 +272,7 @@ fn finishes_alone<R: Abort + AllocGlobal>(
 
 /// What the proxy then has at each version.
 const AFTER_BOTH: &[(u64, Entries)] = &[
+    (0, Ok([false; 4])),
     (9, Ok([false; 4])),
     (10, Ok([true; 4])),
     (20, Ok([true, true, true, false])),
@@ -254,7 +284,7 @@ const AFTER_BOTH: &[(u64, Entries)] = &[
 fn finishes_both<R: Abort + AllocGlobal>(rt: &R, tested: &mut Tested) -> Result<(), Fail> {
     tested.begin_contents(rt.alloc(), 0, 0, 0, &[SPLIT])?;
     tested.begin_contents(rt.alloc(), 2, 20, 10, &[WITHOUT_TAG_2, LOCKS])?;
-    finishes(rt, tested, REPLIES_TO_ROW_0)?;
+    finishes_row_0(rt, tested)?;
     let copy = copy_of(&tested.proxy)?;
     finishes_alone(rt, tested, &copy)
 }

@@ -1,6 +1,6 @@
 //! Judging apart from putting in place: the verdicts are kept by the caller, or they are not.
 
-ghost use Rattle.std.specs.Prelude.{◌≡◌, IfOk, IfSome};
+ghost use Rattle.std.specs.Prelude.{◌≡◌, Ok, IfOk, IfSome};
 ghost use Rattle.state_memory.specs.Answers.{AreVerdictsAfterJudged};
 
 use crate::tests::are_alike;
@@ -29,7 +29,7 @@ fn judge_and_keep(
     }
     match resolver.judge_with(request, |verdicts| Ok::<Verdicts, Infallible>(verdicts)) {
         Ok(made) => Ok(Some(made)),
-        Err(NotJudged::OutOfMemory) => Err(OutOfMemory),
+        Err(NotJudged::OutOfMemory(_keep)) => Err(OutOfMemory),
         Err(NotJudged::NotKept(never)) => match never {},
     }
 }
@@ -49,8 +49,34 @@ fn judge_in_vain(
     }
     match resolver.judge_with(request, |verdicts| Err::<Infallible, Verdicts>(verdicts)) {
         Ok((_reply, never)) => match never {},
-        Err(NotJudged::OutOfMemory) => Err(OutOfMemory),
+        Err(NotJudged::OutOfMemory(_keep)) => Err(OutOfMemory),
         Err(NotJudged::NotKept(verdicts)) => Ok(Some(verdicts)),
+    }
+}
+
+/// Judges the request and keeps its verdicts, which are those of the reply. Where memory is refused,
+/// the function that comes back judges it again. None if the request does not come next.
+fn judge_with_what_comes_back<F: FnOnce(Verdicts) -> Result<Verdicts, Infallible>>(
+    resolver: &mut Resolver,
+    request: &Request,
+    keep: F,
+) -> Result<Option<(Reply, Verdicts)>, OutOfMemory>
+    requires { F.IsAlwaysCallable keep }
+    ensures { IfOk result (λ judged. IfSome judged (λ made.
+        F.post keep made.0.verdicts (Ok made.1))) }
+{
+    if !resolver.comes_next(request) {
+        return Ok(None);
+    }
+    let back = match resolver.judge_with(request, keep) {
+        Ok(made) => return Ok(Some(made)),
+        Err(NotJudged::OutOfMemory(back)) => back,
+        Err(NotJudged::NotKept(never)) => match never {},
+    };
+    match resolver.judge_with(request, back) {
+        Ok(made) => Ok(Some(made)),
+        Err(NotJudged::OutOfMemory(_back)) => Err(OutOfMemory),
+        Err(NotJudged::NotKept(never)) => match never {},
     }
 }
 
@@ -123,26 +149,24 @@ fn a_request_is_judged_if_its_verdicts_are_kept(rt: HostRuntime) -> Result<(), F
     answers(&rt, &mut resolver, 0, IS_GIVEN_AGAIN)
 }
 
-/// Whether the request is judged once its verdicts are kept, or memory was refused before that.
-fn refuses_memory_first(resolver: &mut Resolver, request: &Request) -> bool {
-    if !resolver.comes_next(request) {
-        return false;
-    }
-    let mut is_kept = false;
-    let judged = resolver.judge_with(request, |_verdicts| {
-        is_kept = true;
-        Ok::<(), Infallible>(())
-    });
-    match judged {
-        Ok(_) => is_kept,
-        Err(_) => !is_kept,
+/// Whether the verdicts of the request are kept just once: where memory is refused, the function comes
+/// back, and is passed in again.
+fn keeps_once(resolver: &mut Resolver, request: &Request) -> Result<bool, OutOfMemory> {
+    let mut calls = 0u8;
+    let keep = |verdicts: Verdicts| {
+        calls = calls.saturating_add(1);
+        Ok::<Verdicts, Infallible>(verdicts)
+    };
+    match judge_with_what_comes_back(resolver, request, keep)? {
+        Some((_reply, verdicts)) => Ok(calls == 1 && verdicts.as_slice() == COMMITTED),
+        None => Ok(false),
     }
 }
 
 #[test]
-fn memory_is_refused_before_verdicts_are_kept(rt: HostRuntime) -> Result<(), Fail> {
+fn verdicts_are_kept_once_by_the_function_that_comes_back(rt: HostRuntime) -> Result<(), Fail> {
     let mut resolver = judged_two(&rt)?;
     let request = request(rt.alloc(), 0, NEXT, BODY)?;
-    assert!(rt; refuses_memory_first(&mut resolver, &request));
-    Ok(())
+    assert!(rt; keeps_once(&mut resolver, &request)?);
+    answers(&rt, &mut resolver, 0, IS_GIVEN_AGAIN)
 }

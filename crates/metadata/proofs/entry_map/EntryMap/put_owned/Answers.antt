@@ -1,0 +1,20 @@
+-- An insertion into the map is one into its entries.
+use Rattle.std.proofs.Common.{◌∙◌, ap}
+use Rattle.std.specs.BTreeMap.{insert_entry}
+use Rattle.model.specs.Metadata.{Entries}
+use Rattle.metadata.specs.MapEntries.{entries_of}
+use Rattle.metadata.proofs.KeyValues.{key_cmp}
+use Rattle.metadata.proofs.MapEntries.{entries_in_order, inserted}
+use Rattle.metadata.proofs.entry_map.EntryMap.put_owned.Goals as goal
+
+pub invariant_of-self-2 : goal.invariant_of-self-2
+invariant_of-self-2 c = entries_in_order _ c.insert.ensures.ordered
+
+pub returns-clause-ok : goal.returns-clause-ok
+returns-clause-ok c =
+    ap entries_of c.in_ok-insert.ensures.entries
+    ∙ inserted c.self.inside.values.entries c.args.key c.args.value
+    ∙ ap (λ (entries : Entries). insert_entry key_cmp entries c.args.key.items c.args.value) c.self.view_is
+
+pub returns-clause-order : goal.returns-clause-order
+returns-clause-order c = entries_in_order _ c.insert.ensures.ordered
