@@ -103,6 +103,7 @@ offer row 0 resolver 1 judged committed unseen none
 finish proxy 1 version 10
 txn 0 committed 10 0
 mutation 0 0 tags none
+private 0 0 "\\xff\\xff/serverTag/server0000000001" 0:1
 mutation 0 1 tags none
 mutation 0 2 tags none
 proxy 0

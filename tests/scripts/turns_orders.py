@@ -68,7 +68,7 @@ def lines_of_events(answer):
     end = whole.index("proxy 0\n")
     events = []
     for line in whole[:end]:
-        if line.startswith(("txn ", "mutation ")):
+        if line.startswith(("txn ", "mutation ", "private ")):
             events[-1] += line
         else:
             events.append(line)
