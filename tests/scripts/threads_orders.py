@@ -27,8 +27,8 @@ from reference import (
 from threads_reference import REFUSED, Work, committed_rows, meeting_lines, overlap, printed, refused_after, script_of, words_of
 from turns_reference import all_reads, stamped
 
-# how many states a search looks at before it says that it does not know
-STATES = 50_000
+# how many states a search looks at before it says that it does not know: some minutes, where few texts take a second
+STATES = 1_000_000
 UNKNOWN = "it is not known"
 OUTCOMES = {"committed", "conflict", "too_old", "locked"}
 # a version that is old to each batch, and one that none reaches
