@@ -9,6 +9,12 @@ LAST_KEY = "\\xff\\xfe" + "\\xff" * 9998
 TWO_SOURCES = "\\x02" + SERVER_1 + SERVER_2 + "\\x01" + SERVER_3
 
 
+def tags(sources=(), destinations=()):
+    """The value of a keyServers row that lists tags, each given as one number: 65,536 times the locality, and the id."""
+    lists = [bytes([len(some)]) + b"".join(tag.to_bytes(3, "big") for tag in some) for some in (sources, destinations)]
+    return "".join("\\x%02x" % byte if not 0x21 <= byte <= 0x7E or byte in b'"\\' else chr(byte) for byte in b"\0\0" + b"".join(lists))
+
+
 def set_at_row(value):
     return {"set": [KEY_SERVERS + "m", value]}
 
@@ -48,7 +54,17 @@ FAULTS = {
     "destinations that do not rise": (set_at_row("\\x00\\x02" + SERVER_2 + SERVER_1), BAD_ROW),
     "equal destinations": (set_at_row("\\x00\\x02" + SERVER_1 + SERVER_1), BAD_ROW),
     "sources that fall at last": (set_at_row("\\x03" + SERVER_1 + SERVER_3 + SERVER_2 + "\\x00"), BAD_ROW),
-    "a byte after no servers": (set_at_row("\\x00\\x00\\x00"), BAD_ROW),
+    "no servers and a byte, which counts no tags": (set_at_row("\\x00\\x00\\x00"), BAD_ROW),
+    "a count of tags alone": (set_at_row("\\x00\\x00\\x01"), BAD_ROW),
+    "source tags that do not rise": (set_at_row(tags([2, 1])), BAD_ROW),
+    "equal source tags": (set_at_row(tags([1, 1])), BAD_ROW),
+    "destination tags that do not rise": (set_at_row(tags([], [2, 1])), BAD_ROW),
+    "equal destination tags": (set_at_row(tags([], [1, 1])), BAD_ROW),
+    "tags that rise by their ids alone": (set_at_row(tags([2 * 65536 + 1, 65536 + 2])), BAD_ROW),
+    "tags that fall before they end": (set_at_row("\\x00\\x00\\x03\\x00\\x00\\x02\\x00\\x00\\x01"), BAD_ROW),
+    "a byte after no tags": (set_at_row(tags() + "\\x00"), BAD_ROW),
+    "a byte after the destination tags": (set_at_row(tags([1], [2]) + "\\x00"), BAD_ROW),
+    "a tag after the destination tags": (set_at_row(tags([1], [2]) + "\\x00\\x00\\x03"), BAD_ROW),
     "a byte after the destinations": (set_at_row(TWO_SOURCES + "\\x00"), BAD_ROW),
     "a server after the destinations": (set_at_row(TWO_SOURCES + SERVER_1), BAD_ROW),
     "a bad value of the first keyServers row": ({"set": [KEY_SERVERS, "\\x00"]}, BAD_ROW),
@@ -173,6 +189,25 @@ def cut_rows():
             yield "a last count of %d for 1" % count, with_change(set_at_row("\\x00" + value + SERVER_1)), BAD_ROW
 
 
+def cut_tags():
+    """Each proper beginning of a value that lists tags but that of two zero bytes, 255 tags in a list, and one more or fewer."""
+    units = [1, 256, 65536], [66051, 16777215]
+    whole = tags(*units).split("\\x")[1:]
+    for length in [1, *range(3, len(whole))]:
+        yield "tags cut at %d" % length, with_change(set_at_row("".join("\\x" + unit for unit in whole[:length]))), BAD_ROW
+    rows = FOLD.answer.replace('route "" 0:1\n', 'route "" 0:1\nroute "m" %s\n')
+    yield "tags that are whole", with_change(set_at_row(tags(*units))), rows % "0:1 0:256 1:0 1:515 255:65535"
+    yield "tags in both lists", with_change(set_at_row(tags(*units[:1] * 2))), rows % "0:1 0:256 1:0"
+    yield "no tags at all", with_change(set_at_row(tags())), rows % "none"
+    yield "destination tags alone", with_change(set_at_row(tags([], [66051]))), rows % "1:515"
+    many = " ".join("0:%d" % tag for tag in range(256, 511))
+    yield "255 source tags", with_change(set_at_row(tags(range(256, 511)))), rows % many
+    yield "255 destination tags", with_change(set_at_row(tags([], range(256, 511)))), rows % many
+    for count in (254, 255):
+        short = tags(range(256, 256 + count)).replace("\\x%02x" % count, "\\x%02x" % (count ^ 1), 1)
+        yield "%d tags for %d" % (count, count ^ 1), with_change(set_at_row(short)), BAD_ROW
+
+
 def ids_that_do_not_rise():
     """Two ids that differ in one byte, in each order."""
     for place in range(16):
@@ -190,4 +225,4 @@ def two_limits_of_one_change():
         yield "two faults of one change, the %d. pair" % number, with_change(change), answer
 
 
-CASES = (one_fault, no_fault, many_servers, cut_rows, ids_that_do_not_rise, two_limits_of_one_change)
+CASES = (one_fault, no_fault, many_servers, cut_rows, cut_tags, ids_that_do_not_rise, two_limits_of_one_change)

@@ -15,6 +15,8 @@ KEYS = [b"", b"\0", b"a", b"a\0", b"ab", b"b", b"m", b"z", b"\x7f", b"\x80", b"\
 OTHERS = [b"\xff", b"\xff\0", b"\xff\x02", b"\xff\x02/x", b"\xff\x03", b"\xff/", b"\xff/keyServers", b"\xff/keyServers0", b"\xff/t"]
 OTHERS += [b"\xff/serverTag/", b"\xff/serverTag/short", b"\xff/serverTag0", b"\xff/dbLocked\0", b"\xff/dbLocke", b"\xff\xfe"]
 TAGS = [b"\0\0\1", b"\0\0\2", b"\0\1\0", b"\1\0\0", b"\0\0\1", b"\xff\xff\xff", b"\3\1\2"]
+# a tag that only a keyServers row lists, and no server has
+LISTED, LISTED_TEXT = b"\7\7\7", "7:1799"
 GREATEST = 2**63 - 1
 
 
@@ -24,10 +26,23 @@ def team(rng):
     return bytes([len(servers)]) + b"".join(servers)
 
 
+def tag_list(rng):
+    """A list of rising tags with its count."""
+    tags = sorted(rng.sample(sorted({*TAGS, LISTED}), rng.choice([0, 1, 1, 2, 3, 7])))
+    return bytes([len(tags)]) + b"".join(tags)
+
+
+def location(rng):
+    """The value of a keyServers row: servers, or now and then tags."""
+    if rng.random() < 0.3:
+        return b"\0\0" + tag_list(rng) + tag_list(rng)
+    return team(rng) + team(rng)
+
+
 def kept_row(rng):
     kind = rng.randrange(10)
     if kind < 5:
-        return b"\xff/keyServers/" + rng.choice(KEYS), team(rng) + team(rng)
+        return b"\xff/keyServers/" + rng.choice(KEYS), location(rng)
     if kind < 8:
         return b"\xff/serverTag/" + rng.choice(SERVERS), rng.choice(TAGS)
     if kind < 9:
@@ -94,7 +109,7 @@ def state(rng, resolvers):
 def first_state(rng, resolvers):
     """A transaction that is let pass and sets tags and rows, for the later ones to change."""
     tags = [{"set": [text(b"\xff/serverTag/" + server), text(rng.choice(TAGS))]} for server in rng.sample(SERVERS, 5)]
-    rows = [{"set": [text(b"\xff/keyServers/" + key), text(team(rng) + team(rng))]} for key in rng.sample(KEYS, 4)]
+    rows = [{"set": [text(b"\xff/keyServers/" + key), text(location(rng))]} for key in rng.sample(KEYS, 4)]
     return {"mutations": tags + rows, "lock_aware": True, "verdicts": ["committed"] * resolvers}
 
 

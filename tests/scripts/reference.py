@@ -174,7 +174,7 @@ def check_change(change):
         want(len(first) <= 10_000, 10)
         want(len(second) <= 100_000, 11)
         want(first < END, 12)
-        want(not first.startswith(KEY_SERVERS) or servers_of(second) is not None, 14)
+        want(not first.startswith(KEY_SERVERS) or location_of(second) is not None, 14)
         want(not is_server_tag(first) or len(second) == 3, 14)
     else:
         want(len(first) <= 10_000 and len(second) <= 10_001, 10)
@@ -186,18 +186,42 @@ def is_server_tag(key):
     return key.startswith(SERVER_TAG) and len(key) == len(SERVER_TAG) + 16
 
 
-def servers_of(value):
-    """The ids of a keyServers value, sources before destinations, or None where it is none."""
-    found, place = [], 0
+def lists_tags(value):
+    """Whether a keyServers value is of the form that lists tags: two zero bytes, and more."""
+    return value[:2] == b"\0\0" and len(value) > 2
+
+
+def two_lists(value, place, size, read):
+    """What two lists from a place on hold, each with its count byte and rising, or None where they are no such lists."""
+    found = []
     for _ in ("sources", "destinations"):
         if place >= len(value):
             return None
-        end = place + 1 + 16 * value[place]
-        ids = [value[start : start + 16] for start in range(place + 1, end, 16)]
-        if end > len(value) or any(before >= after for before, after in zip(ids, ids[1:])):
+        end = place + 1 + size * value[place]
+        if end > len(value):
             return None
-        found, place = found + ids, end
+        inner = [read(value[start : start + size]) for start in range(place + 1, end, size)]
+        if any(before >= after for before, after in zip(inner, inner[1:])):
+            return None
+        found, place = found + inner, end
     return found if place == len(value) else None
+
+
+def location_of(value):
+    """The servers that a keyServers value names and the tags that it lists, sources first, or None where it does not decode."""
+    servers = [] if lists_tags(value) else two_lists(value, 0, 16, bytes)
+    tags = two_lists(value, 2, 3, read_tag) if lists_tags(value) else []
+    return None if servers is None or tags is None else (servers, tags)
+
+
+def servers_of(value):
+    """The ids of the servers that a keyServers value names, sources before destinations."""
+    return location_of(value)[0]
+
+
+def own_tags(value):
+    """The tags that a keyServers value lists itself."""
+    return location_of(value)[1]
 
 
 # ---- the fold
@@ -234,10 +258,11 @@ def fold(rows):
 
 
 def tags_of(kept, key):
-    """The tags of a key: those of all servers of the greatest keyServers row at or before it, rising, each once."""
+    """The tags of a key: those of the greatest keyServers row at or before it, of its servers or its own, rising, each once."""
     found = set()
     before = [row for row in kept if row.startswith(KEY_SERVERS) and row[len(KEY_SERVERS) :] <= key]
     if before:
+        found.update(own_tags(kept[max(before)]))
         for server in servers_of(kept[max(before)]):
             tag = kept.get(SERVER_TAG + server)
             if tag is not None:

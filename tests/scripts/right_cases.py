@@ -1,5 +1,5 @@
 """Right scripts, each with the lines that it must be answered, worked out by hand."""
-from script import KEY_SERVERS, LOCKED, METADATA_VERSION, SERVER_1, SERVER_2, SERVER_3, SERVER_TAG, write
+from script import KEY_SERVERS, LISTING, LOCKED, METADATA_VERSION, SERVER_1, SERVER_2, SERVER_3, SERVER_TAG, write
 
 YES, NO = True, False
 MARK, UNMARK = {"set": [METADATA_VERSION, "m"]}, {"clear": [METADATA_VERSION, METADATA_VERSION + "\\x00"]}
@@ -101,6 +101,34 @@ def tags():
     yield "all tags gone, and their servers not", script(*later, [(NO, all_tags)], ask=["a", "m"]), answer
 
 
+def listed_tags():
+    """A row that lists tags has them, whatever tags servers have; a row of servers beside it has those of its servers."""
+    both = [{"set": [KEY_SERVERS, LISTING]}, row("m", [SERVER_1])]
+    answer = 'route "" 0:1 0:2 3:258\nroute "m" %s\ntags "a" 0:1 0:2 3:258\ntags "m" %s\n'
+    yield "listed tags, and a server without a tag", script([(NO, both)], ask=["a", "m"]), head(10) + answer % ("none", "none")
+    given = [tag(SERVER_1, "\\x00\\x00\\x01"), tag(SERVER_2, "\\x00\\x00\\x05")]
+    yield "listed tags before tags of servers", script([(NO, both)], [(NO, given)], ask=["a", "m"]), head(20) + answer % ("0:1", "0:1")
+    yield "listed tags after tags of servers", script([(NO, given)], [(NO, both)], ask=["a", "m"]), head(20) + answer % ("0:1", "0:1")
+    gone = {"clear": [SERVER_TAG, "\\xff/serverTag0"]}
+    yield (
+        "listed tags that stay when all tags of servers go", script([(NO, given + both)], [(NO, [gone])], ask=["a", "m"]),
+        head(20) + answer % ("none", "none"),
+    )
+    twice = {"set": [KEY_SERVERS, LISTING[:-16] + "\\x01\\x00\\x00\\x01"]}
+    yield "a tag in both lists", script([(NO, [twice])], ask=["a"]), head(10) + 'route "" 0:1 0:2\ntags "a" 0:1 0:2\n'
+    no_tags = {"set": [KEY_SERVERS, "\\x00\\x00\\x00\\x00"]}
+    yield "two empty lists of tags", script([(NO, [*given, no_tags])], ask=["a"]), head(10) + 'route "" none\ntags "a" none\n'
+    yield (
+        "a row of servers in place of listed tags, and back",
+        script([(NO, given + both)], [(NO, [row("", [SERVER_2])])], [(NO, [{"set": [KEY_SERVERS + "m", LISTING]}])], ask=["a", "m"]),
+        head(30) + 'route "" 0:5\nroute "m" 0:1 0:2 3:258\ntags "a" 0:5\ntags "m" 0:1 0:2 3:258\n',
+    )
+    yield (
+        "a row of listed tags that is gone", script([(NO, given + both)], [(NO, [clear_rows("", "a")])], ask=["a", "m"]),
+        head(20) + 'route "m" 0:1\ntags "a" none\ntags "m" 0:1\n',
+    )
+
+
 def routes():
     """A row has the keys from its own up to the next; a Clear takes its begin and not its end."""
     rows = [tag(SERVER_1, "\\x00\\x00\\x01"), row("b", (SERVER_1,)), row("m"), row("t", (SERVER_1,))]
@@ -136,4 +164,4 @@ def small_ones():
     yield "a metadata version set twice", script([(NO, [MARK, {"set": [METADATA_VERSION, "n"]}])]), head(10, "no", '"n"')
 
 
-CASES = (small_ones, locks, verdicts, tags, routes)
+CASES = (small_ones, locks, verdicts, tags, listed_tags, routes)

@@ -15,6 +15,8 @@ NO_SUCH_RESOLVER = "refused 20 NoSuchResolver\n"
 SERVER_1, SERVER_2, SERVER_3 = "server0000000001", "server0000000002", "server0000000003"
 KEY_SERVERS, SERVER_TAG = "\\xff/keyServers/", "\\xff/serverTag/"
 METADATA_VERSION, LOCKED = "\\xff/metadataVersion", "\\xff/dbLocked"
+# a keyServers value that lists the source tags 0:1 and 0:2 and the destination tag 3:258
+LISTING = "\\x00\\x00\\x02\\x00\\x00\\x01\\x00\\x00\\x02\\x01\\x03\\x01\\x02"
 
 
 class Written(str):

@@ -21,8 +21,8 @@ import sys
 from typing import NamedTuple
 
 from reference import (
-    KEY_SERVERS, LOCKED, METADATA_VERSION, SERVER_TAG, Refused, is_kept, is_locked, listed, metadata_lines, quoted, read_bytes,
-    servers_of, tags_of,
+    KEY_SERVERS, LOCKED, METADATA_VERSION, SERVER_TAG, Refused, is_kept, is_locked, listed, lists_tags, metadata_lines, quoted,
+    read_bytes, servers_of, own_tags, tags_of,
 )
 from threads_reference import REFUSED, Work, committed_rows, meeting_lines, overlap, printed, refused_after, script_of, words_of
 from turns_reference import all_reads, stamped
@@ -263,13 +263,15 @@ class Later:
             return (quoted(value) if kind == "set" else "none") == self.final.metadata_version
         if row.startswith(KEY_SERVERS):
             tags = self.final.routes.get(row[len(KEY_SERVERS) :])
-            return tags is None if kind == "clear" else tags is not None and self.may_have(servers_of(value), tags)
+            return tags is None if kind == "clear" else tags is not None and self.may_have(value, tags)
         return True
 
-    def may_have(self, servers, tags):
-        """Whether these servers may have these tags, by all that they ever get."""
-        given = {value for server in servers for value in self.tags.get(SERVER_TAG + server, ())}
-        return tags == "none" or set(tags.split(" ")) <= {tag_text(value) for value in given}
+    def may_have(self, value, tags):
+        """Whether a keyServers value may have these tags: those that it lists, or by all that its servers ever get."""
+        if lists_tags(value):
+            return tags == listed(sorted(set(own_tags(value))))
+        given = {found for server in servers_of(value) for found in self.tags.get(SERVER_TAG + server, ())}
+        return tags == "none" or set(tags.split(" ")) <= {tag_text(found) for found in given}
 
     def snapshots(self, span, had):
         """The snapshots at which batches still to come read in a range, in order."""

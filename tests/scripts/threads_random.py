@@ -5,7 +5,7 @@ Some get one to three faults, in random places, as the random turns scripts do.
 import collections
 import random
 
-from random_cases import GREATEST, plant_form, plant_text, spell
+from random_cases import GREATEST, LISTED_TEXT, plant_form, plant_text, spell
 from script import BAD_SHAPE, BATCH_TOO_LARGE, NO_SUCH_RESOLVER, NOT_JSON, write
 from threads_words import move, threads
 from turns_content_cases import MUTATION_FAULTS, RANGE_FAULTS
@@ -118,7 +118,7 @@ def random_cases(seeds):
 MUST_BE_MET = [
     *("refused %d" % number for number in (10, 11, 12, 13, 14, 15, 16, 20, 70, 71)), "batch refused 50", "batch refused 51",
     "closing refused 50", "closing refused 51", "closing", "committed", "conflict", "too_old", "locked", "none", "locked yes",
-    "metadata_version", "route with tags",
+    "metadata_version", "route with tags", "route with listed tags",
 ]
 
 
@@ -135,6 +135,7 @@ def met(answer):
             found.update(words[2:])
         elif first == "route":
             found["route with tags"] += words[-1] != "none"
+            found["route with listed tags"] += LISTED_TEXT in words
         elif words[-1:] not in (["no"], ["none"]):
             found["locked yes" if first == "locked" else first] += 1
     return found

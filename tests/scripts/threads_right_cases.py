@@ -3,7 +3,7 @@
 Where the order of the batches changes the text, all right texts are given, or none, and then threads_orders.py alone decides.
 Scripts of one proxy have one order.
 """
-from script import KEY_SERVERS, LOCKED, METADATA_VERSION, NO_SUCH_RESOLVER, SERVER_1, SERVER_2, SERVER_3, write
+from script import KEY_SERVERS, LISTING, LOCKED, METADATA_VERSION, NO_SUCH_RESOLVER, SERVER_1, SERVER_2, SERVER_3, write
 from threads_words import closings, committed, move, outcomes, reading_and_writing, routes, three_by_nine, threads
 from turns_words import LOCK, case, clear, lines, one_key, put, put_servers, put_tag, shown, stamp, transaction
 
@@ -238,6 +238,21 @@ def metadata():
     yield case(
         "rows that are cleared", threads([first, cleared], [], ask=["a"]), outcomes(0, "committed", "committed"), closings(30, 40),
         shown(0, 30, 'tags "a" none'), shown(1, 40, 'tags "a" none'),
+    )
+    listed = [transaction(0, [], [], [put(KEY_SERVERS, LISTING), put_servers("m", SERVER_1)], True)]
+    given = [transaction(0, [], [], [put_tag(SERVER_1, "\\x00\\x00\\x07")], True)]
+    both = ['route "" 0:1 0:2 3:258', 'route "m" 0:7', 'tags "a" 0:1 0:2 3:258', 'tags "z" 0:7']
+    yield case(
+        "a row that lists tags, and a tag of a server of the other row", threads([listed, given], [], ask=["a", "z"]),
+        outcomes(0, "committed", "committed"), closings(30, 40), shown(0, 30, *both), shown(1, 40, *both),
+    )
+    yield from each_time(
+        "a row that lists tags, beside the tag of a server", threads([listed], [given], [], ask=["a", "z"]), (
+            lines(
+                outcomes(0, "committed"), outcomes(1, "committed"), closings(30, 40, 50),
+                *[shown(proxy, 30 + 10 * proxy, *both) for proxy in range(3)],
+            ),
+        ),
     )
     marked = [transaction(0, [], [], [put(LOCKED, "L"), put(METADATA_VERSION, "v")], True)]
     everything = [transaction(0, [], [], [clear("", "\\xff\\xff")], True)]

@@ -2,7 +2,7 @@
 import content_cases
 from content_cases import FAULTS, FINE, LONG_BEGIN, LONG_OUTSIDE, LONG_VALUE, OUTSIDE, TWO_FAULTS
 from script import (
-    BAD_ROW, BAD_STAMP, BATCH_TOO_LARGE, KEY_OUTSIDE, KEY_SERVERS, KEY_TOO_LONG, LOCKED, METADATA_VERSION, SERVER_1, SERVER_2,
+    BAD_ROW, BAD_STAMP, BATCH_TOO_LARGE, KEY_OUTSIDE, KEY_SERVERS, KEY_TOO_LONG, LISTING, LOCKED, METADATA_VERSION, SERVER_1, SERVER_2,
     SERVER_TAG, VALUE_TOO_LONG, write,
 )
 from turns_words import (
@@ -36,6 +36,7 @@ STAMP_FAULTS = {
     "a bad stamp of the lock": (stamp(LOCKED, "L"), BAD_STAMP),
     "a stamp of a keyServers row": (stamp(KEY_SERVERS + "m", ZEROS + offset(0)), BAD_ROW),
     "a stamp of a keyServers row that decodes": (stamp(KEY_SERVERS, "\\x01" + SERVER_1 + "\\x00" + offset(0)), BAD_ROW),
+    "a stamp of a keyServers row that lists tags": (stamp(KEY_SERVERS, LISTING), BAD_ROW),
     "a stamp of a serverTag row": (stamp(SERVER_TAG + SERVER_1, ZEROS + offset(0)), BAD_ROW),
     "a stamp of three bytes of a serverTag row": (stamp(SERVER_TAG + SERVER_1, "\\x00\\x00\\x01"), BAD_ROW),
     "a long stamped key": (stamp(LONG_BEGIN, ZEROS + offset(0)), KEY_TOO_LONG),

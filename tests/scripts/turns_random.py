@@ -7,7 +7,7 @@ import collections
 import copy
 import random
 
-from random_cases import GREATEST, KEYS, OTHERS, SERVERS, TAGS, change, clear, plant_form, plant_text, spell, team, text
+from random_cases import GREATEST, KEYS, LISTED_TEXT, OTHERS, SERVERS, TAGS, change, clear, location, plant_form, plant_text, spell, text
 from script import BAD_SHAPE, BATCH_TOO_LARGE, NOT_JSON, write
 from turns_content_cases import MUTATION_FAULTS, RANGE_FAULTS
 from turns_words import finish, move, offer, sequence, transaction, turns
@@ -134,7 +134,7 @@ class Drawn:
     def first_batch(self):
         """A batch of the first proxy that sets tags and rows, for the later ones to change."""
         tags = [{"set": [text(b"\xff/serverTag/" + server), text(self.rng.choice(TAGS))]} for server in self.rng.sample(SERVERS, 4)]
-        rows = [{"set": [text(b"\xff/keyServers/" + key), text(team(self.rng) + team(self.rng))]} for key in self.rng.sample(KEYS, 3)]
+        rows = [{"set": [text(b"\xff/keyServers/" + key), text(location(self.rng))]} for key in self.rng.sample(KEYS, 3)]
         self.owners.append(0)
         return sequence(0, transaction(0, [], [], tags + rows, True))
 
@@ -202,7 +202,7 @@ class Cleared(Drawn):
         self.step, self.window, self.proxies, self.resolvers = 10, 300, rng.choice([1, 2, 3]), 1
 
     def row(self, place):
-        return {"set": [text(b"\xff/keyServers/" + place), text(team(self.rng) + team(self.rng))]}
+        return {"set": [text(b"\xff/keyServers/" + place), text(location(self.rng))]}
 
     def tag(self, server):
         return {"set": [text(b"\xff/serverTag/" + server), text(self.rng.choice(TAGS))]}
@@ -342,8 +342,8 @@ SCRIPT_REFUSALS = (10, 11, 12, 13, 14, 15, 16, 70, 71)
 MUST_BE_MET = [
     *("refused %d" % number for number in EVENT_REFUSALS + SCRIPT_REFUSALS), "sequence", "move", "judged", "again", "finish",
     "verdict conflict", "verdict too_old", "verdict committed", "unseen rows", "txn conflict", "txn too_old", "txn locked",
-    "txn committed", "mutation with tags", "mutation without tags", "copy of a tag", "copy of keys", "locked yes", "metadata_version",
-    "route with tags",
+    "txn committed", "mutation with tags", "mutation without tags", "mutation with listed tags", "copy of a tag", "copy of keys",
+    "locked yes", "metadata_version", "route with tags",
 ]
 
 
@@ -361,6 +361,7 @@ def met(answer):
             found["unseen rows"] += words[-1] != "none"
         elif first == "mutation":
             found["mutation without tags" if words[-1] == "none" else "mutation with tags"] += 1
+            found["mutation with listed tags"] += LISTED_TEXT in words
         elif first == "private":
             found["copy of a tag" if "/serverTag/" in words[2] else "copy of keys"] += 1
         elif first == "route":

@@ -1,5 +1,5 @@
 """Right turns scripts, each with the lines that it must be answered, worked out by hand."""
-from script import BAD_STAMP, KEY_SERVERS, LOCKED, METADATA_VERSION, SERVER_1, SERVER_2, SERVER_3, SERVER_TAG, write
+from script import BAD_STAMP, KEY_SERVERS, LISTING, LOCKED, METADATA_VERSION, SERVER_1, SERVER_2, SERVER_3, SERVER_TAG, write
 from turns_words import (
     LOCK, case, clear, finish, finished, move, offer, offered, offered_to_both, offers, one_key, private, private_tag, put,
     put_servers, put_tag, sequence, sequenced, shown, stamp, transaction, turns,
@@ -446,6 +446,37 @@ def tags():
     )
 
 
+def listed_tags():
+    """A row that lists tags has them, whatever tags servers get; a Clear has those of rows of both forms."""
+    rows = transaction(0, [], [], [put(KEY_SERVERS, LISTING), put_servers("m", SERVER_1), put("a", "1"), put("z", "1")], True)
+    tagged = transaction(0, [], [], [put("z", "2"), put_tag(SERVER_1, "\\x00\\x00\\x07"), clear("a", "z"), put("a", "2")], True)
+    joined = transaction(0, [], [], [put(KEY_SERVERS + "m", LISTING), put("z", "3"), clear("a", "z")], True)
+    routes = ['route "" 0:1 0:2 3:258', 'route "m" %s']
+    yield case(
+        "listed tags, and the tag of a server beside them",
+        turns(
+            sequence(0, rows), offers(0), finish(0), sequence(1, tagged), offers(1), finish(1), sequence(0, joined), offers(2), finish(0),
+            ask=["b", "y"],
+        ),
+        "sequence row 0 version 10", offered_to_both(0, "committed"),
+        finished(
+            0, 10, "txn 0 committed 10 0", "mutation 0 0 tags none", "mutation 0 1 tags none", "mutation 0 2 tags 0:1 0:2 3:258",
+            "mutation 0 3 tags none",
+        ),
+        "sequence row 1 version 20", offered_to_both(1, "committed", "10"),
+        finished(
+            1, 20, "txn 0 committed 20 0", "mutation 0 0 tags 0:7", "mutation 0 1 tags 0:7", private_tag(0, 1, SERVER_1, "0:7"),
+            "mutation 0 2 tags 0:1 0:2 0:7 3:258", "mutation 0 3 tags 0:1 0:2 3:258",
+        ),
+        "sequence row 2 version 30", offered_to_both(2, "committed", "20"),
+        finished(
+            0, 30, "txn 0 committed 30 0", *["mutation 0 %d tags 0:1 0:2 3:258" % place for place in range(3)],
+        ),
+        shown(0, 30, routes[0], routes[1] % "0:1 0:2 3:258", 'tags "b" 0:1 0:2 3:258', 'tags "y" 0:1 0:2 3:258'),
+        shown(1, 20, routes[0], routes[1] % "0:7", 'tags "b" 0:1 0:2 3:258', 'tags "y" 0:7'),
+    )
+
+
 # the keys split at `m`, in a batch of three transactions, and what a proxy routes then
 SPLIT = [
     transaction(0, [], [], [put("a", "1")]),
@@ -543,6 +574,15 @@ def private_copies():
         sequenced(2), offered(0, 0, "committed"), offered(1, 0, "conflict committed"),
         finished(0, 10, "txn 0 committed 10 0", "mutation 0 0 tags none", private(0, 0, *COPY_OF_TAG_1)),
         finished(0, 20, "txn 0 conflict 1020", "txn 1 committed 20 1", "mutation 1 0 tags none", private(1, 0, *COPY_OF_KEYS)), shown(0, 20),
+    )
+    yield case(
+        "no copy for a server without a tag, though all keys have listed tags",
+        turns(
+            sequence(0, transaction(0, [], [], [put(KEY_SERVERS, LISTING), KEYS_1])), offer(0, 0), finish(0), proxies=1, resolvers=1,
+        ),
+        sequenced(1), offered(0, 0, "committed"),
+        finished(0, 10, "txn 0 committed 10 0", *["mutation 0 %d tags 0:1 0:2 3:258" % place for place in range(2)]),
+        shown(0, 10, 'route "" 0:1 0:2 3:258'),
     )
     longest = SERVER_KEYS + SERVER_1 + "/" + "k" * (10_000 - 30)
     yield case(
@@ -683,5 +723,5 @@ def many_events():
 
 CASES = (
     small_ones, stamps, moved_ranges, owners_in_the_window, verdicts, many_parts, refused_writes, state_transactions, locks, outcomes,
-    locks_among_rows, told_rows, tags, private_copies, clears_and_sets, refused_events, last_numbers, many_events,
+    locks_among_rows, told_rows, tags, listed_tags, private_copies, clears_and_sets, refused_events, last_numbers, many_events,
 )

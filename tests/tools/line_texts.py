@@ -2,7 +2,7 @@
 import os
 
 from reference import answer as fold_answer
-from script import SERVER_1, SERVER_TAG, write
+from script import KEY_SERVERS, LISTING, SERVER_1, SERVER_TAG, write
 from turns_reference import answer as turns_answer
 from turns_words import (
     LOCK, clear, finish, offer, offers, private, private_tag, put, put_servers, put_tag, sequence, transaction, turns,
@@ -72,7 +72,11 @@ def refused_events(examples):
 
 def tag_rows(*rows):
     """A fold script that gives all keys to a server, and then sets its tag in each row: an id, and the verdict."""
-    states = [[[put_servers("", SERVER_1)], "committed"], *([[put_tag(SERVER_1, "\\x00\\x00\\x%02x" % it)], said] for it, said in rows)]
+    return fold_rows([[put_servers("", SERVER_1)], "committed"], *([[put_tag(SERVER_1, "\\x00\\x00\\x%02x" % it)], said] for it, said in rows))
+
+
+def fold_rows(*states):
+    """A fold script with a row for each state transaction: its mutations and its verdict."""
     return {"resolvers": 1, "ask": [], "rows": [
         {"version": number * 10, "states": [{"mutations": mutations, "lock_aware": False, "verdicts": [verdict]}]}
         for number, (mutations, verdict) in enumerate(states, 1)
@@ -99,7 +103,18 @@ def small_scripts():
     )
     yield changed(
         "a tag that nobody has", tag_rows((1, "committed")), fold_answer, 'route "" 0:1', 'route "" 0:1 0:7',
-        "TEXT also has 0:7.", "  No state transaction up to version 20 gives 0:7 to a server.",
+        "TEXT also has 0:7.", "  No state transaction up to version 20 gives 0:7 to a server or lists it.",
+    )
+    listed = [put_servers("", SERVER_1), put_tag(SERVER_1, "\\x00\\x00\\x01"), put(KEY_SERVERS + "m", LISTING)]
+    yield changed(
+        "a tag that another row lists", fold_rows([listed, "committed"]), fold_answer, 'route "" 0:1', 'route "" 0:1 3:258',
+        "TEXT also has 3:258.", '  The keyServers row "m" lists it, and is none of these rows.',
+    )
+    yield changed(
+        "a tag that another row listed", fold_rows([listed, "committed"], [[put_servers("m", SERVER_1)], "committed"]), fold_answer,
+        'route "" 0:1', 'route "" 0:1 3:258', "TEXT also has 3:258.",
+        "  Transaction 0 of row 1 (version 20) sets it to sources server0000000001, destinations none: applied, since every resolver committed it and "
+        + unlocked % 20,
     )
     rows = turns(*(sequence(row % 2) for row in range(5)), *offers(*range(5), resolvers=1), resolvers=1)
     yield changed(

@@ -176,5 +176,5 @@ def long_line():
     wrong = wrong.replace(b"metadata_version 0:1", b"metadata_version none")
     return "a long line", [script, wrong, "--text", text], 1, [
         "Line 4 differs:", '  Gakyhera: ...%s" none' % ("k" * 118), '  TEXT:     ...%s" 0:1' % ("k" * 118),
-        "  No state transaction up to version 0 gives 0:1 to a server.",
+        "  No state transaction up to version 0 gives 0:1 to a server or lists it.",
     ], ""

@@ -61,6 +61,12 @@ OF_FOLDS = (
         ),
     ),
     WrongRule(
+        "listed tags are left out", FOLD, "found.update(own_tags(kept[max(before)]))", "found.update([])", "listed_tags", (
+            '  Gakyhera: route "" 0:1 0:2 3:258', '  TEXT:     route "" none',
+            '  The keyServers row "" has source tags 0:1 and 0:2, destination tags 3:258.', "TEXT lacks 0:1, 0:2 and 3:258.",
+        ),
+    ),
+    WrongRule(
         "tags stand in the order of their ids", FOLD, "    return sorted(found)", "    return sorted(found, key=lambda it: it[::-1])",
         "moving_range", (
             '  TEXT:     route "" 1:0 0:9 0:258',

@@ -1,7 +1,9 @@
 """The state transactions of a script, and which of them decide a row of the metadata or the tags of a key."""
 from typing import NamedTuple
 
-from reference import KEY_SERVERS, LOCKED, METADATA_VERSION, SERVER_TAG, fold, is_locked, is_server_tag, quoted, servers_of
+from reference import (
+    KEY_SERVERS, LOCKED, METADATA_VERSION, SERVER_TAG, fold, is_locked, is_server_tag, lists_tags, quoted, servers_of, own_tags,
+)
 from threads_orders import last_change
 from turns_reference import tags_of_change
 
@@ -134,7 +136,10 @@ def tag_text(value):
 
 
 def team_words(value):
-    """The servers of a keyServers value."""
+    """The servers of a keyServers value, or the tags that it lists."""
+    if lists_tags(value):
+        tags, count = tags_of_list(value), value[2]
+        return "source tags %s, destination tags %s" % (joined(tags[:count]), joined(tags[count:]))
     sources = servers_of(value)[: value[0]]
     destinations = servers_of(value)[value[0] :]
     return "sources %s, destinations %s" % (joined(map(server_name, sources)), joined(map(server_name, destinations)))
@@ -144,7 +149,7 @@ def team_words(value):
 
 
 def rows_touched(kept, change):
-    """The keyServers rows whose servers give a change its tags."""
+    """The keyServers rows that give a change its tags."""
     kind, first, second = change
     rows = [row for row in kept if row.startswith(KEY_SERVERS)]
     before = [row for row in rows if row[len(KEY_SERVERS) :] <= first]
@@ -195,7 +200,7 @@ def server_story(journal, version, kept, server):
 
 def tags_compared(journal, version, change, theirs):
     """What TEXT's list of tags lacks, or has too, in words; and the version by whose metadata it is right, if there is one."""
-    ours, theirs = listed_tags(journal, version, change), words_in(theirs)
+    ours, theirs = tag_words(journal, version, change), words_in(theirs)
     lacking, added = [it for it in ours if it not in theirs], [it for it in theirs if it not in ours]
     if lacking:
         yield "TEXT lacks %s." % joined(lacking)
@@ -208,12 +213,12 @@ def tags_compared(journal, version, change, theirs):
         yield "TEXT has %s: each tag stands once, by its locality and then by its id, as numbers." % (
             "a tag twice" if twice else "the same tags in another order")
     for other in other_versions(journal, version):
-        if listed_tags(journal, other, change) == theirs != ours:
+        if tag_words(journal, other, change) == theirs != ours:
             yield "By the metadata after version %d, the tags would be those of TEXT." % other
             break
 
 
-def listed_tags(journal, version, change):
+def tag_words(journal, version, change):
     return ["%d:%d" % tag for tag in tags_of_change(journal.kept(version), change)]
 
 
@@ -226,14 +231,26 @@ def other_versions(journal, version):
 def holders(journal, version, tag):
     """Who has, had or was given a tag."""
     kept = journal.kept(version)
+    for row in sorted(it for it in kept if it.startswith(KEY_SERVERS)):
+        if tag in tags_of_list(kept[row]):
+            yield "%s lists it, and is none of these rows." % first_upper(row_name(row))
+            return
     given = [it for it in journal.ever_set(SERVER_TAG, version) if is_server_tag(it)]
     for row in given:
         if row in kept and tag_text(kept[row]) == tag:
             yield "Server %s has it, and none of these rows names this server." % server_name(row[len(SERVER_TAG) :])
             return
-    told = [line for row in given if was_given(journal, row, tag) for line in journal.story(row, version)]
-    yield from some(told, MOST) if told else ["No state transaction up to version %d gives %s to a server." % (version, tag)]
+    had = [*given, *journal.ever_set(KEY_SERVERS, version)]
+    told = [line for row in had if was_given(journal, row, tag) for line in journal.story(row, version)]
+    yield from some(told, MOST) if told else ["No state transaction up to version %d gives %s to a server or lists it." % (version, tag)]
 
 
 def was_given(journal, row, tag):
-    return any(kind == "set" and key == row and tag_text(value) == tag for it in journal.states for kind, key, value in it.changes)
+    """Whether the row was ever put with this tag: as that of its server, or among those that it lists."""
+    put = [value for it in journal.states for kind, key, value in it.changes if kind == "set" and key == row]
+    return any(tag in (tags_of_list(it) if row.startswith(KEY_SERVERS) else [tag_text(it)]) for it in put)
+
+
+def tags_of_list(value):
+    """The tags that a keyServers value lists, as text."""
+    return ["%d:%d" % tag for tag in own_tags(value)]

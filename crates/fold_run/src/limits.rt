@@ -1,4 +1,5 @@
-//! The limits of a fold script: versions that rise, and a verdict of each resolver.
+//! The limits of a fold script: 1 to 64 resolvers, strictly increasing versions above 0, and for each
+//! transaction one verdict of each resolver.
 
 ghost use Rattle.std.specs.Prelude.{◌≡◌};
 ghost use Rattle.std.specs.List.{list_all};
@@ -18,7 +19,7 @@ pub(crate) fn is_within_limits(script: &RawScript) -> bool
         && have_verdicts(script.resolvers, script.rows.as_slice())
 }
 
-/// Whether the versions of the rows rise strictly.
+/// Whether the versions of the rows are above 0 and strictly increase.
 fn are_rising(rows: &[RawRow]) -> bool
     ensures { result ≡ are_rising 0 rows.now }
 {

@@ -7,7 +7,7 @@ use Rattle.system_keys.specs.declared.tag.Tag.{Tag}
 use Rattle.system_keys.specs.Keys.{Key}
 use Rattle.system_keys.specs.Families.{key_servers_family, server_tag_family, is_in}
 use Rattle.system_keys.specs.Rows.{Id}
-use Rattle.model.specs.Metadata.{Entry, Entries, IsInOrder, entry_value, is_filled, is_key_servers, servers_of, tag_of, sorted_tags, AreKept}
+use Rattle.model.specs.Metadata.{Entry, Entries, IsInOrder, entry_value, is_filled, is_key_servers, servers_of, listed_tags, tag_of, sorted_tags, AreKept}
 use Rattle.system_keys.specs.Families.{is_kept}
 use Rattle.model.proofs.Members.{Contains-from_Has}
 use Rattle.model.proofs.Metadata.Entries.{filter_in_order}
@@ -70,7 +70,7 @@ untouched_servers puts entries (id ∷ ids) none = by (entry_value puts (server_
 
 untouched : (puts entries : Entries) (value : List ℕ) → names_put puts value ≡ false → tags_by (values_over puts entries) value ≡ tags_by (entry_value entries) value
 unfolding tags_by
-untouched puts entries value none = ap sorted_tags (untouched_servers puts entries (servers_of value) none)
+untouched puts entries value none = ap (λ (named : List Tag). sorted_tags (named ++ listed_tags value)) (untouched_servers puts entries (servers_of value) none)
 
 pub begins : (id : Id) → names_server (server_tag_family.prefix ++ id) ≡ true
 begins id = refl
@@ -357,7 +357,7 @@ removed_are_tags keys entries lists after none are left = λ key value own there
     by key value own there false out =
         left key out
         ∙ are key value own (sym (value_without keys entries key ∙ ap (λ (t : Bool). if t then None else entry_value entries key) out) ∙ there)
-        ∙ ap (λ (f : Id → List Tag). Some (sorted_tags (flat_map f (servers_of value)))) (λ i id. removed_same_tag keys entries id none i)
+        ∙ ap (λ (f : Id → List Tag). Some (sorted_tags (flat_map f (servers_of value) ++ listed_tags value))) (λ i id. removed_same_tag keys entries id none i)
 
 -- ---- entries that are blanked before they are removed
 

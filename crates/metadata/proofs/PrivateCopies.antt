@@ -8,7 +8,7 @@ use Rattle.system_keys.specs.declared.change.Change.TheVariants.{Set}
 use Rattle.system_keys.specs.declared.kind.RowKind.TheVariants as kinds
 use Rattle.system_keys.specs.declared.tag.Tag.{Tag}
 use Rattle.system_keys.specs.Keys.{Key}
-use Rattle.system_keys.specs.Families.{server_keys_family, id_end, kind_of}
+use Rattle.system_keys.specs.Families.{server_keys_family, slash, kind_of}
 use Rattle.system_keys.proofs.KindLaws.{kind_both_ways}
 use Rattle.model.specs.declared.outcome.PrivateCopy.{PrivateCopy}
 use Rattle.model.specs.Metadata.{Entries}
@@ -17,9 +17,9 @@ use Rattle.model.specs.PrivateCopies.{concerned_tags, copy_for, private_copy}
 -- a slash stands behind the id
 pub past_the_id : (key : Key) → kind_of key ≡ kinds.ServerKeys → 29 < length key
 past_the_id key is =
-    by (drop 29 key) (length-drop 29 key) (and_parts (starts_with nat_eq key server_keys_family.prefix) (starts_with nat_eq (drop 29 key) id_end) ((kind_both_ways key kinds.ServerKeys).1 is)).1
+    by (drop 29 key) (length-drop 29 key) (and_parts (starts_with nat_eq key server_keys_family.prefix) (starts_with nat_eq (drop 29 key) slash) ((kind_both_ways key kinds.ServerKeys).1 is)).1
   where
-    by : (behind : List ℕ) → length behind ≡ length key - 29 → starts_with nat_eq behind id_end ≡ true → 29 < length key
+    by : (behind : List ℕ) → length behind ≡ length key - 29 → starts_with nat_eq behind slash ≡ true → 29 < length key
     by [] size h = absurd (cc)
     by (byte ∷ behind) size h = omega (arith, size)
 

@@ -4,7 +4,8 @@ use Rattle.std.specs.BTreeSet.{insert_key}
 use Rattle.std.specs.Cmp.{IsTotalOrder, on_total, then_total, nat_cmp_total, unsigned_ties}
 use Rattle.std.specs.Ordering.{ordering_reverse, ordering_then, match_ordering}
 use Rattle.system_keys.specs.declared.tag.Tag.{Tag}
-use Rattle.model.specs.Metadata.{tag_cmp, sorted_tags}
+use Rattle.model.specs.Metadata.{sorted_tags}
+use Rattle.system_keys.specs.ListedTags.{tag_cmp}
 use Rattle.metadata.proofs.Tags.{added}
 
 tag_total : IsTotalOrder tag_cmp

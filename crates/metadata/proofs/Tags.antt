@@ -1,11 +1,12 @@
 -- Tags that are added one list after another.
-use Rattle.std.proofs.Common.{◌≡◌, refl, sym, ap, ◌∙◌, ℕ, List, [], ◌∷◌, ◌++◌, fold, flat_map, get_or, drop, add-one, ◌<◌, ◌+◌, length, append_assoc, Bool, ◌||◌}
+use Rattle.std.proofs.Common.{◌≡◌, refl, sym, ap, ◌∙◌, ℕ, List, [], ◌∷◌, ◌++◌, fold, flat_map, get_or, drop, add-one, ◌<◌, ◌+◌, length, append_assoc, append-nil, Bool, ◌||◌}
 use Rattle.std.specs.List.{list_any}
 use Rattle.std.specs.BTreeSet.{insert_key}
 use Rattle.std.proofs.lemmas.List.Sums.{fold-append}
 use Rattle.std.proofs.Math.Seq.{drop-cons}
 use Rattle.system_keys.specs.declared.tag.Tag.{Tag}
-use Rattle.model.specs.Metadata.{tag_cmp, sorted_tags}
+use Rattle.model.specs.Metadata.{sorted_tags}
+use Rattle.system_keys.specs.ListedTags.{tag_cmp}
 
 -- the tags after more of them
 abbrev pub added : List Tag → List Tag → List Tag
@@ -34,6 +35,14 @@ rising_from made now tags none is = is ∙ ap (λ (first : List Tag). added firs
 both_lists : {X : Type 0} (f : X → List Tag) (first more : List X) → flat_map f first ++ flat_map f more ≡ flat_map f (first ++ more)
 both_lists f [] more = refl
 both_lists f (x ∷ first) more = append_assoc (f x) (flat_map f first) (flat_map f more) ∙ ap (λ (rest : List Tag). f x ++ rest) (both_lists f first more)
+
+-- the tags of the sources and then those of the destinations: of a value that names servers, which lists none
+pub named_tags : {X : Type 0} (f : X → List Tag) (first more : List X) (tags : List Tag) → fold (insert_key tag_cmp) (fold (insert_key tag_cmp) tags (flat_map f first)) (flat_map f more) ≡ fold (insert_key tag_cmp) tags (flat_map f (first ++ more) ++ [])
+named_tags f first more tags = added_both tags (flat_map f first) (flat_map f more) ∙ ap (added tags) (both_lists f first more ∙ sym (append-nil (flat_map f (first ++ more))))
+
+-- and of a value that lists tags, which names no servers
+pub listed_both : (first more tags : List Tag) → fold (insert_key tag_cmp) (fold (insert_key tag_cmp) tags first) more ≡ fold (insert_key tag_cmp) tags (first ++ more)
+listed_both first more tags = added_both tags first more
 
 pub rising_both : {X : Type 0} (f : X → List Tag) (first more : List X) (made between now : List Tag) → made ≡ [] → between ≡ added made (flat_map f first) → now ≡ added between (flat_map f more)
     → now ≡ sorted_tags (flat_map f (first ++ more))

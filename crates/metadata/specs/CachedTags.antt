@@ -11,7 +11,7 @@ use Rattle.system_keys.specs.Keys.{Key}
 use Rattle.system_keys.specs.Families.{key_servers_family, server_tag_family, is_in, is_kept}
 use Rattle.system_keys.specs.Rows.{Id}
 use Rattle.model.specs.Metadata.{Entry, Entries, entry_value, is_filled, is_key_servers}
-use Rattle.model.specs.Metadata.{servers_of, tag_of, sorted_tags}
+use Rattle.model.specs.Metadata.{servers_of, listed_tags, tag_of, sorted_tags}
 use Rattle.metadata.specs.Overwrites.{is_same_key, is_listed, has_entry}
 
 -- the value at each key
@@ -34,9 +34,11 @@ tag_by values id = tag_of (values (server_tag_family.prefix ++ id))
 abbrev pub tags_at : List KeyTags → TagLists
 tags_at rows key = lookup (is_same_key key) rows
 
--- the tags of the servers that a keyServers value names, strictly increasing
+-- the tags of a keyServers value, strictly increasing: those of the servers that it names, or those
+-- that it lists
 unfoldable pub tags_by : Values → List ℕ → List Tag
-tags_by values value = sorted_tags (flat_map (tag_by values) (servers_of value))
+tags_by values value =
+    sorted_tags (flat_map (tag_by values) (servers_of value) ++ listed_tags value)
 
 -- each keyServers row has its tags kept
 abbrev pub AreTags : TagLists → Values → Type 0

@@ -4,7 +4,7 @@
 pub mod MapEntries
 -- which keys a row clears, and what each key has afterwards
 pub mod Overwrites
--- the routes of entries, by the servers that they name themselves
+-- the routes of entries, each with the tags of its own value
 pub mod OwnRoutes
 -- the tags that are kept beside the entries
 pub mod CachedTags

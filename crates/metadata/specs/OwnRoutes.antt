@@ -3,7 +3,7 @@ use Rattle.std.specs.Prelude.{List, map}
 use Rattle.model.specs.declared.routing.Route.{Route}
 use Rattle.model.specs.Metadata.{Entry, Entries, key_servers_entries, entry_tags, sorted_tags}
 
--- the route of a keyServers entry, with the tags of the servers that its own value names
+-- the route of a keyServers entry, with the tags of its own value
 abbrev pub own_route : Entries → Entry → Route
 own_route all row = record { key = row.0; tags = sorted_tags (entry_tags all row) }
 

@@ -385,8 +385,9 @@ impl Metadata {
         self.entries.is_locked()
     }
 
-    /// The tags of a change: those of the servers in the keyServers entries that it touches,
-    /// increasing by locality and then by id, without repeats. A Set touches the greatest entry at
+    /// The tags of a change: those of the keyServers entries that it touches, increasing by locality
+    /// and then by id, without repeats. An entry that names servers has the tags of these, and one
+    /// that lists tags has them, whatever tags servers have. A Set touches the greatest entry at
     /// or before its key; a Clear touches the greatest entry at or before its begin, and each entry
     /// after its begin and before its end (release 7.1).
     ///

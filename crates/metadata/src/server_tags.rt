@@ -1,4 +1,4 @@
-//! The tags of the servers that a keyServers value names.
+//! The tags of a keyServers value: those of the servers that it names, or those that it lists.
 
 ghost use Rattle.std.specs.Prelude.{◌≡◌, ◌++◌, IsOk, IfOk, OnOk, fold};
 ghost use Rattle.std.specs.List.{flat_map, list_any};
@@ -6,8 +6,9 @@ ghost use Rattle.std.specs.Option.{option_to_list};
 ghost use Rattle.std.specs.BTreeSet.{insert_key};
 ghost use Rattle.system_keys.specs.declared.refusal.RowFault.{RowFault};
 ghost use Rattle.system_keys.specs.Families.{server_tag_family};
-ghost use Rattle.system_keys.specs.Rows.{servers_at};
-ghost use Rattle.model.specs.Metadata.{servers_of, tag_cmp};
+ghost use Rattle.system_keys.specs.Locations.{location_at};
+ghost use Rattle.model.specs.Metadata.{servers_of, listed_tags};
+ghost use Rattle.system_keys.specs.ListedTags.{tag_cmp};
 ghost use Rattle.metadata.specs.CachedTags.{names_put, tag_by, tags_by};
 ghost use Rattle.metadata.specs.Overwrites.{has_entry};
 ghost use Rattle.metadata.specs.ServerTables.{values_after};
@@ -16,10 +17,10 @@ use crate::raw_ids::may_name_put;
 use crate::server_view::ServerView;
 use std::alloc::Global;
 use std::collections::BTreeSet;
-use system_keys::{Items, OutOfMemory, RowFault, ServerId, Tag, decode_key_servers};
+use system_keys::{Items, Location, OutOfMemory, RowFault, ServerId, Tag, decode_location};
 
-/// The tags of the servers that a keyServers value names after the entries are put over the others,
-/// strictly increasing. Fails only with `OutOfMemory`.
+/// The tags of a keyServers value after the entries are put over the others, strictly increasing:
+/// those of the servers that it names, or those that it lists. Fails only with `OutOfMemory`.
 #[tactic(auto, unfolding(crate::specs::CachedTags::tags_by))]
 pub(crate) fn value_tags(over: &ServerView<'_>, value: &[u8]) -> Result<Items<Tag>, OutOfMemory>
     ensures { IfOk result (λ found. found ≡ tags_by (values_after over.now) value.now) }
@@ -30,22 +31,29 @@ pub(crate) fn value_tags(over: &ServerView<'_>, value: &[u8]) -> Result<Items<Ta
 }
 
 /// Adds the tags of the servers that a keyServers value names, its sources and its destinations
-/// (release 7.1). A value that does not decode names none (this project's profile).
+/// (release 7.1), or those that it lists. A value that does not decode has none (this project's
+/// profile).
 ///
 /// A value that does not decode does not allocate. Fails only with `OutOfMemory`.
+#[tactic(auto, using(crate::proofs::Tags::named_tags, crate::proofs::Tags::listed_both))]
 fn add_value_tags(
     over: &ServerView<'_>,
     value: &[u8],
     tags: &mut BTreeSet<Tag>,
 ) -> Result<(), OutOfMemory>
     ensures ok { OnOk result (tags.new.keys ≡ fold (insert_key tag_cmp) tags.old.keys
-        (flat_map (tag_by (values_after over.now)) (servers_of value.now))) }
-    ensures no_allocation { (fault : RowFault) → servers_at value.now ≡ Err fault → IsOk result }
+        (flat_map (tag_by (values_after over.now)) (servers_of value.now)
+        ++ listed_tags value.now)) }
+    ensures no_allocation { (fault : RowFault) → location_at value.now ≡ Err fault → IsOk result }
 {
-    match decode_key_servers(over.alloc(), value) {
-        Ok(teams) => {
+    match decode_location(over.alloc(), value) {
+        Ok(Location::Servers(teams)) => {
             add_server_tags(over, teams.sources(), tags)?;
             add_server_tags(over, teams.destinations(), tags)
+        }
+        Ok(Location::Tags(teams)) => {
+            add_tags(teams.sources(), tags)?;
+            add_tags(teams.destinations(), tags)
         }
         Err(RowFault::OutOfMemory) => Err(OutOfMemory),
         Err(_) => Ok(()),
@@ -78,17 +86,31 @@ fn add_tag(tags: &mut BTreeSet<Tag>, tag: Option<Tag>) -> Result<(), OutOfMemory
     Ok(())
 }
 
-/// Whether a keyServers value names a server of which an entry is put; a value that does not decode
-/// names none. Allocates only for a value that decodes, and among whose ids one of such a server
-/// stands. Fails only with `OutOfMemory`.
+/// Adds the tags. Fails only with `OutOfMemory`.
+pub(crate) fn add_tags(list: &[Tag], tags: &mut BTreeSet<Tag>) -> Result<(), OutOfMemory>
+    ensures { OnOk result (tags.new.keys
+        ≡ fold (insert_key tag_cmp) tags.old.keys list.now) }
+{
+    for tag in list {
+        tags.insert(*tag)?;
+    }
+    Ok(())
+}
+
+/// Whether a keyServers value names a server of which an entry is put; a value that lists tags and one
+/// that does not decode name none. Allocates only for a value that decodes, and among whose ids one of
+/// such a server stands. Fails only with `OutOfMemory`.
 pub(crate) fn names_put(over: &ServerView<'_>, value: &[u8]) -> Result<bool, OutOfMemory>
     ensures { IfOk result (λ named. named ≡ names_put over.now.puts value.now) }
 {
     if !may_name_put(over, value) {
         return Ok(false);
     }
-    match decode_key_servers(over.alloc(), value) {
-        Ok(teams) => Ok(any_put(over, teams.sources()) || any_put(over, teams.destinations())),
+    match decode_location(over.alloc(), value) {
+        Ok(Location::Servers(teams)) => {
+            Ok(any_put(over, teams.sources()) || any_put(over, teams.destinations()))
+        }
+        Ok(Location::Tags(_)) => Ok(false),
         Err(RowFault::OutOfMemory) => Err(OutOfMemory),
         Err(_) => Ok(false),
     }

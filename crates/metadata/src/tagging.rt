@@ -7,13 +7,14 @@ ghost use Rattle.std.specs.Option.{option_to_list};
 ghost use Rattle.std.specs.BTreeSet.{insert_key};
 ghost use Rattle.system_keys.specs.declared.change.Change.TheVariants.{Clear};
 ghost use Rattle.model.specs.Metadata.{key_servers_entries, is_entry_inside, entry_tags};
-ghost use Rattle.model.specs.Metadata.{serving_entry, tag_cmp, tags, tags_of_key};
+ghost use Rattle.model.specs.Metadata.{serving_entry, tags, tags_of_key};
+ghost use Rattle.system_keys.specs.ListedTags.{tag_cmp};
 ghost use Rattle.metadata.specs.CachedTags.{tags_at};
 ghost use Rattle.metadata.specs.Overwrites.{is_listed};
 
 use crate::entry_view::EntryView;
 use crate::key_set::KeySet;
-use crate::server_tags::listed;
+use crate::server_tags::{add_tags, listed};
 use crate::tag_map::{TagMap, copied_tags};
 use std::collections::BTreeSet;
 use system_keys::{Change, Items, KeyRange, OutOfMemory, Tag};
@@ -106,15 +107,4 @@ fn add_unless_hidden(
         Some(list) => add_tags(list, tags),
         None => Ok(()),
     }
-}
-
-/// Adds the tags. Fails only with `OutOfMemory`.
-fn add_tags(list: &[Tag], tags: &mut BTreeSet<Tag>) -> Result<(), OutOfMemory>
-    ensures { OnOk result (tags.new.keys
-        ≡ fold (insert_key tag_cmp) tags.old.keys list.now) }
-{
-    for tag in list {
-        tags.insert(*tag)?;
-    }
-    Ok(())
 }

@@ -5,7 +5,8 @@ use Rattle.model.specs.Edges.{TheOutcomesUnderTheLock, TheOwnersAfterAMove}
 use Rattle.model.specs.Edges.{TheOldestVersionOfARecord, ARepeatGetsTheSameReply}
 use Rattle.model.specs.Edges.{AnUnknownRowIsRefusedFirst}
 use Rattle.model.specs.Edges.{AnEmptyValueIsNoLock, TagsRiseByLocalityFirst, TheEndsOfAClear}
-use Rattle.model.specs.Edges.{RowsThatDoNotDecode, TheBytesOfAStamp, AStampAmongText}
+use Rattle.model.specs.Edges.{RowsThatDoNotDecode, ValuesThatListTags, TheFirstFaultOfTwoLists}
+use Rattle.model.specs.Edges.{TheBytesOfAStamp, AStampAmongText}
 use Rattle.model.specs.Edges.{EachStampHasItsNumber, TheSharesOfARecord, TheRequestsForARecord}
 use Rattle.model.specs.Edges.{TheJournalRowOfARecord, CellsWithoutVerdicts, AHistoryWithoutVerdicts}
 use Rattle.model.specs.Edges.{TooFewVerdicts, TheFirstMissingReply, TheLimitsOfACluster, of_numbers}
@@ -57,6 +58,14 @@ the_ends_of_a_clear = (refl, refl, refl, refl, refl, refl)
 pub rows_that_do_not_decode : RowsThatDoNotDecode
 unfolding the_definitions
 rows_that_do_not_decode = refl
+
+pub values_that_list_tags : ValuesThatListTags
+unfolding the_definitions
+values_that_list_tags = (refl, refl, refl, refl, refl, refl, refl)
+
+pub the_first_fault_of_two_lists : TheFirstFaultOfTwoLists
+unfolding the_definitions
+the_first_fault_of_two_lists = (refl, refl, refl)
 
 pub the_bytes_of_a_stamp : TheBytesOfAStamp
 unfolding the_definitions

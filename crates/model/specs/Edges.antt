@@ -1,11 +1,14 @@
 -- Edge cases: small values for which one definition has exactly this value. They compute, or follow
 -- by comparing numbers.
 use Rattle.std.specs.Prelude.{◌≡◌, ℕ, List, [], ◌∷◌, ◌++◌, map, replicate, codes, true, false}
-use Rattle.std.specs.Prelude.{nat_eq, if◌then◌else◌, Some, None, ◌+◌, Option, Err}
+use Rattle.std.specs.Prelude.{nat_eq, if◌then◌else◌, Some, None, ◌+◌, Option, Ok, Err}
 use Rattle.system_keys.specs.declared.change.Change.{Change}
 use Rattle.system_keys.specs.declared.change.Change.TheVariants as changes
+use Rattle.system_keys.specs.declared.location.Location.TheVariants as locations
+use Rattle.system_keys.specs.declared.refusal.RowFault.TheVariants as faults
 use Rattle.system_keys.specs.declared.tag.Tag.{Tag}
 use Rattle.system_keys.specs.Keys.{Key, Range, only}
+use Rattle.system_keys.specs.Locations.{location_at}
 use Rattle.model.specs.Configs.{Config, IsConfig}
 use Rattle.model.specs.declared.part.Part.{Part}
 use Rattle.model.specs.declared.verdict.Verdict.{Verdict}
@@ -36,7 +39,7 @@ use Rattle.model.specs.Agreed.{Columns}
 use Rattle.model.specs.Examples.{cluster, told, a, b, m, n, range, m_to_t, mutating, judged}
 use Rattle.model.specs.Examples.{completed, tag, s1, s2, s3, one_source, source_and_destination}
 use Rattle.model.specs.Examples.{tag_row, servers_row, version_row, part, committed_by}
-use Rattle.model.specs.Examples.{journal_row_of}
+use Rattle.model.specs.Examples.{journal_row_of, listing, listed}
 
 -- ---- the lock row
 
@@ -111,6 +114,31 @@ spoiled_rows =
 abbrev pub RowsThatDoNotDecode : Type 0
 RowsThatDoNotDecode =
     map (tags_of_key (metadata spoiled_rows)) (a ∷ n ∷ []) ≡ (tag 2 ∷ []) ∷ [] ∷ []
+
+-- which values list tags, and the faults of such values; two zero bytes alone name no servers
+abbrev pub ValuesThatListTags : Type 0
+ValuesThatListTags =
+    (location_at listing ≡ Ok (locations.Tags listed))
+    × (location_at (0 ∷ 0 ∷ 0 ∷ 0 ∷ [])
+    ≡ Ok (locations.Tags (record { sources = []; destinations = [] })))
+    × (location_at (0 ∷ 0 ∷ [])
+    ≡ Ok (locations.Servers (record { sources = []; destinations = [] })))
+    × (location_at (0 ∷ 0 ∷ 1 ∷ []) ≡ Err faults.Truncated)
+    × (location_at (0 ∷ 0 ∷ 2 ∷ 0 ∷ 0 ∷ 2 ∷ 0 ∷ 0 ∷ 1 ∷ 0 ∷ []) ≡ Err faults.NotRising)
+    × (location_at (0 ∷ 0 ∷ 3 ∷ 0 ∷ 0 ∷ 2 ∷ 0 ∷ 0 ∷ 2 ∷ []) ≡ Err faults.NotRising)
+    × (location_at (0 ∷ 0 ∷ 0 ∷ 0 ∷ 0 ∷ []) ≡ Err faults.Trailing)
+
+-- a list of tags that do not rise
+abbrev pub falling_list : List ℕ
+falling_list = 2 ∷ 0 ∷ 0 ∷ 2 ∷ 0 ∷ 0 ∷ 1 ∷ []
+
+-- The first fault from the front: source tags that do not rise come before missing or further bytes,
+-- and destination tags that do not rise before further bytes.
+abbrev pub TheFirstFaultOfTwoLists : Type 0
+TheFirstFaultOfTwoLists =
+    (location_at (0 ∷ 0 ∷ falling_list) ≡ Err faults.NotRising)
+    × (location_at (0 ∷ 0 ∷ falling_list ++ 0 ∷ 7 ∷ []) ≡ Err faults.NotRising)
+    × (location_at (0 ∷ 0 ∷ 0 ∷ falling_list ++ 7 ∷ []) ≡ Err faults.NotRising)
 
 -- ---- stamps
 

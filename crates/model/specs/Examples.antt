@@ -8,6 +8,7 @@ use Rattle.system_keys.specs.declared.tag.Tag.{Tag}
 use Rattle.system_keys.specs.Keys.{Key, Range}
 use Rattle.system_keys.specs.Families.{metadata_version_family, key_servers_family}
 use Rattle.system_keys.specs.Families.{server_tag_family}
+use Rattle.system_keys.specs.ListedTags.{ListedTags}
 use Rattle.model.specs.Configs.{Config}
 use Rattle.model.specs.declared.part.Part.{Part}
 use Rattle.model.specs.declared.verdict.Verdict.{Verdict}
@@ -95,6 +96,17 @@ one_source s = 1 ∷ s ++ 0 ∷ []
 
 abbrev pub source_and_destination : Key → Key → List ℕ
 source_and_destination s d = 1 ∷ s ++ 1 ∷ d
+
+-- the value of a keyServers row that lists the source tags `0:1` and `0:2` and the destination tag
+-- `3:258`, and these tags
+abbrev pub listing : List ℕ
+listing = 0 ∷ 0 ∷ 2 ∷ 0 ∷ 0 ∷ 1 ∷ 0 ∷ 0 ∷ 2 ∷ 1 ∷ 3 ∷ 1 ∷ 2 ∷ []
+
+abbrev pub far_tag : Tag
+far_tag = record { locality = 3; id = 258 }
+
+abbrev pub listed : ListedTags
+listed = record { sources = tag 1 ∷ tag 2 ∷ []; destinations = far_tag ∷ [] }
 
 -- the keys of metadata rows: a server's tag, the servers from a key on, and the metadata version
 abbrev pub tag_row : Key → Key

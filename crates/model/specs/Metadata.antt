@@ -10,17 +10,20 @@ use Rattle.std.specs.List.Sorted.{IsStrictlySortedBy}
 use Rattle.std.specs.Map.{lookup, keys_of}
 use Rattle.std.specs.BTreeMap.{insert_entry, is_at}
 use Rattle.std.specs.BTreeSet.{insert_key}
-use Rattle.std.specs.Ordering.{nat_cmp, ordering_then}
-use Rattle.std.specs.declared.cmp.Ordering.{Ordering}
+use Rattle.std.specs.Ordering.{nat_cmp}
 use Rattle.std.specs.Cmp.Lexicographic.{slice_cmp}
 use Rattle.system_keys.specs.declared.change.Change.{Change}
 use Rattle.system_keys.specs.declared.change.Change.TheVariants.{Set, Clear}
+use Rattle.system_keys.specs.declared.location.Location.{Location}
+use Rattle.system_keys.specs.declared.location.Location.TheVariants.{Servers, Tags}
 use Rattle.system_keys.specs.declared.refusal.RowFault.{RowFault}
 use Rattle.system_keys.specs.declared.tag.Tag.{Tag}
 use Rattle.system_keys.specs.Keys.{Key, Range, is_key_below, is_key_up_to, holds}
 use Rattle.system_keys.specs.Families.{key_servers_family, server_tag_family}
 use Rattle.system_keys.specs.Families.{metadata_version_family, is_in, is_kept}
-use Rattle.system_keys.specs.Rows.{Id, Servers, servers_at, tag_at}
+use Rattle.system_keys.specs.Rows.{Id, tag_at}
+use Rattle.system_keys.specs.ListedTags.{tag_cmp}
+use Rattle.system_keys.specs.Locations.{location_at}
 use Rattle.model.specs.Numbers.{Version}
 use Rattle.model.specs.declared.journal.StateTxn.{StateTxn}
 use Rattle.model.specs.declared.journal.JournalRow.{JournalRow}
@@ -99,7 +102,8 @@ metadata journal = fold after_journal_row [] journal
 
 -- ---- the tags
 
--- the entry is a keyServers row, which names the storage servers of a range of keys
+-- the entry is a keyServers row, which names the storage servers of a range of keys, or lists their
+-- tags
 abbrev pub is_key_servers : Entry → Bool
 is_key_servers entry = is_in key_servers_family entry.0
 
@@ -133,15 +137,29 @@ touched_entries entries (Set key value) = option_to_list (serving_entry entries 
 touched_entries entries (Clear range) =
     option_to_list (serving_entry entries range.begin) ++ filter (is_entry_inside range) entries
 
--- the sources and then the destinations of a decoded value, and none if it does not decode
-abbrev pub all_servers : Result Servers RowFault → List Id
-all_servers (Ok servers) = servers.sources ++ servers.destinations
+-- The sources and then the destinations of a value that names servers. One that lists tags names
+-- none, nor does one that does not decode.
+abbrev pub all_servers : Result Location RowFault → List Id
+all_servers (Ok (Servers servers)) = servers.sources ++ servers.destinations
+all_servers (Ok (Tags tags)) = []
 all_servers (Err fault) = []
 
 -- The sources and the destinations of a keyServers value.
 -- *Profile*: a value that does not decode names none.
 abbrev pub servers_of : List ℕ → List Id
-servers_of value = all_servers (servers_at value)
+servers_of value = all_servers (location_at value)
+
+-- The sources and then the destinations of a value that lists tags. One that names servers lists
+-- none, nor does one that does not decode.
+abbrev pub all_listed : Result Location RowFault → List Tag
+all_listed (Ok (Servers servers)) = []
+all_listed (Ok (Tags tags)) = tags.sources ++ tags.destinations
+all_listed (Err fault) = []
+
+-- The tags that a keyServers value lists itself.
+-- *Profile*: that a value may list tags; one that does not decode lists none.
+abbrev pub listed_tags : List ℕ → List Tag
+listed_tags value = all_listed (location_at value)
 
 -- the tag of a decoded value, and none if it does not decode
 abbrev pub one_tag : Result Tag RowFault → List Tag
@@ -158,19 +176,17 @@ tag_of (Some value) = one_tag (tag_at value)
 unfoldable pub server_tags : Entries → Id → List Tag
 server_tags entries id = tag_of (entry_value entries (server_tag_family.prefix ++ id))
 
--- the tags of the servers that a keyServers row names, in the order of its value
+-- the tags of a keyServers row, in the order of its value: those of the servers that it names, or
+-- those that it lists, whatever tags servers have
 unfoldable pub entry_tags : Entries → Entry → List Tag
-entry_tags entries entry = flat_map (server_tags entries) (servers_of entry.1)
-
--- the order of tags: by their locality, and then by their id
-abbrev pub tag_cmp : (a b : Tag) → Ordering
-tag_cmp a b = ordering_then (nat_cmp a.locality b.locality) (nat_cmp a.id b.id)
+entry_tags entries entry =
+    flat_map (server_tags entries) (servers_of entry.1) ++ listed_tags entry.1
 
 -- The tags of a list, strictly increasing. *Profile*: the order.
 abbrev pub sorted_tags : List Tag → List Tag
 sorted_tags tags = fold (insert_key tag_cmp) [] tags
 
--- The tags of a change: those of the servers that the touched keyServers rows name.
+-- The tags of a change: those of the keyServers rows that it touches.
 -- *Profile*: the order; and a key without a row and a server without a tag add none.
 unfoldable pub tags : Entries → Change → List Tag
 tags entries change =

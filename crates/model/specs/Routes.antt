@@ -2,13 +2,13 @@
 -- `CommitProxyServer.actor.cpp`, assignMutationsToStorageServers. Both are stated as predicates
 -- here; `route_law` and `tags_law` say that `serving_entry` and `tags` of Metadata.antt agree with
 -- them.
-use Rattle.std.specs.Prelude.{Contains, IsTrue}
+use Rattle.std.specs.Prelude.{◌⊎◌, Contains, IsTrue}
 use Rattle.system_keys.specs.declared.change.Change.{Change}
 use Rattle.system_keys.specs.declared.tag.Tag.{Tag}
 use Rattle.system_keys.specs.Keys.{Key, Range, is_key_up_to, holds}
 use Rattle.system_keys.specs.Rows.{Id}
 use Rattle.model.specs.Metadata.{Entry, Entries, touched_entries, key_servers_entries}
-use Rattle.model.specs.Metadata.{servers_of, server_tags}
+use Rattle.model.specs.Metadata.{servers_of, server_tags, listed_tags}
 
 -- of these entries, this one serves the key: it is at or before the key, and no other such entry
 -- has a greater key
@@ -25,10 +25,15 @@ pub record ServesSome (entries : Entries) (range : Range) (entry : Entry) : Type
   pub inside : IsTrue (holds range key)
   pub serves : Serves entries key entry
 
--- the change has the tag: it touches a keyServers row that names a server with this tag
+-- the row names a server that has the tag
+pub record NamesServerOf (entries : Entries) (row : Entry) (tag : Tag) : Type 0 where
+  pub server : Id
+  pub named : Contains (servers_of row.1) server
+  pub tagged : Contains (server_tags entries server) tag
+
+-- the change has the tag: it touches a keyServers row that names a server with this tag, or that
+-- lists the tag itself
 pub record HasTag (entries : Entries) (change : Change) (tag : Tag) : Type 0 where
   pub entry : Entry
   pub touched : Contains (touched_entries (key_servers_entries entries) change) entry
-  pub server : Id
-  pub named : Contains (servers_of entry.1) server
-  pub tagged : Contains (server_tags entries server) tag
+  pub given : NamesServerOf entries entry tag ⊎ Contains (listed_tags entry.1) tag

@@ -5,7 +5,8 @@ ghost use Rattle.model.specs.Edges.{TheOutcomesUnderTheLock, TheOwnersAfterAMove
 ghost use Rattle.model.specs.Edges.{TheOldestVersionOfARecord, ARepeatGetsTheSameReply};
 ghost use Rattle.model.specs.Edges.{AnUnknownRowIsRefusedFirst};
 ghost use Rattle.model.specs.Edges.{AnEmptyValueIsNoLock, TagsRiseByLocalityFirst, TheEndsOfAClear};
-ghost use Rattle.model.specs.Edges.{RowsThatDoNotDecode, TheBytesOfAStamp, AStampAmongText};
+ghost use Rattle.model.specs.Edges.{RowsThatDoNotDecode, ValuesThatListTags};
+ghost use Rattle.model.specs.Edges.{TheFirstFaultOfTwoLists, TheBytesOfAStamp, AStampAmongText};
 ghost use Rattle.model.specs.Edges.{EachStampHasItsNumber, TheSharesOfARecord};
 ghost use Rattle.model.specs.Edges.{TheRequestsForARecord, TheJournalRowOfARecord};
 ghost use Rattle.model.specs.Edges.{CellsWithoutVerdicts, AHistoryWithoutVerdicts, TooFewVerdicts};
@@ -19,11 +20,13 @@ pub fn lock_edges()
     ensures outcomes { TheOutcomesUnderTheLock }
 {}
 
-/// The order of tags, the ends of a Clear, and rows that do not decode.
+/// The order of tags, the ends of a Clear, rows that do not decode, and values that list tags.
 pub fn tag_edges()
     ensures localities { TagsRiseByLocalityFirst }
     ensures ends { TheEndsOfAClear }
     ensures spoiled { RowsThatDoNotDecode }
+    ensures listed { ValuesThatListTags }
+    ensures first_fault { TheFirstFaultOfTwoLists }
 {}
 
 /// The bytes, the place and the number of a stamp.

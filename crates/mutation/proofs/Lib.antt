@@ -1,1 +1,2 @@
 pub mod LimitLaws
+pub mod StampedChanges

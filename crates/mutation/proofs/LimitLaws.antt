@@ -1,9 +1,10 @@
 -- No fault means that every limit holds, and a stamp keeps the limits.
-use Rattle.std.proofs.Common.{◌≡◌, ◌∙◌, ℕ, ◌+◌, ◌-◌, ◌≤◌, refl, sym, ap, List, [], ◌∷◌, ◌++◌, length, Bool, true, false, not, ◌||◌, Option, Some, None, arith, length-append, length-take, length-drop}
+use Rattle.std.proofs.Common.{◌≡◌, ◌∙◌, ℕ, ◌+◌, ◌-◌, ◌≤◌, refl, sym, ap, subst, List, [], ◌∷◌, ◌++◌, length, map, drop, Bool, true, false, not, ◌||◌, Option, Some, None, arith, length-append, length-take, length-drop}
 use Rattle.std.specs.Prelude.{nat_lt, nat_le, if◌then◌else◌, option_map, All, slice_get, filter_map}
 use Rattle.std.specs.List.{cons_option}
 use Rattle.std.specs.Option.{option_or}
 use Rattle.std.proofs.lemmas.Bool.{or_parts, or_from, and_parts, and_from, not-false, not_from_true, ltb-false, le-ltb, leb-true, le-leb}
+use Rattle.std.proofs.lemmas.List.{drop-drop}
 use Rattle.std.proofs.lemmas.List.Elements.{All-nil, All-cons, All-head, All-tail, All-weaker, All-map}
 use Rattle.system_keys.specs.declared.change.Change.{Change}
 use Rattle.system_keys.specs.declared.change.Change.TheVariants as changes
@@ -12,7 +13,7 @@ use Rattle.system_keys.specs.declared.kind.RowKind.TheVariants as kinds
 use Rattle.system_keys.specs.declared.refusal.Refusal.TheVariants.{KeyTooLong, ValueTooLong, KeyOutside, EmptyRange, BadRow}
 use Rattle.system_keys.specs.Keys.{Key, Range, is_key_below, is_key_up_to}
 use Rattle.system_keys.specs.Families.{kind_of}
-use Rattle.system_keys.specs.Rows.{is_row_value}
+use Rattle.system_keys.specs.Locations.{is_row_value}
 use Rattle.system_keys.specs.Limits.{key_limit, end_limit, value_limit, key_space_end}
 use Rattle.model.specs.Stamps.{Mutation, Set, Clear, SetStamped, Given, text_of, offset_of, stamp, stamped_at, stamped_value, stamped_mutation, stamped}
 use Rattle.model.specs.Transactions.{Transaction}
@@ -41,6 +42,16 @@ faultless_all : {X : Type 0} (fault_of : X → Option Refusal) (xs : List X) →
 faultless_all fault_of [] h = refl
 faultless_all fault_of (x ∷ xs) h =
     none_or (fault_of x) (first_fault fault_of xs) (All-head (λ x. fault_of x ≡ None) x xs h) (faultless_all fault_of xs (All-tail (λ x. fault_of x ≡ None) x xs h))
+
+-- without the first of the elements that are left, there is no fault either
+faultless_tail : {X Y : Type 0} (f : X → Y) (fault_of : Y → Option Refusal) (xs : List X) → first_fault fault_of (map f xs) ≡ None → first_fault fault_of (map f (drop 1 xs)) ≡ None
+faultless_tail f fault_of [] h = refl
+faultless_tail f fault_of (x ∷ xs) h = (or_none (fault_of (f x)) (first_fault fault_of (map f xs)) h).1
+
+pub faultless_next : {X Y : Type 0} (f : X → Y) (fault_of : Y → Option Refusal) (xs : List X) (i : ℕ) → first_fault fault_of (map f (drop i xs)) ≡ None → first_fault fault_of (map f (drop (i + 1) xs)) ≡ None
+faultless_next f fault_of xs i h =
+    let same : drop 1 (drop i xs) ≡ drop (i + 1) xs = drop-drop 1 i xs ∙ ap (λ (n : ℕ). drop n xs) (omega arith) in
+    subst (λ (ys : List _). first_fault fault_of (map f ys) ≡ None) same (faultless_tail f fault_of (drop i xs) h)
 
 -- ---- ranges
 

@@ -5,7 +5,7 @@ use Rattle.system_keys.specs.declared.change.Change.{Change}
 use Rattle.system_keys.specs.declared.change.Change.TheVariants as changes
 use Rattle.system_keys.specs.Keys.{Key, Range, is_key_below, is_key_up_to}
 use Rattle.system_keys.specs.Families.{kind_of}
-use Rattle.system_keys.specs.Rows.{is_row_value}
+use Rattle.system_keys.specs.Locations.{is_row_value}
 use Rattle.system_keys.specs.Limits.{key_limit, end_limit, value_limit, key_space_end}
 use Rattle.model.specs.Stamps.{Mutation, Set, Clear, SetStamped, Given, offset_of}
 use Rattle.model.specs.Transactions.{Transaction}

@@ -3,7 +3,7 @@ use Rattle.std.proofs.Common.{refl}
 use Rattle.model.proofs.Definitions.{the_definitions}
 use Rattle.scenarios.specs.FoldScenarios.{AnEmptyJournal, TheBoundaryBelongsToTheRightRow}
 use Rattle.scenarios.specs.FoldScenarios.{OneResolverRefuses, TheLockIsReadOnceARow}
-use Rattle.scenarios.specs.FoldScenarios.{TagsComeAndGoWithTheirRows}
+use Rattle.scenarios.specs.FoldScenarios.{TagsComeAndGoWithTheirRows, ARowListsItsTags}
 use Rattle.scenarios.specs.StampScenarios.{TheMetadataVersionIsStamped, AStampInAText}
 use Rattle.scenarios.specs.StampScenarios.{WhatAStateMutationIs}
 use Rattle.scenarios.specs.OwnerScenarios.{ReadsAfterAMoveAskBothOwners, TheOldOwnerSaysConflict}
@@ -43,6 +43,10 @@ the_lock_is_read_once_a_row = (refl, refl)
 pub tags_come_and_go_with_their_rows : TagsComeAndGoWithTheirRows
 unfolding the_definitions
 tags_come_and_go_with_their_rows = (refl, refl, refl, refl)
+
+pub a_row_lists_its_tags : ARowListsItsTags
+unfolding the_definitions
+a_row_lists_its_tags = (refl, refl, refl, refl)
 
 pub the_metadata_version_is_stamped : TheMetadataVersionIsStamped
 unfolding the_definitions

@@ -4,9 +4,10 @@ use Rattle.system_keys.specs.declared.change.Change.TheVariants as changes
 use Rattle.model.specs.declared.verdict.Verdict.TheVariants.{Conflict, Committed}
 use Rattle.model.specs.declared.journal.JournalRow.{JournalRow}
 use Rattle.model.specs.Transactions.{locked_key}
-use Rattle.model.specs.Metadata.{metadata, tags_of_key, routing}
-use Rattle.model.specs.Examples.{a, m, range, tag, s1, s2, one_source, source_and_destination}
-use Rattle.model.specs.Examples.{tag_row, servers_row, version_row, committed_by, journal_row_of}
+use Rattle.model.specs.Metadata.{metadata, tags, tags_of_key, routing}
+use Rattle.model.specs.Examples.{a, m, range, tag, far_tag, s1, s2, one_source, listing}
+use Rattle.model.specs.Examples.{source_and_destination, tag_row, servers_row, version_row}
+use Rattle.model.specs.Examples.{committed_by, journal_row_of}
 use Rattle.scenarios.specs.Vocabulary.{tag_bytes, route}
 
 -- no rows: nothing is locked, routed or tagged
@@ -113,3 +114,34 @@ TagsComeAndGoWithTheirRows =
       routes = route [] [] ∷ route m [] ∷ [];
     })
     × (map (tags_of_key (metadata tags_are_cleared)) (a ∷ m ∷ []) ≡ [] ∷ [] ∷ [])
+
+abbrev pub tags_are_listed : List JournalRow
+tags_are_listed =
+    journal_row_of 10
+    (committed_by 1 false
+    (changes.Set (servers_row []) listing ∷ changes.Set (servers_row m) (one_source s1) ∷ [])
+    ∷ []) ∷ []
+
+abbrev pub tags_are_given : List JournalRow
+tags_are_given =
+    tags_are_listed
+    ++ journal_row_of 20 (committed_by 1 false (changes.Set (tag_row s1) (tag_bytes 7) ∷ []) ∷ [])
+    ∷ []
+
+-- a row that lists tags has them, whatever serverTag rows there are; a Clear has those of rows of
+-- both forms
+abbrev pub ARowListsItsTags : Type 0
+ARowListsItsTags =
+    (routing 10 (metadata tags_are_listed)
+    ≡ record {
+      version = 10;
+      locked = false;
+      metadata_version = None;
+      routes = route [] (tag 1 ∷ tag 2 ∷ far_tag ∷ []) ∷ route m [] ∷ [];
+    })
+    × (map (tags_of_key (metadata tags_are_listed)) (a ∷ m ∷ [])
+    ≡ (tag 1 ∷ tag 2 ∷ far_tag ∷ []) ∷ [] ∷ [])
+    × (map (tags_of_key (metadata tags_are_given)) (a ∷ m ∷ [])
+    ≡ (tag 1 ∷ tag 2 ∷ far_tag ∷ []) ∷ (tag 7 ∷ []) ∷ [])
+    × (tags (metadata tags_are_given) (changes.Clear (range a (codes "z")))
+    ≡ tag 1 ∷ tag 2 ∷ tag 7 ∷ far_tag ∷ [])

@@ -3,7 +3,7 @@
 
 ghost use Rattle.scenarios.specs.FoldScenarios.{AnEmptyJournal, TheBoundaryBelongsToTheRightRow};
 ghost use Rattle.scenarios.specs.FoldScenarios.{OneResolverRefuses, TheLockIsReadOnceARow};
-ghost use Rattle.scenarios.specs.FoldScenarios.{TagsComeAndGoWithTheirRows};
+ghost use Rattle.scenarios.specs.FoldScenarios.{TagsComeAndGoWithTheirRows, ARowListsItsTags};
 ghost use Rattle.scenarios.specs.ResolverScenarios.{RequestsOfStrangers};
 ghost use Rattle.scenarios.specs.StampScenarios.{TheMetadataVersionIsStamped, AStampInAText};
 ghost use Rattle.scenarios.specs.StampScenarios.{WhatAStateMutationIs};
@@ -35,6 +35,7 @@ pub fn fold_scenarios()
     ensures refused { OneResolverRefuses }
     ensures locked { TheLockIsReadOnceARow }
     ensures tags { TagsComeAndGoWithTheirRows }
+    ensures listed { ARowListsItsTags }
 {}
 
 /// Stamps, and which mutations are state mutations.

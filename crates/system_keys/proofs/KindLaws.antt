@@ -7,7 +7,7 @@ use Rattle.std.proofs.lemmas.Bool.{and_parts, eqb-true}
 use Rattle.system_keys.specs.declared.kind.RowKind.{RowKind}
 use Rattle.system_keys.specs.declared.kind.RowKind.TheVariants as kinds
 use Rattle.system_keys.specs.Keys.{Key}
-use Rattle.system_keys.specs.Families.{kind_of, is_of_kind, is_in, key_servers_family, server_tag_family, locked_family, metadata_version_family, server_keys_family, system_prefix, non_metadata_prefix, server_id_length, id_end}
+use Rattle.system_keys.specs.Families.{kind_of, is_of_kind, is_in, key_servers_family, server_tag_family, locked_family, metadata_version_family, server_keys_family, system_prefix, non_metadata_prefix, server_id_length, slash}
 
 -- ---- what starts with one text does not start with another
 
@@ -65,7 +65,7 @@ version_starts : (key : Key) → is_in metadata_version_family key ≡ true → 
 version_starts key h = same_starts key (metadata_version_family.prefix) h
 
 server_keys_starts : (key : Key) → is_in server_keys_family key ≡ true → first_text key (server_keys_family.prefix)
-server_keys_starts key h = (and_parts (starts_with nat_eq key (server_keys_family.prefix)) (starts_with nat_eq (drop (length (server_keys_family.prefix) + server_id_length) key) id_end) h).0
+server_keys_starts key h = (and_parts (starts_with nat_eq key (server_keys_family.prefix)) (starts_with nat_eq (drop (length (server_keys_family.prefix) + server_id_length) key) slash) h).0
 
 system_starts : (key ps : List ℕ) → starts_with nat_eq key (255 ∷ ps) ≡ true → starts_with nat_eq key system_prefix ≡ true
 system_starts [] ps h = absurd (cc)

@@ -53,7 +53,7 @@ rest_of-next n before bytes enough above = ap rest_of (ids_at-next n before byte
 
 -- ---- what was taken
 
-bind_ok : {A B : Type 0} (r : Result A RowFault) (f : A → Result B RowFault) (y : B) → (r >>= f) ≡ Ok y → (x : A) × (r ≡ Ok x) × (f x ≡ Ok y)
+pub bind_ok : {A B : Type 0} (r : Result A RowFault) (f : A → Result B RowFault) (y : B) → (r >>= f) ≡ Ok y → (x : A) × (r ≡ Ok x) × (f x ≡ Ok y)
 bind_ok (Ok x) f y e = (x, refl, e)
 bind_ok (Err fault) f y e = absurd cc
 
@@ -306,11 +306,11 @@ servers_again servers team first second =
 
 -- ---- the faults of a row's value
 
-abbrev FaultsAreContent : {A : Type 0} → Result A RowFault → Type 0
+abbrev pub FaultsAreContent : {A : Type 0} → Result A RowFault → Type 0
 FaultsAreContent (Ok x) = Unit {0}
 FaultsAreContent (Err fault) = IsTrue (is_of_rows fault)
 
-bind_content : {A B : Type 0} (r : Result A RowFault) (f : A → Result B RowFault) → FaultsAreContent r → ((x : A) → FaultsAreContent (f x)) → FaultsAreContent (r >>= f)
+pub bind_content : {A B : Type 0} (r : Result A RowFault) (f : A → Result B RowFault) → FaultsAreContent r → ((x : A) → FaultsAreContent (f x)) → FaultsAreContent (r >>= f)
 bind_content (Ok x) f r h = h x
 bind_content (Err fault) f r h = r
 
@@ -331,11 +331,11 @@ counted_content : (bytes : List ℕ) → FaultsAreContent (counted_ids_at bytes)
 counted_content [] = refl
 counted_content (count ∷ bytes) = ids_content count None bytes
 
-end_content : (servers : Servers) (rest : List ℕ) → FaultsAreContent (at_end servers rest)
-end_content servers [] = tt
-end_content servers (byte ∷ bytes) = refl
+pub end_content : {A : Type 0} (x : A) (rest : List ℕ) → FaultsAreContent (at_end x rest)
+end_content x [] = tt
+end_content x (byte ∷ bytes) = refl
 
-servers_content : (bytes : List ℕ) → FaultsAreContent (servers_at bytes)
+pub servers_content : (bytes : List ℕ) → FaultsAreContent (servers_at bytes)
 servers_content bytes =
     bind_content (counted_ids_at bytes) _ (counted_content bytes) (λ sources.
     bind_content (counted_ids_at sources.1) _ (counted_content sources.1) (λ destinations. end_content _ destinations.1))
@@ -357,11 +357,11 @@ fault_is_as_specified bytes fault e = as_specified (servers_at bytes) fault (ser
 
 -- ---- what decodes is what encodes
 
-end_value : (servers found : Servers) (rest : List ℕ) → at_end servers rest ≡ Ok found → (found ≡ servers) × (rest ≡ [])
-end_value servers found [] e =
-    let same : servers ≡ found = cc (e) in
+pub end_value : {A : Type 0} (x found : A) (rest : List ℕ) → at_end x rest ≡ Ok found → (found ≡ x) × (rest ≡ [])
+end_value x found [] e =
+    let same : x ≡ found = cc (e) in
     (sym same, refl)
-end_value servers found (byte ∷ bytes) e = absurd (cc)
+end_value x found (byte ∷ bytes) e = absurd (cc)
 
 both_spelled : (bytes : List ℕ) (sources : List Id) (rest : List ℕ) (destinations : List Id) (behind : List ℕ) → ((i : ℕ) → get_or bytes i 0 < 256) → counted_ids_at bytes ≡ Ok (sources, rest) → counted_ids_at rest ≡ Ok (destinations, behind) → behind ≡ [] → (key_servers_value (record { sources = sources; destinations = destinations }) ≡ bytes) × HaveSpelling (record { sources = sources; destinations = destinations })
 both_spelled bytes sources rest destinations behind fits first second none =

@@ -12,7 +12,7 @@ use Rattle.system_keys.specs.Keys.{Key}
 pub data Following : Type 0 where
   Nothing : Following
   OneServerId : Following
-  OneServerIdAndAnyBytes : Following
+  OneServerIdASlashAndAnyBytes : Following
   AnyBytes : Following
 
 -- a family of rows: its kind, how its keys begin, and what follows
@@ -60,7 +60,7 @@ server_keys_family =
     record {
       kind = kinds.ServerKeys;
       prefix = 255 ∷ codes "/serverKeys/";
-      following = OneServerIdAndAnyBytes;
+      following = OneServerIdASlashAndAnyBytes;
     }
 
 -- the families that the metadata keeps, and no others
@@ -77,17 +77,17 @@ abbrev pub server_id_length : ℕ
 server_id_length = 16
 
 -- what stands between a server id and the bytes that follow it
-abbrev pub id_end : Key
-id_end = codes "/"
+abbrev pub slash : Key
+slash = codes "/"
 
 -- the key is the prefix and what may follow it
 abbrev pub is_prefixed : Following → Key → Key → Bool
 is_prefixed Nothing prefix key = pointwise nat_eq key prefix
 is_prefixed OneServerId prefix key =
     starts_with nat_eq key prefix && nat_eq (length key) (length prefix + server_id_length)
-is_prefixed OneServerIdAndAnyBytes prefix key =
+is_prefixed OneServerIdASlashAndAnyBytes prefix key =
     starts_with nat_eq key prefix
-    && starts_with nat_eq (drop (length prefix + server_id_length) key) id_end
+    && starts_with nat_eq (drop (length prefix + server_id_length) key) slash
 is_prefixed AnyBytes prefix key = starts_with nat_eq key prefix
 
 -- the key is of the family

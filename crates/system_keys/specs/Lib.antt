@@ -7,6 +7,10 @@ pub mod Keys
 pub mod Families
 -- what servers and tags a row value names: its encoding, and reading it from the front
 pub mod Rows
+-- the tags that a keyServers value lists, and the order of tags
+pub mod ListedTags
+-- the two forms of the value of a keyServers row: it names servers, or it lists tags
+pub mod Locations
 -- the first fault of a range and of a Set
 pub mod Limits
 -- which changes are state mutations, those that go to every proxy

@@ -6,7 +6,7 @@ use Rattle.system_keys.specs.declared.refusal.Refusal.{Refusal}
 use Rattle.system_keys.specs.declared.refusal.Refusal.TheVariants.{KeyTooLong, ValueTooLong}
 use Rattle.system_keys.specs.declared.refusal.Refusal.TheVariants.{KeyOutside, EmptyRange, BadRow}
 use Rattle.system_keys.specs.Families.{kind_of}
-use Rattle.system_keys.specs.Rows.{is_row_value}
+use Rattle.system_keys.specs.Locations.{is_row_value}
 use Rattle.system_keys.specs.Keys.{Key, is_key_below, is_key_up_to}
 
 -- the end of the key space, `\xff\xff` (release 7.1)

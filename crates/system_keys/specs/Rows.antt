@@ -2,15 +2,13 @@
 -- fault met (this project's profile).
 use Rattle.std.specs.Prelude.{◌≡◌, ℕ, ◌<◌, slice_index, zero, suc, ◌+◌, ◌*◌, ◌/◌, ◌%◌, List, []}
 use Rattle.std.specs.Prelude.{◌∷◌, ◌++◌, length, take, drop, Bool, true, false, ◌&&◌, nat_lt}
-use Rattle.std.specs.Prelude.{nat_eq, if◌then◌else◌, Option, Some, None, Result, Ok, Err, is_ok}
+use Rattle.std.specs.Prelude.{nat_eq, if◌then◌else◌, Option, Some, None, Result, Ok, Err}
 use Rattle.std.specs.List.{flat_map, list_all}
 use Rattle.std.specs.Option.{option_or}
 use Rattle.system_keys.specs.declared.refusal.RowFault.{RowFault}
 use Rattle.system_keys.specs.declared.refusal.RowFault.TheVariants as faults
 use Rattle.system_keys.specs.declared.teams.TeamsFault.{TeamsFault}
 use Rattle.system_keys.specs.declared.teams.TeamsFault.TheVariants.{NotRising, TooManyServers}
-use Rattle.system_keys.specs.declared.kind.RowKind.{RowKind}
-use Rattle.system_keys.specs.declared.kind.RowKind.TheVariants as kinds
 use Rattle.system_keys.specs.declared.tag.Tag.{Tag}
 use Rattle.system_keys.specs.Keys.{is_key_below}
 use Rattle.system_keys.specs.Families.{server_id_length}
@@ -35,7 +33,7 @@ pub record Servers : Type 0 where
 abbrev pub counted_ids : List Id → List ℕ
 counted_ids ids = length ids ∷ flat_map (λ (id : Id). id) ids
 
--- the value of a keyServers row
+-- the value of a keyServers row that names servers
 abbrev pub key_servers_value : Servers → List ℕ
 key_servers_value servers = counted_ids servers.sources ++ counted_ids servers.destinations
 
@@ -123,24 +121,22 @@ abbrev pub ids_listed : List ℕ → List Id
 ids_listed [] = []
 ids_listed (count ∷ bytes) = ids_in count bytes
 
--- the servers that a keyServers value names, or its first fault
+-- the servers of a value that is read as one that names servers, or its first fault
 abbrev pub servers_at : List ℕ → Result Servers RowFault
 servers_at bytes =
     counted_ids_at bytes >>= λ sources.
     counted_ids_at sources.1 >>= λ destinations.
     at_end (record { sources = sources.0; destinations = destinations.0 }) destinations.1
 
+-- a tag by its three bytes: the locality, and the id, the high byte first
+abbrev pub tag_from : (locality high low : ℕ) → Tag
+tag_from locality high low = record { locality = locality; id = 256 * high + low }
+
 -- the tag of a serverTag value, or its first fault
 abbrev pub tag_at : List ℕ → Result Tag RowFault
-tag_at (locality ∷ high ∷ low ∷ []) = Ok (record { locality = locality; id = 256 * high + low })
+tag_at (locality ∷ high ∷ low ∷ []) = Ok (tag_from locality high low)
 tag_at (locality ∷ high ∷ low ∷ byte ∷ bytes) = Err faults.Trailing
 tag_at _ = Err faults.Truncated
-
--- the value decodes, where rows of this kind have a form
-abbrev pub is_row_value : RowKind → List ℕ → Bool
-is_row_value kinds.KeyServers value = is_ok (servers_at value)
-is_row_value kinds.ServerTag value = is_ok (tag_at value)
-is_row_value _ value = true
 
 -- the faults that the value of a row can have
 abbrev pub is_of_rows : RowFault → Bool

@@ -1,14 +1,19 @@
 //! Laws of the definitions of this crate, each the contract of a function with an empty body.
 
-ghost use Rattle.std.specs.Prelude.{◌≡◌, ◌↔◌, ◌<◌, ℕ, List, IsTrue, Some, None, Ok, Err};
+ghost use Rattle.std.specs.Prelude.{◌≡◌, ◌≢◌, ◌↔◌, ◌<◌, ◌++◌, ℕ, List, IsTrue, Some, None, Ok, Err};
 ghost use Rattle.std.specs.Prelude.{slice_index};
 ghost use Rattle.system_keys.specs.declared.refusal.RowFault.{RowFault};
+ghost use Rattle.system_keys.specs.declared.refusal.RowFault.TheVariants as faults;
 ghost use Rattle.system_keys.specs.declared.kind.RowKind.{RowKind};
+ghost use Rattle.system_keys.specs.declared.location.Location.{Location};
+ghost use Rattle.system_keys.specs.declared.location.Location.TheVariants as locations;
 ghost use Rattle.system_keys.specs.declared.tag.Tag.{Tag};
 ghost use Rattle.system_keys.specs.Keys.{Key};
 ghost use Rattle.system_keys.specs.Families.{kind_of, is_of_kind};
 ghost use Rattle.system_keys.specs.Rows.{Servers, HaveSpelling, is_of_rows, key_servers_value};
 ghost use Rattle.system_keys.specs.Rows.{servers_at, tag_value, tag_at, AreBytes};
+ghost use Rattle.system_keys.specs.ListedTags.{ListedTags, listed_tags_value};
+ghost use Rattle.system_keys.specs.Locations.{location_value, location_at, behind_zeros, HasValue};
 ghost use Rattle.system_keys.specs.Text.{text_of, bytes_of};
 
 /// Each key is of exactly one kind: the one whose own condition it meets.
@@ -17,8 +22,9 @@ pub fn kind_law()
         → IsTrue (is_of_kind kind key) ↔ (kind_of key ≡ kind) }
 {}
 
-/// Each row value has one encoding: a value decodes only from the bytes that it encodes to, and an
-/// encoded value decodes to itself. A keyServers value has only faults of rows.
+/// Each row value that names servers or one tag has one encoding: a value decodes only from the bytes
+/// that it encodes to, and an encoded value decodes to itself. A keyServers value has only faults of
+/// rows.
 pub fn row_law()
     ensures servers_spelled { (bytes : List ℕ) (servers : Servers)
         → AreBytes bytes → servers_at bytes ≡ Ok servers
@@ -30,6 +36,31 @@ pub fn row_law()
     ensures tag_spelled { (bytes : List ℕ) (tag : Tag)
         → AreBytes bytes → tag_at bytes ≡ Ok tag → tag_value tag ≡ bytes }
     ensures tag_round_trip { (tag : Tag) → tag_at (tag_value tag) ≡ Ok tag }
+{}
+
+/// Each keyServers value, of either form, has one encoding, and no value has both forms. A value names
+/// servers exactly if it decodes as one that names them, whatever the other form is, and one that does
+/// not begin a list of tags has the faults of one that names servers. A keyServers value has only
+/// faults of rows, and its fault is the first from the front: unless bytes are missing, it stays,
+/// whatever bytes follow.
+pub fn location_law()
+    ensures spelled { (bytes : List ℕ) (location : Location)
+        → AreBytes bytes → location_at bytes ≡ Ok location
+        → (location_value location ≡ bytes) × HasValue location }
+    ensures round_trip { (location : Location)
+        → HasValue location → location_at (location_value location) ≡ Ok location }
+    ensures apart { (servers : Servers) (tags : ListedTags)
+        → key_servers_value servers ≢ listed_tags_value tags }
+    ensures servers { (bytes : List ℕ) (servers : Servers)
+        → (location_at bytes ≡ Ok (locations.Servers servers)) ↔ (servers_at bytes ≡ Ok servers) }
+    ensures servers_faults { (bytes : List ℕ) (fault : RowFault)
+        → behind_zeros bytes ≡ None
+        → (location_at bytes ≡ Err fault) ↔ (servers_at bytes ≡ Err fault) }
+    ensures faults { (bytes : List ℕ) (fault : RowFault)
+        → location_at bytes ≡ Err fault → IsTrue (is_of_rows fault) }
+    ensures first { (bytes more : List ℕ) (fault : RowFault)
+        → location_at bytes ≡ Err fault → fault ≢ faults.Truncated
+        → location_at (bytes ++ more) ≡ Err fault }
 {}
 
 /// Each byte string has exactly one text.

@@ -11,6 +11,7 @@ mod items;
 mod kind;
 mod laws;
 mod limits;
+mod location;
 mod memory;
 mod order;
 mod range;
@@ -19,6 +20,8 @@ mod rows;
 mod server;
 mod state;
 mod tag;
+mod tag_rows;
+mod tag_teams;
 mod teams;
 mod text;
 
@@ -29,8 +32,9 @@ pub use kind::{
     KEY_SERVERS_PREFIX, LOCKED_KEY, METADATA_VERSION_KEY, RowKind, SERVER_ID_LENGTH,
     SERVER_KEYS_PREFIX, SERVER_TAG_PREFIX, classify, is_kept,
 };
-pub use laws::{kind_law, row_law, text_law};
+pub use laws::{kind_law, location_law, row_law, text_law};
 pub use limits::{END_LIMIT, KEY_LIMIT, KEY_SPACE_END, VALUE_LIMIT, check_range, check_set};
+pub use location::{Location, decode_location};
 pub use memory::OutOfMemory;
 pub use range::KeyRange;
 pub use refusal::{Refusal, RowFault};
@@ -38,5 +42,7 @@ pub use rows::{decode_key_servers, decode_tag, encode_key_servers, encode_tag};
 pub use server::ServerId;
 pub use state::is_state;
 pub use tag::Tag;
+pub use tag_rows::encode_tag_teams;
+pub use tag_teams::{TAGS_LIMIT, TagTeams, TagTeamsFault};
 pub use teams::{SERVERS_LIMIT, Teams, TeamsFault};
 pub use text::{print_bytes, read_bytes};

@@ -5,9 +5,9 @@ ghost use Rattle.std.specs.Result.{result_err};
 ghost use Rattle.system_keys.specs.Limits.{range_fault, set_fault};
 
 use crate::kind::classify;
+use crate::location::is_row_value;
 use crate::order::{is_at_most, precedes};
 use crate::refusal::Refusal;
-use crate::rows::is_row_value;
 
 /// The greatest number of bytes of a key (this project's profile).
 pub const KEY_LIMIT: usize = 10_000;

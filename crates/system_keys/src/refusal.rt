@@ -63,8 +63,8 @@ pub enum RowFault {
     /// Bytes are missing.
     #[error("bytes are missing")]
     Truncated,
-    /// The server ids of a list are not strictly increasing.
-    #[error("server ids do not rise")]
+    /// The server ids or the tags of a list are not strictly increasing.
+    #[error("server ids or tags do not rise")]
     NotRising,
     /// Bytes follow the end of the value.
     #[error("bytes stand after the end")]

@@ -1,8 +1,8 @@
-//! The values of keyServers and serverTag rows, as bytes.
+//! The values of keyServers rows that name servers, and those of serverTag rows, as bytes.
 //!
-//! A keyServers value is a count byte, that many source ids of 16 bytes, a count byte, that many
-//! destination ids, and nothing after. A serverTag value is a locality byte and two bytes of the
-//! id, the high one first (this project's profile). Each value has one encoding.
+//! A keyServers value that names servers is a count byte, that many source ids of 16 bytes, a count
+//! byte, that many destination ids, and nothing after. A serverTag value is a locality byte and two
+//! bytes of the id, the high one first (this project's profile). Each value has one encoding.
 
 ghost use Rattle.std.specs.Prelude.{◌≡◌, ◌≤◌, ◌*◌, ◌++◌, length};
 ghost use Rattle.std.specs.Prelude.{IfOk, OnOk, MatchResult, IsOk, Ok, Err, None, true};
@@ -11,9 +11,9 @@ ghost use Rattle.system_keys.specs.Families.{server_id_length};
 ghost use Rattle.system_keys.specs.Refusals.{row_fault};
 ghost use Rattle.system_keys.specs.Rows.{key_servers_value, tag_value, servers_at, tag_at};
 ghost use Rattle.system_keys.specs.Rows.{counted_ids, counted_ids_at, ids_at, ids_in, ids_listed};
-ghost use Rattle.system_keys.specs.Rows.{are_ids, servers_limit, is_row_value};
+ghost use Rattle.system_keys.specs.Rows.{are_ids, servers_limit};
 
-use crate::kind::{RowKind, SERVER_ID_LENGTH};
+use crate::kind::SERVER_ID_LENGTH;
 use crate::memory::OutOfMemory;
 use crate::order::is_above;
 use crate::refusal::RowFault;
@@ -34,7 +34,7 @@ pub fn encode_key_servers(alloc: Global, teams: &Teams) -> Result<Vec<u8>, OutOf
     Ok(bytes)
 }
 
-/// Decodes a keyServers value.
+/// Decodes a keyServers value that names servers.
 ///
 /// Returns the first error from the front: `Truncated` (bytes are missing), `NotRising` (ids that
 /// are not strictly increasing), `Trailing` (bytes after the end). Fails with `OutOfMemory` only
@@ -52,8 +52,7 @@ pub fn encode_tag(alloc: Global, tag: &Tag) -> Result<Vec<u8>, OutOfMemory>
     ensures value { IfOk result (λ bytes. bytes.items ≡ tag_value tag.now) }
     ensures round_trip { IfOk result (λ bytes. tag_at bytes.items ≡ Ok tag.now) }
 {
-    let [high, low] = tag.id.to_be_bytes();
-    Ok(Vec::from_slice(alloc, &[tag.locality, high, low])?)
+    Ok(Vec::from_slice(alloc, &tag.to_bytes())?)
 }
 
 /// Decodes a serverTag value. Does not allocate.
@@ -64,27 +63,13 @@ pub fn decode_tag(bytes: &[u8]) -> Result<Tag, RowFault>
     ensures spelled { IfOk result (λ tag. tag_value tag ≡ bytes.now) }
 {
     match bytes {
-        [locality, high, low] => Ok(Tag {
-            locality: *locality,
-            id: u16::from_be_bytes([*high, *low]),
-        }),
+        [locality, high, low] => Ok(Tag::from_bytes(*locality, *high, *low)),
         [_, _, _, _, ..] => Err(RowFault::Trailing),
         _ => Err(RowFault::Truncated),
     }
 }
 
-/// Whether the value decodes, if rows of this kind have a fixed form. Does not allocate.
-pub(crate) fn is_row_value(kind: RowKind, value: &[u8]) -> bool
-    ensures { result ≡ is_row_value kind value.now }
-{
-    match kind {
-        RowKind::KeyServers => check_key_servers(value).is_ok(),
-        RowKind::ServerTag => decode_tag(value).is_ok(),
-        _ => true,
-    }
-}
-
-/// Returns the first fault of a keyServers value. Does not allocate.
+/// Returns the first fault of a keyServers value that names servers. Does not allocate.
 pub(crate) fn check_key_servers(bytes: &[u8]) -> Result<(), RowFault>
     ensures { MatchResult result (λ _. IsOk (servers_at bytes.now))
         (λ fault. servers_at bytes.now ≡ Err fault) }

@@ -117,7 +117,7 @@ fn push_outcomes(text: &mut String, outcomes: &[Outcome]) -> Result<(), OutOfMem
     }
 }
 
-/// Appends each outcome behind a space.
+/// Appends each outcome after a space.
 fn push_spaced_outcomes(text: &mut String, outcomes: &[Outcome]) -> Result<(), OutOfMemory>
     ensures { OnOk result (string_bytes text.new
         ≡ string_bytes text.old ++ flat_map spaced (map outcome_name outcomes.now)) }
@@ -139,7 +139,7 @@ fn push_refusal(text: &mut String, refusal: &Refusal) -> Result<(), OutOfMemory>
     push_refusal_value(text, refusal)
 }
 
-/// Appends what a refusal carries behind a space, if it carries anything.
+/// Appends what a refusal carries after a space, if it carries anything.
 fn push_refusal_value(text: &mut String, refusal: &Refusal) -> Result<(), OutOfMemory>
     ensures { OnOk result (string_bytes text.new
         ≡ string_bytes text.old ++ refusal_value refusal.now) }

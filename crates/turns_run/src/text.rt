@@ -1,4 +1,4 @@
-//! The whole text of a turns script: those of its events, and then those of its proxies.
+//! The whole text of a turns script: the lines of its events, and then those of its proxies.
 
 ghost use Rattle.std.specs.Prelude.{◌≡◌, ◌++◌, OnOk, string_bytes};
 ghost use Rattle.turns_run.specs.Text.{played_text};

@@ -1,5 +1,4 @@
-//! The requests of one record: whether all are of the proxy, each with room for its answer, and the
-//! answers that are waited for.
+//! Prepares the requests of one record, and waits for their answers.
 
 ghost use Rattle.std.specs.Prelude.{◌≡◌, ◌≢◌, ◌≤◌, [], length, IfErr, IfOk, IfSome, MatchBool};
 ghost use Rattle.std.specs.Prelude.{MatchOption, vec_capacity};

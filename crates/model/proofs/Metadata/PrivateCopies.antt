@@ -1,15 +1,15 @@
 -- Which Sets have a private copy: of the two kinds of keys, as they are put together.
-use Rattle.std.proofs.Common.{◌≡◌, ◌↔◌, refl, sym, ap, ◌∙◌, ℕ, ◌+◌, List, [], ◌∷◌, ◌++◌, length, take, drop, Bool, true, false, Option, Some, None, Result, Ok, Err, length-append, eq-eqb}
-use Rattle.std.specs.Prelude.{nat_eq, IsFalse}
+use Rattle.std.proofs.Common.{◌≡◌, refl, sym, ap, ◌∙◌, ℕ, ◌+◌, List, ◌∷◌, ◌++◌, length, take, drop, true, false, Option, Some, None, Result, Ok, Err, length-append, eq-eqb}
+use Rattle.std.specs.Prelude.{nat_eq}
 use Rattle.std.specs.List.{starts_with}
 use Rattle.std.proofs.Math.Seq.{take-append_seam, drop-append_seam}
-use Rattle.system_keys.specs.declared.change.Change.TheVariants.{Set, Clear}
+use Rattle.system_keys.specs.declared.change.Change.TheVariants.{Set}
 use Rattle.system_keys.specs.declared.kind.RowKind.{RowKind}
 use Rattle.system_keys.specs.declared.kind.RowKind.TheVariants as kinds
 use Rattle.system_keys.specs.declared.refusal.RowFault.{RowFault}
 use Rattle.system_keys.specs.declared.tag.Tag.{Tag}
-use Rattle.system_keys.specs.Keys.{Key, Range}
-use Rattle.system_keys.specs.Families.{server_keys_family, server_tag_family, server_id_length, id_end, is_in, kind_of}
+use Rattle.system_keys.specs.Keys.{Key}
+use Rattle.system_keys.specs.Families.{server_tag_family, server_id_length, slash, kind_of}
 use Rattle.system_keys.specs.Rows.{Id, tag_at}
 use Rattle.system_keys.proofs.KindLaws.{kind_from, kind_both_ways}
 use Rattle.model.specs.declared.outcome.PrivateCopy.{PrivateCopy}
@@ -52,12 +52,12 @@ row_whole found key value copy is gives =
 -- ---- a serverKeys row
 
 keys_named : (id : Id) (rest : List ℕ) → length id ≡ server_id_length → named_server (server_keys_key id rest) ≡ id
-keys_named id rest size = ap (λ (n : ℕ). take n (id ++ (id_end ++ rest))) (sym size) ∙ take-append_seam id (id_end ++ rest)
+keys_named id rest size = ap (λ (n : ℕ). take n (id ++ (slash ++ rest))) (sym size) ∙ take-append_seam id (slash ++ rest)
 
-keys_end : (id : Id) (rest : List ℕ) → length id ≡ server_id_length → starts_with nat_eq (drop 16 (id ++ (id_end ++ rest))) id_end ≡ true
+keys_end : (id : Id) (rest : List ℕ) → length id ≡ server_id_length → starts_with nat_eq (drop 16 (id ++ (slash ++ rest))) slash ≡ true
 keys_end id rest size =
-    ap (λ (n : ℕ). starts_with nat_eq (drop n (id ++ (id_end ++ rest))) id_end) (sym size)
-    ∙ ap (λ (behind : List ℕ). starts_with nat_eq behind id_end) (drop-append_seam id (id_end ++ rest))
+    ap (λ (n : ℕ). starts_with nat_eq (drop n (id ++ (slash ++ rest))) slash) (sym size)
+    ∙ ap (λ (behind : List ℕ). starts_with nat_eq behind slash) (drop-append_seam id (slash ++ rest))
 
 keys_kind : (id : Id) (rest : List ℕ) → length id ≡ server_id_length → kind_of (server_keys_key id rest) ≡ kinds.ServerKeys
 keys_kind id rest size = kind_from kinds.ServerKeys (server_keys_key id rest) (keys_end id rest size)

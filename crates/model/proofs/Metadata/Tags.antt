@@ -1,16 +1,23 @@
--- The tags of a change rise without repeats, and are those of the servers in the rows that it meets.
-use Rattle.std.proofs.Common.{◌≡◌, ◌⊎◌, inl, inr, refl, sym, ap, ◌∙◌, subst, ℕ, List, [], ◌∷◌, fold, flat_map, Contains, Ordering, Less, Equal, Greater, nat_cmp, is_eq, eqb-true}
+-- The tags of a change rise without repeats, and are those of the rows that it meets: of the servers
+-- that they name, and those that they list.
+use Rattle.std.proofs.Common.{◌≡◌, ◌⊎◌, inl, inr, refl, sym, ap, ◌∙◌, subst, ℕ, List, [], ◌∷◌, ◌++◌, Ok, fold, flat_map, Contains, Ordering, Less, Equal, Greater, nat_cmp, is_eq, eqb-true}
 use Rattle.std.specs.List.{AllByRecursion}
 use Rattle.std.specs.List.Sorted.{IsStrictlySortedBy}
 use Rattle.std.specs.BTreeSet.{insert_key}
 use Rattle.std.specs.Cmp.{IsTotalOrder, on_total, then_total, nat_cmp_total, unsigned_ties}
 use Rattle.std.specs.Ordering.{ordering_reverse, ordering_then, match_ordering}
 use Rattle.system_keys.specs.declared.change.Change.{Change}
+use Rattle.system_keys.specs.declared.location.Location.TheVariants as locations
 use Rattle.system_keys.specs.declared.tag.Tag.{Tag}
-use Rattle.model.specs.Metadata.{Entries, tag_cmp, sorted_tags, tags, entry_tags, server_tags, servers_of, touched_entries, key_servers_entries}
-use Rattle.model.specs.Routes.{HasTag}
+use Rattle.system_keys.specs.Rows.{Servers}
+use Rattle.system_keys.specs.ListedTags.{ListedTags}
+use Rattle.system_keys.specs.Locations.{location_at}
+use Rattle.model.specs.Metadata.{Entry, Entries, sorted_tags, tags, entry_tags, server_tags, all_servers, servers_of, all_listed, listed_tags, touched_entries, key_servers_entries}
+use Rattle.system_keys.specs.ListedTags.{tag_cmp}
+use Rattle.model.specs.Routes.{NamesServerOf, HasTag}
 use Rattle.model.proofs.Members.{Has, Has-from_Contains, Contains-from_Has, Has-append_left, Has-append_right, Has-append_cases}
 use Rattle.model.proofs.Metadata.Entries.{fold_keeps}
+use Rattle.std.proofs.lemmas.List.{append-nil}
 
 tag_total : IsTotalOrder tag_cmp
 tag_total = then_total (on_total (λ (t : Tag). t.locality) nat_cmp_total) (on_total (λ (t : Tag). t.id) nat_cmp_total)
@@ -138,26 +145,55 @@ Has-from_Giver f [] x y h g = absurd h
 Has-from_Giver f (z ∷ xs) x y (inl e) g = Has-append_left (f z) (flat_map f xs) y (subst (λ (w : _). Has (f w) y) (sym e) g)
 Has-from_Giver f (z ∷ xs) x y (inr h) g = Has-append_right (f z) (flat_map f xs) y (Has-from_Giver f xs x y h g)
 
+-- a tag of a row is that of a server, or it is listed
+given_from_Has : (rows : Entries) (row : Entry) (tag : Tag) → Has (entry_tags rows row) tag → NamesServerOf rows row tag ⊎ Contains (listed_tags row.1) tag
+unfolding entry_tags
+given_from_Has rows row tag h = by (Has-append_cases (flat_map (server_tags rows) (servers_of row.1)) (listed_tags row.1) tag h)
+  where
+    by : Has (flat_map (server_tags rows) (servers_of row.1)) tag ⊎ Has (listed_tags row.1) tag → NamesServerOf rows row tag ⊎ Contains (listed_tags row.1) tag
+    by (inl of_server) =
+        let named = Giver-from_Has (server_tags rows) (servers_of row.1) tag of_server in
+        inl (record {
+          server = named.giver;
+          named = Contains-from_Has (servers_of row.1) named.giver named.there;
+          tagged = Contains-from_Has (server_tags rows named.giver) tag named.gives;
+        })
+    by (inr listed) = inr (Contains-from_Has (listed_tags row.1) tag listed)
+
+Has-from_given : (rows : Entries) (row : Entry) (tag : Tag) → NamesServerOf rows row tag ⊎ Contains (listed_tags row.1) tag → Has (entry_tags rows row) tag
+unfolding entry_tags
+Has-from_given rows row tag (inl h) =
+    Has-append_left (flat_map (server_tags rows) (servers_of row.1)) (listed_tags row.1) tag
+    (Has-from_Giver (server_tags rows) (servers_of row.1) h.server tag (Has-from_Contains (servers_of row.1) h.server h.named) (Has-from_Contains (server_tags rows h.server) tag h.tagged))
+Has-from_given rows row tag (inr h) =
+    Has-append_right (flat_map (server_tags rows) (servers_of row.1)) (listed_tags row.1) tag (Has-from_Contains (listed_tags row.1) tag h)
+
 pub HasTag-from_tags : (rows : Entries) (change : Change) (tag : Tag) → Contains (tags rows change) tag → HasTag rows change tag
-unfolding tags entry_tags
+unfolding tags
 HasTag-from_tags rows change tag h = by (Has-from_fold [] (flat_map (entry_tags rows) (touched_entries (key_servers_entries rows) change)) tag (Has-from_Contains (sorted_tags (flat_map (entry_tags rows) (touched_entries (key_servers_entries rows) change))) tag h))
   where
     by : Has {X = Tag} [] tag ⊎ Has (flat_map (entry_tags rows) (touched_entries (key_servers_entries rows) change)) tag → HasTag rows change tag
     by (inl none) = absurd none
     by (inr has) =
         let met = Giver-from_Has (entry_tags rows) (touched_entries (key_servers_entries rows) change) tag has in
-        let named = Giver-from_Has (server_tags rows) (servers_of met.giver.1) tag met.gives in
         record {
           entry = met.giver;
           touched = Contains-from_Has (touched_entries (key_servers_entries rows) change) met.giver met.there;
-          server = named.giver;
-          named = Contains-from_Has (servers_of met.giver.1) named.giver named.there;
-          tagged = Contains-from_Has (server_tags rows named.giver) tag named.gives;
+          given = given_from_Has rows met.giver tag met.gives;
         }
 
 pub tags-from_HasTag : (rows : Entries) (change : Change) (tag : Tag) → HasTag rows change tag → Contains (tags rows change) tag
-unfolding tags entry_tags
+unfolding tags
 tags-from_HasTag rows change tag h =
-    let named = Has-from_Giver (server_tags rows) (servers_of h.entry.1) h.server tag (Has-from_Contains (servers_of h.entry.1) h.server h.named) (Has-from_Contains (server_tags rows h.server) tag h.tagged) in
-    let met = Has-from_Giver (entry_tags rows) (touched_entries (key_servers_entries rows) change) h.entry tag (Has-from_Contains (touched_entries (key_servers_entries rows) change) h.entry h.touched) named in
+    let met = Has-from_Giver (entry_tags rows) (touched_entries (key_servers_entries rows) change) h.entry tag (Has-from_Contains (touched_entries (key_servers_entries rows) change) h.entry h.touched) (Has-from_given rows h.entry tag h.given) in
     Contains-from_Has (sorted_tags (flat_map (entry_tags rows) (touched_entries (key_servers_entries rows) change))) tag (Has-fold [] (flat_map (entry_tags rows) (touched_entries (key_servers_entries rows) change)) tag (inr met))
+
+-- the tags of a row of each form
+pub tags_of_servers : (rows : Entries) (row : Entry) (servers : Servers) → location_at row.1 ≡ Ok (locations.Servers servers) → entry_tags rows row ≡ flat_map (server_tags rows) (servers.sources ++ servers.destinations)
+unfolding entry_tags
+tags_of_servers rows row servers e =
+    ap (λ (read : _). flat_map (server_tags rows) (all_servers read) ++ all_listed read) e ∙ append-nil (flat_map (server_tags rows) (servers.sources ++ servers.destinations))
+
+pub tags_of_list : (rows : Entries) (row : Entry) (tags : ListedTags) → location_at row.1 ≡ Ok (locations.Tags tags) → entry_tags rows row ≡ tags.sources ++ tags.destinations
+unfolding entry_tags
+tags_of_list rows row tags e = ap (λ (read : _). flat_map (server_tags rows) (all_servers read) ++ all_listed read) e

@@ -1,19 +1,24 @@
 -- Statements of the metadata: its order, the lock, the entries that serve keys, and tags.
 use Rattle.std.specs.Prelude.{◌≡◌, ◌↔◌, ◌⊎◌, ◌<◌, ◌++◌, ℕ, Bool, List, length, slice_get, fold}
-use Rattle.std.specs.Prelude.{Some, None, IsTrue, IsFalse, Contains}
+use Rattle.std.specs.Prelude.{Some, None, Ok, IsTrue, IsFalse, Contains, flat_map}
 use Rattle.std.specs.List.Sorted.{IsStrictlySortedBy}
 use Rattle.system_keys.specs.declared.change.Change.{Change}
 use Rattle.system_keys.specs.declared.change.Change.TheVariants.{Set, Clear}
 use Rattle.system_keys.specs.Keys.{Key, Range, holds, is_key_below, is_key_up_to}
 use Rattle.system_keys.specs.Families.{is_kept, key_servers_family}
+use Rattle.system_keys.specs.declared.location.Location.TheVariants as locations
 use Rattle.system_keys.specs.declared.tag.Tag.{Tag}
+use Rattle.system_keys.specs.Rows.{Servers}
+use Rattle.system_keys.specs.ListedTags.{ListedTags}
+use Rattle.system_keys.specs.Locations.{location_at}
 use Rattle.model.specs.declared.journal.JournalRow.{JournalRow}
 use Rattle.model.specs.declared.journal.StateTxn.{StateTxn}
 use Rattle.model.specs.declared.verdict.Verdict.TheVariants.{Committed}
 use Rattle.model.specs.Metadata.{Entries, IsInOrder, AreKept, entry_value, after_change}
 use Rattle.model.specs.Metadata.{after_changes, after_journal_row, applied_changes, is_applied}
 use Rattle.model.specs.Metadata.{is_locked, metadata, Entry, key_servers_entries, serving_entry}
-use Rattle.model.specs.Metadata.{touched_entries, tag_cmp, tags}
+use Rattle.model.specs.Metadata.{touched_entries, tags, entry_tags, server_tags}
+use Rattle.system_keys.specs.ListedTags.{tag_cmp}
 use Rattle.model.specs.Routes.{Serves, ServesSome, HasTag}
 
 -- the entries of every metadata are in strict order of their keys
@@ -140,11 +145,27 @@ abbrev pub TagsAreSortedAndDistinct : Type 0
 TagsAreSortedAndDistinct =
     (entries : Entries) (change : Change) → IsStrictlySortedBy tag_cmp (tags entries change)
 
--- they are exactly those of the servers named by the keyServers entries that the change touches
-abbrev pub TagsAreOfTheTouchedServers : Type 0
-TagsAreOfTheTouchedServers =
+-- they are exactly those of the servers named by the keyServers entries that the change touches, and
+-- those that these entries list
+abbrev pub TagsAreOfTheTouchedRows : Type 0
+TagsAreOfTheTouchedRows =
     (entries : Entries) (change : Change) (tag : Tag)
     → Contains (tags entries change) tag ↔ HasTag entries change tag
+
+-- a row that names servers has exactly the tags of its servers
+abbrev pub ARowOfServersHasTheirTags : Type 0
+ARowOfServersHasTheirTags =
+    (entries : Entries) (row : Entry) (servers : Servers)
+    → location_at row.1 ≡ Ok (locations.Servers servers)
+    → entry_tags entries row
+    ≡ flat_map (server_tags entries) (servers.sources ++ servers.destinations)
+
+-- a row that lists tags has exactly these, whatever other rows there are
+abbrev pub ARowOfTagsHasThem : Type 0
+ARowOfTagsHasThem =
+    (entries : Entries) (row : Entry) (tags : ListedTags)
+    → location_at row.1 ≡ Ok (locations.Tags tags)
+    → entry_tags entries row ≡ tags.sources ++ tags.destinations
 
 -- a Set touches exactly the entry that serves its key
 abbrev pub ASetTouchesTheServingEntry : Type 0

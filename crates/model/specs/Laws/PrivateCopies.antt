@@ -1,11 +1,11 @@
 -- Statements of private copies.
-use Rattle.std.specs.Prelude.{◌≡◌, ◌↔◌, ℕ, List, [], ◌∷◌, ◌++◌, length, IsFalse, Option, Some, None}
+use Rattle.std.specs.Prelude.{◌≡◌, ◌↔◌, ℕ, List, ◌∷◌, ◌++◌, length, IsFalse, Option, Some, None}
 use Rattle.std.specs.Prelude.{Ok}
 use Rattle.system_keys.specs.declared.change.Change.TheVariants.{Set, Clear}
 use Rattle.system_keys.specs.declared.tag.Tag.{Tag}
 use Rattle.system_keys.specs.Keys.{Key, Range}
 use Rattle.system_keys.specs.Families.{server_keys_family, server_tag_family, server_id_length}
-use Rattle.system_keys.specs.Families.{id_end, is_in}
+use Rattle.system_keys.specs.Families.{slash, is_in}
 use Rattle.system_keys.specs.Rows.{Id, tag_at}
 use Rattle.model.specs.declared.outcome.PrivateCopy.{PrivateCopy}
 use Rattle.model.specs.Metadata.{Entries, entry_value}
@@ -24,7 +24,7 @@ pub record GivesTag (found : Option (List ℕ)) (tag : Tag) : Type 0 where
 
 -- the key of a serverKeys row: its prefix, a server id, a slash, and any bytes
 abbrev pub server_keys_key : Id → Key → Key
-server_keys_key id rest = server_keys_family.prefix ++ (id ++ (id_end ++ rest))
+server_keys_key id rest = server_keys_family.prefix ++ (id ++ (slash ++ rest))
 
 -- a Set of a serverKeys row has exactly the copy for the server that its key names, by the
 -- serverTag row of that server, and none if there is no such row

@@ -12,7 +12,8 @@ ghost use Rattle.model.specs.Laws.Metadata.{ARowReadsTheLockBeforeIt, KeyServers
 ghost use Rattle.model.specs.Laws.Metadata.{KeyServersHaveThePrefix, ServingEntryServes};
 ghost use Rattle.model.specs.Laws.Metadata.{ServingEntryOfMetadataServes};
 ghost use Rattle.model.specs.Laws.Metadata.{NoServingEntryMeansNoneBefore};
-ghost use Rattle.model.specs.Laws.Metadata.{TagsAreSortedAndDistinct, TagsAreOfTheTouchedServers};
+ghost use Rattle.model.specs.Laws.Metadata.{TagsAreSortedAndDistinct, TagsAreOfTheTouchedRows};
+ghost use Rattle.model.specs.Laws.Metadata.{ARowOfServersHasTheirTags, ARowOfTagsHasThem};
 ghost use Rattle.model.specs.Laws.Metadata.{ASetTouchesTheServingEntry};
 ghost use Rattle.model.specs.Laws.Metadata.{AClearTouchesTheServingEntries};
 ghost use Rattle.model.specs.Laws.PrivateCopies.{ServerKeysGoToTheirServer};
@@ -62,11 +63,14 @@ pub fn route_law()
 {}
 
 /// The tags of a change are sorted by locality and then by id, and distinct. They are exactly those
-/// of the servers named by the keyServers entries that the change touches. A Set touches the entry
+/// of the keyServers entries that the change touches: an entry that names servers has the tags of
+/// these, and one that lists tags has them, whatever other entries there are. A Set touches the entry
 /// that serves its key, and a Clear those that serve some key of its range.
 pub fn tags_law()
     ensures rising { TagsAreSortedAndDistinct }
-    ensures exact { TagsAreOfTheTouchedServers }
+    ensures exact { TagsAreOfTheTouchedRows }
+    ensures of_servers { ARowOfServersHasTheirTags }
+    ensures of_tags { ARowOfTagsHasThem }
     ensures set { ASetTouchesTheServingEntry }
     ensures cleared { AClearTouchesTheServingEntries }
 {}

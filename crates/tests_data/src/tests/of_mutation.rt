@@ -8,7 +8,7 @@ use mutation::{
 use std::alloc::Global;
 use std::test::Fail;
 use system_keys::{Change, KeyRange};
-use testing::{Given, NOTHING, Step, admitted, batch, transaction};
+use testing::{Given, NOTHING, Step, admitted, batch, transaction, transaction_of};
 
 /// A value that waits for its stamp at the offset 2.
 const AT_TWO: &[u8] = b"ab0123456789\x02\x00\x00\x00";
@@ -101,6 +101,50 @@ fn the_first_fault_of_an_owned_transaction_is_told(rt: HostRuntime) -> Result<()
     let given = transaction(rt.alloc(), faulty)?;
     assert!(rt; matches!(admit(rt.alloc(), &given), Err(refusal) if refusal == refused));
     assert!(rt; matches!(admit_owned(rt.alloc(), given), Err(refusal) if refusal == refused));
+    Ok(())
+}
+
+/// A keyServers row.
+const ROW: &[u8] = b"\xff/keyServers/m";
+
+/// A value that lists the tags `0:1` and `0:2`, and `3:258`.
+const LISTING: &[u8] = b"\x00\x00\x02\x00\x00\x01\x00\x00\x02\x01\x03\x01\x02";
+
+/// Values of that row: no servers, one server, no tags, three tags.
+const ROW_VALUES: &[&[u8]] = &[
+    b"\x00\x00",
+    b"\x01server0000000001\x00",
+    b"\x00\x00\x00\x00",
+    LISTING,
+];
+
+/// Mutations of that row with values of neither form, and one that waits for its stamp.
+const BAD_ROWS: &[Step<'static>] = &[
+    Step::Set(ROW, b"\x00"),
+    Step::Set(ROW, b"\x00\x00\x01"),
+    Step::Set(ROW, b"\x00\x00\x02\x00\x00\x02\x00\x00\x01\x00"),
+    Step::Set(ROW, b"\x00\x00\x00\x00\x00"),
+    Step::SetStamped(ROW, LISTING),
+];
+
+#[test]
+fn a_row_of_either_form_is_admitted(rt: HostRuntime) -> Result<(), Fail> {
+    for value in ROW_VALUES {
+        let given = transaction_of(rt.alloc(), Step::Set(ROW, *value))?;
+        assert!(rt; admit(rt.alloc(), &given)?.mutations().len() == 1);
+        assert!(rt; admit_owned(rt.alloc(), given)?.mutations().len() == 1);
+    }
+    Ok(())
+}
+
+#[test]
+fn a_row_of_neither_form_is_refused(rt: HostRuntime) -> Result<(), Fail> {
+    let refused = Refusal::Key(system_keys::Refusal::BadRow);
+    for step in BAD_ROWS {
+        let given = transaction_of(rt.alloc(), *step)?;
+        assert!(rt; matches!(admit(rt.alloc(), &given), Err(refusal) if refusal == refused));
+        assert!(rt; matches!(admit_owned(rt.alloc(), given), Err(refusal) if refusal == refused));
+    }
     Ok(())
 }
 

@@ -4,7 +4,7 @@
 use model::Refusal::BadConfig;
 use mutation::Refusal;
 use std::test::Fail;
-use system_keys::{OutOfMemory, RowFault, TeamsFault};
+use system_keys::{OutOfMemory, RowFault, TagTeamsFault, TeamsFault};
 use testing::are_shown_as;
 
 /// Each refusal of a transaction in words; those of a key, a range or a change are shown alone.
@@ -37,7 +37,7 @@ const OF_TRANSACTIONS: &[(Refusal, &str)] = &[
 /// Each fault of a row's value, or of a text, in words.
 const OF_VALUES: &[(RowFault, &str)] = &[
     (RowFault::Truncated, "bytes are missing"),
-    (RowFault::NotRising, "server ids do not rise"),
+    (RowFault::NotRising, "server ids or tags do not rise"),
     (RowFault::Trailing, "bytes stand after the end"),
     (RowFault::BadText, "the text is no spelling of bytes"),
     (RowFault::OutOfMemory, "out of memory"),
@@ -52,6 +52,12 @@ const OF_TEAMS: &[(TeamsFault, &str)] = &[
     (TeamsFault::NotRising, "server ids do not rise"),
 ];
 
+/// Each fault of lists of tags in words.
+const OF_TAGS: &[(TagTeamsFault, &str)] = &[
+    (TagTeamsFault::TooManyTags, "a list has more than 255 tags"),
+    (TagTeamsFault::NotRising, "tags do not rise"),
+];
+
 /// The refusal of a configuration in words.
 const OF_NUMBERS: &[(model::Refusal, &str)] = &[(
     BadConfig,
@@ -64,6 +70,7 @@ fn refusals_are_shown_in_words(rt: HostRuntime) -> Result<(), Fail> {
     assert!(&rt; are_shown_as(alloc, OF_TRANSACTIONS)?);
     assert!(&rt; are_shown_as(alloc, OF_VALUES)?);
     assert!(&rt; are_shown_as(alloc, OF_TEAMS)?);
+    assert!(&rt; are_shown_as(alloc, OF_TAGS)?);
     assert!(&rt; are_shown_as(alloc, OF_NUMBERS)?);
     assert!(&rt; are_shown_as(alloc, &[(OutOfMemory, "out of memory")])?);
     Ok(())

@@ -4,9 +4,9 @@ use super::{assert_alike, assert_copied, is_range};
 use std::alloc::{AllocError, Global};
 use std::test::Fail;
 use system_keys::{
-    Bytes, Change, KeyRange, OutOfMemory, RowFault, RowKind, ServerId, Tag, Teams, TeamsFault,
-    classify, decode_key_servers, decode_tag, encode_key_servers, encode_tag, is_state,
-    print_bytes, read_bytes,
+    Bytes, Change, KeyRange, Location, OutOfMemory, RowFault, RowKind, ServerId, Tag, TagTeams,
+    TagTeamsFault, Teams, TeamsFault, classify, decode_key_servers, decode_location, decode_tag,
+    encode_key_servers, encode_tag, encode_tag_teams, is_state, print_bytes, read_bytes,
 };
 use testing::{Step, bytes, change, list, range, room, twice};
 
@@ -238,6 +238,154 @@ const BAD_VALUES: &[(&[u8], RowFault)] = &[
 fn a_key_servers_value_is_refused_by_its_first_fault(rt: HostRuntime) {
     for (value, fault) in BAD_VALUES {
         assert!(rt; decode_key_servers(rt.alloc(), *value).err() == Some(*fault));
+    }
+}
+
+/// This many tags, rising.
+fn many_tags(alloc: Global, count: u16) -> Result<Vec<Tag>, AllocError> {
+    let mut tags = room(alloc, usize::from(count))?;
+    for id in 0..count {
+        tags.push(Tag { locality: 0, id })?;
+    }
+    Ok(tags)
+}
+
+/// Whether these tags are refused for this fault, and both lists come back.
+fn are_refused_tags(sources: Vec<Tag>, destinations: Vec<Tag>, fault: TagTeamsFault) -> bool {
+    let counts = (sources.len(), destinations.len());
+    match TagTeams::new(sources, destinations) {
+        Ok(_) => false,
+        Err(refused) => refused.0 == fault && (refused.1.len(), refused.2.len()) == counts,
+    }
+}
+
+#[test]
+fn listed_tags_rise_and_are_few_enough(rt: HostRuntime) -> Result<(), Fail> {
+    let tag = Tag { locality: 0, id: 1 };
+    let equal = list(rt.alloc(), &[tag, tag])?;
+    assert!(rt; are_refused_tags(many_tags(rt.alloc(), 1)?, equal, TagTeamsFault::NotRising));
+    let sources = many_tags(rt.alloc(), 256)?;
+    assert!(rt;
+        are_refused_tags(
+            sources,
+            many_tags(rt.alloc(), 2)?,
+            TagTeamsFault::TooManyTags
+        )
+    );
+    Ok(())
+}
+
+/// 255 source tags and 255 destination tags.
+fn many_listed(alloc: Global) -> Result<TagTeams, Fail> {
+    let sources = many_tags(alloc, 255)?;
+    let destinations = many_tags(alloc, 255)?;
+    match TagTeams::new(sources, destinations) {
+        Ok(teams) => Ok(teams),
+        Err(refused) => Err(Fail::from(refused.0)),
+    }
+}
+
+fn encoded_tags(alloc: Global, teams: &TagTeams) -> Result<Vec<u8>, OutOfMemory> {
+    twice!(encode_tag_teams(alloc, teams), OutOfMemory)
+}
+
+fn located(alloc: Global, value: &[u8]) -> Result<Location, RowFault> {
+    twice!(decode_location(alloc, value), RowFault::OutOfMemory)
+}
+
+#[test]
+fn lists_of_255_tags_are_copied_and_have_a_value(rt: HostRuntime) -> Result<(), Fail> {
+    let teams = many_listed(rt.alloc())?;
+    assert!(rt; teams.sources().len() == 255 && teams.destinations().len() == 255);
+    assert_copied(&rt, &teams, TagTeams::copy);
+    let value = encoded_tags(rt.alloc(), &teams).expect(&rt, "a value");
+    assert!(rt; value.len() == 4 + 3 * 510);
+    let location = located(rt.alloc(), &value).expect(&rt, "a location");
+    assert_copied(&rt, &location, Location::copy);
+    assert_alike(&rt, &location, &Location::Tags(teams));
+    Ok(())
+}
+
+/// The value of a keyServers row that lists the source tags `0:1` and `0:2` and the destination tag
+/// `3:258`.
+const LISTING: [u8; 13] = [0, 0, 2, 0, 0, 1, 0, 0, 2, 1, 3, 1, 2];
+
+/// Whether the location lists the tags of `LISTING`.
+fn is_listing(location: &Location) -> bool {
+    let sources = [Tag { locality: 0, id: 1 }, Tag { locality: 0, id: 2 }];
+    let destinations = [Tag {
+        locality: 3,
+        id: 258,
+    }];
+    match location {
+        Location::Servers(_) => false,
+        Location::Tags(teams) => {
+            teams.sources() == sources.as_slice() && teams.destinations() == destinations.as_slice()
+        }
+    }
+}
+
+/// How many servers a location names, or else how many tags it lists.
+fn counted(location: &Location) -> Result<usize, usize> {
+    match location {
+        Location::Servers(teams) => Ok(teams.sources().len() + teams.destinations().len()),
+        Location::Tags(teams) => Err(teams.sources().len() + teams.destinations().len()),
+    }
+}
+
+#[test]
+fn a_location_is_that_of_the_vectors(rt: HostRuntime) -> Result<(), Fail> {
+    let listing = located(rt.alloc(), &LISTING)?;
+    assert!(rt; is_listing(&listing));
+    if let Location::Tags(teams) = &listing {
+        let value = encoded_tags(rt.alloc(), teams)?;
+        assert!(rt; value.as_slice() == LISTING.as_slice());
+    }
+    let one = located(rt.alloc(), &ONE_SOURCE)?;
+    assert!(rt; counted(&one) == Ok(1));
+    let none = located(rt.alloc(), b"\x00\x00")?;
+    assert!(rt; counted(&none) == Ok(0));
+    let no_tags = located(rt.alloc(), b"\x00\x00\x00\x00")?;
+    assert!(rt; counted(&no_tags) == Err(0));
+    Ok(())
+}
+
+/// Values of keyServers rows of either form, and the faults for which they are refused.
+const BAD_LOCATIONS: &[(&[u8], RowFault)] = &[
+    (b"", RowFault::Truncated),
+    (b"\x01server0000000001", RowFault::Truncated),
+    (b"\x00", RowFault::Truncated),
+    (b"\x01server0000000001\x00\x00", RowFault::Trailing),
+    (b"\x02server0000000002server0000000001", RowFault::NotRising),
+    (b"\x00\x00\x00", RowFault::Truncated),
+    (b"\x00\x00\x01", RowFault::Truncated),
+    (b"\x00\x00\x01\x00\x00\x01", RowFault::Truncated),
+    (
+        b"\x00\x00\x02\x00\x00\x02\x00\x00\x01\x00",
+        RowFault::NotRising,
+    ),
+    (b"\x00\x00\x03\x00\x00\x02\x00\x00\x02", RowFault::NotRising),
+    (
+        b"\x00\x00\x00\x02\x01\x00\x00\x00\xff\xff",
+        RowFault::NotRising,
+    ),
+    (b"\x00\x00\x00\x00\x00", RowFault::Trailing),
+    // source tags that fall before missing or further bytes, destination tags before further ones
+    (b"\x00\x00\x02\x00\x00\x02\x00\x00\x01", RowFault::NotRising),
+    (
+        b"\x00\x00\x02\x00\x00\x02\x00\x00\x01\x00\x07",
+        RowFault::NotRising,
+    ),
+    (
+        b"\x00\x00\x00\x02\x00\x00\x02\x00\x00\x01\x07",
+        RowFault::NotRising,
+    ),
+];
+
+#[test]
+fn a_location_is_refused_by_its_first_fault(rt: HostRuntime) {
+    for (value, fault) in BAD_LOCATIONS {
+        assert!(rt; decode_location(rt.alloc(), *value).err() == Some(*fault));
     }
 }
 

@@ -18,6 +18,9 @@ const VERSION: &[u8] = b"\xff/metadataVersion";
 
 const SERVERS_1_TO_2: &[u8] = b"\x01server0000000001\x01server0000000002";
 
+/// The source tag `0:0`, and the destination tag `0:2`.
+const LISTING: &[u8] = b"\x00\x00\x01\x00\x00\x00\x01\x00\x00\x02";
+
 const TAG_0: Tag = Tag { locality: 0, id: 0 };
 
 const TAG_2: Tag = Tag { locality: 0, id: 2 };
@@ -177,6 +180,15 @@ const STAGES: &[Stage] = &[
         ],
         &[(ROW_OF_B, Some(b"\x01server"))],
         &[Some(&[TAG_2]), Some(&[]), None],
+    ),
+    // a row that lists tags has them, whatever tag a server gets
+    (
+        &[
+            Step::Set(ROW_OF_B, LISTING),
+            Step::Set(TAG_ROW_1, b"\x00\x00\x01"),
+        ],
+        &[(ROW_OF_B, Some(LISTING))],
+        &[Some(&[TAG_1]), Some(&[TAG_0, TAG_2]), None],
     ),
     (
         &[

@@ -1,7 +1,7 @@
 -- The tags of the servers that are left, added to those so far, give what all give.
 use Rattle.std.proofs.Common.{◌≡◌, drop, fold, flat_map}
 use Rattle.std.specs.BTreeSet.{insert_key}
-use Rattle.model.specs.Metadata.{tag_cmp}
+use Rattle.system_keys.specs.ListedTags.{tag_cmp}
 use Rattle.metadata.specs.CachedTags.{tag_by}
 use Rattle.metadata.specs.ServerTables.{values_after}
 use Rattle.metadata.proofs.server_tags.add_server_tags.Given as goal
