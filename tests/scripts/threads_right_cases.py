@@ -218,6 +218,14 @@ def moved_ranges():
         ),
         outcomes(0, "committed", "committed", "conflict"), closings(40), shown(0, 40),
     )
+    # the write of c counts unless it goes to the resolver at which its transaction conflicts
+    overlapping = [move("b", "d", 1), move("c", "e", 0)]
+    batches = [[written("n")], [transaction(5, [one_key("n")], [one_key("c")])], [read("c", 10)]]
+    for name, moves, last in (("later", overlapping, "committed"), ("earlier", overlapping[::-1], "conflict")):
+        yield case(
+            "two moves that overlap, of which the %s goes back to the first resolver" % name, threads(batches, moves=moves),
+            outcomes(0, "committed", "conflict", last), closings(40), shown(0, 40),
+        )
     many = [move("a", "z", it) for it in range(64)]
     yield case("moves to each of 64", threads([[written("n")], [read("n")]], moves=many, resolvers=64),
                outcomes(0, "committed", "conflict"), closings(30), shown(0, 30))

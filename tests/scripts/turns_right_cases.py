@@ -721,7 +721,18 @@ def many_events():
     )
 
 
+def repeats():
+    """A request that comes again gets the same reply at each of 64 resolvers."""
+    state = transaction(0, [], [], [put(METADATA_VERSION, "v")], True)
+    yield case(
+        "a request again at each of 64 resolvers",
+        turns(sequence(0, state), offers(0, resolvers=64), offers(0, resolvers=64), finish(0), proxies=1, resolvers=64),
+        sequenced(1), [offered(0, it, "committed") for it in range(64)], [offered(0, it, "committed", how="again") for it in range(64)],
+        finished(0, 10, "txn 0 committed 10 0", "mutation 0 0 tags none"), shown(0, 10, metadata_version='"v"'),
+    )
+
+
 CASES = (
-    small_ones, stamps, moved_ranges, owners_in_the_window, verdicts, many_parts, refused_writes, state_transactions, locks, outcomes,
+    small_ones, repeats, stamps, moved_ranges, owners_in_the_window, verdicts, many_parts, refused_writes, state_transactions, locks, outcomes,
     locks_among_rows, told_rows, tags, listed_tags, private_copies, clears_and_sets, refused_events, last_numbers, many_events,
 )
