@@ -117,6 +117,10 @@ value_is_last {X} d (e ∷ es) key r = by (is_key_below key.items e.0.items) ref
     by true h rec = sym (value_up_to d (starts_of es) e.0.items key.items r.0 (not_below_back key.items e.0.items h)) ∙ rec d
     by false h rec = rec e.1
 
+pub with_last : {X : Type 0} (front : List (Vec ℕ × X)) (key : Vec ℕ) (value : X) → starts_of (front ++ (key, value) ∷ []) ≡ starts_of front ++ (key.items, value) ∷ []
+with_last [] key value = refl
+with_last {X} (e ∷ front) key value = ap (λ (ss : List (Key × X)). (e.0.items, e.1) ∷ ss) (with_last front key value)
+
 pub last_entry : {X : Type 0} (d : X) (front : List (Vec ℕ × X)) (key : Vec ℕ) (value : X) → last_value d (starts_of (front ++ (key, value) ∷ [])) ≡ value
 last_entry d [] key value = refl
 last_entry d (e ∷ front) key value = last_entry e.1 front key value

@@ -171,7 +171,7 @@ pub(crate) fn count_pieces(pieces: &Pieces, oldest: Version) -> usize
 }
 
 /// Whether one key is below the other.
-fn is_below(a: &[u8], b: &[u8]) -> bool
+pub(crate) fn is_below(a: &[u8], b: &[u8]) -> bool
     ensures { result ≡ is_key_below a.now b.now }
 {
     a.cmp(b).is_lt()

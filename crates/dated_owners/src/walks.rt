@@ -11,10 +11,9 @@ ghost use Rattle.dated_owners.specs.Flags.{Flags};
 
 use crate::flags::{flag, flagged};
 use crate::later_owners::LaterOwner;
-use crate::pieces::{Pieces, owners_at};
+use crate::pieces::{Pieces, is_below};
 use model::{ResolverNumber, Version};
 use std::alloc::Global;
-use std::ops::Bound;
 use system_keys::{Items, OutOfMemory};
 
 /// Which owners of a key are asked.
@@ -46,17 +45,21 @@ pub(crate) fn askers(
 }
 
 /// Flags the resolvers that are asked about some key from `begin` up to `end`: the owners are those
-/// at `begin`, and at each key inside at which they change.
+/// from each start inside on, and from the last start up to `begin`, which are those at `begin`.
 fn flag_askers(pieces: &Pieces, walk: Walk, begin: &Vec<u8>, end: &Vec<u8>, flags: &mut [bool])
     requires { is_key_below begin.now.items end.now.items ≡ true }
     ensures { let range : Range = record { begin = begin.now.items; end = end.now.items } in
         let starts = starts_of pieces.now.entries in
         Flags flags.old (λ r. some_start [] starts (takes_later walk r) range) flags.new }
 {
-    flag_owners(owners_at(pieces, begin), walk, flags);
-    for (_, owners) in pieces.range((Bound::Excluded(begin), Bound::Excluded(end))) {
+    let mut left = pieces.range(..end);
+    while let Some((key, owners)) = left.next_back() {
         flag_owners(owners.as_slice(), walk, flags);
+        if !is_below(begin.as_slice(), key.as_slice()) {
+            return;
+        }
     }
+    flag_owners(&[], walk, flags);
 }
 
 /// Flags the resolvers that are asked about a key with these owners after the first one.

@@ -1,5 +1,5 @@
 -- What the type of a proxy keeps, from the start and from one record to the next.
-use Rattle.std.proofs.Common.{◌≡◌, refl, sym, ap, ◌∙◌, subst, ℕ, ◌+◌, ◌-◌, ◌≤◌, max, List, [], ◌∷◌, ◌++◌, map, length, drop, take-append-drop, arith, nat_eq, eq-eqb, true, None}
+use Rattle.std.proofs.Common.{◌≡◌, refl, sym, ap, ◌∙◌, subst, ℕ, ◌+◌, ◌-◌, ◌≤◌, max, List, [], ◌∷◌, ◌++◌, map, length, drop, take-append-drop, arith, nat_eq, eq-eqb, true, Option, Some, None, IfSome}
 use Rattle.std.specs.List.{AllZip}
 use Rattle.model.specs.Configs.{Config}
 use Rattle.model.specs.declared.moves.Move.{Move}
@@ -7,13 +7,12 @@ use Rattle.model.specs.declared.journal.JournalRow.{JournalRow}
 use Rattle.model.specs.Records.{Record, oldest}
 use Rattle.model.specs.Shares.{asked}
 use Rattle.model.specs.Metadata.{Entries, metadata}
-use Rattle.model.specs.OwnerMaps.{OwnerMapView, StandsForMoves}
+use Rattle.model.specs.OwnerMaps.{OwnerMapView, StandsForMoves, DatesInOrder}
 use Rattle.model.specs.Finishing.{ProxyView, MayBegin, MayBeMade}
-use Rattle.dated_owners.specs.Answers.{KeepsMoves}
 use Rattle.proxy_state.specs.declared.begun.BegunRecord.{BegunRecord}
 use Rattle.proxy_state.specs.Begun.{FollowsOwn, AreBegun, IsKept}
-use Rattle.proxy_state.specs.Beginning.{begin_fault, MayGain, HasGained, HasMapFor, IsMapFor}
-use Rattle.proxy_state.proofs.MadeMoves.{gained_none, drop_past}
+use Rattle.proxy_state.specs.Beginning.{begin_fault, MayGain, HasGained, HasMapFor, IsMapFor, IsKeptFor}
+use Rattle.proxy_state.specs.HeldMaps.{IsMapOf, IsFilled}
 
 -- ---- at the start, and in a copy
 
@@ -81,7 +80,7 @@ all_moves v rec after may gained =
     ap (λ (n : ℕ). may.moves ++ drop n rec.moves) may.holds.count ∙ ap (λ (ms : List Move). ms ++ drop (length may.moves) rec.moves) (sym may.kept_moves) ∙ take-append-drop (length may.moves) rec.moves in
     subst (StandsForMoves after) moves (gained.stands may.moves may.holds.stands)
 
--- the map that gained the further moves is one for the record; if there are none, so is the old one
+-- the map that gained the further moves is one for the record
 pub has_map : (v : ProxyView) (rec : Record) (after : OwnerMapView) → v.owned.resolvers ≡ v.config.resolvers → v.owned.oldest ≤ v.last_begun - v.config.window → rec.own_previous ≡ v.last_begun → MayBegin v rec → HasGained v.owned (drop v.moved rec.moves) after → HasMapFor v.config rec after
 has_map v rec after resolvers remembered own may gained =
     let before : after.oldest ≡ v.owned.oldest = gained.oldest in
@@ -92,19 +91,39 @@ has_map v rec after resolvers remembered own may gained =
       remembered = omega (arith, before, below, own, remembered);
     }
 
-pub has_map_now : (v : ProxyView) (rec : Record) → v.owned.resolvers ≡ v.config.resolvers → v.owned.oldest ≤ v.last_begun - v.config.window → rec.own_previous ≡ v.last_begun → MayBegin v rec → length rec.moves ≤ v.moved → HasMapFor v.config rec v.owned
-has_map_now v rec resolvers remembered own may none =
-    has_map v rec v.owned resolvers remembered own may (subst (λ (ms : List Move). HasGained v.owned ms v.owned) (sym (drop_past rec.moves v.moved none)) (gained_none v.owned))
+-- the moves of the record and their map are kept by a proxy with this map
+pub kept_for : (config before : Config) (rec : Record) (owned : OwnerMapView) (kept : Option OwnerMapView) (moves : List Move) → before ≡ config → IfSome kept (HasMapFor before rec) → moves ≡ rec.moves → DatesInOrder 0 rec.moves → owned.resolvers ≡ config.resolvers → IsKeptFor config rec owned kept moves
+kept_for config before rec owned kept moves same has moves_are in_order resolvers =
+    record { map_for = subst (λ (numbers : Config). IfSome kept (HasMapFor numbers rec)) same has; moves_are = moves_are; in_order = in_order; resolvers = resolvers }
 
--- the map forgets what the record does not ask about
-pub forgotten : (config : Config) (rec : Record) (before after : OwnerMapView) → HasMapFor config rec before → KeepsMoves before after → after.resolvers ≡ before.resolvers → after.oldest ≡ max before.oldest (oldest config rec) → IsMapFor config rec after
-forgotten config rec before after has keeps same raised =
-    let remembered = has.remembered in
-    record {
-      stands = keeps rec.moves has.stands;
-      resolvers = same ∙ has.resolvers;
-      oldest = omega (arith, raised, remembered);
-    }
+-- they may take the place of those before
+pub filled_for : (config : Config) (rec : Record) (owned : OwnerMapView) (kept : Option OwnerMapView) (moves : List Move) (n : ℕ) → IsKeptFor config rec owned kept moves → n ≡ oldest config rec → IsFilled owned kept moves n
+filled_for config rec owned kept moves n is same =
+    record { in_order = subst (DatesInOrder 0) (sym is.moves_are) is.in_order; map_of = by kept is.map_for }
+  where
+    by : (o : Option OwnerMapView) → IfSome o (HasMapFor config rec) → IfSome o (IsMapOf moves owned.resolvers n)
+    by None has = tt
+    by (Some map) has =
+        let remembered = has.remembered in
+        record {
+          stands = subst (StandsForMoves map) (sym is.moves_are) has.stands;
+          resolvers = has.resolvers ∙ sym is.resolvers;
+          remembered = omega (arith, remembered, same);
+        }
+
+-- and then the proxy has the map for the record
+pub map_for : (config : Config) (rec : Record) (owned after : OwnerMapView) (kept : Option OwnerMapView) (moves : List Move) → IsKeptFor config rec owned kept moves → after.resolvers ≡ owned.resolvers → after.oldest ≡ oldest config rec → StandsForMoves after moves → IsMapFor config rec after
+map_for config rec owned after kept moves is same raised stands =
+    record { stands = subst (StandsForMoves after) is.moves_are stands; resolvers = same ∙ is.resolvers; oldest = raised }
+
+-- a map that proxies share is one for the record
+pub shared_map : (config : Config) (rec : Record) (moves : List Move) (n : ℕ) (map : OwnerMapView) → moves ≡ rec.moves → n ≡ oldest config rec → IsMapOf moves config.resolvers n map → HasMapFor config rec map
+shared_map config rec moves n map same oldest_is is =
+    let remembered = is.remembered in
+    record { stands = subst (StandsForMoves map) same is.stands; resolvers = is.resolvers; remembered = omega (arith, remembered, oldest_is) }
+
+pub in_order_for : (config : Config) (rec : Record) (map : OwnerMapView) → HasMapFor config rec map → DatesInOrder 0 rec.moves
+in_order_for config rec map has = has.stands.in_order
 
 -- ---- the requests by a map that remembers further back
 

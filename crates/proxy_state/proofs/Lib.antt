@@ -2,8 +2,8 @@ pub mod AskedParts
 pub mod BelowLaws
 pub mod ColumnLaws
 pub mod FinishedProxies
+pub mod HeldMaps
 pub mod Joins
 pub mod KeptProxies
 pub mod MadeMoves
 pub mod Misfits
-pub mod SecondMaps

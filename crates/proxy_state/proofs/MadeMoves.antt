@@ -1,5 +1,5 @@
 -- Moves that are made in a map of owners one after another.
-use Rattle.std.proofs.Common.{◌≡◌, refl, sym, ap, ◌∙◌, subst, ℕ, zero, suc, length, drop, ◌≤◌, List, [], ◌∷◌, ◌++◌, append_assoc, append-nil, slice_get, Some, None, false, nat_le, nat_lt, arith}
+use Rattle.std.proofs.Common.{◌≡◌, refl, sym, ap, ◌∙◌, subst, ℕ, zero, suc, length, take, drop, ◌≤◌, List, [], ◌∷◌, ◌++◌, append_assoc, append-nil, slice_get, Some, None, false, nat_le, nat_lt, arith}
 use Rattle.std.proofs.lemmas.Bool.{lt-leb, le-ltb}
 use Rattle.std.proofs.lemmas.Option.{none-some, same_Some}
 use Rattle.model.specs.declared.moves.Move.{Move}
@@ -27,6 +27,14 @@ gained_first before between after m moves first others =
       oldest = others.oldest ∙ first.oldest;
     }
 
+pub gained_more : (before between after : OwnerMapView) (moves : List Move) (m : Move) → HasGained before moves between → HasGained between (m ∷ []) after → HasGained before (moves ++ m ∷ []) after
+gained_more before between after moves m all one =
+    record {
+      stands = λ held stands. subst (StandsForMoves after) (append_assoc held moves (m ∷ [])) (one.stands (held ++ moves) (all.stands held stands));
+      resolvers = one.resolvers ∙ all.resolvers;
+      oldest = one.oldest ∙ all.oldest;
+    }
+
 pub may_next : (map after : OwnerMapView) (m : Move) (moves : List Move) → MayGain map (m ∷ moves) → HasGained map (m ∷ []) after → MayGain after moves
 may_next map after m moves gain gained =
     let stands = gained.stands gain.held gain.stands in
@@ -52,3 +60,19 @@ drop_past [] zero past = refl
 drop_past [] (suc n) past = refl
 drop_past (m ∷ moves) zero past = absurd (omega (arith, past))
 drop_past (m ∷ moves) (suc n) past = drop_past moves n (omega (arith, past))
+
+-- ---- the moves so far, and the next one
+
+take_next : (moves : List Move) (i : ℕ) (m : Move) → slice_get moves i ≡ Some m → take (suc i) moves ≡ take i moves ++ m ∷ []
+take_next [] i m found = absurd (none-some m found)
+take_next (x ∷ moves) zero m found = λ j. same_Some x m found j ∷ []
+take_next (x ∷ moves) (suc i) m found = ap (λ (ms : List Move). x ∷ ms) (take_next moves i m found)
+
+pub take_found : (moves : List Move) (i k : ℕ) (m : Move) → k ≡ suc i → slice_get moves i ≡ Some m → take k moves ≡ take i moves ++ m ∷ []
+take_found moves i k m next found = ap (λ (n : ℕ). take n moves) next ∙ take_next moves i m found
+
+pub take_past : (moves : List Move) (n : ℕ) → length moves ≤ n → take n moves ≡ moves
+take_past [] zero past = refl
+take_past [] (suc n) past = refl
+take_past (m ∷ moves) zero past = absurd (omega (arith, past))
+take_past (m ∷ moves) (suc n) past = ap (λ (ms : List Move). m ∷ ms) (take_past moves n (omega (arith, past)))

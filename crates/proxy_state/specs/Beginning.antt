@@ -1,6 +1,6 @@
 -- Which records a proxy refuses to begin, and what becomes of its map of owners.
 use Rattle.std.specs.Prelude.{◌≡◌, ℕ, List, ◌∷◌, ◌++◌, Option, Some, None, not, nat_eq, nat_le}
-use Rattle.std.specs.Prelude.{if◌then◌else◌, drop, filter, map, ◌≤◌, Bool}
+use Rattle.std.specs.Prelude.{if◌then◌else◌, filter, map, ◌≤◌, Bool, IfSome}
 use Rattle.std.specs.List.{list_any}
 use Rattle.model.specs.Configs.{Config}
 use Rattle.model.specs.declared.moves.Move.{Move}
@@ -8,9 +8,8 @@ use Rattle.model.specs.declared.journal.JournalRow.{JournalRow}
 use Rattle.model.specs.Records.{Record, oldest}
 use Rattle.model.specs.Shares.{each_below}
 use Rattle.model.specs.Requests.{Request, request}
-use Rattle.model.specs.OwnerMaps.{OwnerMapView, StandsForMoves}
+use Rattle.model.specs.OwnerMaps.{OwnerMapView, StandsForMoves, DatesInOrder}
 use Rattle.model.specs.Finishing.{ProxyView, MayBeMade}
-use Rattle.proxy_state.specs.declared.owners.MovedMap.{MovedMap}
 use Rattle.proxy_state.specs.declared.refusal.Refusal.{Refusal}
 use Rattle.proxy_state.specs.declared.refusal.Refusal.TheVariants.{NotMine, OutOfOrder, OutOfMemory}
 
@@ -59,16 +58,6 @@ pub record HasGained (before : OwnerMapView) (moves : List Move) (after : OwnerM
   pub resolvers : after.resolvers ≡ before.resolvers
   pub oldest : after.oldest ≡ before.oldest
 
--- the moved map is the one before with the moves of its list from its place on, which may be made
-pub record HasMade (before : OwnerMapView) (moved : MovedMap) : Type 0 where
-  pub may : MayGain before (drop moved.from moved.moves)
-  pub gained : HasGained before (drop moved.from moved.moves) moved.owners
-
--- the map of a proxy with the further moves of a record: the moved one, if it has any
-abbrev pub newest_of : Option MovedMap → OwnerMapView → OwnerMapView
-newest_of None owned = owned
-newest_of (Some moved) owned = moved.owners
-
 -- the map stands for the moves of the record, and remembers owners at least as far back as the record
 -- asks
 pub record HasMapFor (config : Config) (rec : Record) (map : OwnerMapView) : Type 0 where
@@ -81,3 +70,13 @@ pub record IsMapFor (config : Config) (rec : Record) (map : OwnerMapView) : Type
   pub stands : StandsForMoves map rec.moves
   pub resolvers : map.resolvers ≡ config.resolvers
   pub oldest : map.oldest ≡ oldest config rec
+
+-- These are the moves of the record, whose dates never decrease, and the map, if there is one, is one
+-- for the record. The proxy has the map `owned`.
+pub record IsKeptFor
+    (config : Config) (rec : Record) (owned : OwnerMapView) (kept : Option OwnerMapView)
+    (moves : List Move) : Type 0 where
+  pub map_for : IfSome kept (HasMapFor config rec)
+  pub moves_are : moves ≡ rec.moves
+  pub in_order : DatesInOrder 0 rec.moves
+  pub resolvers : owned.resolvers ≡ config.resolvers

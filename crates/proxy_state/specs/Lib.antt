@@ -4,8 +4,8 @@
 pub mod Refusals
 -- which records are refused, and what becomes of the map of owners
 pub mod Beginning
--- the two maps of owners of a proxy
-pub mod SecondMaps
+-- the map of owners of a proxy, and the moves for which it stands
+pub mod HeldMaps
 -- what the type of a proxy keeps
 pub mod Begun
 -- what lists of asked resolvers say of shares, and columns of verdicts

@@ -13,6 +13,7 @@ mod learning;
 mod moving;
 mod outcomes;
 mod own_row;
+mod owned_moves;
 mod owners;
 mod proxy;
 mod refusal;
@@ -24,6 +25,7 @@ pub use metadata::Metadata;
 pub use model::{
     Finished, JournalRow, Outcome, PrivateCopy, Route, Routing, StateTxn, Tagged, Verdict,
 };
+pub use owned_moves::OwnedMoves;
 pub use proxy::Proxy;
 pub use refusal::Refusal;
 pub use replies::Replies;

@@ -1,75 +1,47 @@
-//! The two maps of owners of a proxy.
+//! The map of owners of a proxy, and the moves for which it stands.
 
-ghost use Rattle.std.specs.Prelude.{◌≡◌, ◌≤◌, [], drop, max, IfOk};
+ghost use Rattle.std.specs.Prelude.{◌≡◌, ◌≤◌, [], drop, IfOk};
 ghost use Rattle.model.specs.OwnerMaps.{StandsForMoves};
-ghost use Rattle.dated_owners.specs.Answers.{KeepsMoves};
-ghost use Rattle.proxy_state.specs.Beginning.{MayGain, HasGained, HasMade};
-ghost use Rattle.proxy_state.specs.SecondMaps.{IsBehind, IsAlike};
+ghost use Rattle.proxy_state.specs.Beginning.{MayGain, HasGained};
+ghost use Rattle.proxy_state.specs.HeldMaps.{held_map, IsAlike, IsFilled, IsForgetful};
 
-use crate::moving::make_moves;
+use crate::moving::{make_again, make_moves};
 use dated_owners::OwnerMap;
 use model::Version;
 use request_builder::Moves;
 use std::alloc::Global;
 use std::marker::Model;
-use std::mem;
 use system_keys::OutOfMemory;
 
-/// The map of owners of a proxy. Contracts see this map.
+/// The map of owners of a proxy. Contracts see a map that stands for its moves.
 ///
-/// Further moves are made in another map, which then takes its place; so it stays as it is if an
-/// allocation fails. The old one is kept as a second map, which lacks these moves, and the next moves
-/// are made in that one. So the map is copied only where there is no second map: for the first moves,
-/// for the first ones after a copy of the proxy, and after a `begin` that failed once it had taken
-/// the second map. A second map takes as much memory as the map.
+/// A `begin` takes the map, makes the further moves in it, and puts it back once nothing can fail. One
+/// that fails in between has used the map up, and so has one that asks a map which proxies share; the
+/// next one that needs it makes all moves again in a new map.
 #[derive(Drop)]
 pub(crate) struct ProxyOwners {
-    newest: OwnerMap,
-    second: Option<SecondMap>,
-}
-
-/// A map of owners that lacks the moves of a list from a place on.
-#[derive(Drop)]
-struct SecondMap {
-    owners: OwnerMap,
+    resolvers: usize,
+    oldest: Version,
+    /// The moves for which the map stands.
     moves: Moves,
-    from: usize,
-}
-
-/// A map of owners in which the moves of a list from a place on have been made, and these moves.
-#[derive(Drop)]
-pub(crate) struct MovedMap {
-    /// The map with the moves.
-    pub(crate) owners: OwnerMap,
-    /// The list of moves.
-    moves: Moves,
-    /// The place of the first move that was made.
-    from: usize,
-}
-
-impl Model for SecondMap {
-    ghost use Rattle.std.specs.Prelude.{drop};
-    ghost use Rattle.proxy_state.specs.SecondMaps.{LaggingMap};
-
-    ghost Value = { LaggingMap };
-
-    ghost view = { λ s. record { map = s.owners; lacks = drop s.from s.moves } };
+    /// None if the map is used up.
+    map: Option<OwnerMap>,
 }
 
 impl Model for ProxyOwners {
-    ghost use Rattle.std.specs.Prelude.{IfSome};
     ghost use Rattle.model.specs.OwnerMaps.{OwnerMapView};
-    ghost use Rattle.proxy_state.specs.SecondMaps.{IsBehind};
+    ghost use Rattle.proxy_state.specs.HeldMaps.{held_map, IsHeld};
 
     ghost Value = { OwnerMapView };
 
-    ghost view = { λ o. o.newest };
+    ghost view = { λ o. held_map o.resolvers o.oldest o.moves };
 
-    ghost invariant = { λ o. IfSome o.second (λ second. IsBehind second o.newest) };
+    ghost invariant = { λ o. IsHeld o.resolvers o.oldest o.moves o.map };
 }
 
 impl ProxyOwners {
     /// The map before any move, for 1 to 64 resolvers. Fails only with `OutOfMemory`.
+    #[tactic(auto, using(crate::proofs::HeldMaps::held_first, crate::proofs::HeldMaps::stands_first))]
     pub(crate) fn new(alloc: Global, resolvers: usize) -> Result<ProxyOwners, OutOfMemory>
         requires { (1 ≤ resolvers) × (resolvers ≤ 64) }
         ensures resolvers { IfOk result (λ map. map.resolvers ≡ resolvers) }
@@ -77,101 +49,111 @@ impl ProxyOwners {
         ensures stands { IfOk result (λ map. StandsForMoves map []) }
     {
         Ok(ProxyOwners {
-            newest: OwnerMap::new(alloc, resolvers)?,
-            second: None,
+            resolvers,
+            oldest: 0,
+            moves: Moves::new(alloc),
+            map: Some(OwnerMap::new(alloc, resolvers)?),
         })
     }
 
-    /// The map.
-    pub(crate) fn newest(&self) -> &OwnerMap
-        ensures { result.now ≡ self.now }
-    {
-        &self.newest
-    }
-
-    /// Returns the map that follows: the newest one with the moves from this place on, in which
-    /// they have been made, beside a copy of the list. Fails only with `OutOfMemory`.
+    /// Returns the map that follows: this one, in which the moves of the list from this place on have
+    /// been made. Fails only with `OutOfMemory`.
     ///
-    /// Uses up the second map, also if it fails.
-    #[tactic(auto, using(crate::proofs::SecondMaps::alike_may_gain, crate::proofs::SecondMaps::alike_made))]
-    pub(crate) fn next_map(&mut self, moves: &Moves, from: usize) -> Result<MovedMap, OutOfMemory>
+    /// Uses up the map, also if it fails.
+    #[tactic(auto, using(crate::proofs::HeldMaps::alike_may_gain, crate::proofs::HeldMaps::alike_gained))]
+    pub(crate) fn next_map(
+        &mut self,
+        alloc: Global,
+        moves: &Moves,
+        from: usize,
+    ) -> Result<OwnerMap, OutOfMemory>
         requires { MayGain self.old (drop from moves.now) }
-        ensures gained { IfOk result (λ moved.
-            HasGained self.old (drop from moves.now) moved.owners) }
-        ensures made { IfOk result (λ moved. HasMade self.old moved) }
+        ensures gained { IfOk result (HasGained self.old (drop from moves.now)) }
         ensures same { self.new ≡ self.old }
     {
-        let mut owners = self.another()?;
+        let mut owners = self.taken(alloc)?;
         make_moves(&mut owners, moves, from)?;
-        Ok(MovedMap {
-            owners,
-            moves: moves.copy()?,
-            from,
-        })
+        Ok(owners)
     }
 
-    /// A map like the newest one: the second one with the moves that it lacks, or else a copy.
-    /// Afterwards there is no second map.
-    #[tactic(auto, using(crate::proofs::SecondMaps::alike_itself))]
-    fn another(&mut self) -> Result<OwnerMap, OutOfMemory>
+    /// The map itself, or a new one with all moves if it is used up. Afterwards it is used up.
+    #[tactic(auto, using(crate::proofs::HeldMaps::held_none))]
+    fn taken(&mut self, alloc: Global) -> Result<OwnerMap, OutOfMemory>
         ensures alike { IfOk result (λ map. IsAlike self.old map) }
         ensures same { self.new ≡ self.old }
     {
-        match self.second.take() {
-            Some(second) => caught_up(second, &self.newest),
-            None => self.newest.copy(),
+        match self.map.take() {
+            Some(map) => Ok(map),
+            None => made_again(alloc, self.resolvers, &self.moves, self.oldest),
         }
     }
 
-    /// Puts the map with the moves in the place of the newest one, which becomes the second one.
-    /// Does not allocate.
-    #[tactic(auto, using(crate::proofs::SecondMaps::is_behind))]
-    pub(crate) fn replace(&mut self, moved: MovedMap)
-        requires { HasMade self.old moved }
-        ensures { self.new ≡ moved.owners }
-    {
-        let owners = mem::replace(&mut self.newest, moved.owners);
-        self.second = Some(SecondMap {
-            owners,
-            moves: moved.moves,
-            from: moved.from,
-        });
-    }
-
-    /// Raises the oldest version remembered, as [`OwnerMap::forget`] does. Does not allocate.
-    #[tactic(auto, using(crate::proofs::SecondMaps::stays_behind))]
-    pub(crate) fn forget(&mut self, oldest: Version)
+    /// Keeps these moves and their map in the place of those before, and forgets back to `oldest`, as
+    /// [`OwnerMap::forget`] does. Without a map it is used up. Does not allocate.
+    #[tactic(auto, using(crate::proofs::HeldMaps::held_filled, crate::proofs::HeldMaps::stands_filled))]
+    pub(crate) fn fill(&mut self, map: Option<OwnerMap>, moves: Moves, oldest: Version)
+        requires { IsFilled self.old map moves oldest }
         ensures resolvers { self.new.resolvers ≡ self.old.resolvers }
-        ensures oldest { self.new.oldest ≡ max self.old.oldest oldest }
-        ensures stands { KeepsMoves self.old self.new }
+        ensures oldest { self.new.oldest ≡ oldest }
+        ensures stands { StandsForMoves self.new moves }
     {
-        self.newest.forget(oldest);
+        self.oldest = oldest;
+        self.moves = moves;
+        self.map = forgetful(map, oldest);
     }
 
-    /// Returns a deep copy, without a second map. Fails only with `OutOfMemory`.
+    /// Returns a deep copy. Fails only with `OutOfMemory`.
+    #[tactic(auto, using(crate::proofs::HeldMaps::held_copy))]
     pub(crate) fn copy(&self) -> Result<ProxyOwners, OutOfMemory>
         ensures { IfOk result (λ copy. copy ≡ self.now) }
     {
         Ok(ProxyOwners {
-            newest: self.newest.copy()?,
-            second: None,
+            resolvers: self.resolvers,
+            oldest: self.oldest,
+            moves: self.moves.copy()?,
+            map: copied(&self.map)?,
         })
     }
 }
 
-/// The second map with the moves that it lacks. Fails only with `OutOfMemory`.
-#[tactic(auto, using(crate::proofs::SecondMaps::behind_may_gain, crate::proofs::SecondMaps::caught_up))]
-fn caught_up(second: SecondMap, newest: &OwnerMap) -> Result<OwnerMap, OutOfMemory>
-    requires { IsBehind second newest.now }
-    ensures { IfOk result (λ map. IsAlike newest.now map) }
+/// The map once it has forgotten back to `oldest`, if there is one.
+#[tactic(auto, using(crate::proofs::HeldMaps::forgetful_map))]
+fn forgetful(map: Option<OwnerMap>, oldest: Version) -> Option<OwnerMap>
+    ensures { IsForgetful map oldest result }
 {
-    let SecondMap {
-        owners,
-        moves,
-        from,
-    } = second;
-    let mut owners = owners;
-    make_moves(&mut owners, &moves, from)?;
-    owners.forget(newest.oldest());
+    match map {
+        Some(map) => {
+            let mut map = map;
+            map.forget(oldest);
+            Some(map)
+        }
+        None => None,
+    }
+}
+
+/// A deep copy of the map, if there is one.
+fn copied(map: &Option<OwnerMap>) -> Result<Option<OwnerMap>, OutOfMemory>
+    ensures { IfOk result (λ copy. copy ≡ map.now) }
+{
+    match map {
+        Some(map) => Ok(Some(map.copy()?)),
+        None => Ok(None),
+    }
+}
+
+/// A new map, in which all moves are made. Fails only with `OutOfMemory`.
+#[tactic(auto, using(crate::proofs::HeldMaps::again_alike))]
+fn made_again(
+    alloc: Global,
+    resolvers: usize,
+    moves: &Moves,
+    oldest: Version,
+) -> Result<OwnerMap, OutOfMemory>
+    requires { (1 ≤ resolvers) × (resolvers ≤ 64) }
+    ensures { IfOk result (λ map. IsAlike (held_map resolvers oldest moves.now) map) }
+{
+    let mut owners = OwnerMap::new(alloc, resolvers)?;
+    make_again(&mut owners, moves)?;
+    owners.forget(oldest);
     Ok(owners)
 }

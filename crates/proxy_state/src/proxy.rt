@@ -5,19 +5,21 @@
 ghost use Rattle.std.specs.Prelude.{◌≡◌, ◌≤◌, ◌<◌, [], map, None, Some, IfOk, IfErr, OnOk, OnErr};
 ghost use Rattle.std.specs.Prelude.{IfSome, IsOk, MatchResult, MatchOption, false};
 ghost use Rattle.model.specs.Metadata.{metadata as metadata_of};
+ghost use Rattle.model.specs.OwnerMaps.{DatesInOrder};
 ghost use Rattle.model.specs.Shares.{asked};
 ghost use Rattle.model.specs.Finishing.{HoldsMoves, MayBegin, HasBegun, HasFinished};
 ghost use Rattle.proxy_state.specs.declared.refusal.Refusal.TheVariants as refusals;
 ghost use Rattle.proxy_state.specs.Beginning.{refusal_fault, begin_fault, requests_for, rows_up_to};
-ghost use Rattle.proxy_state.specs.Beginning.{HasMade, newest_of, HasMapFor, IsFirst, has_row_up_to};
+ghost use Rattle.proxy_state.specs.Beginning.{HasMapFor, IsFirst, has_row_up_to};
 ghost use Rattle.proxy_state.specs.Finishing.{finish_fault, IsReplied, IsLearned};
 
 use crate::begun::BegunRecord;
 use crate::finishing::finish_batch;
 use crate::learned::Learned;
 use crate::learning::{first_disagreement, first_unreplied};
-use crate::moving::{forget_owners, keep_moved, newest_map};
-use crate::owners::{MovedMap, ProxyOwners};
+use crate::moving::keep_map;
+use crate::owned_moves::OwnedMoves;
+use crate::owners::ProxyOwners;
 use crate::refusal::Refusal;
 use crate::replies::Replies;
 use dated_owners::OwnerMap;
@@ -171,6 +173,42 @@ impl Proxy {
         ensures begun { OnOk result (HasBegun self.old self.new rec.now) }
         ensures err { OnErr result (self.new ≡ self.old) }
     {
+        self.begin_by(rec, None)
+    }
+
+    /// Begins a record of this proxy as [`Proxy::begin`] does, by the map of owners that these moves
+    /// give, which proxies share. They must be the moves of the record.
+    #[tactic(auto, using(crate::proofs::KeptProxies::shared_map))]
+    pub fn begin_with(&mut self, rec: &Record, owned: &OwnedMoves) -> Result<Requests, Refusal>
+        requires may { MayBegin self.old rec.now }
+        requires moves { owned.now ≡ rec.now.moves }
+        ensures ok { OnOk result (begin_fault self.old rec.now ≡ None) }
+        ensures refused { let fault = begin_fault self.old rec.now in
+            IfErr result (λ refusal. refusal_fault refusal ≡ fault) }
+        ensures requests { IfOk result (λ built. built.requests ≡ requests_for self.old rec.now) }
+        ensures asked { IfOk result (λ built.
+            built.asked ≡ map (asked self.old.config rec.now) rec.now.batch) }
+        ensures begun { OnOk result (HasBegun self.old self.new rec.now) }
+        ensures err { OnErr result (self.new ≡ self.old) }
+    {
+        let oldest = rec.previous().saturating_sub(self.config.window());
+        let resolvers = self.config.resolvers();
+        self.begin_by(rec, owned.map_back_to(resolvers, oldest))
+    }
+
+    /// Begins a record of this proxy by the map that proxies share, if there is one.
+    fn begin_by(&mut self, rec: &Record, shared: Option<&OwnerMap>) -> Result<Requests, Refusal>
+        requires may { MayBegin self.old rec.now }
+        requires shared { IfSome shared (λ map. HasMapFor self.old.config rec.now map.now) }
+        ensures ok { OnOk result (begin_fault self.old rec.now ≡ None) }
+        ensures refused { let fault = begin_fault self.old rec.now in
+            IfErr result (λ refusal. refusal_fault refusal ≡ fault) }
+        ensures requests { IfOk result (λ built. built.requests ≡ requests_for self.old rec.now) }
+        ensures asked { IfOk result (λ built.
+            built.asked ≡ map (asked self.old.config rec.now) rec.now.batch) }
+        ensures begun { OnOk result (HasBegun self.old self.new rec.now) }
+        ensures err { OnErr result (self.new ≡ self.old) }
+    {
         if rec.proxy() != self.number {
             return Err(Refusal::NotMine);
         }
@@ -179,35 +217,56 @@ impl Proxy {
                 expected: self.last_begun,
             });
         }
-        let moved = self.moved_map(rec)?;
-        let requests = self.requests_by(newest_map(self.owners.newest(), &moved), rec)?;
+        let (requests, map) = self.asked(rec, shared)?;
         let begun = BegunRecord::of_requests(rec, &requests)?;
+        let moves = rec.moves().copy()?;
         let Ok(()) = self.begun.reserve(1) else {
             return Err(Refusal::OutOfMemory);
         };
         self.begun.push_back_reserved(begun);
-        keep_moved(&mut self.owners, moved);
-        forget_owners(&mut self.owners, &self.config, rec);
+        keep_map(&mut self.owners, &self.config, rec, map, moves);
         self.moved = rec.moves().len();
         self.last_begun = rec.version();
         Ok(requests)
     }
 
-    /// The map of owners with the further moves of the record, or None if it has none.
-    #[tactic(auto, using(crate::proofs::KeptProxies::may_gain, crate::proofs::KeptProxies::has_map, crate::proofs::KeptProxies::has_map_now))]
-    fn moved_map(&mut self, rec: &Record) -> Result<Option<MovedMap>, OutOfMemory>
+    /// The requests for the record, by the map that proxies share, or by the proxy's own, which then
+    /// is beside them, with the moves of the record.
+    #[tactic(auto, using(crate::proofs::KeptProxies::in_order_for))]
+    fn asked(
+        &mut self,
+        rec: &Record,
+        shared: Option<&OwnerMap>,
+    ) -> Result<(Requests, Option<OwnerMap>), OutOfMemory>
         requires may { MayBegin self.old rec.now }
         requires own { begin_fault self.old rec.now ≡ None }
-        ensures map { IfOk result (λ moved.
-            HasMapFor self.old.config rec.now (newest_of moved self.old.owned)) }
-        ensures made { IfOk result (λ moved. IfSome moved (HasMade self.old.owned)) }
+        requires shared { IfSome shared (λ map. HasMapFor self.old.config rec.now map.now) }
+        ensures requests { IfOk result (λ asked. asked.0.requests ≡ requests_for self.old rec.now) }
+        ensures asked { IfOk result (λ made.
+            made.0.asked ≡ map (asked self.old.config rec.now) rec.now.batch) }
+        ensures map { IfOk result (λ asked. IfSome asked.1 (HasMapFor self.old.config rec.now)) }
+        ensures order { OnOk result (DatesInOrder 0 rec.now.moves) }
         ensures same { self.new ≡ self.old }
     {
-        if rec.moves().len() <= self.moved {
-            return Ok(None);
+        match shared {
+            Some(map) => Ok((self.requests_by(map, rec)?, None)),
+            None => {
+                let map = self.moved_map(rec)?;
+                Ok((self.requests_by(&map, rec)?, Some(map)))
+            }
         }
-        let moved = self.owners.next_map(rec.moves(), self.moved)?;
-        Ok(Some(moved))
+    }
+
+    /// The proxy's map of owners with the moves of the record.
+    #[tactic(auto, using(crate::proofs::KeptProxies::may_gain, crate::proofs::KeptProxies::has_map))]
+    fn moved_map(&mut self, rec: &Record) -> Result<OwnerMap, OutOfMemory>
+        requires may { MayBegin self.old rec.now }
+        requires own { begin_fault self.old rec.now ≡ None }
+        ensures map { IfOk result (HasMapFor self.old.config rec.now) }
+        ensures same { self.new ≡ self.old }
+    {
+        let alloc: Global = *self.journal.allocator();
+        self.owners.next_map(alloc, rec.moves(), self.moved)
     }
 
     /// The requests for the record by this map of owners.

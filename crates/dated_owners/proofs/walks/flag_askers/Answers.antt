@@ -1,30 +1,37 @@
--- The begin of the range and the starts inside are tried.
-use Rattle.std.proofs.Common.{◌∙◌, ap, refl, subst, List, ℕ}
-use Rattle.std.specs.Global.{Vec}
-use Rattle.system_keys.specs.Keys.{Range}
+-- The starts are tried from the last one back, up to that of the begin of the range.
+use Rattle.std.proofs.Common.{◌≡◌, ◌∙◌, sym, ap, ap₂, subst, refl, List, ◌++◌, ◌∷◌, [], true, false}
+use Rattle.system_keys.specs.Keys.{Range, is_key_below}
 use Rattle.dated_owners.specs.declared.later_owners.LaterOwner.{LaterOwner}
 use Rattle.dated_owners.specs.LaterOwners.{with_first}
 use Rattle.dated_owners.specs.Walks.{takes}
 use Rattle.dated_owners.specs.Flags.{Flags}
 use Rattle.dated_owners.specs.Starts.{starts_of}
-use Rattle.dated_owners.proofs.AskedStarts.{IsTried, tried_begin, tried_next, tried_all, between_inside}
+use Rattle.dated_owners.proofs.KeyStarts.{rising_entries, with_last}
+use Rattle.dated_owners.proofs.AskedStarts.{tried_none, tried_next, tried_begin, until_end}
 use Rattle.dated_owners.proofs.walks.flag_askers.Goals as goal
 
-pub loop-owners-init : goal.loop-owners-init
-loop-owners-init c =
+pub loop-key-init : goal.loop-key-init
+loop-key-init c =
     let range : Range = record { begin = c.args.begin.now.items; end = c.args.end.now.items } in
-    tried_begin (starts_of c.args.pieces.now.entries) c.args.walk range c.args.flags.now c.flag_owners.new.flags c.owners_at.result.now (starts_of c.into_iter-owners-iterator.result) c.owners_at.ensures
-    (ap starts_of (c.into_iter-owners-iterator.ensures.into_iter_gives ∙ c.range-owners-items.ensures.between tt) ∙ between_inside c.args.pieces.now.entries c.args.begin.now c.args.end.now range refl refl) c.flag_owners.ensures
+    tried_none (starts_of c.args.pieces.now.entries) c.args.walk range c.args.flags.now (starts_of c.range-left.result) c.requires (rising_entries c.args.pieces.now.entries c.range-left.ensures.ordered)
+    (ap starts_of (c.range-left.ensures.between tt) ∙ until_end c.args.pieces.now.entries c.args.end.now range refl)
 
-pub loop-owners-preserved : goal.loop-owners-preserved
-loop-owners-preserved c =
+pub loop-key-preserved : goal.loop-key-preserved
+loop-key-preserved c =
     let range : Range = record { begin = c.args.begin.now.items; end = c.args.end.now.items } in
-    tried_next (starts_of c.args.pieces.now.entries) c.args.walk range c.args.flags.now c.in-Some.field-0-0.now.items c.in-Some.owners.now (starts_of c.next.new.self) c.loop-owners.flags c.flag_owners-in-loop-owners.new.flags
-    (subst (λ (es : List (Vec ℕ × List LaterOwner)). IsTried (starts_of c.args.pieces.now.entries) c.args.walk range c.args.flags.now (starts_of es) c.loop-owners.flags) c.in-Some.ensures.steps c.loop-owners.invariant)
-    (subst (λ (later : List LaterOwner). Flags c.loop-owners.flags (λ r. takes c.args.walk r (with_first later)) c.flag_owners-in-loop-owners.new.flags) c.as_slice.ensures c.flag_owners-in-loop-owners.ensures)
+    let key = c.in-Some.key.now in
+    let later = c.in-Some.owners.now in
+    let is : starts_of c.loop-key.left ≡ starts_of c.next_back.new.self ++ (key.items, later) ∷ [] = ap starts_of c.in-Some.ensures.steps ∙ with_last c.next_back.new.self key later in
+    let above : is_key_below range.begin key.items ≡ true = sym (c.is_below.ensures ∙ ap₂ is_key_below c.as_slice-in-Some.ensures.value c.as_slice-in-Some-2.ensures.value) ∙ c.if-not-is_below.false in
+    tried_next (starts_of c.args.pieces.now.entries) c.args.walk range c.args.flags.now key.items later (starts_of c.loop-key.left) (starts_of c.next_back.new.self) c.loop-key.flags c.flag_owners.new.flags is above c.loop-key.invariant
+    (subst (λ (owners : List LaterOwner). Flags c.loop-key.flags (λ r. takes c.args.walk r (with_first owners)) c.flag_owners.new.flags) c.as_slice.ensures c.flag_owners.ensures)
 
-pub returns : goal.returns
-returns c =
+pub returns-then-not-is_below : goal.returns-then-not-is_below
+returns-then-not-is_below c =
     let range : Range = record { begin = c.args.begin.now.items; end = c.args.end.now.items } in
-    tried_all (starts_of c.args.pieces.now.entries) c.args.walk range c.args.flags.now c.loop-owners.flags
-    (subst (λ (es : List (Vec ℕ × List LaterOwner)). IsTried (starts_of c.args.pieces.now.entries) c.args.walk range c.args.flags.now (starts_of es) c.loop-owners.flags) c.in-None.ensures.steps.0 c.loop-owners.invariant)
+    let key = c.in-Some.key.now in
+    let later = c.in-Some.owners.now in
+    let is : starts_of c.loop-key.left ≡ starts_of c.next_back.new.self ++ (key.items, later) ∷ [] = ap starts_of c.in-Some.ensures.steps ∙ with_last c.next_back.new.self key later in
+    let up_to : is_key_below range.begin key.items ≡ false = sym (c.is_below.ensures ∙ ap₂ is_key_below c.as_slice-in-Some.ensures.value c.as_slice-in-Some-2.ensures.value) ∙ c.if-not-is_below.true in
+    tried_begin (starts_of c.args.pieces.now.entries) c.args.walk range c.args.flags.now key.items later (starts_of c.loop-key.left) (starts_of c.next_back.new.self) c.loop-key.flags c.flag_owners.new.flags is up_to c.loop-key.invariant
+    (subst (λ (owners : List LaterOwner). Flags c.loop-key.flags (λ r. takes c.args.walk r (with_first owners)) c.flag_owners.new.flags) c.as_slice.ensures c.flag_owners.ensures)

@@ -1,6 +1,6 @@
 -- The map that gained the further moves is one for the record.
-use Rattle.std.proofs.Common.{◌≡◌, ◌-◌, ◌≤◌, drop, rules}
-use Rattle.proxy_state.specs.Beginning.{HasGained}
+use Rattle.std.proofs.Common.{◌≡◌, ◌-◌, ◌≤◌, rules}
+use Rattle.std.proofs.lemmas.Result.{IfOk-weaker}
 use Rattle.proxy_state.proofs.KeptProxies.{has_map}
 use Rattle.proxy_state.proofs.proxy.Proxy.moved_map.Goals as goal
 
@@ -11,5 +11,4 @@ returns-clause-map c =
     let resolvers : v.owned.resolvers ≡ v.config.resolvers = rw (← c.self.view_is) c.self.invariant.resolvers in
     let remembered : v.owned.oldest ≤ v.last_begun - v.config.window = rw (← c.self.view_is) c.self.invariant.remembered in
     let own : rec.own_previous ≡ v.last_begun = search rules in
-    let gained : HasGained v.owned (drop v.moved rec.moves) c.in_ok-moved.moved.owners = search rules in
-    has_map v rec c.in_ok-moved.moved.owners resolvers remembered own c.requires.may gained
+    IfOk-weaker c.next_map.result _ _ (λ map gained. has_map v rec map resolvers remembered own c.requires.may (search rules)) c.next_map.ensures.gained
