@@ -4,23 +4,25 @@ ghost use Rattle.std.specs.Prelude.{◌≡◌, IfOk, OnErr};
 ghost use Rattle.turn_world.specs.Parts.{MayBeginAt, IsBegunAt};
 
 use model::ProxyNumber;
-use proxy_state::Proxy;
+use proxy_state::{OwnedMoves, Proxy};
 use request_builder::{Record, Request};
 use system_keys::{Items, OutOfMemory};
 
-/// Lets the proxy begin the record, and returns the requests that it sends. The other proxies are
-/// left as they are.
+/// Lets the proxy begin the record, by the map of owners of its moves, which the proxies share, and
+/// returns the requests that it sends. The other proxies are left as they are.
 pub(crate) fn begin_at(
     proxies: &mut Vec<Proxy>,
     proxy: ProxyNumber,
     rec: &Record,
+    owned: &OwnedMoves,
 ) -> Result<Items<Request>, OutOfMemory>
-    requires { MayBeginAt proxies.old.items proxy rec.now }
+    requires may { MayBeginAt proxies.old.items proxy rec.now }
+    requires moves { owned.now ≡ rec.now.moves }
     ensures begun { IfOk result (λ requests.
         IsBegunAt proxies.old.items proxy rec.now requests proxies.new.items) }
     ensures err { OnErr result (proxies.new.items ≡ proxies.old.items) }
 {
-    match proxies[proxy].begin(rec) {
+    match proxies[proxy].begin_with(rec, owned) {
         Ok(built) => Ok(built.requests),
         Err(_) => Err(OutOfMemory),
     }

@@ -26,8 +26,8 @@ use crate::starting::{new_proxies, new_resolvers, zeros};
 use crate::stopped::Stopped;
 use model::{Config, Move, ProxyNumber, ResolverNumber, RowNumber, VERSION_LIMIT, Version};
 use mutation::Batch;
-use proxy_state::Proxy;
-use request_builder::{Moves, Record};
+use proxy_state::{OwnedMoves, Proxy};
+use request_builder::Record;
 use state_memory::{Answer as OfferAnswer, Resolver};
 use std::alloc::Global;
 use std::marker::Model;
@@ -38,7 +38,7 @@ use system_keys::{KeyRange, OutOfMemory};
 pub struct TurnWorld {
     config: Config,
     rows: Vec<KeptRecord>,
-    moves: Moves,
+    moves: OwnedMoves,
     judged_counts: Vec<usize>,
     finished: Vec<usize>,
     resolvers: Vec<Resolver>,
@@ -71,7 +71,7 @@ impl TurnWorld {
         Ok(TurnWorld {
             config: *config,
             rows: Vec::new(alloc),
-            moves: Moves::new(alloc),
+            moves: OwnedMoves::new(alloc, config)?,
             judged_counts: zeros(alloc, config.resolvers())?,
             finished: zeros(alloc, config.proxies())?,
             resolvers: new_resolvers(alloc, config)?,
@@ -236,7 +236,7 @@ impl TurnWorld {
         let row = self.rows.len();
         let version = rec.version();
         let received = self.proxies[proxy].version();
-        let requests = begin_at(&mut self.proxies, proxy, &rec)?;
+        let requests = begin_at(&mut self.proxies, proxy, &rec, &self.moves)?;
         self.rows.push_reserved(KeptRecord {
             rec,
             received,
@@ -261,7 +261,7 @@ impl TurnWorld {
             self.last + self.config.step(),
             self.proxies[proxy].last_begun(),
             proxy,
-            &self.moves,
+            self.moves.list(),
             batch,
         )
     }

@@ -38,14 +38,20 @@ returns-in_default-clause-answer c =
     let limit : last_version w.history + t.config.step < version_limit = limit_is t.config w t.last c.self.invariant.last_is (omega (arith, c.step.ensures.value, c.if-self-step.false)) in
     not_refused t.config w c.args.self.now c.args.proxy c.args.batch.now c.self.view_is (omega (arith, c.proxies.ensures.value, c.if-proxies-proxy.false)) limit
 
-pub begin_at-requires : goal.begin_at-requires
-begin_at-requires c =
+pub begin_at-requires-clause-may : goal.begin_at-requires-clause-may
+begin_at-requires-clause-may c =
     let t = c.self.inside in
     let w = world_of t.rows.items t.moves t.judged_counts.items t.finished.items in
     let limit : last_version w.history + t.config.step < version_limit = limit_is t.config w t.last c.self.invariant.last_is (omega (arith, c.step.ensures.value, c.if-self-step.false)) in
     let within : c.args.proxy < length t.proxies.items = omega (arith, c.proxies.ensures.value, c.if-proxies-proxy.false, c.self.invariant.parts.proxy_count) in
     may_begin_at t.config w c.args.proxy c.args.batch.now c.index.result.now c.in_ok-rec.rec t.resolvers.items t.proxies.items (requests_of t.rows.items) t.last c.self.invariant (omega (arith, c.proxies.ensures.value, c.if-proxies-proxy.false)) limit
     (got t.proxies.items c.args.proxy c.index.result.now within c.index.ensures) (record_is t.config w c.args.self.now c.args.proxy c.args.batch.now c.in_ok-rec.rec c.self.view_is c.in_ok-rec.ensures)
+
+pub begin_at-requires-clause-moves : goal.begin_at-requires-clause-moves
+begin_at-requires-clause-moves c =
+    let t = c.self.inside in
+    let w = world_of t.rows.items t.moves t.judged_counts.items t.finished.items in
+    sym (ap (λ (r : Record). r.moves) (record_is t.config w c.args.self.now c.args.proxy c.args.batch.now c.in_ok-rec.rec c.self.view_is c.in_ok-rec.ensures))
 
 pub returns-in_err-requests-clause-answer : goal.returns-in_err-requests-clause-answer
 returns-in_err-requests-clause-answer c =
