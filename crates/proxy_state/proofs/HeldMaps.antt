@@ -1,5 +1,5 @@
 -- The map of owners of a proxy is like the map of its moves, whichever way it was made.
-use Rattle.std.proofs.Common.{◌≡◌, refl, sym, ap, ◌∙◌, subst, ℕ, max, ◌≤◌, List, [], ◌++◌, drop, Option, Some, None, arith}
+use Rattle.std.proofs.Common.{◌≡◌, refl, sym, ap, ◌∙◌, subst, ℕ, max, ◌≤◌, List, [], Option, Some, None, arith}
 use Rattle.model.specs.declared.moves.Move.{Move}
 use Rattle.model.specs.Owners.{owners, trimmed}
 use Rattle.model.specs.OwnerMaps.{OwnerMapView, StandsForMoves, DatesInOrder}

@@ -1,7 +1,6 @@
 //! All moves so far, and the map of owners that they give.
 
-ghost use Rattle.std.specs.Prelude.{◌≡◌, ◌≤◌, ◌++◌, ◌∷◌, [], IfOk, OnOk, OnErr, IfSome};
-ghost use Rattle.model.specs.OwnerMaps.{StandsForMoves};
+ghost use Rattle.std.specs.Prelude.{◌≡◌, ◌++◌, ◌∷◌, [], IfOk, OnOk, OnErr, IfSome};
 ghost use Rattle.proxy_state.specs.HeldMaps.{IsMapOf, StandsAfterMove};
 
 use dated_owners::OwnerMap;
