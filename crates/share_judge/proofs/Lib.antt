@@ -8,4 +8,5 @@ pub mod Overwritten
 pub mod Reached
 pub mod Settled
 pub mod Starts
+pub mod StepKeys
 pub mod StoodFor

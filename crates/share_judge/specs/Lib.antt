@@ -8,3 +8,5 @@ pub mod Steps
 pub mod Kept
 -- a share that is judged by them
 pub mod Judged
+-- the keys at which they begin
+pub mod StepKeys

@@ -4,7 +4,6 @@ use Rattle.std.specs.Prelude.{not, ◌&&◌, nat_eq, nat_lt, cond, IsTrue, ◌�
 use Rattle.std.specs.Prelude.{◌||◌}
 use Rattle.std.specs.List.{list_any}
 use Rattle.std.specs.Map.{keys_of}
-use Rattle.std.specs.Global.{Vec}
 use Rattle.std.specs.Ordering.{nat_cmp, is_eq}
 use Rattle.std.specs.Cmp.Lexicographic.{slice_cmp}
 use Rattle.system_keys.specs.Keys.{Key, Range, is_key_below, holds}
@@ -15,18 +14,6 @@ use Rattle.model.specs.WriteHistories.{Write, unless_forgotten}
 -- a start: a key, and the version from there on
 abbrev pub Start : Type 0
 Start = Key × Version
-
--- an entry of the map, with the bytes of its key
-abbrev pub start_from : Vec ℕ × ℕ → Start
-start_from entry = (entry.0.items, entry.1)
-
--- the entries of the map, with the bytes of their keys
-abbrev pub starts_of : List (Vec ℕ × ℕ) → List Start
-starts_of entries = map start_from entries
-
--- the bytes of each key
-abbrev pub bytes_of_keys : List (Vec ℕ) → List Key
-bytes_of_keys keys = map (λ (key : Vec ℕ). key.items) keys
 
 -- what stands at a key: what the last start up to it has, or `first` before the first start
 abbrev pub last_from : {X : Type 0} → (first : X) (starts : List (Key × X)) (key : Key) → X

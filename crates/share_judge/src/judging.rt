@@ -1,14 +1,15 @@
 //! Verdicts on parts, by the writes of what was committed before them.
 
-ghost use Rattle.std.specs.Prelude.{◌≡◌, ◌<◌, IfOk, OnOk, max};
+ghost use Rattle.std.specs.Prelude.{◌≡◌, ◌<◌, IfOk, OnOk, IsTrue, max};
 ghost use Rattle.std.specs.List.{list_any};
-ghost use Rattle.system_keys.specs.Keys.{Key};
+ghost use Rattle.system_keys.specs.Keys.{Key, Range, is_key_below};
 ghost use Rattle.model.specs.Verdicts.{JudgedPart, is_too_old};
 ghost use Rattle.share_judge.specs.Steps.{AreRising, TellTheSame, AreOver, last_from};
-ghost use Rattle.share_judge.specs.Steps.{last_of_all, bytes_of_keys};
+ghost use Rattle.share_judge.specs.Steps.{last_of_all};
 ghost use Rattle.share_judge.specs.Judged.{is_read_overwritten, verdict_by_steps, is_in_some};
 ghost use Rattle.share_judge.specs.Judged.{is_written_by, IsJudged, IsPlanned};
 
+use crate::step_key::StepKey;
 use crate::step_map::StepMap;
 use crate::verdicts::{Verdicts, copy_verdicts};
 use model::{Part, Verdict, Version};
@@ -31,14 +32,14 @@ pub(crate) fn judge_with_room(
     kept: &mut StepMap,
     judging: Judging,
     parts: &[Part],
-) -> Result<(Vec<Verdict>, Vec<Vec<u8>>), OutOfMemory>
+) -> Result<(Vec<Verdict>, Vec<StepKey>), OutOfMemory>
     requires rising { AreRising kept.old }
     requires past { last_of_all 0 kept.old ≡ 0 }
     requires below { (key : Key) → last_from 0 kept.old key < judging.version }
     ensures same { TellTheSame kept.old kept.new }
     ensures rising { AreRising kept.new }
     ensures planned { IfOk result (λ made. IsPlanned judging.window judging.dropped judging.version
-        kept.old kept.new parts.now made.0.items (bytes_of_keys made.1.items)) }
+        kept.old kept.new parts.now made.0.items made.1.items) }
 {
     let (verdicts, own) = judge_parts(kept, judging, parts)?;
     let keys = kept.make_room(&own)?;
@@ -51,14 +52,14 @@ pub(crate) fn judge_with_copy(
     kept: &mut StepMap,
     judging: Judging,
     parts: &[Part],
-) -> Result<(Verdicts, Verdicts, Vec<Vec<u8>>), OutOfMemory>
+) -> Result<(Verdicts, Verdicts, Vec<StepKey>), OutOfMemory>
     requires rising { AreRising kept.old }
     requires past { last_of_all 0 kept.old ≡ 0 }
     requires below { (key : Key) → last_from 0 kept.old key < judging.version }
     ensures same { TellTheSame kept.old kept.new }
     ensures rising { AreRising kept.new }
     ensures planned { IfOk result (λ made. IsPlanned judging.window judging.dropped judging.version
-        kept.old kept.new parts.now made.0 (bytes_of_keys made.2.items)) }
+        kept.old kept.new parts.now made.0 made.2.items) }
     ensures copy { IfOk result (λ made. made.1 ≡ made.0) }
 {
     let (verdicts, keys) = judge_with_room(kept, judging, parts)?;
@@ -152,9 +153,25 @@ fn is_overwritten(
     ensures { IfOk result
         (λ answer. answer ≡ is_read_overwritten bound kept.now own.now read.now) }
 {
-    let begin = Vec::from_slice(kept.alloc(), read.begin())?;
-    let end = Vec::from_slice(kept.alloc(), read.end())?;
-    Ok(kept.reaches(&begin, &end, bound) || own.reaches(&begin, &end, 0))
+    let begin = StepKey::new(kept.alloc(), read.begin())?;
+    let end = StepKey::new(kept.alloc(), read.end())?;
+    Ok(are_overwritten(kept, own, bound, &begin, &end))
+}
+
+/// Whether some key from `begin` up to `end` has a kept version above the bound, or was written in
+/// the share.
+fn are_overwritten(
+    kept: &StepMap,
+    own: &StepMap,
+    bound: Version,
+    begin: &StepKey,
+    end: &StepKey,
+) -> bool
+    requires { IsTrue (is_key_below begin.now end.now) }
+    ensures { let range : Range = record { begin = begin.now; end = end.now } in
+        result ≡ is_read_overwritten bound kept.now own.now range }
+{
+    kept.reaches(begin, end, bound) || own.reaches(begin, end, 0)
 }
 
 /// Adds the writes of a part, if its verdict is Committed.

@@ -6,9 +6,10 @@ ghost use Rattle.system_keys.specs.Keys.{Key, Range, holds, is_key_below};
 ghost use Rattle.model.specs.WriteHistories.{unless_forgotten};
 ghost use Rattle.share_judge.specs.Steps.{last_from, last_before, last_of_all, settled, AreRising};
 ghost use Rattle.share_judge.specs.Steps.{HasStart, TellTheSame, AreOver, TakeOver, marked};
-ghost use Rattle.share_judge.specs.Steps.{starts_of, bytes_of_keys, is_listed, is_same_key};
+ghost use Rattle.share_judge.specs.Steps.{is_listed, is_same_key};
 ghost use Rattle.share_judge.specs.Steps.{is_reached, has_start_above, is_written, keys_between, is_counted, changes_from};
 
+use crate::step_key::StepKey;
 use model::Version;
 use std::alloc::{AllocError, Global};
 use std::collections::BTreeMap;
@@ -23,18 +24,18 @@ use system_keys::{KEY_SPACE_END, KeyRange, OutOfMemory};
 #[derive(Debug, Drop)]
 pub(crate) struct StepMap {
     alloc: Global,
-    versions: BTreeMap<Vec<u8>, Version>,
+    versions: BTreeMap<StepKey, Version>,
 }
 
 impl Model for StepMap {
     ghost use Rattle.std.specs.Prelude.{List};
-    ghost use Rattle.share_judge.specs.Steps.{Start, starts_of, AreRising};
+    ghost use Rattle.share_judge.specs.Steps.{Start, AreRising};
 
     ghost Value = { List Start };
 
-    ghost view = { λ map. starts_of map.versions.entries };
+    ghost view = { λ map. map.versions.entries };
 
-    ghost invariant = { λ map. AreRising (starts_of map.versions.entries) };
+    ghost invariant = { λ map. AreRising map.versions.entries };
 }
 
 impl StepMap {
@@ -53,8 +54,8 @@ impl StepMap {
         ensures { IfOk result
             (λ map. map ≡ (range.now.begin, version) ∷ (range.now.end, 0) ∷ []) }
     {
-        let begin = Vec::from_slice(alloc, range.begin())?;
-        let end = Vec::from_slice(alloc, range.end())?;
+        let begin = StepKey::new(alloc, range.begin())?;
+        let end = StepKey::new(alloc, range.end())?;
         let mut versions = BTreeMap::new(alloc);
         versions.insert(begin, version)?;
         versions.insert(end, 0)?;
@@ -72,16 +73,16 @@ impl StepMap {
     }
 
     /// The starts in the order of their keys. Does not allocate.
-    fn iter(&self) -> Iter<'_, Vec<u8>, Version>
-        ensures starts { starts_of result ≡ self.now }
+    fn iter(&self) -> Iter<'_, StepKey, Version>
+        ensures starts { result ≡ self.now }
         ensures rising { AreRising self.now }
     {
         self.versions.iter()
     }
 
     /// The version at a key. Does not allocate.
-    fn at(&self, key: &Vec<u8>) -> Version
-        ensures { result ≡ last_from 0 self.now key.now.items }
+    fn at(&self, key: &StepKey) -> Version
+        ensures { result ≡ last_from 0 self.now key.now }
     {
         match self.versions.range(..=key).next_back() {
             Some((_, version)) => *version,
@@ -90,8 +91,8 @@ impl StepMap {
     }
 
     /// The version just before a key. Does not allocate.
-    fn before(&self, key: &Vec<u8>) -> Version
-        ensures { result ≡ last_before 0 self.now key.now.items }
+    fn before(&self, key: &StepKey) -> Version
+        ensures { result ≡ last_before 0 self.now key.now }
     {
         match self.versions.range(..key).next_back() {
             Some((_, version)) => *version,
@@ -100,18 +101,18 @@ impl StepMap {
     }
 
     /// Whether some key from `begin` up to `end` has a version above the bound. Does not allocate.
-    pub(crate) fn reaches(&self, begin: &Vec<u8>, end: &Vec<u8>, bound: Version) -> bool
-        requires { IsTrue (is_key_below begin.now.items end.now.items) }
-        ensures { let range : Range = record { begin = begin.now.items; end = end.now.items } in
+    pub(crate) fn reaches(&self, begin: &StepKey, end: &StepKey, bound: Version) -> bool
+        requires { IsTrue (is_key_below begin.now end.now) }
+        ensures { let range : Range = record { begin = begin.now; end = end.now } in
             result ≡ is_reached bound self.now range }
     {
         bound < self.at(begin) || self.has_start_above(begin, end, bound)
     }
 
     /// Whether a start from `begin` up to `end` has a version above the bound.
-    fn has_start_above(&self, begin: &Vec<u8>, end: &Vec<u8>, bound: Version) -> bool
-        requires { IsTrue (is_key_below begin.now.items end.now.items) }
-        ensures { let range : Range = record { begin = begin.now.items; end = end.now.items } in
+    fn has_start_above(&self, begin: &StepKey, end: &StepKey, bound: Version) -> bool
+        requires { IsTrue (is_key_below begin.now end.now) }
+        ensures { let range : Range = record { begin = begin.now; end = end.now } in
             result ≡ has_start_above bound self.now range }
     {
         for (_, version) in self
@@ -149,11 +150,11 @@ impl StepMap {
     /// Puts a start at each start of the other map, and lists the keys of those at which the other
     /// map has a version. No key has another version, also if it fails, which is only with
     /// `OutOfMemory`.
-    pub(crate) fn make_room(&mut self, over: &StepMap) -> Result<Vec<Vec<u8>>, OutOfMemory>
+    pub(crate) fn make_room(&mut self, over: &StepMap) -> Result<Vec<StepKey>, OutOfMemory>
         requires { last_of_all 0 over.now ≡ 0 }
         ensures same { TellTheSame self.old self.new }
         ensures rising { AreRising self.old → AreRising self.new }
-        ensures over { IfOk result (λ keys. TakeOver over.now self.new (bytes_of_keys keys.items)) }
+        ensures over { IfOk result (λ keys. TakeOver over.now self.new keys.items) }
     {
         self.put_edges(over)?;
         self.list_written(over)
@@ -166,33 +167,32 @@ impl StepMap {
         ensures there { OnOk result ((key : Key) → HasStart over.now key → HasStart self.new key) }
     {
         for (key, _) in over.iter() {
-            self.put_edge(key)?;
+            self.put_edge(key.copy()?)?;
         }
         Ok(())
     }
 
     /// Puts a start at the key, with the version that the key has.
-    fn put_edge(&mut self, key: &Vec<u8>) -> Result<(), OutOfMemory>
+    fn put_edge(&mut self, key: StepKey) -> Result<(), OutOfMemory>
         ensures same { TellTheSame self.old self.new }
         ensures rising { AreRising self.new }
-        ensures there { OnOk result (HasStart self.new key.now.items) }
+        ensures there { OnOk result (HasStart self.new key) }
         ensures others { (other : Key) → HasStart self.old other → HasStart self.new other }
     {
-        let copy = Vec::from_slice(self.alloc, key.as_slice())?;
-        let version = self.at(key);
-        self.versions.insert(copy, version)?;
+        let version = self.at(&key);
+        self.versions.insert(key, version)?;
         Ok(())
     }
 
     /// Lists the keys of the starts at which the other map has a version.
-    fn list_written(&self, over: &StepMap) -> Result<Vec<Vec<u8>>, OutOfMemory>
+    fn list_written(&self, over: &StepMap) -> Result<Vec<StepKey>, OutOfMemory>
         requires { last_of_all 0 over.now ≡ 0 }
         ensures listed { IfOk result (λ keys. (key : Key) → HasStart self.now key
-            → is_listed (bytes_of_keys keys.items) key ≡ is_written over.now key) }
+            → is_listed keys.items key ≡ is_written over.now key) }
         ensures rising { AreRising self.now }
     {
         let mut keys = Vec::new(self.alloc);
-        let mut begin: Option<&Vec<u8>> = None;
+        let mut begin: Option<&StepKey> = None;
         for (key, version) in over.iter() {
             self.list_between(begin, key, &mut keys)?;
             begin = if *version == 0 { None } else { Some(key) };
@@ -203,14 +203,14 @@ impl StepMap {
     /// Lists the keys of the starts from `begin` up to `end`, or of none if there is no begin.
     fn list_between(
         &self,
-        begin: Option<&Vec<u8>>,
-        end: &Vec<u8>,
-        keys: &mut Vec<Vec<u8>>,
+        begin: Option<&StepKey>,
+        end: &StepKey,
+        keys: &mut Vec<StepKey>,
     ) -> Result<(), OutOfMemory>
-        requires { IfSome begin (λ key. is_key_below key.now.items end.now.items ≡ true) }
-        ensures { let begin = option_map (λ key. key.now.items) begin.entry in
-            OnOk result (bytes_of_keys keys.new.items
-            ≡ bytes_of_keys keys.old.items ++ keys_between begin end.now.items self.now) }
+        requires { IfSome begin (λ key. is_key_below key.now end.now ≡ true) }
+        ensures { let begin = option_map (λ key. key.now) begin.entry in
+            OnOk result (keys.new.items
+            ≡ keys.old.items ++ keys_between begin end.now self.now) }
     {
         let Some(begin) = begin else {
             return Ok(());
@@ -219,15 +219,15 @@ impl StepMap {
             .versions
             .range((Bound::Included(begin), Bound::Excluded(end)))
         {
-            keys.push(Vec::from_slice(self.alloc, key.as_slice())?)?;
+            keys.push(key.copy()?)?;
         }
         Ok(())
     }
 
     /// Gives the starts at the keys the version, and takes out those at which it then does not
     /// change. Does not allocate.
-    pub(crate) fn fill(&mut self, keys: &[Vec<u8>], version: Version)
-        ensures same { TellTheSame (marked (is_listed (bytes_of_keys keys.now)) version self.old) self.new }
+    pub(crate) fn fill(&mut self, keys: &[StepKey], version: Version)
+        ensures same { TellTheSame (marked (is_listed keys.now) version self.old) self.new }
         ensures rising { AreRising self.old → AreRising self.new }
     {
         self.mark(keys, version);
@@ -235,8 +235,8 @@ impl StepMap {
     }
 
     /// Gives the starts at the keys the version.
-    fn mark(&mut self, keys: &[Vec<u8>], version: Version)
-        ensures { self.new ≡ marked (is_listed (bytes_of_keys keys.now)) version self.old }
+    fn mark(&mut self, keys: &[StepKey], version: Version)
+        ensures { self.new ≡ marked (is_listed keys.now) version self.old }
     {
         for key in keys {
             self.mark_one(key, version);
@@ -244,17 +244,17 @@ impl StepMap {
     }
 
     /// Gives the start at the key the version, if there is one.
-    fn mark_one(&mut self, key: &Vec<u8>, version: Version)
-        ensures { self.new ≡ marked (is_same_key key.now.items) version self.old }
+    fn mark_one(&mut self, key: &StepKey, version: Version)
+        ensures { self.new ≡ marked (is_same_key key.now) version self.old }
     {
-        let Some(place) = self.versions.get_mut(key.as_slice()) else {
+        let Some(place) = self.versions.get_mut(key) else {
             return;
         };
         *place = version;
     }
 
     /// Takes out the starts at the keys that have the version of the step before.
-    fn take_out_repeated(&mut self, keys: &[Vec<u8>])
+    fn take_out_repeated(&mut self, keys: &[StepKey])
         ensures same { TellTheSame self.old self.new }
         ensures rising { AreRising self.old → AreRising self.new }
     {
@@ -264,12 +264,12 @@ impl StepMap {
     }
 
     /// Takes out the start at the key, if it has the version of the step before.
-    fn take_out_if_repeated(&mut self, key: &Vec<u8>)
+    fn take_out_if_repeated(&mut self, key: &StepKey)
         ensures same { TellTheSame self.old self.new }
         ensures rising { AreRising self.new }
     {
         if self.at(key) == self.before(key) {
-            self.versions.remove(key.as_slice());
+            self.versions.remove(key);
         }
     }
 
@@ -303,7 +303,7 @@ impl StepMap {
         let mut last = 0;
         for (key, version) in &self.versions {
             let version = unless_dropped(dropped, *version);
-            if is_counted(key) && version != last {
+            if is_counted(key.as_slice()) && version != last {
                 count += 1;
             }
             last = version;

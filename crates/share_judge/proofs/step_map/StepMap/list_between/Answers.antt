@@ -1,15 +1,16 @@
 -- The keys of the entries of the range are those between.
-use Rattle.std.proofs.Common.{◌∙◌, ◌++◌, ap, List}
+use Rattle.std.proofs.Common.{◌∙◌, ◌++◌, ap, List, Some}
 use Rattle.std.specs.Map.{keys_of}
 use Rattle.system_keys.specs.Keys.{Key}
-use Rattle.share_judge.specs.Steps.{starts_of, bytes_of_keys}
+use Rattle.share_judge.specs.Steps.{keys_between}
 use Rattle.share_judge.proofs.MapCalls.{between_held}
 use Rattle.share_judge.proofs.step_map.StepMap.list_between.Goals as goal
 
 pub loop-key-init : goal.loop-key-init
 loop-key-init c =
     rw c.in-Some.is
-    (ap (λ (more : List Key). bytes_of_keys c.args.keys.now.items ++ more)
+    (ap (λ (more : List Key). c.args.keys.now.items ++ more)
     (ap keys_of
-    (ap starts_of (c.into_iter-key-iterator.ensures.into_iter_gives ∙ c.range-key-items.ensures.between tt)
-    ∙ between_held c.self.inside.versions.entries c.in-Some.begin.now c.args.end.now)))
+    (c.into_iter-key-iterator.ensures.into_iter_gives ∙ c.range-key-items.ensures.between tt
+    ∙ between_held c.self.inside.versions.entries c.in-Some.begin.now c.args.end.now)
+    ∙ ap (keys_between (Some c.in-Some.begin.now) c.args.end.now) c.self.view_is))

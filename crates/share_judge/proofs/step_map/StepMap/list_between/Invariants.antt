@@ -2,10 +2,10 @@
 use Rattle.std.proofs.Common.{◌≡◌, ◌++◌}
 use Rattle.std.specs.Prelude.{option_map}
 use Rattle.std.specs.Map.{keys_of}
-use Rattle.share_judge.specs.Steps.{starts_of, bytes_of_keys, keys_between}
+use Rattle.share_judge.specs.Steps.{keys_between}
 use Rattle.share_judge.proofs.step_map.StepMap.list_between.Given as goal
 
 abbrev pub invariant-loop-key : goal.invariant-loop-key
 invariant-loop-key l =
-    bytes_of_keys l.keys.items ++ keys_of (starts_of l.key-iterator)
-    ≡ bytes_of_keys l.fn.keys.items ++ keys_between (option_map (λ key. key.now.items) l.begin) l.end.items (starts_of l.self-inside.versions.entries)
+    l.keys.items ++ keys_of l.key-iterator
+    ≡ l.fn.keys.items ++ keys_between (option_map (λ key. key.now) l.begin) l.end l.self

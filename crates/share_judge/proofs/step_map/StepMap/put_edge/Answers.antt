@@ -1,5 +1,5 @@
 -- A start with the version that its key has changes no version.
-use Rattle.std.proofs.Common.{◌∙◌, sym, ap, subst, List}
+use Rattle.std.proofs.Common.{◌∙◌, refl, sym, ap, subst, List}
 use Rattle.share_judge.specs.Steps.{Start, settled, HasStart, last_from}
 use Rattle.share_judge.proofs.MapStarts.{starts_rise}
 use Rattle.share_judge.proofs.MapCalls.{put_same, put_there, put_others}
@@ -10,17 +10,17 @@ invariant_of-self-2 c = starts_rise _ c.insert.ensures.ordered
 
 pub returns-clause-same : goal.returns-clause-same
 returns-clause-same c = λ dropped.
-    put_same c.self.inside.versions.entries c.insert.new.self.entries c.in_ok-copy.copy c.args.key.now.items c.at-version.result c.self.invariant (c.in_ok-copy.ensures.items ∙ c.as_slice.ensures.value)
-    (c.at-version.ensures ∙ ap (λ (ss : List Start). last_from 0 ss c.args.key.now.items) (sym c.self.view_is)) c.in_ok-insert.ensures.entries dropped
+    put_same c.self.inside.versions.entries c.insert.new.self.entries c.args.key c.args.key c.at-version.result c.self.invariant refl
+    (c.at-version.ensures ∙ ap (λ (ss : List Start). last_from 0 ss c.args.key) (sym c.self.view_is)) c.in_ok-insert.ensures.entries dropped
     ∙ ap (settled dropped 0) c.self.view_is
 
 pub returns-clause-rising : goal.returns-clause-rising
 returns-clause-rising c = starts_rise _ c.insert.ensures.ordered
 
 pub returns-clause-there : goal.returns-clause-there
-returns-clause-there c = put_there c.self.inside.versions.entries c.insert.new.self.entries c.in_ok-copy.copy c.args.key.now.items c.at-version.result (c.in_ok-copy.ensures.items ∙ c.as_slice.ensures.value) c.in_ok-insert.ensures.entries
+returns-clause-there c = put_there c.self.inside.versions.entries c.insert.new.self.entries c.args.key c.args.key c.at-version.result refl c.in_ok-insert.ensures.entries
 
 pub returns-clause-others : goal.returns-clause-others
 returns-clause-others c = λ other has.
-    put_others c.self.inside.versions.entries c.insert.new.self.entries c.in_ok-copy.copy c.at-version.result c.in_ok-insert.ensures.entries other
+    put_others c.self.inside.versions.entries c.insert.new.self.entries c.args.key c.at-version.result c.in_ok-insert.ensures.entries other
     (subst (λ (ss : List Start). HasStart ss other) (sym c.self.view_is) has)

@@ -1,5 +1,5 @@
 -- A start with the version of the step before tells nothing.
-use Rattle.std.proofs.Common.{◌∙◌, sym, ap, List}
+use Rattle.std.proofs.Common.{◌∙◌, refl, sym, ap, List}
 use Rattle.share_judge.specs.Steps.{Start, settled, last_from, last_before}
 use Rattle.share_judge.proofs.MapStarts.{starts_rise}
 use Rattle.share_judge.proofs.MapCalls.{removed_same}
@@ -10,10 +10,10 @@ invariant_of-self c = starts_rise _ c.remove.ensures.ordered
 
 pub returns-then-at-before-clause-same : goal.returns-then-at-before-clause-same
 returns-then-at-before-clause-same c = λ dropped.
-    removed_same c.self.inside.versions.entries c.remove.new.self.entries c.as_slice.result.now c.args.key.now.items c.as_slice.ensures.value c.self.invariant
-    (ap (λ (ss : List Start). last_from 0 ss c.args.key.now.items) c.self.view_is
+    removed_same c.self.inside.versions.entries c.remove.new.self.entries c.args.key.now c.args.key.now refl c.self.invariant
+    (ap (λ (ss : List Start). last_from 0 ss c.args.key.now) c.self.view_is
     ∙ sym c.at.ensures ∙ c.if-at-before.true ∙ c.before-2.ensures
-    ∙ sym (ap (λ (ss : List Start). last_before 0 ss c.args.key.now.items) c.self.view_is))
+    ∙ sym (ap (λ (ss : List Start). last_before 0 ss c.args.key.now) c.self.view_is))
     c.remove.ensures.entries dropped
     ∙ ap (settled dropped 0) c.self.view_is
 
