@@ -28,7 +28,7 @@ pub(crate) struct AskedResolvers {
     pub(crate) writes: Items<Items<ResolverNumber>>,
 }
 
-/// The keys of the lock row: one range.
+/// The keys of the lock row: one range. Most batches have no use for it.
 pub(crate) fn lock_row(alloc: Global) -> Result<Vec<KeyRange>, OutOfMemory>
     ensures { IfOk result (λ row. row.items ≡ only locked_key ∷ []) }
 {
@@ -38,7 +38,7 @@ pub(crate) fn lock_row(alloc: Global) -> Result<Vec<KeyRange>, OutOfMemory>
     let Ok(range) = KeyRange::new(begin, end) else {
         unreachable!();
     };
-    let mut row = Vec::new(alloc);
+    let mut row = Vec::with_capacity(alloc, 1)?;
     row.push(range)?;
     Ok(row)
 }
@@ -50,16 +50,14 @@ pub(crate) fn all_asked_resolvers(
     owners: &OwnerMap,
     oldest: Version,
     batch: &[Stamped],
-    lock_row: &[KeyRange],
 ) -> Result<Vec<AskedResolvers>, OutOfMemory>
-    requires { lock_row.now ≡ only locked_key ∷ [] }
     ensures length { IfOk result (λ askings. length askings.items ≡ length batch.now) }
     ensures asked { IfOk result (λ askings.
         AreAllAskedResolvers oldest owners.now batch.now askings.items) }
 {
     let mut askings = Vec::with_capacity(alloc, batch.len())?;
     for transaction in batch {
-        askings.push(ask_about(alloc, owners, oldest, transaction, lock_row)?)?;
+        askings.push(ask_about(alloc, owners, oldest, transaction)?)?;
     }
     Ok(askings)
 }
@@ -70,28 +68,37 @@ fn ask_about(
     owners: &OwnerMap,
     oldest: Version,
     transaction: &Stamped,
-    lock_row: &[KeyRange],
 ) -> Result<AskedResolvers, OutOfMemory>
-    requires { lock_row.now ≡ only locked_key ∷ [] }
     ensures { IfOk result (λ asking. AreAskedResolvers oldest owners.now transaction.now asking) }
 {
     let is_state = transaction.is_state();
     let snapshot = transaction.snapshot();
-    let lock = added_read(is_state && !transaction.lock_aware(), lock_row);
+    let is_added = is_state && !transaction.lock_aware();
     Ok(AskedResolvers {
         is_state,
         reads: reader_lists(alloc, owners, oldest, transaction.reads(), snapshot)?,
-        lock: reader_lists(alloc, owners, oldest, lock, snapshot)?,
+        lock: lock_lists(alloc, owners, oldest, is_added, snapshot)?,
         writes: writer_lists(alloc, owners, transaction.writes())?,
     })
 }
 
-/// The read of the lock row, if it is added, and otherwise none.
-fn added_read(is_added: bool, lock_row: &[KeyRange]) -> &[KeyRange]
-    requires { lock_row.now ≡ only locked_key ∷ [] }
-    ensures { result.now ≡ lock_read is_added }
+/// The resolvers that are asked to read the lock row, if that read is added, and otherwise no list.
+fn lock_lists(
+    alloc: Global,
+    owners: &OwnerMap,
+    oldest: Version,
+    is_added: bool,
+    snapshot: Version,
+) -> Result<Items<Items<ResolverNumber>>, OutOfMemory>
+    ensures { IfOk result
+        (λ lists. AreReaderLists oldest owners.now snapshot (lock_read is_added) lists) }
 {
-    if is_added { lock_row } else { &[] }
+    if is_added {
+        let row = lock_row(alloc)?;
+        reader_lists(alloc, owners, oldest, &row, snapshot)
+    } else {
+        reader_lists(alloc, owners, oldest, &[], snapshot)
+    }
 }
 
 /// The resolvers that are asked to read each range, back to the snapshot or to `oldest`, whichever is

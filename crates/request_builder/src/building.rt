@@ -3,15 +3,13 @@
 //! Release 7.1, `CommitProxyServer.actor.cpp`, ResolutionRequestBuilder; what differs is marked
 //! *profile*.
 
-ghost use Rattle.std.specs.Prelude.{◌≡◌, ◌∷◌, [], length, map, max, IfOk};
-ghost use Rattle.system_keys.specs.Keys.{only};
-ghost use Rattle.model.specs.Transactions.{locked_key};
+ghost use Rattle.std.specs.Prelude.{◌≡◌, length, map, max, IfOk};
 ghost use Rattle.model.specs.Shares.{each_below, asked_back_to};
 ghost use Rattle.model.specs.Requests.{request_back_to};
 ghost use Rattle.model.specs.OwnerMaps.{StandsForMoves};
 ghost use Rattle.request_builder.specs.AskedResolvers.{request_by};
 
-use crate::asked_resolvers::{AskedResolvers, all_asked_resolvers, asked_lists, lock_row};
+use crate::asked_resolvers::{AskedResolvers, all_asked_resolvers, asked_lists};
 use crate::header::RequestHeader;
 use crate::marks::marks_by;
 use crate::parts::parts_by;
@@ -22,7 +20,7 @@ use crate::share::Share;
 use dated_owners::OwnerMap;
 use model::{ResolverNumber, Version};
 use std::alloc::Global;
-use system_keys::{Items, KeyRange, OutOfMemory};
+use system_keys::{Items, OutOfMemory};
 
 /// Returns the requests for a record, one for each resolver of the map, and the resolvers that get
 /// a part of each transaction.
@@ -47,16 +45,8 @@ pub fn build(
         StandsForMoves owners.now rec.now.moves → IfOk result (λ built.
         built.asked ≡ map (asked_back_to oldest owners.now.resolvers rec.now) rec.now.batch) }
 {
-    let lock_row = lock_row(alloc)?;
-    let askings = all_asked_resolvers(alloc, owners, oldest, rec.batch(), &lock_row)?;
-    let requests = requests_by(
-        alloc,
-        owners.resolvers(),
-        rec,
-        last_received,
-        &lock_row,
-        &askings,
-    )?;
+    let askings = all_asked_resolvers(alloc, owners, oldest, rec.batch())?;
+    let requests = requests_by(alloc, owners.resolvers(), rec, last_received, &askings)?;
     let asked = asked_lists(alloc, owners.resolvers(), &askings)?;
     Ok(Requests { requests, asked })
 }
@@ -67,17 +57,15 @@ fn requests_by(
     resolvers: usize,
     rec: &Record,
     last_received: Version,
-    lock_row: &[KeyRange],
     askings: &[AskedResolvers],
 ) -> Result<Items<Request>, OutOfMemory>
-    requires row { lock_row.now ≡ only locked_key ∷ [] }
-    requires length { length askings.now ≡ length rec.now.batch }
+    requires { length askings.now ≡ length rec.now.batch }
     ensures { IfOk result (λ requests.
         requests ≡ map (request_by rec.now last_received askings.now) (each_below resolvers)) }
 {
     let mut requests = Vec::with_capacity(alloc, resolvers)?;
     for resolver in 0..resolvers {
-        requests.push(request_by(alloc, resolver, rec, last_received, lock_row, askings)?)?;
+        requests.push(request_by(alloc, resolver, rec, last_received, askings)?)?;
     }
     Ok(Items::from(requests))
 }
@@ -88,11 +76,9 @@ fn request_by(
     resolver: ResolverNumber,
     rec: &Record,
     last_received: Version,
-    lock_row: &[KeyRange],
     askings: &[AskedResolvers],
 ) -> Result<Request, OutOfMemory>
-    requires row { lock_row.now ≡ only locked_key ∷ [] }
-    requires length { length askings.now ≡ length rec.now.batch }
+    requires { length askings.now ≡ length rec.now.batch }
     ensures { IfOk result (λ request.
         request ≡ request_by rec.now last_received askings.now resolver) }
 {
@@ -104,7 +90,7 @@ fn request_by(
         version: rec.version(),
         last_received,
     };
-    let parts = parts_by(alloc, resolver, rec.batch(), lock_row, askings)?;
+    let parts = parts_by(alloc, resolver, rec.batch(), askings)?;
     let marks = marks_by(alloc, resolver, rec.batch(), askings)?;
     let share = Share::new(Items::from(parts));
     Ok(Request::of_parts(header, share, Items::from(marks)))

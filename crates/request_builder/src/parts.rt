@@ -7,7 +7,7 @@ ghost use Rattle.model.specs.Journal.{list_at};
 ghost use Rattle.request_builder.specs.AskedResolvers.{is_in, ranges_for, part_by, is_sent};
 ghost use Rattle.request_builder.specs.AskedResolvers.{sent_part, parts_by};
 
-use crate::asked_resolvers::AskedResolvers;
+use crate::asked_resolvers::{AskedResolvers, lock_row};
 use model::{Part, ResolverNumber, TransactionNumber};
 use mutation::Stamped;
 use std::alloc::Global;
@@ -18,17 +18,15 @@ pub(crate) fn parts_by(
     alloc: Global,
     resolver: ResolverNumber,
     batch: &[Stamped],
-    lock_row: &[KeyRange],
     askings: &[AskedResolvers],
 ) -> Result<Vec<Part>, OutOfMemory>
-    requires row { lock_row.now ≡ only locked_key ∷ [] }
-    requires length { length askings.now ≡ length batch.now }
+    requires { length askings.now ≡ length batch.now }
     ensures { IfOk result (λ parts. parts.items ≡ parts_by resolver 0 batch.now askings.now) }
 {
     let mut parts = Vec::new(alloc);
     for (number, transaction) in batch.iter().enumerate() {
         let asking = &askings[number];
-        let part = part_by(alloc, resolver, number, transaction, lock_row, asking)?;
+        let part = part_by(alloc, resolver, number, transaction, asking)?;
         push_sent(&mut parts, asking.is_state, part)?;
     }
     Ok(parts)
@@ -57,10 +55,8 @@ fn part_by(
     resolver: ResolverNumber,
     number: TransactionNumber,
     transaction: &Stamped,
-    lock_row: &[KeyRange],
     asking: &AskedResolvers,
 ) -> Result<Part, OutOfMemory>
-    requires { lock_row.now ≡ only locked_key ∷ [] }
     ensures { IfOk result (λ part. part ≡ part_by resolver number transaction.now asking.now) }
 {
     let mut reads = Vec::new(alloc);
@@ -70,7 +66,7 @@ fn part_by(
         transaction.reads(),
         asking.reads.as_slice(),
     )?;
-    push_ranges(&mut reads, resolver, lock_row, asking.lock.as_slice())?;
+    push_lock_row(alloc, &mut reads, resolver, asking.lock.as_slice())?;
     let mut writes = Vec::new(alloc);
     push_ranges(
         &mut writes,
@@ -84,6 +80,23 @@ fn part_by(
         reads: Items::from(reads),
         writes: Items::from(writes),
     })
+}
+
+/// Adds the lock row, if there is a list for it, and that has the resolver.
+fn push_lock_row(
+    alloc: Global,
+    copies: &mut Vec<KeyRange>,
+    resolver: ResolverNumber,
+    lists: &[Items<ResolverNumber>],
+) -> Result<(), OutOfMemory>
+    ensures { OnOk result (copies.new.items
+        ≡ copies.old.items ++ ranges_for resolver (only locked_key ∷ []) lists.now) }
+{
+    if lists.is_empty() {
+        return Ok(());
+    }
+    let row = lock_row(alloc)?;
+    push_ranges(copies, resolver, &row, lists)
 }
 
 /// Adds copies of the ranges whose lists have the resolver. Room for them is made at once.

@@ -11,12 +11,12 @@ pub returns-clause-requests : goal.returns-clause-requests
 returns-clause-requests c = λ stands.
     let asked = subst (λ (batch : List Transaction). AreAllAskedResolvers c.args.oldest c.args.owners.now batch c.in_ok-askings.askings.items) c.batch.ensures c.in_ok-askings.ensures.asked in
     c.in_ok-requests.ensures
-    ∙ ap₂ (λ (askings : List AskedResolvers) (resolvers : ℕ). map (request_by c.args.rec.now c.args.last_received askings) (each_below resolvers)) c.deref-3.ensures.value c.resolvers.ensures
+    ∙ ap₂ (λ (askings : List AskedResolvers) (resolvers : ℕ). map (request_by c.args.rec.now c.args.last_received askings) (each_below resolvers)) c.deref.ensures.value c.resolvers.ensures
     ∙ requests_are c.args.owners.now c.args.oldest c.args.rec.now c.args.last_received c.in_ok-askings.askings.items stands asked
 
 pub returns-clause-asked : goal.returns-clause-asked
 returns-clause-asked c = λ stands.
     let asked = subst (λ (batch : List Transaction). AreAllAskedResolvers c.args.oldest c.args.owners.now batch c.in_ok-askings.askings.items) c.batch.ensures c.in_ok-askings.ensures.asked in
     c.in_ok-asked.ensures
-    ∙ ap₂ (λ (askings : List AskedResolvers) (resolvers : ℕ). map (asked_by resolvers) askings) c.deref-4.ensures.value c.resolvers-2.ensures
+    ∙ ap₂ (λ (askings : List AskedResolvers) (resolvers : ℕ). map (asked_by resolvers) askings) c.deref-2.ensures.value c.resolvers-2.ensures
     ∙ asked_lists_are c.args.owners.now c.args.oldest c.args.rec.now c.in_ok-askings.askings.items stands asked
