@@ -1,5 +1,5 @@
 -- Starts that get a version: each key that is written in the other map has it then.
-use Rattle.std.proofs.Common.{◌≡◌, refl, sym, ap, ap₂, ◌∙◌, ℕ, ◌<◌, inl, inr, List, [], ◌∷◌, map, Bool, true, false, cond, not, ◌&&◌, ◌||◌, nat_lt}
+use Rattle.std.proofs.Common.{◌≡◌, refl, sym, ap, ap₂, ◌∙◌, ℕ, ◌<◌, inl, inr, List, [], ◌∷◌, map, Bool, true, false, cond, not, ◌&&◌, ◌||◌, nat_lt, arith}
 use Rattle.std.proofs.lemmas.Bool.{both_ways, lt-ltb}
 use Rattle.std.specs.Map.{set_value}
 use Rattle.system_keys.specs.Keys.{Key, Range, is_key_below, holds}
@@ -195,9 +195,12 @@ range_written range version key above = by (is_key_below key range.begin) (is_ke
     by false true = lt-ltb 0 version above
     by false false = refl
 
-pub over_range : (range : Range) (version : ℕ) (old new : List Start) → 0 < version → AreOver (is_written ((range.begin, version) ∷ (range.end, 0) ∷ [])) version old new → AreOver (holds range) version old new
-over_range range version old new above over =
+-- a map over another one that has a version from `begin` up to `end` alone
+pub over_keys : (begin end : Key) (range : Range) (version : ℕ) (old new : List Start) → begin ≡ range.begin → end ≡ range.end → AreOver (is_written ((begin, 1) ∷ (end, 0) ∷ [])) version old new → AreOver (holds range) version old new
+over_keys begin end range version old new low high over =
     record {
-      at = λ key. over.at key ∙ ap (λ (b : Bool). cond b version (last_from 0 old key)) (range_written range version key above);
+      at = λ key.
+          over.at key
+          ∙ ap (λ (b : Bool). cond b version (last_from 0 old key)) (ap₂ (λ (b e : Key). is_written ((b, 1) ∷ (e, 0) ∷ []) key) low high ∙ range_written range 1 key (omega arith));
       past = over.past;
     }

@@ -137,14 +137,36 @@ impl StepMap {
         ensures over { OnOk result (AreOver (holds range.now) version self.old self.new) }
         ensures rising { AreRising self.new }
     {
-        let over = StepMap::of_range(self.alloc, range, version)?;
         if self.versions.is_empty() {
+            let over = StepMap::of_range(self.alloc, range, version)?;
             *self = over;
             return Ok(());
         }
-        let keys = self.make_room(&over)?;
+        let begin = StepKey::new(self.alloc, range.begin())?;
+        let end = StepKey::new(self.alloc, range.end())?;
+        let keys = self.make_room_between(&begin, &end)?;
         self.fill(&keys, version);
         Ok(())
+    }
+
+    /// Puts a start at both keys, and lists the keys of the starts from `begin` up to `end`. No key has
+    /// another version, also if it fails, which is only with `OutOfMemory`.
+    fn make_room_between(
+        &mut self,
+        begin: &StepKey,
+        end: &StepKey,
+    ) -> Result<Vec<StepKey>, OutOfMemory>
+        requires { is_key_below begin.now end.now ≡ true }
+        ensures same { TellTheSame self.old self.new }
+        ensures rising { AreRising self.old → AreRising self.new }
+        ensures over { let over = (begin.now, 1) ∷ (end.now, 0) ∷ [] in
+            IfOk result (λ keys. TakeOver over self.new keys.items) }
+    {
+        self.put_edge(begin.copy()?)?;
+        self.put_edge(end.copy()?)?;
+        let mut keys = Vec::new(self.alloc);
+        self.list_between(Some(begin), end, &mut keys)?;
+        Ok(keys)
     }
 
     /// Puts a start at each start of the other map, and lists the keys of those at which the other

@@ -1,15 +1,20 @@
--- Room is made for the two ends of the range, and then filled.
-use Rattle.std.proofs.Common.{subst, List}
-use Rattle.system_keys.specs.Keys.{Key}
-use Rattle.share_judge.specs.Steps.{Start, AreRising, AreOver, TellTheSame, is_written, is_listed, marked}
-use Rattle.share_judge.proofs.Overwritten.{filled, over_range}
+-- Room is made between the two ends of the range, and then filled.
+use Rattle.std.proofs.Common.{◌∷◌, [], ◌∙◌, ap₂, subst, List}
+use Rattle.system_keys.specs.Keys.{Key, is_key_below}
+use Rattle.system_keys.proofs.KeyLaws.{begins_below}
+use Rattle.share_judge.specs.Steps.{AreRising, TellTheSame, is_listed, marked}
+use Rattle.share_judge.proofs.Overwritten.{filled, over_keys}
 use Rattle.share_judge.proofs.step_map.StepMap.overwrite.Goals as goal
+
+pub make_room_between-requires : goal.make_room_between-requires
+make_room_between-requires c =
+    ap₂ is_key_below (c.in_ok-begin.ensures ∙ c.begin.ensures.value) (c.in_ok-end.ensures ∙ c.end.ensures.value)
+    ∙ begins_below c.args.range.now.begin c.args.range.now.end c.begin.ensures.kept
 
 pub returns-clause-over : goal.returns-clause-over
 returns-clause-over c =
     let rising = subst AreRising c.self.view_is c.self.invariant in
-    let rising_mid = c.make_room.ensures.rising rising in
-    over_range c.args.range.now c.args.version c.args.self.now c.fill.new.self c.requires
-    (subst (λ (over : List Start). AreOver (is_written over) c.args.version c.args.self.now c.fill.new.self) c.in_ok-over.ensures
-    (filled c.in_ok-over.over c.args.self.now c.make_room.new.self c.fill.new.self c.in_ok-keys.keys.items c.args.version rising rising_mid (c.fill.ensures.rising rising_mid) c.make_room.ensures.same c.in_ok-keys.ensures.over
-    (subst (λ (keys : List Key). TellTheSame (marked (is_listed keys) c.args.version c.make_room.new.self) c.fill.new.self) c.deref.ensures.value c.fill.ensures.same)))
+    let rising_mid = c.make_room_between.ensures.rising rising in
+    over_keys c.in_ok-begin.begin c.in_ok-end.end c.args.range.now c.args.version c.args.self.now c.fill.new.self (c.in_ok-begin.ensures ∙ c.begin.ensures.value) (c.in_ok-end.ensures ∙ c.end.ensures.value)
+    (filled ((c.in_ok-begin.begin, 1) ∷ (c.in_ok-end.end, 0) ∷ []) c.args.self.now c.make_room_between.new.self c.fill.new.self c.in_ok-keys.keys.items c.args.version rising rising_mid (c.fill.ensures.rising rising_mid) c.make_room_between.ensures.same c.in_ok-keys.ensures.over
+    (subst (λ (keys : List Key). TellTheSame (marked (is_listed keys) c.args.version c.make_room_between.new.self) c.fill.new.self) c.deref.ensures.value c.fill.ensures.same))
