@@ -6,6 +6,7 @@ pub mod MapCalls
 pub mod MapStarts
 pub mod Overwritten
 pub mod Reached
+pub mod Repeated
 pub mod RoomBetween
 pub mod Settled
 pub mod Starts

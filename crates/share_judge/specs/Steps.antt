@@ -69,6 +69,10 @@ abbrev pub HasStart : (starts : List Start) (key : Key) → Type 0
 HasStart [] key = ⊥
 HasStart (s ∷ starts) key = (key ≡ s.0) ⊎ HasStart starts key
 
+-- if there is a start at the key, it has the version
+abbrev pub HasVersion : (starts : List Start) (key : Key) (version : Version) → Type 0
+HasVersion starts key version = HasStart starts key → last_from 0 starts key ≡ version
+
 -- the two give each key the same version, also where versions up to a bound count as none
 abbrev pub TellTheSame : (old new : List Start) → Type 0
 TellTheSame old new = (dropped : Version) → settled dropped 0 new ≡ settled dropped 0 old

@@ -5,7 +5,7 @@ ghost use Rattle.std.specs.Prelude.{true, nat_lt, nat_eq, not, None, Some, optio
 ghost use Rattle.system_keys.specs.Keys.{Key, Range, holds, is_key_below};
 ghost use Rattle.model.specs.WriteHistories.{unless_forgotten};
 ghost use Rattle.share_judge.specs.Steps.{last_from, last_before, last_of_all, settled, AreRising};
-ghost use Rattle.share_judge.specs.Steps.{HasStart, TellTheSame, AreOver, TakeOver, marked};
+ghost use Rattle.share_judge.specs.Steps.{HasStart, HasVersion, TellTheSame, AreOver, TakeOver, marked};
 ghost use Rattle.share_judge.specs.Steps.{is_listed, is_same_key};
 ghost use Rattle.share_judge.specs.Steps.{is_reached, has_start_above, is_written, keys_between, is_counted, changes_from};
 
@@ -253,7 +253,7 @@ impl StepMap {
         ensures rising { AreRising self.old → AreRising self.new }
     {
         self.mark(keys, version);
-        self.take_out_repeated(keys);
+        self.take_out_repeated(keys, version);
     }
 
     /// Gives the starts at the keys the version.
@@ -275,22 +275,27 @@ impl StepMap {
         *place = version;
     }
 
-    /// Takes out the starts at the keys that have the version of the step before.
-    fn take_out_repeated(&mut self, keys: &[StepKey])
+    /// Takes out the starts at the keys if the step before has their version, which is this one.
+    fn take_out_repeated(&mut self, keys: &[StepKey], version: Version)
+        requires { AreRising self.old → (key : Key) → is_listed keys.now key ≡ true
+            → HasVersion self.old key version }
         ensures same { TellTheSame self.old self.new }
         ensures rising { AreRising self.old → AreRising self.new }
     {
         for key in keys {
-            self.take_out_if_repeated(key);
+            self.take_out_if_repeated(key, version);
         }
     }
 
-    /// Takes out the start at the key, if it has the version of the step before.
-    fn take_out_if_repeated(&mut self, key: &StepKey)
+    /// Takes out the start at the key, if the step before has its version, which is this one.
+    fn take_out_if_repeated(&mut self, key: &StepKey, version: Version)
+        requires { AreRising self.old → HasVersion self.old key.now version }
         ensures same { TellTheSame self.old self.new }
         ensures rising { AreRising self.new }
+        ensures was_rising { AreRising self.old }
+        ensures fewer { (other : Key) → HasStart self.new other → HasStart self.old other }
     {
-        if self.at(key) == self.before(key) {
+        if self.before(key) == version {
             self.versions.remove(key);
         }
     }
