@@ -10,6 +10,7 @@ ghost use Rattle.mutation.specs.Refusals.{refusal_fault};
 
 use crate::admitted::{Admitted, AdmittedMutation};
 use crate::limits::check_transaction;
+use crate::ranges::shared_ranges;
 use crate::refusal::Refusal;
 use crate::transaction::{GivenRange, Mutation, Transaction};
 use std::alloc::Global;
@@ -51,8 +52,11 @@ fn to_transaction(alloc: Global, transaction: Transaction) -> Result<Admitted, O
 {
     Ok(Admitted::of_parts(
         transaction.snapshot,
-        to_ranges(alloc, transaction.reads)?,
-        to_ranges(alloc, transaction.writes)?,
+        shared_ranges(
+            alloc,
+            to_ranges(alloc, transaction.reads)?,
+            to_ranges(alloc, transaction.writes)?,
+        )?,
         to_mutations(alloc, transaction.mutations)?,
         transaction.lock_aware,
     ))

@@ -2,10 +2,12 @@
 
 ghost use Rattle.std.specs.Prelude.{◌≡◌, None, IfOk};
 
+use crate::ranges::Ranges;
 use crate::stamped::{Stamped, stamped_changes};
 use model::{TransactionNumber, Version};
 use std::alloc::Global;
 use std::marker::Model;
+use std::sync::Arc;
 use system_keys::{Bytes, Items, KeyRange, OutOfMemory};
 
 /// A mutation of an admitted transaction (release 7.1). `Admitted` keeps its limits.
@@ -46,14 +48,15 @@ impl AdmittedMutation {
 #[derive(Clone, Debug, Drop)]
 pub struct Admitted {
     snapshot: Version,
-    reads: Items<KeyRange>,
-    writes: Items<KeyRange>,
+    /// Those that it reads and writes, which its copies share.
+    ranges: Arc<Ranges>,
     mutations: Items<AdmittedMutation>,
     lock_aware: bool,
 }
 
 impl Model for Admitted {
     ghost use Rattle.std.specs.Prelude.{◌≡◌, None, map};
+    ghost use Rattle.std.specs.Arc.{arc_value};
     ghost use Rattle.model.specs.Stamps.{Given};
 
     ghost Value = { Given };
@@ -63,16 +66,16 @@ impl Model for Admitted {
 
     ghost view = { λ t. record {
       snapshot = t.snapshot;
-      reads = t.reads;
-      writes = t.writes;
+      reads = (arc_value t.ranges).reads;
+      writes = (arc_value t.ranges).writes;
       mutations = map from_admitted t.mutations;
       lock_aware = t.lock_aware;
     } };
 
     ghost invariant = { λ t. transaction_fault (record {
       snapshot = t.snapshot;
-      reads = t.reads;
-      writes = t.writes;
+      reads = (arc_value t.ranges).reads;
+      writes = (arc_value t.ranges).writes;
       mutations = map from_admitted t.mutations;
       lock_aware = t.lock_aware;
     }) ≡ None };
@@ -80,6 +83,7 @@ impl Model for Admitted {
 
 impl Admitted {
     ghost use Rattle.std.specs.Prelude.{map};
+    ghost use Rattle.std.specs.Arc.{arc_value};
     ghost use Rattle.model.specs.Stamps.{Given, stamped};
     ghost use Rattle.mutation.specs.Admitted.{from_admitted};
     ghost use Rattle.mutation.specs.Faults.{transaction_fault};
@@ -87,30 +91,28 @@ impl Admitted {
     /// Returns the transaction of these parts. Does not allocate.
     pub(crate) fn of_parts(
         snapshot: Version,
-        reads: Vec<KeyRange>,
-        writes: Vec<KeyRange>,
+        ranges: Arc<Ranges>,
         mutations: Vec<AdmittedMutation>,
         lock_aware: bool,
     ) -> Admitted
         requires { transaction_fault (record {
           snapshot = snapshot;
-          reads = reads.items;
-          writes = writes.items;
+          reads = (arc_value ranges).reads;
+          writes = (arc_value ranges).writes;
           mutations = map from_admitted mutations.items;
           lock_aware = lock_aware;
         }) ≡ None }
         ensures { result ≡ record {
           snapshot = snapshot;
-          reads = reads.items;
-          writes = writes.items;
+          reads = (arc_value ranges).reads;
+          writes = (arc_value ranges).writes;
           mutations = map from_admitted mutations.items;
           lock_aware = lock_aware;
         } }
     {
         Admitted {
             snapshot,
-            reads: Items::from(reads),
-            writes: Items::from(writes),
+            ranges,
             mutations: Items::from(mutations),
             lock_aware,
         }
@@ -128,7 +130,7 @@ impl Admitted {
         ensures value { result.now ≡ self.now.reads }
         ensures limits { transaction_fault self.now ≡ None }
     {
-        self.reads.as_slice()
+        self.ranges.reads.as_slice()
     }
 
     /// The ranges that it wants to write.
@@ -136,7 +138,7 @@ impl Admitted {
         ensures value { result.now ≡ self.now.writes }
         ensures limits { transaction_fault self.now ≡ None }
     {
-        self.writes.as_slice()
+        self.ranges.writes.as_slice()
     }
 
     /// What it wants to change, in order.
@@ -156,7 +158,7 @@ impl Admitted {
 
     /// Returns the transaction with its stamps in, as transaction `number` of the batch of
     /// `version`: each SetStamped becomes a Set (release 7.1). A stamp holds the low two bytes of a
-    /// number above 65,535, which no batch has. Fails only with `OutOfMemory`.
+    /// number above 65,535, which no batch has. The two share the ranges. Fails only with `OutOfMemory`.
     pub fn stamped(
         &self,
         alloc: Global,
@@ -167,24 +169,16 @@ impl Admitted {
     {
         Ok(Stamped::of_parts(
             self.snapshot,
-            copied_ranges(&self.reads)?,
-            copied_ranges(&self.writes)?,
+            self.ranges.clone()?,
             stamped_changes(alloc, version, number, self.mutations.as_slice())?,
             self.lock_aware,
         ))
     }
 
-    /// Returns a deep copy. Fails only with `OutOfMemory`.
+    /// Returns a copy, which shares the ranges. Fails only with `OutOfMemory`.
     pub fn copy(&self) -> Result<Admitted, OutOfMemory>
         ensures { IfOk result (λ copy. copy ≡ self.now) }
     {
         Ok(self.clone()?)
     }
-}
-
-/// Returns a deep copy of the ranges.
-fn copied_ranges(ranges: &Items<KeyRange>) -> Result<Items<KeyRange>, OutOfMemory>
-    ensures { IfOk result (λ copy. copy ≡ ranges.now) }
-{
-    Ok(ranges.clone()?)
 }

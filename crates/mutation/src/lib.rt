@@ -10,6 +10,7 @@ mod admitted;
 mod batch;
 mod laws;
 mod limits;
+mod ranges;
 mod refusal;
 mod stamp;
 mod stamped;

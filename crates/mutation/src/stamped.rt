@@ -8,10 +8,12 @@ ghost use Rattle.mutation.specs.Admitted.{from_admitted};
 ghost use Rattle.mutation.specs.Faults.{first_fault, fault_of_mutation};
 
 use crate::admitted::AdmittedMutation;
+use crate::ranges::Ranges;
 use crate::stamp::stamped_value;
 use model::{TransactionNumber, Version};
 use std::alloc::Global;
 use std::marker::Model;
+use std::sync::Arc;
 use system_keys::{Bytes, Change, Items, KeyRange, OutOfMemory, is_state};
 
 /// A transaction with its stamps in, and so with changes alone (release 7.1). It is within every
@@ -19,14 +21,15 @@ use system_keys::{Bytes, Change, Items, KeyRange, OutOfMemory, is_state};
 #[derive(Clone, Debug, Drop)]
 pub struct Stamped {
     snapshot: Version,
-    reads: Items<KeyRange>,
-    writes: Items<KeyRange>,
+    /// Those that it reads and writes, which the admitted transaction and all copies share.
+    ranges: Arc<Ranges>,
     changes: Items<Change>,
     lock_aware: bool,
 }
 
 impl Model for Stamped {
     ghost use Rattle.std.specs.Prelude.{◌≡◌, None};
+    ghost use Rattle.std.specs.Arc.{arc_value};
     ghost use Rattle.model.specs.Transactions.{Transaction};
     ghost use Rattle.mutation.specs.Faults.{stamped_fault};
 
@@ -34,51 +37,50 @@ impl Model for Stamped {
 
     ghost view = { λ t. record {
       snapshot = t.snapshot;
-      reads = t.reads;
-      writes = t.writes;
+      reads = (arc_value t.ranges).reads;
+      writes = (arc_value t.ranges).writes;
       changes = t.changes;
       lock_aware = t.lock_aware;
     } };
 
     ghost invariant = { λ t. stamped_fault (record {
       snapshot = t.snapshot;
-      reads = t.reads;
-      writes = t.writes;
+      reads = (arc_value t.ranges).reads;
+      writes = (arc_value t.ranges).writes;
       changes = t.changes;
       lock_aware = t.lock_aware;
     }) ≡ None };
 }
 
 impl Stamped {
+    ghost use Rattle.std.specs.Arc.{arc_value};
     ghost use Rattle.mutation.specs.Faults.{stamped_fault};
 
     /// Returns the transaction of these parts. Does not allocate.
     pub(crate) fn of_parts(
         snapshot: Version,
-        reads: Items<KeyRange>,
-        writes: Items<KeyRange>,
+        ranges: Arc<Ranges>,
         changes: Vec<Change>,
         lock_aware: bool,
     ) -> Stamped
         requires { stamped_fault (record {
           snapshot = snapshot;
-          reads = reads;
-          writes = writes;
+          reads = (arc_value ranges).reads;
+          writes = (arc_value ranges).writes;
           changes = changes.items;
           lock_aware = lock_aware;
         }) ≡ None }
         ensures { result ≡ record {
           snapshot = snapshot;
-          reads = reads;
-          writes = writes;
+          reads = (arc_value ranges).reads;
+          writes = (arc_value ranges).writes;
           changes = changes.items;
           lock_aware = lock_aware;
         } }
     {
         Stamped {
             snapshot,
-            reads,
-            writes,
+            ranges,
             changes: Items::from(changes),
             lock_aware,
         }
@@ -96,7 +98,7 @@ impl Stamped {
         ensures value { result.now ≡ self.now.reads }
         ensures limits { stamped_fault self.now ≡ None }
     {
-        self.reads.as_slice()
+        self.ranges.reads.as_slice()
     }
 
     /// The ranges that it wants to write.
@@ -104,7 +106,7 @@ impl Stamped {
         ensures value { result.now ≡ self.now.writes }
         ensures limits { stamped_fault self.now ≡ None }
     {
-        self.writes.as_slice()
+        self.ranges.writes.as_slice()
     }
 
     /// What it wants to change, in order.
@@ -142,7 +144,7 @@ impl Stamped {
         self.lock_aware
     }
 
-    /// Returns a deep copy. Fails only with `OutOfMemory`.
+    /// Returns a copy, which shares the ranges. Fails only with `OutOfMemory`.
     pub fn copy(&self) -> Result<Stamped, OutOfMemory>
         ensures { IfOk result (λ copy. copy ≡ self.now) }
     {
