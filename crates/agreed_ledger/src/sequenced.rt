@@ -1,6 +1,6 @@
 //! What the sequencer keeps: the records that it gave out, and the moves.
 
-ghost use Rattle.std.specs.Prelude.{◌≡◌, ◌+◌, ◌<◌, [], IfOk, IfErr, OnOk, OnErr, None};
+ghost use Rattle.std.specs.Prelude.{◌≡◌, ◌+◌, ◌≤◌, ◌<◌, [], IfOk, IfErr, OnOk, OnErr, None};
 ghost use Rattle.model.specs.Records.{MovesFollow, last_version};
 ghost use Rattle.model.specs.World.{record_after};
 ghost use Rattle.agreed_ledger.specs.Refusals.{refusal_fault};
@@ -10,6 +10,7 @@ ghost use Rattle.agreed_ledger.specs.Sequencing.{
   move_fault,
   sequence_fault,
 };
+ghost use Rattle.agreed_ledger.specs.declared.refusal.Refusal.TheVariants as refusals;
 
 use crate::ledger::Ledger;
 use crate::naming::Naming;
@@ -149,7 +150,8 @@ impl<N: Naming> Sequenced<N> {
         ensures ok { OnOk result (move_fault N.cells.config dest ≡ None) }
         ensures moved { IfOk result (λ date. HasMoved self.old range.now dest self.new date) }
         ensures refused { IfErr result (λ refusal.
-            refusal_fault refusal ≡ move_fault N.cells.config dest) }
+            (N.cells.config.resolvers ≤ dest → refusal ≡ refusals.NoSuchResolver)
+            × (dest < N.cells.config.resolvers → refusal ≡ refusals.OutOfMemory)) }
         ensures unchanged { OnErr result (self.new ≡ self.old) }
     {
         if ledger.config().resolvers() <= dest {

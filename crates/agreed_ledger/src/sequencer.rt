@@ -1,6 +1,6 @@
 //! The sequencer that threads share.
 
-ghost use Rattle.std.specs.Prelude.{◌≡◌, IfOk, IfErr, OnOk, OnErr, None};
+ghost use Rattle.std.specs.Prelude.{◌≡◌, ◌≤◌, ◌<◌, IfOk, IfErr, OnOk, OnErr, None};
 ghost use Rattle.model.specs.Records.{MovesFollow};
 ghost use Rattle.agreed_ledger.specs.Refusals.{refusal_fault};
 ghost use Rattle.agreed_ledger.specs.Sequencing.{
@@ -9,6 +9,7 @@ ghost use Rattle.agreed_ledger.specs.Sequencing.{
   move_fault,
   sequence_fault,
 };
+ghost use Rattle.agreed_ledger.specs.declared.refusal.Refusal.TheVariants as refusals;
 
 use crate::ledger::Ledger;
 use crate::naming::Naming;
@@ -94,7 +95,8 @@ impl<'a, N: Naming> SequencerGuard<'a, N> {
         ensures ok { OnOk result (move_fault N.cells.config dest ≡ None) }
         ensures moved { IfOk result (λ date. HasMoved self.old range.now dest self.new date) }
         ensures refused { IfErr result (λ refusal.
-            refusal_fault refusal ≡ move_fault N.cells.config dest) }
+            (N.cells.config.resolvers ≤ dest → refusal ≡ refusals.NoSuchResolver)
+            × (dest < N.cells.config.resolvers → refusal ≡ refusals.OutOfMemory)) }
         ensures unchanged { OnErr result (self.new ≡ self.old) }
     {
         self.guard.move_range(self.ledger, range, dest)

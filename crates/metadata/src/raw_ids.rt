@@ -15,7 +15,7 @@ const ID_LENGTH: usize = 16;
 
 /// Whether a keyServers value may name a server of which an entry is put: if the id of one stands
 /// among its ids, or if the value ends before the ids that it counts. A value that lists tags begins
-/// with two counts of zero ids. Does not allocate.
+/// with two counts of zero ids, so it names none. Does not allocate.
 pub(crate) fn may_name_put(over: &ServerView<'_>, value: &[u8]) -> bool
     ensures { result ≡ false → names_put over.now.puts value.now ≡ false }
 {

@@ -115,7 +115,7 @@ abbrev pub RowsThatDoNotDecode : Type 0
 RowsThatDoNotDecode =
     map (tags_of_key (metadata spoiled_rows)) (a ∷ n ∷ []) ≡ (tag 2 ∷ []) ∷ [] ∷ []
 
--- which values list tags, and the faults of such values; two zero bytes alone name no servers
+-- which values list tags, and the faults of such values; two zero bytes alone are two empty lists of servers
 abbrev pub ValuesThatListTags : Type 0
 ValuesThatListTags =
     (location_at listing ≡ Ok (locations.Tags listed))

@@ -157,7 +157,8 @@ all_listed (Ok (Tags tags)) = tags.sources ++ tags.destinations
 all_listed (Err fault) = []
 
 -- The tags that a keyServers value lists itself.
--- *Profile*: that a value may list tags; one that does not decode lists none.
+-- *Profile*: that a value may list tags, which are taken as they stand, whatever tags servers have;
+-- one that does not decode lists none.
 abbrev pub listed_tags : List ℕ → List Tag
 listed_tags value = all_listed (location_at value)
 

@@ -29,7 +29,7 @@ system_prefix = 255 ∷ []
 abbrev pub non_metadata_prefix : Key
 non_metadata_prefix = 255 ∷ 2 ∷ []
 
--- which storage servers have the keys from this one on
+-- which storage servers have the keys from this one on, or the tags of those that have them
 abbrev pub key_servers_family : Family
 key_servers_family =
     record { kind = kinds.KeyServers; prefix = 255 ∷ codes "/keyServers/"; following = AnyBytes }

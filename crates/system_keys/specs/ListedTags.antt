@@ -93,9 +93,9 @@ counted_tags_at [] = Err faults.Truncated
 counted_tags_at (count ∷ bytes) = first_tags_at count bytes
 
 -- as many tags as the count byte says, of those that stand behind it whole
-abbrev pub tags_listed : List ℕ → List Tag
-tags_listed [] = []
-tags_listed (count ∷ bytes) = whole_tags count bytes
+abbrev pub whole_tags_counted : List ℕ → List Tag
+whole_tags_counted [] = []
+whole_tags_counted (count ∷ bytes) = whole_tags count bytes
 
 -- the two lists of tags that stand behind the two zero bytes, or their first fault
 abbrev pub listed_tags_at : List ℕ → Result ListedTags RowFault

@@ -7,7 +7,7 @@ ghost use Rattle.system_keys.specs.Families.{is_in, is_kept, kind_of, server_key
 /// project's profile).
 #[derive(Clone, Copy, Debug, PartialEq, Eq)]
 pub enum RowKind {
-    /// `\xff/keyServers/` and any key: the storage servers of the keys from there on.
+    /// `\xff/keyServers/` and any key: the storage servers of the keys from there on, or their tags.
     KeyServers,
     /// `\xff/serverTag/` and a server id of 16 bytes: the tag of that server.
     ServerTag,

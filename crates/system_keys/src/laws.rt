@@ -40,8 +40,8 @@ pub fn row_law()
 
 /// Each keyServers value, of either form, has one encoding, and no value has both forms. A value names
 /// servers exactly if it decodes as one that names them, whatever the other form is, and one that does
-/// not begin a list of tags has the faults of one that names servers. A keyServers value has only
-/// faults of rows, and its fault is the first from the front: unless bytes are missing, it stays,
+/// not begin a list of tags has the faults of one that names servers. The faults of a keyServers value
+/// are faults of rows, and its fault is the first from the front: unless bytes are missing, it stays,
 /// whatever bytes follow.
 pub fn location_law()
     ensures spelled { (bytes : List ℕ) (location : Location)

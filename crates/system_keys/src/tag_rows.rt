@@ -11,7 +11,7 @@ ghost use Rattle.system_keys.specs.Locations.{location_at};
 ghost use Rattle.system_keys.specs.Refusals.{row_fault};
 ghost use Rattle.system_keys.specs.ListedTags.{listed_tags_value, counted_tags, tags_limit};
 ghost use Rattle.system_keys.specs.ListedTags.{listed_tags_at, counted_tags_at, first_tags_at};
-ghost use Rattle.system_keys.specs.ListedTags.{tags_listed, whole_tags};
+ghost use Rattle.system_keys.specs.ListedTags.{whole_tags_counted, whole_tags};
 
 use crate::memory::OutOfMemory;
 use crate::refusal::RowFault;
@@ -64,8 +64,8 @@ pub(crate) fn decode_tag_lists(alloc: Global, bytes: &[u8]) -> Result<TagTeams, 
 pub(crate) fn second_list(bytes: &[u8]) -> Result<&[u8], RowFault>
     ensures { MatchResult result
         (λ rest. listed_tags_at bytes.now ≡ Ok (record {
-          sources = tags_listed bytes.now;
-          destinations = tags_listed rest.now;
+          sources = whole_tags_counted bytes.now;
+          destinations = whole_tags_counted rest.now;
         }))
         (λ fault. listed_tags_at bytes.now ≡ Err fault) }
 {
@@ -81,7 +81,7 @@ pub(crate) fn second_list(bytes: &[u8]) -> Result<&[u8], RowFault>
 /// The bytes after a count byte and its tags.
 fn behind_counted_tags(bytes: &[u8]) -> Result<&[u8], RowFault>
     ensures { MatchResult result
-        (λ rest. counted_tags_at bytes.now ≡ Ok (tags_listed bytes.now, rest.now))
+        (λ rest. counted_tags_at bytes.now ≡ Ok (whole_tags_counted bytes.now, rest.now))
         (λ fault. counted_tags_at bytes.now ≡ Err fault) }
 {
     match bytes {
@@ -114,7 +114,7 @@ fn behind_tags(count: u8, bytes: &[u8]) -> Result<&[u8], RowFault>
 
 /// As many tags as the count byte says, of those that stand behind it whole.
 fn read_tags(alloc: Global, bytes: &[u8]) -> Result<Vec<Tag>, OutOfMemory>
-    ensures { IfOk result (λ tags. tags.items ≡ tags_listed bytes.now) }
+    ensures { IfOk result (λ tags. tags.items ≡ whole_tags_counted bytes.now) }
 {
     match bytes {
         [count, rest @ ..] => whole_tags(alloc, *count, rest),
