@@ -40,7 +40,7 @@ fill_first [] more (suc n) x is = absurd (omega (arith, is))
 fill_first (y ∷ ys) more zero x is = absurd (omega (arith, is))
 fill_first (y ∷ ys) more (suc n) x is = ap (λ zs. y ∷ zs) (fill_first ys more n x (omega (arith, is)))
 
-count_first : (noted : List NotedReplyView) (k : ℕ) → k ≤ length noted → length (in_places (take k noted)) ≡ k
+pub count_first : (noted : List NotedReplyView) (k : ℕ) → k ≤ length noted → length (in_places (take k noted)) ≡ k
 count_first noted zero within = refl
 count_first [] (suc k) within = absurd (omega (arith, within))
 count_first (n ∷ noted) (suc k) within = ap (λ m. suc m) (count_first noted k (omega (arith, within)))

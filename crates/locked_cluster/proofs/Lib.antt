@@ -6,6 +6,7 @@ mod ProxyColumns
 mod ProxyFinishes
 mod ProxyHeadline
 mod ProxyMeets
+mod ProxyRefusals
 mod ProxyRequests
 mod ProxyRoutings
 mod ProxyRows

@@ -87,6 +87,46 @@ have_reached_next config v resolvers k r at so_far reached = subst (HaveReached 
         by (inl last) = subst (HasReached config v) last.1 reached
         by (inr sooner) = so_far place s sooner.1
 
+-- ---- answers
+
+-- the version of an answer is that of its last record
+pub answer_version : (config : Config) (answer : NotedFinishedView) → IsNotedFinished config answer → answer.finished.version ≡ (answer.finished.row + 1) * config.step
+answer_version config answer noted =
+    ap (λ (f : Finished). f.version) noted.finished_is
+    ∙ finished_version_is config (history_verdicts config answer.records) (journal config (history_verdicts config answer.records) (take answer.finished.row answer.records)) noted.rec
+    ∙ (versions_at config answer.records answer.finished.row noted.rec noted.history noted.there).1
+    ∙ ap (λ (k : ℕ). k * config.step) (omega arith)
+
+-- a proxy that has come to the version of an answer knows its row
+pub row_is_known : (config : Config) (v : LockedProxyView) (answer : NotedFinishedView) → IsLockedProxy config v → IsNotedFinished config answer → answer.finished.version ≤ v.proxy.version → answer.finished.row + 1 ≤ length v.proxy.journal
+row_is_known config v answer keeps noted reached =
+    let mine = keeps.version in
+    let version = answer_version config answer noted in
+    fewer_rows (answer.finished.row + 1) (length v.proxy.journal) config.step keeps.config_is.step.0 (omega (arith, mine, version, reached))
+
+-- its records begin with those of the answer
+pub begins_with_answer : (config : Config) (v : LockedProxyView) (answer : NotedFinishedView) → IsLockedProxy config v → IsNotedFinished config answer → Agree 0 v.records 0 answer.records → answer.finished.version ≤ v.proxy.version → take (answer.finished.row + 1) (known_records v) ≡ answer.records
+begins_with_answer config v answer keeps noted agree reached =
+    let last = noted.last in
+    let within = row_is_known config v answer keeps noted reached in
+    let rows = keeps.agreed.rows in
+    take-take_le v.records (answer.finished.row + 1) (length v.proxy.journal) within
+    ∙ first_same (answer.finished.row + 1) v.records answer.records agree (omega (arith, rows, within)) (omega (arith, last))
+    ∙ take_all answer.records (answer.finished.row + 1) (omega (arith, last))
+
+-- the records of an answer begin with those of a proxy that has come no further
+pub answer_begins_with : (config : Config) (v : LockedProxyView) (answer : NotedFinishedView) → IsLockedProxy config v → IsNotedFinished config answer → Agree 0 v.records 0 answer.records → v.proxy.version ≤ answer.finished.version → (length v.proxy.journal ≤ length answer.records) × (take (length v.proxy.journal) answer.records ≡ known_records v)
+answer_begins_with config v answer keeps noted agree less = (within, sym (first_same (length v.proxy.journal) v.records answer.records agree keeps.agreed.rows within))
+  where
+    fewer : length v.proxy.journal ≤ answer.finished.row + 1
+    fewer =
+        let mine = keeps.version in
+        let version = answer_version config answer noted in
+        fewer_rows (length v.proxy.journal) (answer.finished.row + 1) config.step keeps.config_is.step.0 (omega (arith, mine, version, less))
+
+    within : length v.proxy.journal ≤ length answer.records
+    within = let last = noted.last in omega (arith, fewer, last)
+
 -- ---- a confirmation
 
 pub is_confirmed : (config : Config) (v : LockedProxyView) (answer : NotedFinishedView) → IsLockedProxy config v → IsNotedFinished config answer → Agree 0 v.records 0 answer.records → answer.finished.version ≤ v.proxy.version → IsConfirmed config v answer
@@ -103,32 +143,12 @@ is_confirmed config v answer keeps noted agree reached =
     row : ℕ
     row = answer.finished.row
 
-    n : ℕ
-    n = length v.proxy.journal
-
     last : length answer.records ≡ row + 1
     last = noted.last
-
-    version : answer.finished.version ≡ (row + 1) * config.step
-    version =
-        ap (λ (f : Finished). f.version) noted.finished_is
-        ∙ finished_version_is config (history_verdicts config answer.records) (journal config (history_verdicts config answer.records) (take row answer.records)) noted.rec
-        ∙ (versions_at config answer.records row noted.rec noted.history noted.there).1
-        ∙ ap (λ (k : ℕ). k * config.step) (omega arith)
-
-    within : row + 1 ≤ n
-    within = let mine = keeps.version in fewer_rows (row + 1) n config.step keeps.config_is.step.0 (omega (arith, mine, version, reached))
 
     later : List Record
     later = drop (row + 1) (known_records v)
 
-    first : take (row + 1) (known_records v) ≡ answer.records
-    first =
-        let rows = keeps.agreed.rows in
-        take-take_le v.records (row + 1) n within
-        ∙ first_same (row + 1) v.records answer.records agree (omega (arith, rows, within)) (omega (arith, last))
-        ∙ take_all answer.records (row + 1) (omega (arith, last))
-
     whole : answer.records ++ later ≡ reached_records v
     whole =
-        ap (λ (front : List Record). front ++ later) (sym first) ∙ take-append-drop (row + 1) (known_records v) ∙ sym (reached_are_known config v keeps)
+        ap (λ (front : List Record). front ++ later) (sym (begins_with_answer config v answer keeps noted agree reached)) ∙ take-append-drop (row + 1) (known_records v) ∙ sym (reached_are_known config v keeps)

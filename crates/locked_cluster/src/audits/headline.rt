@@ -25,9 +25,10 @@ pub fn metadata_of_two<'a, N: Naming>(
 {
     let known = one.records();
     let others = other.records();
+    let told = answer.records();
     known.agree(others);
-    // (its contract says what its type keeps)
-    let _finished = answer.value();
+    known.agree(told);
+    others.agree(told);
     let mine = one.metadata();
     let theirs = other.metadata();
     (mine, theirs)

@@ -46,7 +46,7 @@ pub(crate) fn collect_replies<N: Naming>(
         records.agree(reply.records());
         columns.push(reply.column().copy()?)?;
         let Ok(()) = kept.put(reply.value().copy()?) else {
-            return Err(OutOfMemory);
+            unreachable!();
         };
     }
     Ok(Collected {

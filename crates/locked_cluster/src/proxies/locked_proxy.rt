@@ -206,8 +206,14 @@ impl<N: Naming> LockedProxy<N> {
             copies,
             requests,
         } = room_for(alloc, records, config.resolvers())?;
-        let Ok(built) = self.proxy.begin(rec) else {
-            return Err(Refusal::OutOfMemory);
+        let built = match self.proxy.begin(rec) {
+            Ok(built) => built,
+            Err(refusal) => {
+                let proxy_state::Refusal::OutOfMemory = refusal else {
+                    unreachable!();
+                };
+                return Err(Refusal::OutOfMemory);
+            }
         };
         let Requests {
             requests: plain,
@@ -245,7 +251,10 @@ impl<N: Naming> LockedProxy<N> {
         let (replies, records, columns) = ready.into_parts();
         let finished = match self.proxy.finish(replies) {
             Ok(finished) => finished,
-            Err((_refusal, replies)) => {
+            Err((refusal, replies)) => {
+                let proxy_state::Refusal::OutOfMemory = refusal else {
+                    unreachable!();
+                };
                 let ready = Ready::of(row, replies, records, columns);
                 return Err((Refusal::OutOfMemory, ready));
             }
@@ -275,8 +284,14 @@ impl<N: Naming> LockedProxy<N> {
         if reached < version {
             return Err(Refusal::NotReached { version: reached });
         }
-        let Ok(metadata) = self.proxy.metadata_at(version) else {
-            return Err(Refusal::OutOfMemory);
+        let metadata = match self.proxy.metadata_at(version) {
+            Ok(metadata) => metadata,
+            Err(refusal) => {
+                let proxy_state::Refusal::OutOfMemory = refusal else {
+                    unreachable!();
+                };
+                return Err(Refusal::OutOfMemory);
+            }
         };
         let routing = metadata.routing(version)?;
         let noted = self.noted_routing(routing)?;

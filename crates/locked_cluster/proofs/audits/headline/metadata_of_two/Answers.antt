@@ -5,7 +5,15 @@ use Rattle.locked_cluster.proofs.audits.headline.metadata_of_two.Goals as goal
 
 pub returns : goal.returns
 returns g c =
-    headline_of g.N.Naming.cells.config c.args.one.now c.args.other.now c.metadata-mine.result.now c.metadata-theirs.result.now c.args.answer.now
-    c.records-known.ensures.kept c.records-others.ensures.kept c.value-finished.ensures.kept
-    (agree_lists c.records-known.result.now c.records-others.result.now c.args.one.now.records c.args.other.now.records c.records-known.ensures.value c.records-others.ensures.value c.agree.ensures)
+    let one = c.args.one.now in
+    let other = c.args.other.now in
+    let answer = c.args.answer.now in
+    let known = c.records-known in
+    let others = c.records-others in
+    let told = c.records-told in
+    headline_of g.N.Naming.cells.config one other c.metadata-mine.result.now c.metadata-theirs.result.now answer
+    known.ensures.kept others.ensures.kept told.ensures.kept
+    (agree_lists known.result.now others.result.now one.records other.records known.ensures.value others.ensures.value c.agree.ensures)
+    (agree_lists known.result.now told.result.now one.records answer.records known.ensures.value told.ensures.value c.agree-2.ensures)
+    (agree_lists others.result.now told.result.now other.records answer.records others.ensures.value told.ensures.value c.agree-3.ensures)
     c.metadata-mine.ensures.value c.metadata-theirs.ensures.value

@@ -1,12 +1,18 @@
 -- One reply more is in its place.
-use Rattle.std.proofs.Common.{◌≡◌, ◌∙◌, sym, ap, List, [], ◌∷◌, ◌++◌, length, slice_set, Some, arith}
+use Rattle.std.proofs.Common.{◌≡◌, ◌∙◌, sym, ap, List, [], ◌∷◌, ◌++◌, length, slice_set, Option, Some, None, arith}
 use Rattle.agreed_ledger.specs.Cells.{ColumnView}
 use Rattle.model.specs.Agreed.{Column}
 use Rattle.model.specs.declared.reply.Reply.{Reply}
+use Rattle.proxy_state.specs.Refusals.{put_fault}
+use Rattle.proxy_state.specs.declared.refusal.Refusal.{Refusal}
 use Rattle.locked_resolvers.proofs.Lists.{got, take_all}
 use Rattle.locked_cluster.proofs.ProxyRows.{agree_from_zero}
 use Rattle.locked_cluster.proofs.CommitReplies.{AllSayOf, all_placed, columns_count, columns_in, columns_next, is_ready, place_next, say_more, says_of}
+use Rattle.locked_cluster.proofs.ProxyRefusals.{no_put_fault}
 use Rattle.locked_cluster.proofs.commits.replies_to.collect_replies.Goals as goal
+
+fault_is : {fault : Option Refusal} {refusal : Refusal} → fault ≡ None → fault ≡ Some refusal → ⊥
+fault_is none some = cc
 
 pub push-requires-clause-resolver : goal.push-requires-clause-resolver
 push-requires-clause-resolver g c =
@@ -15,6 +21,18 @@ push-requires-clause-resolver g c =
     let item = c.reply-item.result in
     let at = got replies k item (omega arith) c.reply-item.is in
     ap (λ (column : ColumnView). column.resolver) (c.in_ok-copy.ensures ∙ c.column.ensures) ∙ (c.requires.replied.each k item at).0 ∙ sym (ap (λ (cs : List Column). length cs) c.loop-reply.invariant.columns ∙ columns_count replies k (omega arith))
+
+pub unreachable-requires : goal.unreachable-requires
+unreachable-requires g c =
+    let config = g.N.Naming.cells.config in
+    let replies = c.args.replies.now in
+    let k = c.loop-reply.reply-index in
+    let item = c.reply-item.result in
+    let at = got replies k item (omega arith) c.reply-item.is in
+    let reply : Reply = c.in_ok-copy-2.field-0 in
+    let resolver : reply.resolver ≡ k = ap (λ (r : Reply). r.resolver) (c.in_ok-copy-2.ensures ∙ c.value.ensures.value) ∙ (c.requires.replied.each k item at).0 in
+    let none : put_fault c.loop-reply.kept reply ≡ None = no_put_fault replies config.resolvers k c.loop-reply.kept reply c.loop-reply.invariant.places resolver (omega arith) c.requires.replied.count in
+    fault_is none c.in_default.ensures.refused
 
 pub loop-reply-preserved : goal.loop-reply-preserved
 loop-reply-preserved g c =

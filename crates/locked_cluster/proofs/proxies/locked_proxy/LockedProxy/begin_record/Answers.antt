@@ -1,5 +1,5 @@
 -- The record is refused, or begun.
-use Rattle.std.proofs.Common.{◌≡◌, ◌∙◌, sym, ap, subst, ℕ, List, length, replicate, arith, rules}
+use Rattle.std.proofs.Common.{◌≡◌, ◌∙◌, sym, ap, subst, ℕ, List, length, replicate, None, arith, rules}
 use Rattle.std.specs.Prelude.{Result, Err, IfErr}
 use Rattle.facts.specs.Stretches.{Agree, Stretch}
 use Rattle.model.specs.Configs.{Config}
@@ -7,12 +7,14 @@ use Rattle.model.specs.Records.{Record}
 use Rattle.model.specs.Requests.{Request}
 use Rattle.model.specs.Finishing.{ProxyView, HasBegun}
 use Rattle.agreed_ledger.specs.Sequencing.{TicketView}
+use Rattle.proxy_state.specs.Beginning.{refusal_fault}
 use Rattle.locked_cluster.specs.Begun.{AreRequestsFor, BegunView, IsBegun, requests_to_all, with_records}
 use Rattle.locked_cluster.specs.Proxies.{LockedProxyView, IsLockedProxy, IsBeginRefusalOf, BeginsTicket, MayFollow}
 use Rattle.locked_resolvers.specs.declared.refusal.Refusal.{Refusal}
 use Rattle.locked_resolvers.specs.declared.refusal.Refusal.TheVariants as refusals
 use Rattle.locked_cluster.proofs.ProxyRows.{agree_from_zero, from_zero}
 use Rattle.locked_cluster.proofs.ProxyBegins.{Continues, all_count, are_requests_for, begins_ticket, begun_keeps, is_begun, may_begin, not_mine, out_of_order}
+use Rattle.locked_cluster.proofs.ProxyRefusals.{no_begin_fault, wants_memory}
 use Rattle.locked_cluster.proofs.proxies.locked_proxy.LockedProxy.begin_record.Goals as goal
 
 pub returns-then-proxy-self-clause-refused : goal.returns-then-proxy-self-clause-refused
@@ -56,13 +58,22 @@ begin-requires g c =
     let is : Continues config v t rec = record { keeps = c.self.invariant.2; ticket = c.requires.ticket; there = c.requires.there; follows = follows; agree = agree } in
     may_begin config v t rec is
 
+pub unreachable-requires : goal.unreachable-requires
+unreachable-requires g c =
+    let s = c.self.inside in
+    let rec = c.args.rec.now in
+    let mine : rec.proxy ≡ s.proxy.number = sym c.proxy.ensures ∙ c.if-proxy-self.false ∙ c.self.invariant.0 in
+    let follows : rec.own_previous ≡ s.proxy.last_begun = sym c.own_previous.ensures ∙ c.if-own_previous-expected.false ∙ c.last_begun-expected.ensures in
+    let none : refusal_fault c.in-Err.refusal ≡ None = c.in-Err.ensures.refused ∙ no_begin_fault s.proxy rec mine follows in
+    c.in_default.not-OutOfMemory (wants_memory c.in-Err.refusal none)
+
 pub invariant_of-self : goal.invariant_of-self
 invariant_of-self g c =
     let s = c.self.inside in
-    subst (λ (p : ProxyView). (s.number ≡ p.number) × (s.records.first ≡ 0) × IsLockedProxy g.N.Naming.cells.config (record { proxy = p; records = s.records.known; columns = s.columns })) (sym c.in_default.ensures.err) c.self.invariant
+    subst (λ (p : ProxyView). (s.number ≡ p.number) × (s.records.first ≡ 0) × IsLockedProxy g.N.Naming.cells.config (record { proxy = p; records = s.records.known; columns = s.columns })) (sym c.in-Err.ensures.err) c.self.invariant
 
-pub returns-in_default-clause-refused : goal.returns-in_default-clause-refused
-returns-in_default-clause-refused g c =
+pub returns-in-Err-clause-refused : goal.returns-in-Err-clause-refused
+returns-in-Err-clause-refused g c =
     let config = g.N.Naming.cells.config in
     let s = c.self.inside in
     let v : LockedProxyView = record { proxy = s.proxy; records = s.records.known; columns = s.columns } in
@@ -72,10 +83,10 @@ returns-in_default-clause-refused g c =
     let follows : rec.own_previous ≡ v.proxy.last_begun = sym c.own_previous.ensures ∙ c.if-own_previous-expected.false ∙ c.last_begun-expected.ensures in
     subst (λ (u : LockedProxyView). MayFollow u.proxy rec) c.self.view_is (record { own = mine; follows = follows })
 
-pub returns-in_default-clause-err : goal.returns-in_default-clause-err
-returns-in_default-clause-err g c =
+pub returns-in-Err-clause-err : goal.returns-in-Err-clause-err
+returns-in-Err-clause-err g c =
     let s = c.self.inside in
-    let same = c.in_default.ensures.err in
+    let same = c.in-Err.ensures.err in
     ap (λ (p : ProxyView). record { proxy = p; records = s.records.known; columns = s.columns }) same ∙ c.self.view_is
 
 pub joined_with-requests-requires-clause-are : goal.joined_with-requests-requires-clause-are

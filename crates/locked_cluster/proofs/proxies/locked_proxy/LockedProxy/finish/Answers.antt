@@ -4,12 +4,15 @@ use Rattle.facts.specs.Stretches.{Agree, Stretch}
 use Rattle.model.specs.Records.{Record}
 use Rattle.model.specs.Agreed.{Columns}
 use Rattle.model.specs.Finishing.{ProxyView, Replies, HasFinished}
+use Rattle.proxy_state.specs.Beginning.{refusal_fault}
+use Rattle.proxy_state.specs.Finishing.{finish_fault}
 use Rattle.locked_cluster.specs.Ready.{ReadyView, IsReady}
 use Rattle.locked_cluster.specs.Answers.{NotedFinishedView, IsNotedFinished}
 use Rattle.locked_cluster.specs.Proxies.{LockedProxyView, IsLockedProxy, IsFinishRefusal, FinishesReady}
 use Rattle.locked_resolvers.specs.declared.refusal.Refusal.TheVariants as refusals
 use Rattle.locked_cluster.proofs.ProxyRows.{agree_from_zero}
-use Rattle.locked_cluster.proofs.ProxyFinishes.{IsNext, is_next, finished_keeps, is_noted, finishes_ready, none_awaited, other_awaited, awaited_fails}
+use Rattle.locked_cluster.proofs.ProxyFinishes.{IsNext, is_next, no_fault, finished_keeps, is_noted, finishes_ready, none_awaited, other_awaited, awaited_fails}
+use Rattle.locked_cluster.proofs.ProxyRefusals.{wants_memory}
 use Rattle.locked_cluster.proofs.proxies.locked_proxy.LockedProxy.finish.Goals as goal
 
 pub returns-in_default-clause-refused : goal.returns-in_default-clause-refused
@@ -34,6 +37,20 @@ returns-in_default-copy-clause-refused g c =
     let row : rec.row ≡ c.args.ready.row = sym c.row-row.ensures ∙ c.if-row.false ∙ c.row.ensures.value in
     subst (λ (u : LockedProxyView). IsFinishRefusal u c.args.ready refusals.OutOfMemory) c.self.view_is
     (awaited_fails v c.args.ready rec c.in-Some.ensures.first.0 c.in-Some.ensures.first.1 row)
+
+pub unreachable-requires : goal.unreachable-requires
+unreachable-requires g c =
+    let config = g.N.Naming.cells.config in
+    let s = c.self.inside in
+    let x = c.args.ready in
+    let v : LockedProxyView = record { proxy = s.proxy; records = s.records.known; columns = s.columns } in
+    let rec = c.in-Some.rec.now in
+    let rest = c.in-Some.ensures.first.0 in
+    let row : rec.row ≡ x.row = sym c.row-row.ensures ∙ c.if-row.false ∙ c.row.ensures.value in
+    let agree : Agree 0 v.records 0 x.records = agree_from_zero s.records c.records.result.now x.records c.self.invariant.1 c.records.ensures.value c.agree.ensures in
+    let is : IsNext v x rec rest = is_next config v x rec rest c.self.invariant.2 c.row.ensures.kept c.in-Some.ensures.first.1 row agree in
+    let none : refusal_fault c.in-Err.refusal ≡ None = c.in-Err.ensures.refused ∙ ap (finish_fault v.proxy) c.into_parts-replies.ensures.replies ∙ no_fault v x rec rest is in
+    c.in_default-refusal.not-OutOfMemory (wants_memory c.in-Err.refusal none)
 
 pub of-ready-requires-clause-first : goal.of-ready-requires-clause-first
 of-ready-requires-clause-first g c = ap (λ (t : Stretch Record). t.first) c.into_parts-replies.ensures.records
