@@ -2,7 +2,7 @@
 
 The status is 3 for a device, and 4 for a growth, or that of the example where the growth did not matter. What was written is a
 beginning of the example's output, and nothing where a read was refused. No other line is written. What holds where the growths
-of a threads script are refused, threads.py says.
+of a threads script are refused, threads_trials.py says.
 """
 import concurrent.futures
 import errno
@@ -28,6 +28,19 @@ BESIDE = 2**26
 
 # how many seconds a run may take
 LIMIT = 120
+
+# for each mode, of which the default one is run without a word, a right script and a refused one, among the examples
+DEVICE_SCRIPTS = {
+    "": ("two_servers.json", "bad_row.json"), "turns": ("turns/two_proxies.json", "turns/bad_stamp.json"),
+    "threads": ("threads/two_proxies.json", "threads/move_to_nobody.json"),
+}
+
+# for each mode how a right script begins that asks for keys, and how it ends
+ASKING = {
+    "": (b'{"resolvers":1,"rows":[],"ask":[', b"]}"),
+    "turns": (b'{"proxies":1,"resolvers":1,"window":1,"step":1,"events":[],"ask":[', b"]}"),
+    "threads": (b'{"proxies":1,"resolvers":1,"window":1,"step":1,"rows":9,"moves":[],"work":[[]],"ask":[', b"]}"),
+}
 
 # how many growths fewer a run of threads takes at least, whose growths have no fixed number, if it is read as its tokens come
 FEWER_IN_THREADS = 20
@@ -189,24 +202,26 @@ def reach_read_limit(trial, example):
         trial.expect(got == wanted, "%s: ends wrong after %d bytes, read one by one: %r" % (name, count, ended))
 
 
-def want_space(trial):
-    """A script for which the address space is too small: want of memory, and nothing written."""
-    script = b'{"resolvers":1,"rows":[],"ask":[%s"a"]}' % (b'"a",' * 4_000_000)
-
-    def limit():
-        resource.setrlimit(resource.RLIMIT_AS, (2**26, 2**26))
-
-    ended = subprocess.run([trial.program], input=script, capture_output=True, preexec_fn=limit, timeout=120)
-    got = ended.returncode, ended.stdout, ended.stderr
-    trial.expect(got == (OUT_OF_MEMORY, b"", b""), "ends wrong in a small address space: %r" % (ended,))
+def limit_space(space):
+    """Leaves the calling process this much address space."""
+    resource.setrlimit(resource.RLIMIT_AS, (space, space))
 
 
-def run_endless(trial, source, space):
+def want_space(trial, mode):
+    """A script for which the address space is too small: want of memory, and nothing written. A short one has room."""
+    begin, end = ASKING[mode]
+    for count, status in ((4_000_000, OUT_OF_MEMORY), (4, 0)):
+        script = begin + b'"a",' * count + b'"a"' + end
+        how = {"capture_output": True, "preexec_fn": functools.partial(limit_space, 2**26), "timeout": LIMIT}
+        ended = subprocess.run([trial.program, *mode.split()], input=script, **how)
+        fine = (ended.returncode, ended.stderr) == (status, b"") and bool(ended.stdout) == (status == 0)
+        trial.expect(fine, "%s, %d keys: ends wrong in a small address space: %.500r" % (mode, count, ended))
+
+
+def run_endless(trial, source, space, words=()):
     """A run over an input without an end in this much address space: its status, what it wrote, and its peak of memory."""
-    def limit():
-        resource.setrlimit(resource.RLIMIT_AS, (space, space))
-
-    started = subprocess.Popen([trial.program], stdin=source, stdout=subprocess.PIPE, stderr=subprocess.PIPE, preexec_fn=limit)
+    how = {"stdout": subprocess.PIPE, "stderr": subprocess.PIPE, "preexec_fn": functools.partial(limit_space, space)}
+    started = subprocess.Popen([trial.program, *words], stdin=source, **how)
     watch = threading.Timer(120, started.kill)
     watch.start()
     written = started.stdout.read() + started.stderr.read()
@@ -234,6 +249,13 @@ def try_endless_inputs(trial):
     trial.expect(got[:2] == (OUT_OF_MEMORY, b""), "ends wrong on a pipe that is fed for ever: %r" % (got,))
 
 
+def try_endless_input(trial, words):
+    """An input without an end that fills a small address space: want of memory, and nothing written."""
+    with open("/dev/zero", "rb") as source:
+        got = run_endless(trial, source, 2**26, words)
+    trial.expect(got[:2] == (OUT_OF_MEMORY, b""), "%s: ends wrong on an endless input in a small address space: %r" % (words, got))
+
+
 def try_endless_spaces(trial, words):
     """A source that gives one space a call without end: the limit on reads ends it, and nothing is written."""
     how = {"env": dict(os.environ, LD_PRELOAD=trial.shim, SHORT_READ="1"), "capture_output": True, "timeout": LIMIT}
@@ -253,10 +275,9 @@ def run_shell(trial, redirections, words=""):
     return ended.returncode, ended.stdout, ended.stderr
 
 
-def try_devices(trial, root, folder):
+def try_devices(trial, root, folder, mode):
     """Standard streams that are closed, full, of the wrong kind or of the wrong direction."""
-    script = os.path.join(root, "examples", "two_servers.json")
-    wrong = os.path.join(root, "examples", "bad_row.json")
+    script, wrong = (os.path.join(root, "examples", name) for name in DEVICE_SCRIPTS[mode])
     cases = []
     for source in ("<&-", "< /", "0> %s/only_written" % folder):
         cases.append((source, DEVICE_FAILED))
@@ -265,10 +286,10 @@ def try_devices(trial, root, folder):
     cases += [("<&- >&-", DEVICE_FAILED), ("< / > /dev/full", DEVICE_FAILED)]
     for redirections, status in cases:
         for more in ("", "2>&-", "2> /dev/full"):
-            got = run_shell(trial, redirections + " " + more)
-            trial.expect(got == (status, b"", b""), "ends wrong with %s %s: %r" % (redirections, more, got))
-    got = run_shell(trial, "< /dev/null")
-    trial.expect(got == (SCRIPT_REFUSED, b"refused 70 NotJson\n", b""), "ends wrong with an empty input: %r" % (got,))
+            got = run_shell(trial, redirections + " " + more, mode)
+            trial.expect(got == (status, b"", b""), "%s: ends wrong with %s %s: %r" % (mode, redirections, more, got))
+    got = run_shell(trial, "< /dev/null", mode)
+    trial.expect(got == (SCRIPT_REFUSED, b"refused 70 NotJson\n", b""), "%s: ends wrong with an empty input: %r" % (mode, got))
 
 
 def try_words(trial):
@@ -321,7 +342,7 @@ def try_pipes(trial, example):
 
 
 OF_EACH_EXAMPLE = (refuse_growths, read_by_tokens, refuse_reads, refuse_writes, shorten_calls, try_pipes, stop_and_go)
-OF_THE_PROGRAM = (want_space, try_endless_inputs, try_words)
+OF_THE_PROGRAM = (try_endless_inputs, try_words)
 
 
 def tried(program, shim, mark, trial_and_arguments):
@@ -341,7 +362,10 @@ def try_program(program, root, shim, folder, more):
     trials = [(trial_of, example) for example in stored for trial_of in OF_EACH_EXAMPLE]
     trials += [(reach_read_limit, example) for example in (stored[0], stored[-1])]
     trials += [(try_endless_spaces, words) for words in ([], ["turns"], ["threads"])]
-    trials += [(trial_of,) for trial_of in OF_THE_PROGRAM] + [(try_devices, root, folder), *more]
+    trials += [(try_endless_input, words) for words in (["turns"], ["threads"])]
+    for mode in DEVICE_SCRIPTS:
+        trials += [(want_space, mode), (try_devices, root, folder, mode)]
+    trials += [(trial_of,) for trial_of in OF_THE_PROGRAM] + [*more]
 
     marks = [os.path.join(folder, "mark %d" % number) for number in range(len(trials))]
     with concurrent.futures.ProcessPoolExecutor(os.cpu_count()) as at_once:
