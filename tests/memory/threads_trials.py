@@ -10,7 +10,7 @@ import functools
 
 import watched
 from program import LIMIT, OUT_OF_MEMORY, Example, limit_space, refuse_each
-from script import KEY_SERVERS, LISTING, LOCKED, SERVER_1, SERVER_2, write
+from script import KEY_SERVERS, LISTING, LOCKED, SERVER_1, SERVER_2, SERVER_TAG, write
 from threads_orders import what_is_wrong
 from threads_random import random_cases
 from threads_words import move, threads
@@ -51,14 +51,14 @@ def two_by_two():
 
 
 def listed_and_cleared():
-    """Rows that list tags beside rows of servers, which two proxies put and clear, and Clears over them; no row for one closing."""
+    """Rows that list tags beside rows of servers, and tags of servers, which two proxies put and clear, and a third learns of."""
     rows = [put(KEY_SERVERS, LISTING), put_servers("m", SERVER_1), put_servers("p", SERVER_1, SERVER_2)]
     tags = [put_tag(SERVER_1, "\\x00\\x00\\x07"), put_tag(SERVER_2, "\\x00\\x00\\x09")]
     over_all = [put("z", "1"), clear("a", "z"), put("a", "1")]
-    other_rows = [clear(KEY_SERVERS + "m", KEY_SERVERS + "q"), put(KEY_SERVERS + "n", LISTING), tags[0]]
+    other_rows = [clear(KEY_SERVERS + "m", KEY_SERVERS + "q"), put(KEY_SERVERS + "n", LISTING), tags[0], clear(*one_key(SERVER_TAG + SERVER_2))]
     first = [[transaction(0, [], [], rows + tags, True)], [transaction(0, [], [], over_all, True)]]
     second = [[transaction(0, [], [], other_rows, True)], [transaction(0, [], [one_key("a")], over_all)]]
-    return example("rows that list tags, and Clears", first, second, [], rows=6)
+    return example("rows that list tags, and Clears", first, second, [])
 
 
 @functools.lru_cache(maxsize=None)
