@@ -20,8 +20,10 @@ EVENT_STOP = 128
 WAIT_FOR_THREADS = 0x40000000
 
 # for how many seconds a thread is held, and how many seconds the program goes on until the next one is
-HOLDS = (0.0003, 0.001, 0.003, 0.01)
+HOLDS = (0.0003, 0.001, 0.003, 0.01, 0.03)
 GAPS = (0, 0, 0.0001, 0.0003, 0.001)
+# how often a thread is drawn from those alone that run, and do not wait
+OF_RUNNING = 0.8
 # how many seconds pass between two looks at a program that has one thread alone
 LOOK = 0.00005
 
@@ -93,6 +95,11 @@ class Started:
     def threads(self):
         return sorted(map(int, os.listdir("/proc/%d/task" % self.process)))
 
+    def runs(self, thread):
+        """Whether a thread runs, or could if it had a processor."""
+        state = watched.told("/proc/%d/task/%d/stat" % (self.process, thread)).rpartition(")")[2]
+        return state.split()[:1] == ["R"]
+
     def kill(self):
         """Ends the program, if it goes on."""
         if self.status is None:
@@ -112,13 +119,21 @@ def start(words, files, processors):
         os.sched_setaffinity(0, own)
 
 
+def drawn(started, threads, rng):
+    """One of these threads: most often one that runs, if there is any."""
+    shuffled = rng.sample(threads, len(threads))
+    if rng.random() < OF_RUNNING:
+        return next(filter(started.runs, shuffled), shuffled[0])
+    return shuffled[0]
+
+
 def stop_threads(started, rng, end):
     """Stops one thread after another, drawn from those of the program, until it has ended or the time is over: how often."""
     stops, wait = 0, LOOK
     while started.goes_on(wait) and time.monotonic() < end:
         threads, wait = started.threads(), LOOK
         if len(threads) > 1:
-            stops += started.hold(rng.choice(threads), lambda: time.sleep(rng.choice(HOLDS)))
+            stops += started.hold(drawn(started, threads, rng), lambda: time.sleep(rng.choice(HOLDS)))
             wait = rng.choice(GAPS)
     return stops
 
