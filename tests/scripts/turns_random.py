@@ -16,6 +16,9 @@ POINTS = [b"a", b"b", b"c", b"d", b"e", b"m", b"n", b"\xff", b"\xff/dbLocked", b
 SERVER_KEYS = b"\xff/serverKeys/"
 EDGES = sorted([b"", *POINTS, *(point + b"\0" for point in POINTS[:-1])])
 
+# of so many seeds one gives a script of many proxies and resolvers
+WIDE_AMONG = 4
+
 
 class Drawn:
     """A script that is being drawn, and about how far its cluster has come."""
@@ -241,6 +244,44 @@ class Cleared(Drawn):
         )
 
 
+class Wide(Drawn):
+    """A script of more than three proxies and resolvers, up to the most, of which a few proxies have batches. Rows are offered to
+    all resolvers, and again: to be given again, and to be given up once a later request of their proxy acknowledges them."""
+
+    def __init__(self, rng):
+        super().__init__(rng)
+        self.proxies, self.resolvers = (rng.choice([4, 4, 5, 7, 12, 33, 64]) for _ in range(2))
+        self.judged, self.finished = [0] * self.resolvers, [0] * self.proxies
+        self.busy = [*rng.sample(range(self.proxies), 2), self.proxies - 1]
+
+    def sequence(self, proxy=None):
+        return super().sequence(self.rng.choice(self.busy) if proxy is None else proxy)
+
+    def offer_to_all(self):
+        """The next row of each resolver that has one, in any order."""
+        behind = [it for it, judged in enumerate(self.judged) if judged < len(self.owners)]
+        self.rng.shuffle(behind)
+        for resolver in behind:
+            self.judged[resolver] += 1
+        return [offer(self.judged[resolver] - 1, resolver) for resolver in behind]
+
+    def offer_again(self):
+        """Rows to some resolvers that have judged them, and now and then one that comes too early."""
+        return [self.out_of_turn(it) for it in self.rng.sample(range(self.resolvers), self.rng.choice([1, 2, 4]))]
+
+    def out_of_turn(self, resolver):
+        early = range(self.judged[resolver] + 1, len(self.owners))
+        rows = early if early and self.rng.random() < 0.2 else range(self.judged[resolver])
+        return offer(self.rng.choice(rows or [len(self.owners)]), resolver)
+
+    def script(self):
+        rng = self.rng
+        draws = [self.sequence] * 5 + [self.move] + [self.offer_to_all] * 5 + [self.offer_again] * 8 + [self.finish] * 6 + [self.stranger]
+        events = [self.first_batch(), *(rng.choice(draws)() for _ in range(rng.choice([15, 30, 45])))]
+        ask = [text(rng.choice([*POINTS, *KEYS]))]
+        return turns(*events, ask=ask, proxies=self.proxies, resolvers=self.resolvers, window=self.window, step=self.step)
+
+
 def right_script(rng):
     return Drawn(rng).script()
 
@@ -333,6 +374,14 @@ def cleared_turns(seeds):
     for seed in seeds:
         rng = random.Random("cleared %d" % seed)
         yield "turns", "random_cleared", "seed %d" % seed, spell(rng, Cleared(rng).script()).encode(), None
+
+
+def wide_turns(seeds):
+    """Cases of more than three proxies and resolvers for some of the seeds, as `random_turns` gives them."""
+    for seed in seeds:
+        if seed % WIDE_AMONG == 0:
+            rng = random.Random("wide %d" % seed)
+            yield "turns", "random_wide", "seed %d" % seed, spell(rng, Wide(rng).script()).encode(), None
 
 
 # ---- what the scripts meet

@@ -1,5 +1,5 @@
 """What random turns scripts come to inside a cluster, which no line of an answer names: reads from before several moves, what
-leaves the window, and what a read conflicts with.
+leaves the window, what a read conflicts with, and what happens at proxies and resolvers after the third.
 
 The reference carries out the events; each situation is then counted from its records and verdicts.
 """
@@ -11,7 +11,15 @@ from reference import read_json
 MUST_BE_MET = [
     "a read from before three moves", "an owner before the window", "a write before the window", "a conflict after such a write",
     "a conflict with its own share alone", "a conflict from past the version", "five unseen rows", "five unseen rows again",
+    "a reply given again after the third resolver", "an early request after the third resolver",
+    "a reply given up after the third resolver", "a second record finished after the third proxy",
 ]
+
+# what stands in the line of an offer to a resolver after the third one, and what that is
+AFTER_THE_THIRD = {
+    " again ": "a reply given again after the third resolver", "refused 30 ": "an early request after the third resolver",
+    "refused 31 ": "a reply given up after the third resolver",
+}
 
 
 class Counted(turns_reference.Cluster):
@@ -30,6 +38,10 @@ class Counted(turns_reference.Cluster):
         unseen = line.partition(" unseen ")[2].split(" ")
         if len(unseen) >= 5:
             self.found["five unseen rows again" if " again " in line else "five unseen rows"] += 1
+
+    def count_after_the_third(self, line):
+        for words, what in AFTER_THE_THIRD.items():
+            self.found[what] += words in line
 
     def count_reads(self, record):
         for transaction in record.batch:
@@ -75,8 +87,11 @@ def met(script):
         lines = list(getattr(cluster, kind)(*words))
         if kind == "offer":
             cluster.count_offer(lines[0])
+            if words[1] > 2:
+                cluster.count_after_the_third(lines[0])
     for record in cluster.history:
         cluster.count_reads(record)
         for resolver in range(cluster.resolvers):
             cluster.count_verdicts(record, resolver)
+    cluster.found["a second record finished after the third proxy"] += any(count > 1 for count in cluster.finished[3:])
     return cluster.found
