@@ -1,6 +1,6 @@
 -- Requests that are asked, and what is answered to them.
 use Rattle.std.proofs.Common.{◌≡◌, refl, sym, ap, ◌∙◌, subst, ℕ, zero, suc, ◌+◌, ◌<◌, ◌⊎◌, inl, inr, List, [], ◌∷◌, ◌++◌, length, take, slice_get, Some, length-append, Bool, eqb, eq-eqb, ne_eqb, arith}
-use Rattle.std.specs.Prelude.{MatchBool}
+use Rattle.std.specs.Prelude.{IfOk, MatchBool, Result, Ok, Err}
 use Rattle.std.proofs.lemmas.Bool.{cases_eq}
 use Rattle.facts.specs.Stretches.{Agree}
 use Rattle.model.specs.Configs.{Config, IsConfig}
@@ -13,7 +13,9 @@ use Rattle.locked_resolvers.specs.Resolvers.{IsResolveRefusal}
 use Rattle.locked_resolvers.specs.declared.refusal.Refusal.{Refusal}
 use Rattle.locked_resolvers.specs.declared.refusal.Refusal.TheVariants as refusals
 use Rattle.inboxes.specs.Ends.{ProxyView}
-use Rattle.workers.specs.Asking.{AreRequestsSent, IsRequestSent}
+use Rattle.workers.specs.Asking.{AreRequestsSent, Gives, IsRequestSent}
+use Rattle.workers.specs.declared.answer.Answer.{Answer}
+use Rattle.workers.specs.declared.answer.Answer.TheVariants as answers
 use Rattle.workers.proofs.RefusedLemmas.{closed_refuses}
 
 pub take_next : {X : Type 0} (xs : List X) (k : ℕ) (x : X) → slice_get xs k ≡ Some x → take (k + 1) xs ≡ take k xs ++ x ∷ []
@@ -79,3 +81,14 @@ one_request config v w is_v is_w agree row resolver received =
 pub same_refusal : (config : Config) (q r : RequestView) (refusal : Refusal) → q.plain ≡ r.plain → IsAskRefusal config q refusal → IsAskRefusal config r refusal
 same_refusal config q r refusal same (inl memory) = inl memory
 same_refusal config q r refusal same (inr refused) = inr (subst (λ (p : Request). IsResolveRefusal config p.resolver p refusal) same refused)
+
+-- ---- what an answer gives
+
+-- the reply that an answer gives to a request is to that request
+pub reply_given : {N : Type 0} (q : Request) (answer : Answer N) (given : Result NotedReplyView Refusal) → Gives q answer (Some given) → IfOk given (λ (noted : NotedReplyView). IsReplyToRequest q noted.reply)
+reply_given q (answers.Replied noted) (Ok reply) (inl (to, is)) = let same : noted ≡ reply = cc in subst (λ (n : NotedReplyView). IsReplyToRequest q n.reply) same to
+reply_given q (answers.Replied noted) (Ok reply) (inr (other, none)) = absurd (cc)
+reply_given q (answers.Replied noted) (Err refusal) gives = tt
+reply_given q (answers.Refused refused) (Ok reply) (inl (same, is)) = absurd (cc)
+reply_given q (answers.Refused refused) (Ok reply) (inr (other, none)) = absurd (cc)
+reply_given q (answers.Refused refused) (Err refusal) gives = tt

@@ -13,13 +13,13 @@ use Rattle.locked_resolvers.specs.NotedReplies.{NotedReplyView}
 use Rattle.locked_resolvers.specs.Resolvers.{HasOffered, HasJudged, HasRepeated, IsFault, IsLockedResolver, IsNotEarly, IsOfferRefusal, LockedResolverView, after_refusal}
 use Rattle.locked_resolvers.specs.declared.refusal.Refusal.{Refusal}
 use Rattle.locked_resolvers.specs.declared.refusal.Refusal.TheVariants as refusals
-use Rattle.workers.specs.Desks.{ClosesByCause, DeskView, HasLetGo, HasRow, IsNoneDue, IsSettled, KeepsServing, OnlyFails, Serves, has_failed, next_row}
+use Rattle.workers.specs.Desks.{ClosesByCause, DeskView, HasLetGo, HasRow, IsNoneDue, IsNotGivenUp, IsSettled, KeepsServing, OnlyFails, Serves, has_failed, next_row}
 use Rattle.workers.specs.Refusing.{IsToldRefusal}
 
 -- ---- one after another
 
 pub keeps_same : (v : DeskView) → KeepsServing v v
-keeps_same v = record { resolver = refl; first = refl; stays_closed = λ closed. closed; failed = λ sound. sound; served = λ sound row serves. serves }
+keeps_same v = record { resolver = refl; first = refl; stays_closed = λ closed. closed; stays_wanted = λ wanted. wanted; failed = λ sound. sound; served = λ sound row serves. serves }
 
 pub keeps_trans : (a b c : DeskView) → KeepsServing a b → KeepsServing b c → KeepsServing a c
 keeps_trans a b c one two =
@@ -27,6 +27,7 @@ keeps_trans a b c one two =
       resolver = two.resolver ∙ one.resolver;
       first = two.first ∙ one.first;
       stays_closed = λ closed. two.stays_closed (one.stays_closed closed);
+      stays_wanted = λ wanted. two.stays_wanted (one.stays_wanted wanted);
       failed = λ sound. one.failed (two.failed sound);
       served = λ sound row serves. two.served sound row (one.served (two.failed sound) row serves);
     }
@@ -41,6 +42,7 @@ fails_keeps a b only =
       resolver = ap (λ (c : ColumnView). c.resolver) only.column;
       first = ap (λ (c : ColumnView). c.rows.first) only.column;
       stays_closed = only.stays_closed;
+      stays_wanted = only.stays_wanted;
       failed = only.failed;
       served = λ sound row serves. same_serves a b only.column only.held row serves;
     }
@@ -60,6 +62,7 @@ let_go_keeps a b closed gone =
       resolver = ap (λ (c : ColumnView). c.resolver) gone.column;
       first = ap (λ (c : ColumnView). c.rows.first) gone.column;
       stays_closed = λ was. gone.closed ∙ was;
+      stays_wanted = gone.stays_wanted;
       failed = gone.failed;
       served = λ sound row serves. absurd (closed_fails b (gone.closed ∙ closed) sound);
     }
@@ -100,6 +103,7 @@ taken_out before mid after place q at is keeps judged =
       resolver = keeps.resolver ∙ ap (λ (v : DeskView). v.column.resolver) is;
       first = keeps.first ∙ ap (λ (v : DeskView). v.column.rows.first) is;
       stays_closed = λ was. keeps.stays_closed (ap (λ (v : DeskView). v.closed) is ∙ was);
+      stays_wanted = λ was. keeps.stays_wanted (ap (λ (v : DeskView). v.wanted) is ∙ was);
       failed = λ sound. subst (λ (v : DeskView). IsFalse (has_failed v)) is (keeps.failed sound);
       served = λ sound row serves. by sound row serves;
     }
@@ -120,6 +124,7 @@ one_more before after q is = (
     resolver = ap (λ (v : DeskView). v.column.resolver) is;
     first = ap (λ (v : DeskView). v.column.rows.first) is;
     stays_closed = λ was. ap (λ (v : DeskView). v.closed) is ∙ was;
+    stays_wanted = λ was. ap (λ (v : DeskView). v.wanted) is ∙ was;
     failed = λ sound. subst (λ (v : DeskView). IsFalse (has_failed v)) is sound;
     served = λ sound row serves. subst (λ (v : DeskView). Serves v row) (sym is) (by row serves);
   },
@@ -180,27 +185,28 @@ number_refused v refusals.Closed = refl
 number_refused v refusals.OutOfMemory = refl
 
 -- what a worker that closes was closed by
-pub closed_for : (asked : LockedResolverView) (q : Request) (refusal : Refusal) (was is : Bool) → IsOfferRefusal asked q refusal → (refusal ≡ refusals.OutOfMemory → is ≡ was) → IsTrue is
-    → IsTrue was ⊎ (IsTrue (after_refusal asked refusal).closed ⊎ ((fault : OfferFault) × IsFault asked q fault))
-closed_for asked q (refusals.Early version) was is refused memory closed = inr (inr (offers.Early version, refused))
-closed_for asked q (refusals.GivenUp acknowledged) was is refused memory closed = inr (inr (offers.GivenUp acknowledged, refused))
-closed_for asked q refusals.NoSuchProxy was is refused memory closed = inr (inr (offers.NoSuchProxy, refused))
-closed_for asked q refusals.WrongResolver was is refused memory closed = inr (inr (offers.WrongResolver, refused))
-closed_for asked q (refusals.OutsideChain version) was is refused memory closed = inr (inr (offers.OutsideChain version, refused))
-closed_for asked q refusals.NotMine was is refused memory closed = absurd refused
-closed_for asked q (refusals.OutOfOrder expected) was is refused memory closed = absurd refused
-closed_for asked q (refusals.OutOfTurn expected) was is refused memory closed = absurd refused
-closed_for asked q (refusals.NotReached version) was is refused memory closed = absurd refused
-closed_for asked q refusals.CellTaken was is refused memory closed = inr (inl refl)
-closed_for asked q refusals.Closed was is refused memory closed = inr (inl refused)
-closed_for asked q refusals.OutOfMemory was is refused memory closed = inl (sym (memory refl) ∙ closed)
+pub closed_for : (asked : LockedResolverView) (q : Request) (refusal : Refusal) (was is : Bool) → IsOfferRefusal asked q refusal → (refusal ≡ refusals.OutOfMemory → is ≡ was)
+    → ((acknowledged : ℕ) → refusal ≡ refusals.GivenUp acknowledged → is ≡ was) → IsTrue is
+    → IsTrue was ⊎ (IsTrue (after_refusal asked refusal).closed ⊎ ((fault : OfferFault) × IsNotGivenUp fault × IsFault asked q fault))
+closed_for asked q (refusals.Early version) was is refused memory given_up closed = inr (inr (offers.Early version, tt, refused))
+closed_for asked q (refusals.GivenUp acknowledged) was is refused memory given_up closed = inl (sym (given_up acknowledged refl) ∙ closed)
+closed_for asked q refusals.NoSuchProxy was is refused memory given_up closed = inr (inr (offers.NoSuchProxy, tt, refused))
+closed_for asked q refusals.WrongResolver was is refused memory given_up closed = inr (inr (offers.WrongResolver, tt, refused))
+closed_for asked q (refusals.OutsideChain version) was is refused memory given_up closed = inr (inr (offers.OutsideChain version, tt, refused))
+closed_for asked q refusals.NotMine was is refused memory given_up closed = absurd refused
+closed_for asked q (refusals.OutOfOrder expected) was is refused memory given_up closed = absurd refused
+closed_for asked q (refusals.OutOfTurn expected) was is refused memory given_up closed = absurd refused
+closed_for asked q (refusals.NotReached version) was is refused memory given_up closed = absurd refused
+closed_for asked q refusals.CellTaken was is refused memory given_up closed = inr (inl refl)
+closed_for asked q refusals.Closed was is refused memory given_up closed = inr (inl refused)
+closed_for asked q refusals.OutOfMemory was is refused memory given_up closed = inl (sym (memory refl) ∙ closed)
 
 -- of a desk that was as open before, and the same request
 pub cause_moved : (a b after : DeskView) (q r : RequestView) (asked left : LockedResolverView) → a.closed ≡ b.closed → q ≡ r
     → ClosesByCause a after q.plain asked left → ClosesByCause b after r.plain asked left
 cause_moved a b after q r asked left open_alike same cause closed =
-    subst (λ (t : Bool). IsTrue t ⊎ (IsTrue left.closed ⊎ ((fault : OfferFault) × IsFault asked r.plain fault))) open_alike
-    (subst (λ (s : RequestView). IsTrue a.closed ⊎ (IsTrue left.closed ⊎ ((fault : OfferFault) × IsFault asked s.plain fault))) same (cause closed))
+    subst (λ (t : Bool). IsTrue t ⊎ (IsTrue left.closed ⊎ ((fault : OfferFault) × IsNotGivenUp fault × IsFault asked r.plain fault))) open_alike
+    (subst (λ (s : RequestView). IsTrue a.closed ⊎ (IsTrue left.closed ⊎ ((fault : OfferFault) × IsNotGivenUp fault × IsFault asked s.plain fault))) same (cause closed))
 
 -- a refusal is not that of an early request, or is
 late_or_early : (refusal : Refusal) → IsNotEarly refusal ⊎ ((version : ℕ) × (refusal ≡ refusals.Early version))

@@ -1,4 +1,5 @@
 mod AskLemmas
 mod DeskLemmas
+mod GivenUpLemmas
 mod RefusedLemmas
 mod WorkerLemmas

@@ -9,7 +9,7 @@ use Rattle.inboxes.specs.declared.tag.Tag.{Tag}
 use Rattle.inboxes.specs.declared.tag.Kind.TheVariants as kinds
 use Rattle.inboxes.specs.Sending.{ends_in}
 use Rattle.workers.specs.Desks.{DeskView, IsEmptyIfClosed, IsSettled, KeepsServing, Serves, has_failed, new_desk}
-use Rattle.workers.specs.Workers.{EndedView, HasClose, HasTakenMore, IsAsked, IsEnded, IsRequestOf, IsWorkerOf, ServesAsked, TakesOne, WorkerView}
+use Rattle.workers.specs.Workers.{EndedView, HasClose, HasTakenMore, IsAsked, IsEnded, IsRequestOf, IsWorkerOf, ServesAsked, StaysFailed, TakesOne, WorkerView}
 use Rattle.workers.proofs.DeskLemmas.{closed_fails}
 
 -- ---- before any message
@@ -102,13 +102,26 @@ taken_next first before after more (inl (tag, one, same)) =
     }
 taken_next first before after more (inr (none, cut)) = subst (λ (t : TakerView). HasTakenMore first t) (sym none) more
 
+-- a worker that has failed stays so
+pub stays_same : (v : WorkerView) → StaysFailed v v
+stays_same v = record { closed = λ closed. closed; wanted = λ wanted. wanted; cut_off = λ cut_off. cut_off }
+
+pub stays_trans : (a b c : WorkerView) → StaysFailed a b → StaysFailed b c → StaysFailed a c
+stays_trans a b c one two =
+    record {
+      closed = λ closed. two.closed (one.closed closed);
+      wanted = λ wanted. two.wanted (one.wanted wanted);
+      cut_off = λ cut_off. two.cut_off (one.cut_off cut_off);
+    }
+
 -- a desk that was closed
-pub closed_keeps : (a b : DeskView) → b.column ≡ a.column → b.closed ≡ true → KeepsServing a b
-closed_keeps a b column closed =
+pub closed_keeps : (a b : DeskView) → b.column ≡ a.column → b.closed ≡ true → (IsTrue a.wanted → IsTrue b.wanted) → KeepsServing a b
+closed_keeps a b column closed wanted =
     record {
       resolver = ap (λ (c : ColumnView). c.resolver) column;
       first = ap (λ (c : ColumnView). c.rows.first) column;
       stays_closed = λ was. closed;
+      stays_wanted = wanted;
       failed = λ sound. absurd (closed_fails b closed sound);
       served = λ sound row serves. absurd (closed_fails b closed sound);
     }

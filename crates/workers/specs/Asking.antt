@@ -1,15 +1,19 @@
--- What a proxy's inboxes send and refuse. *Profile*: all of it.
-use Rattle.std.specs.Prelude.{◌≡◌, ◌≢◌, ◌⊎◌, ℕ, List, [], ◌∷◌, slice_get, Some}
+-- What a proxy's inboxes send, take up and refuse. *Profile*: all of it.
+use Rattle.std.specs.Prelude.{◌≡◌, ◌≢◌, ◌⊎◌, ℕ, List, [], ◌∷◌, slice_get, Option, None, Some}
+use Rattle.std.specs.Prelude.{Result, Ok, Err}
 use Rattle.model.specs.Numbers.{ProxyNumber}
 use Rattle.model.specs.Configs.{Config}
 use Rattle.model.specs.Requests.{Request}
 use Rattle.inboxes.specs.Ends.{ProxyView}
 use Rattle.inboxes.specs.Sending.{IsSentTo}
 use Rattle.inboxes.specs.Tags.{request_tag}
+use Rattle.locked_resolvers.specs.NotedReplies.{NotedReplyView, IsReplyToRequest}
 use Rattle.locked_resolvers.specs.Requests.{RequestView}
 use Rattle.locked_resolvers.specs.Asking.{IsAskAllRefusal}
 use Rattle.locked_resolvers.specs.declared.refusal.Refusal.{Refusal}
 use Rattle.locked_resolvers.specs.declared.refusal.Refusal.TheVariants as refusals
+use Rattle.workers.specs.declared.answer.Answer.{Answer}
+use Rattle.workers.specs.declared.answer.Answer.TheVariants as answers
 
 -- each request is of the proxy
 abbrev pub AreOwn : ProxyNumber → List RequestView → Type 0
@@ -43,3 +47,14 @@ AreRequestsSent [] before after = after ≡ before
 AreRequestsSent (q ∷ requests) before after =
     (between : ProxyView)
     × IsRequestSent q.plain before between × AreRequestsSent requests between after
+
+-- What an answer gives to the request: the reply if it is to the request, the refusal if this request
+-- was refused, and otherwise nothing.
+abbrev pub Gives :
+    {N : Type 0} → Request → Answer N → Option (Result NotedReplyView Refusal) → Type 0
+Gives q (answers.Replied noted) given =
+    (IsReplyToRequest q noted.reply × (given ≡ Some (Ok noted)))
+    ⊎ ((IsReplyToRequest q noted.reply → ⊥) × (given ≡ None))
+Gives q (answers.Refused refused) given =
+    ((refused.request.plain ≡ q) × (given ≡ Some (Err refused.refusal)))
+    ⊎ ((refused.request.plain ≢ q) × (given ≡ None))

@@ -1,11 +1,12 @@
 -- What a resolver's worker keeps of the requests that it took. *Profile*: all of it.
-use Rattle.std.specs.Prelude.{◌≡◌, ◌⊎◌, ℕ, ◌<◌, ◌≤◌, max, List, [], length, slice_get, Some}
-use Rattle.std.specs.Prelude.{Bool, false, ◌||◌, IsFalse, IsTrue}
-use Rattle.facts.specs.Stretches.{end_of}
+use Rattle.std.specs.Prelude.{◌≡◌, ◌⊎◌, ℕ, ◌<◌, ◌≤◌, max, List, [], ◌∷◌, ◌++◌, length, slice_get}
+use Rattle.std.specs.Prelude.{Some, Bool, true, false, ◌||◌, IsFalse, IsTrue}
+use Rattle.facts.specs.Stretches.{end_of, extended}
 use Rattle.model.specs.Numbers.{ResolverNumber, RowNumber}
 use Rattle.model.specs.Offers.{OfferFault}
+use Rattle.model.specs.Offers as offers
 use Rattle.model.specs.Requests.{Request}
-use Rattle.agreed_ledger.specs.Cells.{ColumnView}
+use Rattle.agreed_ledger.specs.Cells.{ColumnView, with_rows}
 use Rattle.locked_resolvers.specs.Requests.{RequestView}
 use Rattle.locked_resolvers.specs.Resolvers.{LockedResolverView, IsFault}
 
@@ -40,12 +41,13 @@ HasRow requests row =
 abbrev pub Serves : DeskView → RowNumber → Type 0
 Serves v row = (row < end_of v.column.rows) ⊎ HasRow v.held row
 
--- Whatever row was served is served afterwards, unless the worker has failed. What is closed stays
--- closed. The column stays that of its resolver, from its first row.
+-- Whatever row was served is served afterwards, unless the worker has failed. A worker that is closed
+-- or was refused memory stays so. The column stays that of its resolver, from its first row.
 pub record KeepsServing (before after : DeskView) : Type 0 where
   pub resolver : after.column.resolver ≡ before.column.resolver
   pub first : after.column.rows.first ≡ before.column.rows.first
   pub stays_closed : IsTrue before.closed → IsTrue after.closed
+  pub stays_wanted : IsTrue before.wanted → IsTrue after.wanted
   pub failed : IsFalse (has_failed after) → IsFalse (has_failed before)
   pub served :
       IsFalse (has_failed after) → (row : RowNumber) → Serves before row → Serves after row
@@ -77,20 +79,59 @@ pub record OnlyFails (before after : DeskView) : Type 0 where
   pub column : after.column ≡ before.column
   pub held : after.held ≡ before.held
   pub stays_closed : IsTrue before.closed → IsTrue after.closed
+  pub stays_wanted : IsTrue before.wanted → IsTrue after.wanted
   pub failed : IsFalse (has_failed after) → IsFalse (has_failed before)
 
--- nothing is held back any more; otherwise nothing changes, but that the worker may have failed
+-- the same worker, which was refused memory
+abbrev pub wanting_memory : DeskView → DeskView
+wanting_memory v = record v { wanted = true }
+
+-- nothing changes, but that the worker may have been refused memory
+abbrev pub OnlyWantsMemory : (before after : DeskView) → Type 0
+OnlyWantsMemory before after = (after ≡ before) ⊎ (after ≡ wanting_memory before)
+
+-- the request is held back after the others, or nothing changes but that memory was refused
+abbrev pub HasHeldBack : RequestView → (before after : DeskView) → Type 0
+HasHeldBack q before after =
+    (after ≡ record before { held = before.held ++ q ∷ [] }) ⊎ (after ≡ wanting_memory before)
+
+-- the worker's column, and then what the other has from its end on
+abbrev pub caught_up : DeskView → (other : ColumnView) → DeskView
+caught_up v other =
+    record v { column = with_rows v.column (extended v.column.rows other.rows) }
+
+-- the column has caught up with the other, or nothing changes but that memory was refused
+abbrev pub HasCaughtUp : (other : ColumnView) → (before after : DeskView) → Type 0
+HasCaughtUp other before after =
+    (after ≡ caught_up before other) ⊎ (after ≡ wanting_memory before)
+
+-- the column has every row that the resolver has judged, unless the worker has failed
+abbrev pub HasReached : LockedResolverView → DeskView → Type 0
+HasReached resolver v =
+    IsFalse (has_failed v) → length resolver.column ≤ end_of v.column.rows
+
+-- Nothing is held back any more. Otherwise nothing changes, but that the worker may have been refused
+-- memory if something was held back.
 pub record HasLetGo (before after : DeskView) : Type 0 where
   pub column : after.column ≡ before.column
   pub held : after.held ≡ []
   pub closed : after.closed ≡ before.closed
+  pub stays_wanted : IsTrue before.wanted → IsTrue after.wanted
   pub failed : IsFalse (has_failed after) → IsFalse (has_failed before)
+  pub same : before.held ≡ [] → after ≡ before
+
+-- the fault is not that of a repeat that was given up
+abbrev pub IsNotGivenUp : OfferFault → Type 0
+IsNotGivenUp (offers.GivenUp acknowledged) = ⊥
+IsNotGivenUp fault = Unit {0}
 
 -- An offer leaves the worker closed only if it was closed before, or the resolver is closed
--- afterwards, or the resolver was open and the definition refuses the request.
+-- afterwards, or the resolver was open and the definition refuses the request, but not as a repeat
+-- that was given up.
 abbrev pub ClosesByCause :
     (before after : DeskView) → Request → (asked left : LockedResolverView) → Type 0
 ClosesByCause before after q asked left =
     IsTrue after.closed
     → IsTrue before.closed
-    ⊎ (IsTrue left.closed ⊎ ((fault : OfferFault) × IsFault asked q fault))
+    ⊎ (IsTrue left.closed
+    ⊎ ((fault : OfferFault) × IsNotGivenUp fault × IsFault asked q fault))

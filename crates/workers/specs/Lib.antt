@@ -8,5 +8,5 @@ pub mod Refusing
 pub mod Desks
 -- what a worker serves of the messages that it took
 pub mod Workers
--- what a proxy's inboxes send and refuse
+-- what a proxy's inboxes send, take up and refuse
 pub mod Asking

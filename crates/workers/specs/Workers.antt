@@ -68,6 +68,12 @@ pub record HasTakenMore (before after : TakerView) : Type 0 where
   pub more : List Tag
   pub got : after.got ≡ before.got ++ more
 
+-- a worker that is closed, was refused memory or is cut off stays so
+pub record StaysFailed (before after : WorkerView) : Type 0 where
+  pub closed : IsTrue before.desk.closed → IsTrue after.desk.closed
+  pub wanted : IsTrue before.desk.wanted → IsTrue after.desk.wanted
+  pub cut_off : IsTrue before.cut_off → IsTrue after.cut_off
+
 -- one message more was taken, or none, since the inbox has no sender left
 abbrev pub TakesOne : (before after : WorkerView) → Type 0
 TakesOne before after =

@@ -1,13 +1,14 @@
 //! The requests that a worker took, and how it serves them.
 
-ghost use Rattle.std.specs.Prelude.{◌≡◌, ◌≢◌, ◌<◌, ◌≤◌, ℕ, length, slice_get, Some, IsFalse, IsTrue};
-ghost use Rattle.std.specs.Prelude.{[], true, MatchOption};
+ghost use Rattle.std.specs.Prelude.{◌≡◌, ◌≢◌, ◌<◌, ◌≤◌, ◌⊎◌, ℕ, length, slice_get, Some, IsFalse};
+ghost use Rattle.std.specs.Prelude.{[], true, IsTrue, MatchOption};
 ghost use Rattle.facts.specs.Stretches.{end_of};
 ghost use Rattle.model.specs.Numbers.{RowNumber, Version};
-ghost use Rattle.workers.specs.Desks.{ClosesByCause, HasLetGo, HasRow, IsDueAt, IsEmptyIfClosed};
-ghost use Rattle.workers.specs.Desks.{IsNoneDue, IsSettled};
-ghost use Rattle.workers.specs.Desks.{KeepsServing, OnlyFails, Serves, has_failed, new_desk};
-ghost use Rattle.workers.specs.Desks.{next_row};
+ghost use Rattle.workers.specs.Desks.{ClosesByCause, HasCaughtUp, HasHeldBack, HasLetGo};
+ghost use Rattle.workers.specs.Desks.{HasReached, HasRow, IsDueAt, IsEmptyIfClosed};
+ghost use Rattle.workers.specs.Desks.{IsNoneDue, IsSettled, KeepsServing, OnlyFails};
+ghost use Rattle.workers.specs.Desks.{OnlyWantsMemory, Serves, has_failed, new_desk};
+ghost use Rattle.workers.specs.Desks.{next_row, wanting_memory};
 ghost use Rattle.workers.specs.Refusing.{IsAnswerOf};
 ghost use Rattle.locked_resolvers.specs.Requests.{RequestView};
 ghost use Rattle.locked_resolvers.specs.Resolvers.{closed_resolver};
@@ -82,7 +83,7 @@ impl<N: Naming> Desk<N> {
         ensures served { held.plain.resolver ≡ self.old.column.resolver → IsFalse (has_failed self.new)
             → Serves self.new held.plain.row }
         ensures other { held.plain.resolver ≢ self.old.column.resolver → self.new ≡ self.old }
-        ensures late { IsTrue self.old.closed → OnlyFails self.old self.new }
+        ensures late { IsTrue self.old.closed → OnlyWantsMemory self.old self.new }
     {
         if held.request.resolver() != self.column.resolver() {
             return;
@@ -101,6 +102,7 @@ impl<N: Naming> Desk<N> {
         ensures column { self.new.column ≡ self.old.column }
         ensures held { self.new.held ≡ [] }
         ensures closed { self.new.closed ≡ true }
+        ensures wanted { IsTrue self.old.wanted → IsTrue self.new.wanted }
     {
         self.close_under(rt, &mut shared.lock(rt));
     }
@@ -112,6 +114,7 @@ impl<N: Naming> Desk<N> {
         ensures column { self.new.column ≡ self.old.column }
         ensures held { self.new.held ≡ [] }
         ensures closed { self.new.closed ≡ true }
+        ensures wanted { IsTrue self.old.wanted → IsTrue self.new.wanted }
     {
         guard.close();
         self.closed = true;
@@ -146,16 +149,19 @@ impl<N: Naming> Desk<N> {
     fn tell<R: Wait>(&mut self, rt: &R, reply: &Sender<Answer<N>>, answer: Answer<N>)
         ensures fails { OnlyFails self.old self.new }
         ensures closed { self.new.closed ≡ self.old.closed }
+        ensures wants { OnlyWantsMemory self.old self.new }
     {
         self.note(reply.send(rt, answer));
     }
 
-    /// Takes up how the sending of an answer ended.
+    /// Takes up how the sending of an answer ended: nothing changes unless memory was refused.
     fn note(&mut self, sent: Result<(), SendError<Answer<N>>>)
         ensures fails { OnlyFails self.old self.new }
         ensures closed { self.new.closed ≡ self.old.closed }
         ensures memory { (answer : _) → sent ≡ Err (sends.OutOfMemory answer)
-            → IsTrue self.new.wanted }
+            → self.new ≡ wanting_memory self.old }
+        ensures other { ((answer : _) → sent ≢ Err (sends.OutOfMemory answer))
+            → self.new ≡ self.old }
     {
         match sent {
             Ok(()) => {}
@@ -168,6 +174,7 @@ impl<N: Naming> Desk<N> {
     fn refuse<R: Wait>(&mut self, rt: &R, guard: &ResolverGuard<'_, N>, held: AskedRequest<N>)
         ensures fails { OnlyFails self.old self.new }
         ensures closed { self.new.closed ≡ self.old.closed }
+        ensures wants { OnlyWantsMemory self.old self.new }
     {
         let (request, reply) = held.into_parts();
         self.tell(
@@ -183,6 +190,7 @@ impl<N: Naming> Desk<N> {
         ensures keeps { KeepsServing self.old self.new }
         ensures closed { self.new.closed ≡ self.old.closed }
         ensures held { IsFalse (has_failed self.new) → HasRow self.new.held held.plain.row }
+        ensures back { HasHeldBack held self.old self.new }
     {
         let Err(failed) = self.held.push(held) else {
             return;
@@ -215,6 +223,7 @@ impl<N: Naming> Desk<N> {
         ensures settled { IsSettled self.new }
         ensures emptied { IsEmptyIfClosed self.new }
         ensures none_due { IsNoneDue self.new (next_row self.new guard.new) }
+        ensures reached { HasReached guard.new self.new }
     {
         self.catch_up(guard.column());
         while let Some(place) = self.due(self.next_row(guard)) {
@@ -255,6 +264,7 @@ impl<N: Naming> Desk<N> {
         ensures keeps { KeepsServing self.old self.new }
         ensures fewer { length self.new.held < length self.old.held }
         ensures own { guard.new.memory.number ≡ guard.old.memory.number }
+        ensures reached { HasReached guard.new self.new }
         ensures closed { (q : RequestView) → slice_get self.old.held place ≡ Some q
             → ClosesByCause self.old self.new q.plain guard.old guard.new }
         ensures entered { (q : RequestView) → slice_get self.old.held place ≡ Some q
@@ -283,6 +293,7 @@ impl<N: Naming> Desk<N> {
         ensures served { IsFalse (has_failed self.new)
             → request.plain.row < end_of self.new.column.rows }
         ensures own { guard.new.memory.number ≡ guard.old.memory.number }
+        ensures reached { HasReached guard.new self.new }
         ensures closed { ClosesByCause self.old self.new request.plain guard.old guard.new }
     {
         let answer = self.offered(guard, request);
@@ -297,11 +308,13 @@ impl<N: Naming> Desk<N> {
         ensures served { IsFalse (has_failed self.new)
             → request.plain.row < end_of self.new.column.rows }
         ensures own { guard.new.memory.number ≡ guard.old.memory.number }
+        ensures reached { HasReached guard.new self.new }
         ensures closed { ClosesByCause self.old self.new request.plain guard.old guard.new }
         ensures answer { IsAnswerOf guard.old request guard.new result }
     {
-        // (its contract says what the type keeps)
+        // (their contracts say what the types keep)
         let _number = guard.number();
+        let _plain = request.plain();
         match guard.offer(request) {
             Ok(noted) => {
                 self.catch_up(guard.column());
@@ -324,6 +337,7 @@ impl<N: Naming> Desk<N> {
         ensures closed { self.new.closed ≡ self.old.closed }
         ensures reached { IsFalse (has_failed self.new)
             → end_of other.now.rows ≤ end_of self.new.column.rows }
+        ensures caught { HasCaughtUp other.now self.old self.new }
     {
         let Err(_out_of_memory) = self.column.extend_from(other) else {
             return;
@@ -337,9 +351,11 @@ impl<N: Naming> Desk<N> {
     fn fail(&mut self, refusal: Refusal, row: RowNumber)
         ensures fails { OnlyFails self.old self.new }
         ensures served { IsFalse (has_failed self.new) → row < end_of self.new.column.rows }
-        ensures memory { refusal ≡ refusals.OutOfMemory → self.new.closed ≡ self.old.closed }
+        ensures memory { refusal ≡ refusals.OutOfMemory → self.new ≡ wanting_memory self.old }
+        ensures other { refusal ≢ refusals.OutOfMemory → self.new.wanted ≡ self.old.wanted }
         ensures given_up { (acknowledged : Version) → refusal ≡ refusals.GivenUp acknowledged
-            → IsTrue self.old.wanted → self.new ≡ self.old }
+            → IsTrue self.old.wanted ⊎ (row < end_of self.old.column.rows)
+            → self.new ≡ self.old }
         ensures closed { refusal ≡ refusals.Closed → IsTrue self.new.closed }
         ensures taken { refusal ≡ refusals.CellTaken → IsTrue self.new.closed }
     {
@@ -357,6 +373,8 @@ impl<N: Naming> Desk<N> {
         ensures none_due { (next : RowNumber) → IsNoneDue self.old next → IsNoneDue self.new next }
         ensures emptied { IsEmptyIfClosed self.new }
         ensures column { self.new.column ≡ self.old.column }
+        ensures open { IsFalse self.old.closed → self.new ≡ self.old }
+        ensures closed { self.new.closed ≡ self.old.closed }
     {
         if !self.closed {
             return;

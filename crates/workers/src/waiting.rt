@@ -5,7 +5,7 @@ ghost use Rattle.std.specs.Prelude.{MatchOption, vec_capacity};
 ghost use Rattle.model.specs.Configs.{IsConfig};
 ghost use Rattle.locked_resolvers.specs.Asking.{AreRepliesInOrder, IsAskAllRefusal, IsAskRefusal};
 ghost use Rattle.locked_resolvers.specs.NotedReplies.{IsReplyToRequest};
-ghost use Rattle.workers.specs.Asking.{AreOwn, IsOtherAt};
+ghost use Rattle.workers.specs.Asking.{AreOwn, Gives, IsOtherAt};
 
 use crate::answer::{Answer, RefusedRequest};
 use crate::asked_request::AskedRequest;
@@ -87,8 +87,8 @@ pub(crate) fn collect<N: Naming, R: Wait>(
     Ok(replies)
 }
 
-/// Waits for the answer to a request. If none can come any more, since the worker that had the
-/// request has ended, fails with `Closed`.
+/// Waits for the answer to a request, and returns what it gives. If none can come any more, since the
+/// worker that had the request has ended, fails with `Closed`.
 fn await_reply<N: Naming, R: Wait>(
     rt: &R,
     answers: &Receiver<Answer<N>>,
@@ -101,21 +101,38 @@ fn await_reply<N: Naming, R: Wait>(
     // (its contract says that the cluster has the resolver)
     let _plain = request.plain();
     for _ in rt.forever() {
-        match answers.recv(rt) {
-            Ok(Answer::Replied(noted)) => {
-                if is_reply_to(&noted, request) {
-                    return Ok(noted);
-                }
-            }
-            Ok(Answer::Refused(refused)) => {
-                if let Some(refusal) = refusal_of(&refused, request) {
-                    return Err(refusal);
-                }
-            }
-            Err(_ended) => return Err(Refusal::Closed),
+        let Ok(answer) = answers.recv(rt) else {
+            return Err(Refusal::Closed);
+        };
+        if let Some(given) = given_by(answer, request) {
+            return given;
         }
     }
     unreachable!()
+}
+
+/// Returns what the answer gives to the request: the reply, or why the request was refused. Nothing
+/// if it is the answer to another request.
+fn given_by<N: Naming>(
+    answer: Answer<N>,
+    request: &Request<N>,
+) -> Option<Result<NotedReply<N>, Refusal>>
+    ensures given { Gives request.now.plain answer result }
+    ensures kept { IfSome result (λ given. IfErr given (IsAskRefusal N.cells.config request.now)) }
+{
+    match answer {
+        Answer::Replied(noted) => {
+            if is_reply_to(&noted, request) {
+                Some(Ok(noted))
+            } else {
+                None
+            }
+        }
+        Answer::Refused(refused) => {
+            let refusal = refusal_of(&refused, request)?;
+            Some(Err(refusal))
+        }
+    }
 }
 
 /// Whether the reply is to this request.
@@ -133,7 +150,8 @@ fn is_reply_to<N: Naming>(noted: &NotedReply<N>, request: &Request<N>) -> bool
 /// Why the request was refused, if it is the one that was.
 fn refusal_of<N: Naming>(refused: &RefusedRequest<N>, request: &Request<N>) -> Option<Refusal>
     ensures given { MatchOption result (refused.now.request.plain ≢ request.now.plain)
-        (λ refusal. refusal ≡ refused.now.refusal) }
+        (λ refusal. (refused.now.request.plain ≡ request.now.plain)
+        × (refusal ≡ refused.now.refusal)) }
     ensures kept { IfSome result (IsAskRefusal N.cells.config request.now) }
 {
     if is_same(refused.request(), request) {

@@ -1,7 +1,7 @@
 //! The worker of a resolver, which runs in a thread of its own.
 
-ghost use Rattle.std.specs.Prelude.{◌≡◌, ◌≢◌, ◌<◌, ◌⊎◌, IsFalse, IsTrue, MatchBool, MatchResult};
-ghost use Rattle.workers.specs.Workers.{HasTakenMore, IsWorkerOf, TakesOne, new_worker};
+ghost use Rattle.std.specs.Prelude.{◌≡◌, ◌≢◌, ◌<◌, ◌⊎◌, [], IsFalse, IsTrue, MatchBool, MatchResult};
+ghost use Rattle.workers.specs.Workers.{HasTakenMore, IsWorkerOf, StaysFailed, TakesOne, new_worker};
 ghost use Rattle.locked_resolvers.specs.declared.refusal.Refusal.TheVariants as refusals;
 
 use crate::asked_request::AskedRequest;
@@ -77,9 +77,12 @@ impl<'a, 'l, N: Naming, M: Channels, G: Gate + Drop> ResolverWorker<'a, 'l, N, M
 
     /// Takes messages and serves them, until it has taken the last message of each proxy, or until
     /// nobody is left who could send one. Requests that are then still held back are answered that
-    /// the resolver is closed.
+    /// the resolver is closed. If it was closed, refused memory or cut off before, it ends so.
     pub fn run<R: Wait>(self, rt: &R) -> EndedWorker<N, M, G>
-        ensures { HasTakenMore self.entry.taken result.taken }
+        ensures taken { HasTakenMore self.entry.taken result.taken }
+        ensures closed { IsTrue self.entry.desk.closed → IsTrue result.closed }
+        ensures wanted { IsTrue self.entry.desk.wanted → IsTrue result.wanted }
+        ensures cut_off { IsTrue self.entry.cut_off → IsTrue result.cut_off }
     {
         let mut worker = self;
         for _ in rt.forever() {
@@ -103,7 +106,8 @@ impl<'a, 'l, N: Naming, M: Channels, G: Gate + Drop> ResolverWorker<'a, 'l, N, M
     /// Takes a message and serves it.
     fn step<R: Wait>(&mut self, rt: &R)
         requires { 0 < self.old.proxies_left }
-        ensures { TakesOne self.old self.new }
+        ensures taken { TakesOne self.old self.new }
+        ensures stays { StaysFailed self.old self.new }
     {
         let Ok(message) = self.end.take(rt) else {
             self.cut_off = true;
@@ -117,10 +121,16 @@ impl<'a, 'l, N: Naming, M: Channels, G: Gate + Drop> ResolverWorker<'a, 'l, N, M
     }
 
     /// Ends the worker, which takes no more. Answers the requests that are still held back that the
-    /// resolver is closed.
+    /// resolver is closed; if memory is refused for that, it ends as one that was refused memory.
     fn ended<R: Wait>(self, rt: &R) -> EndedWorker<N, M, G>
         requires { (self.proxies_left ≡ 0) ⊎ IsTrue self.cut_off }
-        ensures { result.taken ≡ self.entry.taken }
+        ensures taken { result.taken ≡ self.entry.taken }
+        ensures column { result.column ≡ self.entry.desk.column }
+        ensures closed { result.closed ≡ self.entry.desk.closed }
+        ensures cut_off { result.cut_off ≡ self.entry.cut_off }
+        ensures wanted { IsTrue self.entry.desk.wanted → IsTrue result.wanted }
+        ensures none_held { self.entry.desk.held ≡ []
+            → result.wanted ≡ self.entry.desk.wanted }
     {
         let ResolverWorker {
             shared,

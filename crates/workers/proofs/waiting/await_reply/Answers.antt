@@ -4,7 +4,7 @@ use Rattle.model.specs.Configs.{IsConfig}
 use Rattle.workers.proofs.RefusedLemmas.{closed_asked}
 use Rattle.workers.proofs.waiting.await_reply.Goals as goal
 
-pub returns-in-Err-clause-refused : goal.returns-in-Err-clause-refused
-returns-in-Err-clause-refused g c =
+pub returns-in_default-clause-refused : goal.returns-in_default-clause-refused
+returns-in_default-clause-refused g c =
     let limits : IsConfig g.N.Naming.cells.config = search rules in
     closed_asked g.N.Naming.cells.config c.args.request.now limits c.plain-plain.ensures.kept.resolver

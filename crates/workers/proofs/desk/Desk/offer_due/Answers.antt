@@ -1,5 +1,5 @@
 -- What was served so far is served.
-use Rattle.std.proofs.Common.{sym, ◌∙◌, subst, ℕ, max, length}
+use Rattle.std.proofs.Common.{sym, ◌∙◌, subst, ℕ, ◌≤◌, max, length}
 use Rattle.facts.specs.Stretches.{end_of}
 use Rattle.agreed_ledger.specs.Cells.{ColumnView}
 use Rattle.workers.specs.Desks.{IsNoneDue, next_row}
@@ -11,6 +11,7 @@ loop-place-preserved g c =
     record {
       keeps = keeps_trans _ _ _ c.loop-place.invariant.keeps c.judge_at.ensures.keeps;
       own = c.judge_at.ensures.keeps.resolver ∙ c.loop-place.invariant.own ∙ sym c.judge_at.ensures.own;
+      reached = c.judge_at.ensures.reached;
     }
 
 pub returns-clause-keeps : goal.returns-clause-keeps
@@ -23,3 +24,7 @@ returns-clause-none_due g c =
     let after = c.let_go_if_closed.new.self in
     let none : IsNoneDue before (next_row before guard) = subst (λ (n : ℕ). IsNoneDue before n) c.next_row.ensures c.in_default.ensures in
     subst (λ (col : ColumnView). IsNoneDue after (max (end_of col.rows) (length guard.column))) (sym c.let_go_if_closed.ensures.column) (c.let_go_if_closed.ensures.none_due (next_row before guard) none)
+
+pub returns-clause-reached : goal.returns-clause-reached
+returns-clause-reached g c =
+    λ sound. subst (λ (col : ColumnView). length c.loop-place.guard.column ≤ end_of col.rows) (sym c.let_go_if_closed.ensures.column) (c.loop-place.invariant.reached (c.let_go_if_closed.ensures.keeps.failed sound))

@@ -4,8 +4,10 @@ use Rattle.std.specs.Prelude.{IsTrue}
 use Rattle.model.specs.Offers.{OfferFault}
 use Rattle.locked_resolvers.specs.Requests.{RequestView}
 use Rattle.locked_resolvers.specs.Resolvers.{IsFault, IsOfferRefusal, LockedResolverView}
+use Rattle.workers.specs.Desks.{DeskView, IsNotGivenUp}
 use Rattle.workers.specs.Refusing.{IsToldRefusal}
 use Rattle.workers.proofs.DeskLemmas.{closed_for, fails_keeps, keeps_trans, number_refused, told_refusal}
+use Rattle.workers.proofs.GivenUpLemmas.{given_up_stays}
 use Rattle.workers.proofs.desk.Desk.offered.Goals as goal
 
 pub refused_by_offer-requires : goal.refused_by_offer-requires
@@ -27,8 +29,13 @@ returns-in-Err-clause-closed g c =
     let asked = c.args.guard.now in
     let q = c.args.request.plain in
     let was = c.args.self.now.closed in
-    λ closed. subst (λ (v : LockedResolverView). IsTrue was ⊎ (IsTrue v.closed ⊎ ((fault : OfferFault) × IsFault asked q fault))) (sym c.in-Err.ensures.left)
-    (closed_for asked q c.in-Err.refused.refusal was c.fail.new.self.closed c.in-Err.ensures.refused (λ same. c.fail.ensures.memory same ∙ c.catch_up-in-Err.ensures.closed) closed)
+    λ closed. subst (λ (v : LockedResolverView). IsTrue was ⊎ (IsTrue v.closed ⊎ ((fault : OfferFault) × IsNotGivenUp fault × IsFault asked q fault))) (sym c.in-Err.ensures.left)
+    (closed_for asked q c.in-Err.refused.refusal was c.fail.new.self.closed c.in-Err.ensures.refused
+    (λ same. ap (λ (v : DeskView). v.closed) (c.fail.ensures.memory same) ∙ c.catch_up-in-Err.ensures.closed)
+    (λ acknowledged same. given_up_stays g.N.Naming.cells.config asked _ q c.in-Err.refused.refusal acknowledged _ c.catch_up-in-Err.new.self c.fail.new.self _
+    c.number-number.ensures.kept c.plain-plain.ensures.versions c.in-Err.ensures.refused same c.in-Err.ensures.left c.column-in-Err.ensures.value
+    (c.row.ensures ∙ ap (λ (r : RequestView). r.plain.row) c.in-Err.ensures.back) c.catch_up-in-Err.ensures.reached c.fail.ensures.fails.stays_closed (c.fail.ensures.given_up acknowledged same) ∙ c.catch_up-in-Err.ensures.closed)
+    closed)
 
 pub returns-in-Err-clause-answer : goal.returns-in-Err-clause-answer
 returns-in-Err-clause-answer g c =

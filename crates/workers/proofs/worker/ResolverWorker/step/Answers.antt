@@ -37,7 +37,7 @@ invariant_of-self-in-Close g c =
     let told : close_tag message.proxy ≡ message = c.in-Close.ensures in
     let other : is_end message ≡ false = ap is_end (sym told) in
     worker_next inside.shared.now g.N.Naming.cells.config.proxies before after message c.self.invariant c.in-Ok.ensures.taken
-    (closed_keeps inside.desk after.desk c.close.ensures.column c.close.ensures.closed) (closed_settled after.desk c.close.ensures.closed) (λ closed. c.close.ensures.held)
+    (closed_keeps inside.desk after.desk c.close.ensures.column c.close.ensures.closed c.close.ensures.wanted) (closed_settled after.desk c.close.ensures.closed) (λ closed. c.close.ensures.held)
     (λ row is sound. let not : kinds.Close ≡ kinds.Request = ap (λ (t : Tag). t.kind) told ∙ is.kind in absurd (cc))
     (λ closes. c.close.ensures.closed)
     (ap (λ (n : ℕ). before.proxies_left + n) (no_end before.taken.got message other))
