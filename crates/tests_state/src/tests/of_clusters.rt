@@ -1,5 +1,5 @@
-//! Tests of turn_world and state_memory: what the fourth resolver and proxy are told, copies of events,
-//! resolvers and proxies, and runs of many events.
+//! Tests of turn_world and state_memory: what the fourth resolver and proxy are told, copies of
+//! events, resolvers and proxies, and runs of many events.
 
 use crate::tests::are_alike;
 use model::Config;
@@ -250,9 +250,9 @@ fn events_of_the_third_and_fourth_proxy_are_copied(rt: HostRuntime) -> Result<()
 
 // ---- runs of many events
 
-/// What the event at this place of a long list is made of. Of twenty events the first is a batch, which is
-/// then offered to both resolvers and finished; one reply is given again, and then there is nothing more to
-/// finish.
+/// What the event at this place of a long list is made of. Of twenty events the first is a batch,
+/// which is then offered to both resolvers and finished; one reply is given again, and then there
+/// is nothing more to finish.
 fn step_at(place: usize) -> Step {
     let row = place / 20;
     match place % 20 {

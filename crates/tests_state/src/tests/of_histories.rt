@@ -12,7 +12,8 @@ const B: Ends<'static> = (b"b", b"b\0");
 
 const C: Ends<'static> = (b"c", b"c\0");
 
-/// A share as plain data: its version, its parts and their verdicts, and up to where is forgotten after it.
+/// A share as plain data: its version, its parts and their verdicts, and up to where is forgotten
+/// after it.
 type Judged = (u64, &'static [PartLine<'static>], &'static [Verdict], u64);
 
 /// Shares, with a window of 20. A part that reads is too old below the version minus the window.
@@ -68,8 +69,8 @@ const SHARES: &[Judged] = &[
     ),
 ];
 
-/// Whether the history gives these verdicts on the share of the parts, numbered from 0. The version must
-/// be above the last.
+/// Whether the history gives these verdicts on the share of the parts, numbered from 0. The version
+/// must be above the last.
 fn gives(
     alloc: Global,
     history: &mut WriteHistory,
