@@ -3,11 +3,11 @@
 //! tokens alone. No clause says so. A copy of a script has the same values in all fields.
 
 use super::devices::{Faltering, Halting};
-use super::{are, is_range};
+use super::{are, assert_copied, is_range};
 use fold_run::{FoldScript, read_script, run_fold, stream_script};
 use model::{StateTxn, Verdict};
 use scripts::{Reader, RunStatus, ScriptFault, Sink, Source, Writer};
-use std::alloc::Global;
+use std::alloc::{AllocError, Global};
 use std::io::ErrorKind;
 use std::process::Abort;
 use std::test::Fail;
@@ -313,5 +313,83 @@ fn fold_scripts_are_copied(rt: HostRuntime) -> Result<(), Fail> {
     let script = fold_script(rt.alloc())?;
     let copied = twice!(script.copy(), OutOfMemory)?;
     assert!(rt; is_fold_script(&script) && is_fold_script(&copied));
+    Ok(())
+}
+
+/// A script of three rows and of two keys.
+const THREE_ROWS: &[u8] = br#"{"resolvers":3,"ask":["a","n"],"rows":[
+{"version":10,"states":[{"mutations":[{"set":["\\xff/dbLocked","L"]},{"clear":["a","z"]}],
+"lock_aware":true,"verdicts":["committed","conflict","too_old"]}]},
+{"version":20,"states":[]},
+{"version":30,"states":[{"mutations":[{"set":["n","1"]}],
+"lock_aware":false,"verdicts":["committed","committed","committed"]}]}]}"#;
+
+#[test]
+fn a_fold_script_of_three_rows_is_copied(rt: HostRuntime) -> Result<(), Fail> {
+    let script = twice!(
+        read_script(rt.alloc(), THREE_ROWS),
+        ScriptFault::OutOfMemory
+    )?;
+    assert_copied(&rt, &script, FoldScript::copy);
+    Ok(())
+}
+
+// ---- long scripts
+
+const HEAD: &str = r#"{"resolvers":1,"ask":["a"],"rows":[{"version":1,"states":["#;
+
+const STATE: &str =
+    r#"{"mutations":[{"set":["a","b"]}],"lock_aware":true,"verdicts":["committed"]},"#;
+
+const END: &str = r#"{"mutations":[],"lock_aware":true,"verdicts":["too_old"]}]}]}"#;
+
+/// The last state transaction has a verdict that there is not.
+const WRONG_END: &str = r#"{"mutations":[],"lock_aware":true,"verdicts":["too_new"]}]}]}"#;
+
+/// How many state transactions a long script has before its last one.
+const STATES: usize = 400;
+
+/// A script of one row with many state transactions, which ends like this.
+fn long_script(alloc: Global, end: &str) -> Result<String, AllocError> {
+    let mut script = String::new(alloc);
+    script.push_str(HEAD)?;
+    for _ in 0..STATES {
+        script.push_str(STATE)?;
+    }
+    script.push_str(end)?;
+    Ok(script)
+}
+
+/// How many state transactions the first row has.
+fn count_states(script: &FoldScript) -> usize {
+    match script.rows.as_slice() {
+        [row, ..] => row.states.as_slice().len(),
+        [] => 0,
+    }
+}
+
+#[test]
+fn a_long_fold_script_is_read(rt: HostRuntime) -> Result<(), Fail> {
+    let text = long_script(rt.alloc(), END)?;
+    let script = twice!(
+        read_script(rt.alloc(), text.as_bytes()),
+        ScriptFault::OutOfMemory
+    )?;
+    assert!(rt; count_states(&script) == STATES + 1);
+    Ok(())
+}
+
+fn fault_at_once(alloc: Global, script: &str) -> Option<ScriptFault> {
+    read_script(alloc, script.as_bytes()).err()
+}
+
+#[test]
+fn a_long_fold_script_with_a_fault_is_refused(rt: HostRuntime) -> Result<(), Fail> {
+    let text = long_script(rt.alloc(), WRONG_END)?;
+    let fault = match fault_at_once(rt.alloc(), text.as_str()) {
+        Some(ScriptFault::OutOfMemory) => fault_at_once(rt.alloc(), text.as_str()),
+        fault => fault,
+    };
+    assert!(rt; fault == Some(ScriptFault::BadShape));
     Ok(())
 }

@@ -4,7 +4,7 @@
 use super::{GIVEN, is_asked, is_batch, is_config, is_range};
 use model::Config;
 use scripts::ScriptFault;
-use std::alloc::Global;
+use std::alloc::{AllocError, Global};
 use std::test::Fail;
 use system_keys::{Items, OutOfMemory};
 use testing::{batch, bytes, one, range, room, twice};
@@ -213,5 +213,80 @@ fn turns_scripts_are_copied(rt: HostRuntime) -> Result<(), Fail> {
     let script = turns_script(rt.alloc())?;
     let copied = twice!(script.copy(), OutOfMemory)?;
     assert!(rt; is_turns_script(&script) && is_turns_script(&copied));
+    Ok(())
+}
+
+/// A script of three proxies and three resolvers, which asks for the tags of two keys.
+const TWO_KEYS: &str =
+    r#"{"proxies":3,"resolvers":3,"window":100,"step":10,"ask":["a","n"],"events":[
+{"sequence":{"proxy":2,"batch":[{"snapshot":0,"reads":[["a","b"]],
+"writes":[["n","n\\x00"]],"mutations":[{"set":["n","1"]}],"lock_aware":false}]}},
+{"move":{"range":["m","t"],"resolver":2}},{"offer":{"row":0,"resolver":2}},
+{"finish":{"proxy":2}}]}"#;
+
+fn printed(alloc: Global, script: &TurnsScript) -> Result<String, AllocError> {
+    format!(in alloc; "{script:?}")
+}
+
+/// Whether both have the same in every field.
+fn are_alike(alloc: Global, one: &TurnsScript, other: &TurnsScript) -> Result<bool, AllocError> {
+    let one = printed(alloc, one)?;
+    let other = printed(alloc, other)?;
+    Ok(one.as_str() == other.as_str())
+}
+
+#[test]
+fn a_turns_script_that_asks_two_keys_is_copied(rt: HostRuntime) -> Result<(), Fail> {
+    let script = twice!(
+        read_turns(rt.alloc(), TWO_KEYS.as_bytes()),
+        ScriptFault::OutOfMemory
+    )?;
+    let copied = twice!(script.copy(), OutOfMemory)?;
+    assert!(rt; are_alike(rt.alloc(), &script, &copied)?);
+    Ok(())
+}
+
+// ---- long scripts
+
+const HEAD: &str =
+    r#"{"proxies":3,"resolvers":3,"window":100,"step":10,"ask":["a","b"],"events":["#;
+
+const EVENT: &str = r#"{"offer":{"row":2,"resolver":2}},"#;
+
+const END: &str = r#"{"finish":{"proxy":2}}]}"#;
+
+/// The last event has no proxy.
+const WRONG_END: &str = r#"{"finish":{}}]}"#;
+
+/// How many events a long script has before its last one.
+const EVENTS: usize = 400;
+
+/// A script of many events, which ends like this.
+fn long_script(alloc: Global, end: &str) -> Result<String, AllocError> {
+    let mut script = String::new(alloc);
+    script.push_str(HEAD)?;
+    for _ in 0..EVENTS {
+        script.push_str(EVENT)?;
+    }
+    script.push_str(end)?;
+    Ok(script)
+}
+
+#[test]
+fn a_long_turns_script_is_read(rt: HostRuntime) -> Result<(), Fail> {
+    let text = long_script(rt.alloc(), END)?;
+    let script = twice!(
+        read_turns(rt.alloc(), text.as_bytes()),
+        ScriptFault::OutOfMemory
+    )?;
+    assert!(rt; script.events.as_slice().len() == EVENTS + 1);
+    Ok(())
+}
+
+#[test]
+fn a_long_turns_script_with_a_fault_is_refused(rt: HostRuntime) -> Result<(), Fail> {
+    let text = long_script(rt.alloc(), WRONG_END)?;
+    let fault = fault_of(rt.alloc(), text.as_bytes());
+    assert!(rt; fault == Some(ScriptFault::BadShape));
     Ok(())
 }
