@@ -9,4 +9,4 @@ pub use locked_cluster::{
     Meeting, NotedFinished, NotedReply, NotedRouting, ProxyGuard, Ready, Refusal, Refused, Request,
     ResolverGuard, SharedProxy, SharedResolver, audit, meet, metadata_of_two,
 };
-pub use turn_world::{Event, Stopped, TurnWorld};
+pub use turn_world::{Answer, Event, OfferAnswer, Refusal as TurnRefusal, Stopped, TurnWorld};

@@ -94,10 +94,9 @@ holds_still p row at records known batch same are holds =
 pub in_order : (p : ℕ) (before after : LockedProxyView) (batch next_batch : List Given) (begun next_begun : BegunView) (first second : ReadyView) (answer next_answer : NotedFinishedView)
     → HoldsBatch p begun.row begun.records batch → HoldsBatch p next_begun.row next_begun.records next_batch
     → first.row ≡ begun.row → first.records ≡ begun.records → second.row ≡ next_begun.row → second.records ≡ next_begun.records
-    → FinishesBoth before first second after answer next_answer → AnswerInOrder batch next_batch answer next_answer
+    → FinishesBoth before first second after answer next_answer → AnswerInOrder p batch next_batch answer next_answer
 in_order p before after batch next_batch begun next_begun first second answer next_answer holds next_holds row records next_row next_records both =
     record {
-      number = p;
       increase = both.increase;
       holds = holds_still p begun.row answer.finished.row begun.records answer.records batch (both.answer_to.row ∙ row) (both.answer_to.records ∙ records) holds;
       next_holds = holds_still p next_begun.row next_answer.finished.row next_begun.records next_answer.records next_batch (both.next_answer_to.row ∙ next_row) (both.next_answer_to.records ∙ next_records) next_holds;

@@ -1,4 +1,5 @@
 pub mod AskedAll
+pub mod CommitRefusals
 pub mod FinishedTwo
 pub mod OneVersion
 pub mod RepliesInCells

@@ -1,11 +1,15 @@
 -- The replies of all resolvers to a record that was begun.
-use Rattle.std.specs.Prelude.{◌≡◌, List, length, slice_get, Some}
+use Rattle.std.specs.Prelude.{◌≡◌, ◌⊎◌, List, length, slice_get, Some}
 use Rattle.model.specs.Numbers.{ResolverNumber}
-use Rattle.model.specs.Configs.{Config}
+use Rattle.model.specs.Configs.{Config, IsConfig}
 use Rattle.model.specs.Records.{Record}
+use Rattle.model.specs.Shares.{each_below}
 use Rattle.model.specs.declared.reply.Reply.{Reply}
 use Rattle.locked_cluster.specs.Begun.{BegunView}
+use Rattle.locked_resolvers.specs.Asking.{IsAskAllRefusal}
 use Rattle.locked_resolvers.specs.NotedReplies.{NotedReplyView}
+use Rattle.locked_resolvers.specs.declared.refusal.Refusal.{Refusal}
+use Rattle.locked_resolvers.specs.declared.refusal.Refusal.TheVariants as refusals
 
 -- the reply is of this resolver, to this record
 pub record IsReplyOf (r : ResolverNumber) (rec : Record) (reply : Reply) : Type 0 where
@@ -23,3 +27,11 @@ pub record HaveAllReplied (config : Config) (begun : BegunView) (replies : List 
   pub each :
       (r : ResolverNumber) (noted : NotedReplyView) → slice_get replies r ≡ Some noted
       → IsReplyOf r rec noted.reply
+
+-- Some resolvers, of these numbers, are not all of the cluster in order, and so they were not taken; or
+-- they are, and asking them was refused.
+abbrev pub IsAskEachRefusal : Config → List ResolverNumber → BegunView → Refusal → Type 0
+IsAskEachRefusal config numbers begun refusal =
+    ((refusal ≡ refusals.WrongResolver)
+    × (IsConfig config → numbers ≡ each_below config.resolvers → ⊥))
+    ⊎ ((numbers ≡ each_below config.resolvers) × IsAskAllRefusal config begun.requests refusal)

@@ -1,12 +1,16 @@
 -- Two records that a locked proxy finishes, one after the other.
-use Rattle.std.specs.Prelude.{◌≡◌, ◌<◌, List, ◌∷◌, slice_get, Some}
+use Rattle.std.specs.Prelude.{◌≡◌, ◌<◌, ◌⊎◌, List, ◌∷◌, slice_get, Some}
 use Rattle.model.specs.Numbers.{ProxyNumber}
+use Rattle.model.specs.Configs.{Config}
 use Rattle.model.specs.Records.{Record}
 use Rattle.model.specs.Stamps.{Given}
 use Rattle.locked_cluster.specs.Ready.{ReadyView}
 use Rattle.locked_cluster.specs.Answers.{NotedFinishedView}
 use Rattle.locked_cluster.specs.Commits.{HoldsBatch}
-use Rattle.locked_cluster.specs.Proxies.{LockedProxyView, IsOfProxy}
+use Rattle.locked_cluster.specs.Proxies.{LockedProxyView, FinishesReady, IsFinishRefusal}
+use Rattle.locked_cluster.specs.Proxies.{IsLockedProxy, IsOfProxy}
+use Rattle.uses.specs.declared.refused.Refused.{Refused}
+use Rattle.uses.specs.declared.refused.Refused.TheVariants.{ByCluster, ByLedger}
 
 -- The answer is to the record of the replies: it is of the same row, with the same records and cells,
 -- and in this row stands the record that was begun.
@@ -37,11 +41,29 @@ pub record FinishesBoth
   pub records : after.records ≡ before.records
   pub columns : after.columns ≡ second.columns
 
--- Two answers of one proxy, in the order of their versions. In the row of each stands a record of the
+-- the proxy is unchanged, and refused to finish the record so
+abbrev pub RefusesFinish :
+    (before : LockedProxyView) → ReadyView → (after : LockedProxyView) → Refused → Type 0
+RefusesFinish before ready after (ByLedger refusal) = ⊥
+RefusesFinish before ready after (ByCluster refusal) =
+    (after ≡ before) × IsFinishRefusal before ready refusal
+
+-- the proxy refused to finish one of two records: the first, or else the second, after it finished the
+-- first
+abbrev pub RefusesOneFinish :
+    Config → (before : LockedProxyView) → (first second : ReadyView) → (after : LockedProxyView)
+    → Refused → Type 0
+RefusesOneFinish config before first second after refused =
+    RefusesFinish before first after refused
+    ⊎ ((between : LockedProxyView) × (answer : NotedFinishedView)
+    × FinishesReady before first between answer × IsLockedProxy config between
+    × RefusesFinish between second after refused)
+
+-- Two answers of proxy p, in the order of their versions. In the row of each stands a record of the
 -- proxy with its batch.
 pub record AnswerInOrder
-    (batch next_batch : List Given) (answer next_answer : NotedFinishedView) : Type 0 where
-  pub number : ProxyNumber
+    (p : ProxyNumber) (batch next_batch : List Given) (answer next_answer : NotedFinishedView) :
+    Type 0 where
   pub increase : answer.finished.version < next_answer.finished.version
-  pub holds : HoldsBatch number answer.finished.row answer.records batch
-  pub next_holds : HoldsBatch number next_answer.finished.row next_answer.records next_batch
+  pub holds : HoldsBatch p answer.finished.row answer.records batch
+  pub next_holds : HoldsBatch p next_answer.finished.row next_answer.records next_batch

@@ -10,5 +10,5 @@ pub mod Starting
 pub mod Resolving
 -- the replies of all resolvers to a record that was begun
 pub mod Asking
--- why a commit failed, whichever its phase
+-- why a batch was not committed, whichever the phase
 pub mod Causes

@@ -9,6 +9,9 @@ use Rattle.state_memory.specs.Answers.{GainsRequest}
 use Rattle.locked_resolvers.specs.Requests.{RequestView}
 use Rattle.locked_resolvers.specs.NotedReplies.{NotedReplyView, IsReplyToRequest}
 use Rattle.locked_resolvers.specs.Resolvers.{AnswerHas, LockedResolverView, closed_resolver}
+use Rattle.locked_resolvers.specs.Resolvers.{HasOffered, IsOfferRefusal, after_refusal}
+use Rattle.locked_resolvers.specs.declared.refusal.Refusal.{Refusal}
+use Rattle.locked_resolvers.specs.declared.refusal.Refusal.TheVariants as refusals
 
 -- The reply is to the request, and the resolver that it is to is open and has come to its version. The
 -- verdicts of the reply stand in the resolver's cell of the row, and the resolver has the records that
@@ -44,3 +47,14 @@ pub record RepliesInItsCell
 -- the resolver is as it was, or it is closed and otherwise as it was
 abbrev pub KeepsAll : (before after : LockedResolverView) → Type 0
 KeepsAll before after = (after ≡ before) ⊎ (after ≡ closed_resolver before)
+
+-- One of two offers of the request was refused: there was no memory for a copy of the request, and
+-- nothing was offered; or the first offer was refused; or the second was, after a reply to the first.
+abbrev pub RefusesOneOfTwo :
+    (before : LockedResolverView) → RequestView → (after : LockedResolverView) → Refusal → Type 0
+RefusesOneOfTwo before request after refusal =
+    ((refusal ≡ refusals.OutOfMemory) × (after ≡ before))
+    ⊎ ((IsOfferRefusal before request.plain refusal × (after ≡ after_refusal before refusal))
+    ⊎ ((between : LockedResolverView) × (noted : NotedReplyView)
+    × HasOffered before request between noted
+    × IsOfferRefusal between request.plain refusal × (after ≡ after_refusal between refusal)))

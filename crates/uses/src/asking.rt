@@ -1,9 +1,8 @@
 //! All resolvers are asked for a record.
 
-ghost use Rattle.std.specs.Prelude.{◌≡◌, ◌⊎◌, IfErr, IfOk};
+ghost use Rattle.std.specs.Prelude.{◌≡◌, IfErr, IfOk};
 ghost use Rattle.locked_resolvers.specs.Asking.{IsAskAllRefusal};
-ghost use Rattle.locked_resolvers.specs.declared.refusal.Refusal.TheVariants as refusals;
-ghost use Rattle.uses.specs.Asking.{HaveAllReplied};
+ghost use Rattle.uses.specs.Asking.{HaveAllReplied, IsAskEachRefusal};
 
 use agreed_ledger::Naming;
 use shared_cluster::{
@@ -25,8 +24,8 @@ pub fn ask_each<N: Naming, R: Wait>(
 ) -> Result<Vec<NotedReply<N>>, Refusal>
     ensures replied { IfOk result (λ replies.
         HaveAllReplied N.cells.config begun.now replies.items) }
-    ensures refused { IfErr result (λ refusal. (refusal ≡ refusals.WrongResolver)
-        ⊎ IsAskAllRefusal N.cells.config begun.now.requests refusal) }
+    ensures refused { IfErr result
+        (IsAskEachRefusal N.cells.config resolvers.now begun.now) }
 {
     let asking = AllResolvers::new(resolvers)?;
     asking.ask_all(rt, alloc, begun.requests())

@@ -1,9 +1,12 @@
 //! A proxy commits two batches: it begins both records, and finishes one after the other.
 
-ghost use Rattle.std.specs.Prelude.{◌≡◌, IfOk};
+ghost use Rattle.std.specs.Prelude.{◌≡◌, List, IfErr, IfOk};
+ghost use Rattle.model.specs.Stamps.{Given};
 ghost use Rattle.locked_cluster.specs.Commits.{HoldsBatch};
 ghost use Rattle.locked_cluster.specs.Proxies.{FinishesReady};
+ghost use Rattle.uses.specs.Causes.{OneWasNotCommitted, WasNotCommitted};
 ghost use Rattle.uses.specs.Finishing.{AnswerInOrder, FinishesBoth};
+ghost use Rattle.uses.specs.Finishing.{RefusesFinish, RefusesOneFinish};
 
 use crate::refused::Refused;
 use agreed_ledger::{Naming, Sequencer, Ticket};
@@ -16,7 +19,7 @@ use std::sync::Wait;
 /// Commits two batches of one proxy, and begins both before it finishes one. The answers stand in the
 /// order of their versions, and in the row of each stands a record of the proxy with its batch.
 ///
-/// Fails as the phases do, and leaves what was done before.
+/// Fails as the phases do for one of the batches, and leaves what was done before.
 pub fn commit_two<N: Naming, R: Wait, A: Asking<N>>(
     rt: &R,
     proxy: &SharedProxy<'_, N>,
@@ -25,7 +28,9 @@ pub fn commit_two<N: Naming, R: Wait, A: Asking<N>>(
     batch: Batch,
     next_batch: Batch,
 ) -> Result<(NotedFinished<N>, NotedFinished<N>), Refused>
-    ensures { IfOk result (λ both. AnswerInOrder batch next_batch both.0 both.1) }
+    ensures answers { IfOk result (λ both.
+        AnswerInOrder proxy.now batch next_batch both.0 both.1) }
+    ensures refused { IfErr result (OneWasNotCommitted N.cells proxy.now batch next_batch) }
 {
     let (begun, next_begun) = begun_both(rt, proxy, sequencer, batch, next_batch)?;
     let first = ready(rt, proxy, asking, begun)?;
@@ -44,7 +49,10 @@ pub fn finish_two<N: Naming>(
     first: Ready<N>,
     second: Ready<N>,
 ) -> Result<(NotedFinished<N>, NotedFinished<N>), Refused>
-    ensures { IfOk result (λ both. FinishesBoth guard.old first second guard.new both.0 both.1) }
+    ensures answers { IfOk result (λ both.
+        FinishesBoth guard.old first second guard.new both.0 both.1) }
+    ensures refused { IfErr result
+        (RefusesOneFinish N.cells.config guard.old first second guard.new) }
 {
     // (its contract is the law that a proxy's record before is no later than the version before)
     chain_law();
@@ -69,6 +77,7 @@ fn begun_both<N: Naming, R: Wait>(
         HoldsBatch proxy.now both.0.row both.0.records batch) }
     ensures second { IfOk result (λ both.
         HoldsBatch proxy.now both.1.row both.1.records next_batch) }
+    ensures refused { IfErr result (OneWasNotCommitted N.cells proxy.now batch next_batch) }
 {
     let mut guard = proxy.lock(rt);
     let first = begun(rt, &mut guard, sequencer, batch)?;
@@ -86,6 +95,7 @@ fn begun<N: Naming, R: Wait>(
     ensures holds { IfOk result (λ begun.
         HoldsBatch guard.old.proxy.number begun.row begun.records batch) }
     ensures number { guard.new.proxy.number ≡ guard.old.proxy.number }
+    ensures refused { IfErr result (WasNotCommitted N.cells guard.old.proxy.number batch) }
 {
     let ticket = sequenced(rt, sequencer, guard.number(), batch)?;
     match guard.begin(ticket) {
@@ -101,7 +111,8 @@ fn sequenced<N: Naming, R: Wait>(
     proxy: ProxyNumber,
     batch: Batch,
 ) -> Result<Ticket<N>, Refused>
-    ensures { IfOk result (λ ticket. HoldsBatch proxy ticket.row ticket.records batch) }
+    ensures holds { IfOk result (λ ticket. HoldsBatch proxy ticket.row ticket.records batch) }
+    ensures refused { IfErr result (WasNotCommitted N.cells proxy batch) }
 {
     let mut guard = sequencer.lock(rt);
     match guard.sequence(proxy, batch) {
@@ -119,6 +130,8 @@ fn ready<N: Naming, R: Wait, A: Asking<N>>(
 ) -> Result<Ready<N>, Refused>
     ensures row { IfOk result (λ ready. ready.row ≡ begun.row) }
     ensures records { IfOk result (λ ready. ready.records ≡ begun.records) }
+    ensures refused { (batch : List Given) → HoldsBatch proxy.now begun.row begun.records batch
+        → IfErr result (WasNotCommitted N.cells proxy.now batch) }
 {
     match proxy.resolve_all(rt, asking, begun) {
         Ok(ready) => Ok(ready),
@@ -131,7 +144,8 @@ fn finished<N: Naming>(
     guard: &mut ProxyGuard<'_, N>,
     ready: Ready<N>,
 ) -> Result<NotedFinished<N>, Refused>
-    ensures { IfOk result (FinishesReady guard.old ready guard.new) }
+    ensures finished { IfOk result (FinishesReady guard.old ready guard.new) }
+    ensures refused { IfErr result (RefusesFinish guard.old ready guard.new) }
 {
     match guard.finish(ready) {
         Ok(noted) => Ok(noted),

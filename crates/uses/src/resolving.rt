@@ -2,8 +2,10 @@
 
 ghost use Rattle.std.specs.Prelude.{◌≡◌, IfErr, IfOk, OnErr};
 ghost use Rattle.locked_resolvers.specs.NotedReplies.{IsNotedReply};
-ghost use Rattle.locked_resolvers.specs.Resolvers.{HasOffered};
-ghost use Rattle.uses.specs.Resolving.{KeepsAll, RepliesInItsCell, StandsInItsCell};
+ghost use Rattle.locked_resolvers.specs.Resolvers.{HasOffered, IsOfferRefusal};
+ghost use Rattle.locked_resolvers.specs.Resolvers.{IsResolveRefusal, after_refusal};
+ghost use Rattle.uses.specs.Resolving.{KeepsAll, RefusesOneOfTwo, RepliesInItsCell};
+ghost use Rattle.uses.specs.Resolving.{StandsInItsCell};
 
 use agreed_ledger::Naming;
 use shared_cluster::{NotedReply, Refusal, Refused, Request, ResolverGuard, SharedResolver};
@@ -19,6 +21,8 @@ pub fn resolve_and_look<'a, N: Naming, R: Wait>(
     request: Request<N>,
 ) -> Result<(NotedReply<N>, ResolverGuard<'a, N>), Refused<N>>
     ensures shown { IfOk result (λ made. StandsInItsCell request made.0 made.1) }
+    ensures refused { IfErr result (λ refused.
+        IsResolveRefusal N.cells.config resolver.now request.plain refused.refusal) }
     ensures back { IfErr result (λ refused. refused.request ≡ request) }
 {
     let (noted, guard) = resolver.resolve(rt, request)?;
@@ -38,6 +42,10 @@ pub fn offer_and_look<N: Naming>(
 ) -> Result<NotedReply<N>, Refused<N>>
     ensures replied { IfOk result (RepliesInItsCell guard.old request guard.new) }
     ensures kept { OnErr result (KeepsAll guard.old guard.new) }
+    ensures refused { IfErr result (λ refused.
+        IsOfferRefusal guard.old request.plain refused.refusal) }
+    ensures left { IfErr result (λ refused.
+        guard.new ≡ after_refusal guard.old refused.refusal) }
     ensures back { IfErr result (λ refused. refused.request ≡ request) }
 {
     let noted = guard.offer(request)?;
@@ -56,6 +64,7 @@ pub fn offer_twice<N: Naming>(
 ) -> Result<(NotedReply<N>, NotedReply<N>), Refusal>
     ensures replied { IfOk result (λ both. RepliesInItsCell guard.old request guard.new both.0) }
     ensures same { IfOk result (λ both. both.1 ≡ both.0) }
+    ensures refused { IfErr result (RefusesOneOfTwo guard.old request guard.new) }
 {
     let copy = request.copy()?;
     let noted = offered(guard, request)?;
@@ -70,6 +79,8 @@ fn offered<N: Naming>(
 ) -> Result<NotedReply<N>, Refusal>
     ensures offered { IfOk result (HasOffered guard.old request guard.new) }
     ensures kept { IfOk result (IsNotedReply N.cells.config) }
+    ensures refused { IfErr result (IsOfferRefusal guard.old request.plain) }
+    ensures left { IfErr result (λ refusal. guard.new ≡ after_refusal guard.old refusal) }
 {
     match guard.offer(request) {
         Ok(noted) => {

@@ -1,7 +1,7 @@
 //! A cluster without threads carries out events, and its proxies are read.
 
-ghost use Rattle.std.specs.Prelude.{◌≡◌, ◌+◌, ◌*◌, ◌≤◌, ◌++◌, map, slice_get, Some};
-ghost use Rattle.std.specs.Prelude.{vec_capacity, vec_len, IfOk, IfSome, MatchResult};
+ghost use Rattle.std.specs.Prelude.{◌≡◌, ◌+◌, ◌*◌, ◌<◌, ◌≤◌, ◌++◌, map, slice_get, Some};
+ghost use Rattle.std.specs.Prelude.{vec_capacity, vec_len, IfOk, IfSome, MatchOption, MatchResult};
 ghost use Rattle.model.specs.Numbers.{RowNumber};
 ghost use Rattle.model.specs.Configs.{IsConfig};
 ghost use Rattle.model.specs.Records.{Record};
@@ -10,11 +10,12 @@ ghost use Rattle.model.specs.World.{initial_world, world_after, proxy_metadata};
 ghost use Rattle.turn_world.specs.Events.{event_of};
 ghost use Rattle.turn_world.specs.Steps.{HasCarriedOut, HasStopped};
 
+use model::Config;
 use model::laws::{chain_law, events_law};
 use proxy_state::Metadata;
+use shared_cluster::{Answer, Event, Stopped, TurnRefusal, TurnWorld};
 use std::alloc::Global;
 use system_keys::OutOfMemory;
-use turn_world::{Answer, Config, Event, Refusal, Stopped, TurnWorld};
 
 /// The metadata of a proxy after the events of a new cluster: the fold of the journal up to the
 /// version of the proxy. None if the cluster has no such proxy. Fails only with `OutOfMemory`.
@@ -26,8 +27,8 @@ pub fn metadata_after(
 ) -> Result<Option<Metadata>, OutOfMemory>
     ensures { let given = map event_of events.now in
         let world = world_after config.now (initial_world config.now) given in
-        IfOk result (λ found. IfSome found (λ metadata.
-        metadata ≡ proxy_metadata config.now world proxy)) }
+        IfOk result (λ found. MatchOption found (config.now.proxies ≤ proxy) (λ metadata.
+        (proxy < config.now.proxies) × (metadata ≡ proxy_metadata config.now world proxy))) }
 {
     let mut cluster = TurnWorld::new(alloc, config)?;
     let Ok(_answers) = cluster.run(alloc, events) else {
@@ -65,9 +66,10 @@ pub fn numbers_of(cluster: &TurnWorld) -> Config
     *cluster.config()
 }
 
-/// The versions of a cluster are the multiples of this number: that of a row's record is the row's
-/// number plus one, times it. The records obey the rule of commit.
+/// The step of a cluster. Its versions are the multiples of this number: that of a row's record is the
+/// row's number plus one, times it. The records obey the rule of commit.
 pub fn step_of(cluster: &TurnWorld) -> u64
+    ensures step { result ≡ cluster.now.config.step }
     ensures versions { (row : RowNumber) (rec : Record)
         → slice_get cluster.now.world.history row ≡ Some rec → rec.version ≡ (row + 1) * result }
     ensures serial { IsSerial cluster.now.config cluster.now.world.history }
@@ -85,7 +87,7 @@ pub fn run_on(
     cluster: &mut TurnWorld,
     alloc: Global,
     events: &[Event],
-) -> Result<Vec<Result<Answer, Refusal>>, Stopped>
+) -> Result<Vec<Result<Answer, TurnRefusal>>, Stopped>
     ensures { MatchResult result
         (λ answers. HasCarriedOut cluster.old cluster.new (map event_of events.now) answers.items)
         (λ stopped. HasStopped cluster.old cluster.new (map event_of events.now) stopped) }
@@ -117,9 +119,9 @@ pub fn run_on(
 
 /// The answers and then the further ones, for which there must be room.
 fn joined(
-    mut answers: Vec<Result<Answer, Refusal>>,
-    mut more: Vec<Result<Answer, Refusal>>,
-) -> Vec<Result<Answer, Refusal>>
+    mut answers: Vec<Result<Answer, TurnRefusal>>,
+    mut more: Vec<Result<Answer, TurnRefusal>>,
+) -> Vec<Result<Answer, TurnRefusal>>
     requires { vec_len answers + vec_len more ≤ vec_capacity answers }
     ensures { result.items ≡ answers.items ++ more.items }
 {

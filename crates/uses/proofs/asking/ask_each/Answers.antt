@@ -1,10 +1,12 @@
 -- The requests are of one record, and so are the replies.
-use Rattle.std.proofs.Common.{sym, subst, List}
-use Rattle.std.proofs.lemmas.Result.{IfOk-weaker}
+use Rattle.std.proofs.Common.{◌≡◌, sym, subst, List, inl, inr, rules}
+use Rattle.std.specs.Prelude.{Err}
+use Rattle.std.proofs.lemmas.Result.{IfErr-weaker, IfOk-weaker}
 use Rattle.locked_resolvers.specs.Requests.{RequestView}
-use Rattle.locked_resolvers.specs.Asking.{AreOfOneRecord, AreRepliesInOrder}
-use Rattle.uses.specs.Asking.{HaveAllReplied}
+use Rattle.locked_resolvers.specs.Asking.{AreOfOneRecord, AreRepliesInOrder, IsAskAllRefusal}
+use Rattle.uses.specs.Asking.{HaveAllReplied, IsAskEachRefusal}
 use Rattle.uses.proofs.AskedAll.{all_replied, of_one_record}
+use Rattle.uses.proofs.CommitRefusals.{if_err}
 use Rattle.uses.proofs.asking.ask_each.Goals as goal
 
 pub ask_all-requires : goal.ask_all-requires
@@ -17,3 +19,17 @@ returns-clause-replied g c =
     IfOk-weaker c.ask_all.result (λ replies. AreRepliesInOrder c.requests.result.now replies.items) (λ replies. HaveAllReplied config begun replies.items)
     (λ replies answered. all_replied config begun replies.items c.requests.ensures.kept (subst (λ (qs : List RequestView). AreRepliesInOrder qs replies.items) c.requests.ensures.value answered))
     c.ask_all.ensures.replied
+
+pub returns-in_err-asking-clause-refused : goal.returns-in_err-asking-clause-refused
+returns-in_err-asking-clause-refused g c =
+    let refusal = c.in_err-asking.field-0.0 in
+    let is : c.from_residual.result ≡ Err refusal = search rules in
+    if_err (IsAskEachRefusal g.N.Naming.cells.config c.args.resolvers.now c.args.begun.now) c.from_residual.result refusal is (inl c.in_err-asking.ensures)
+
+pub returns-clause-refused : goal.returns-clause-refused
+returns-clause-refused g c =
+    let config = g.N.Naming.cells.config in
+    let begun = c.args.begun.now in
+    IfErr-weaker c.ask_all.result (IsAskAllRefusal config c.requests.result.now) (IsAskEachRefusal config c.args.resolvers.now begun)
+    (λ refusal refused. inr (c.in_ok-asking.ensures, subst (λ (qs : List RequestView). IsAskAllRefusal config qs refusal) c.requests.ensures.value refused))
+    c.ask_all.ensures.refused
