@@ -11,4 +11,4 @@ mod watches;
 
 pub use cluster::{Cluster, blank};
 pub use phases::{begun, close_all, commit_empty, finished, number, sequenced};
-pub use watches::{pause, reaches, watch};
+pub use watches::{ends_in_time, pause, reaches};

@@ -1,6 +1,5 @@
 //! Watches over threads: a test ends although its threads wait for one another.
 
-use std::process::Abort;
 use std::sync::atomic::{AtomicU64, Ordering};
 use std::thread;
 use std::time::{Clock, Duration};
@@ -24,11 +23,7 @@ pub fn reaches<R: Clock>(rt: &R, count: &AtomicU64, wanted: u64, millis: u64) ->
     false
 }
 
-/// Returns once `done` is 1. If it is still 0 after half a minute, threads wait for one another, and the
-/// test fails.
-pub fn watch<R: Abort + Clock>(rt: &R, done: &AtomicU64) {
-    assert!(rt;
-        reaches(rt, done, 1, 30_000),
-        "threads wait for one another"
-    );
+/// Whether `done` comes to 1 within half a minute of sleep. If it does not, threads wait for one another.
+pub fn ends_in_time<R: Clock>(rt: &R, done: &AtomicU64) -> bool {
+    reaches(rt, done, 1, 30_000)
 }

@@ -14,7 +14,7 @@ use std::sync::atomic::{AtomicU64, Ordering};
 use std::test::Fail;
 use std::thread::{Threads, join};
 use std::time::Clock;
-use testing_cluster::{Cluster, watch};
+use testing_cluster::{Cluster, ends_in_time};
 
 /// What a test does with a new cluster.
 #[derive(Clone, Copy)]
@@ -57,7 +57,9 @@ fn tell_over<N: Naming + Send + Sync, R: Abort + Clock + Threads + Wait + Sync>(
     let done = AtomicU64::new(0);
     let ((), told) = join(
         rt,
-        || watch(rt, &done),
+        || {
+            assert!(rt; ends_in_time(rt, &done), "threads wait for one another");
+        },
         || {
             let told = tell_of(rt, alloc, &cluster, story);
             done.store(1, Ordering::SeqCst);
