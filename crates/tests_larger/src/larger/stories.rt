@@ -1,0 +1,48 @@
+//! What the tests do with a new cluster of four proxies and three resolvers.
+
+ghost use Rattle.std.specs.Prelude.{◌≡◌};
+
+use crate::larger::beginning::{begin_three, leave_one_out};
+use crate::larger::committing::commit_over_three;
+use agreed_ledger::{BlankLedger, Naming};
+use std::alloc::Global;
+use std::marker::Brand;
+use std::process::Abort;
+use std::sync::Wait;
+use std::test::Fail;
+use testing_cluster::{Cluster, blank};
+
+/// What a test does with a new cluster.
+#[derive(Clone, Copy)]
+pub(crate) enum Story {
+    /// Two proxies commit.
+    Commits,
+    /// A proxy begins three records before it finishes one.
+    BegunThree,
+    /// A proxy leaves out a record.
+    LeftOut,
+}
+
+/// Tells the story of a new cluster.
+pub(crate) fn tell<R: Abort + Wait>(rt: &R, alloc: Global, story: Story) -> Result<(), Fail> {
+    let blank = blank(alloc, 3, 4, 3)?;
+    tell_over::<Brand, _>(rt, alloc, blank, story)
+}
+
+/// Names the ledger, makes the cluster, and tells the story.
+fn tell_over<N: Naming, R: Abort + Wait>(
+    rt: &R,
+    alloc: Global,
+    blank: BlankLedger,
+    story: Story,
+) -> Result<(), Fail>
+    requires { blank ≡ N.cells }
+{
+    let ledger = blank.named::<N>();
+    let cluster = Cluster::new(alloc, &ledger)?;
+    match story {
+        Story::Commits => commit_over_three(rt, alloc, &cluster),
+        Story::BegunThree => begin_three(rt, alloc, &cluster),
+        Story::LeftOut => leave_one_out(rt, alloc, &cluster),
+    }
+}

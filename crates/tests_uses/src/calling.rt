@@ -1,0 +1,9 @@
+//! Tests of callers of the libraries.
+
+mod asking;
+mod committing;
+mod from_nothing;
+mod sequencing;
+mod stories;
+mod values;
+mod without_threads;
