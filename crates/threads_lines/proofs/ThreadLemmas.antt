@@ -1,13 +1,18 @@
 -- Threads that are started and joined, one for each proxy.
-use Rattle.std.proofs.Common.{◌≡◌, ◌++◌, ◌+◌, ◌∙◌, ◌<◌, [], ◌∷◌, ℕ, zero, suc, List, sym, ap, subst, drop, length, inl, inr, add-one, arith, String, Global}
-use Rattle.std.specs.Prelude.{◌⊎◌, ⊤, slice_get, Some, Result, Ok, Err, IfOk, IsOk, OnOk, MatchResult, string_bytes}
+use Rattle.std.proofs.Common.{◌≡◌, ◌++◌, ◌+◌, ◌∙◌, ◌<◌, ◌≤◌, [], ◌∷◌, ℕ, zero, suc, List, sym, ap, subst, drop, take, length, inl, inr, arith}
+use Rattle.std.specs.Prelude.{◌⊎◌, slice_get, Some, Result, Ok, Err, IfOk}
+use Rattle.std.proofs.lemmas.Option.{same_Some}
+use Rattle.model.proofs.History.Chain.{element_at}
+use Rattle.locked_resolvers.proofs.Lists.{take_all, take_next}
 use Rattle.model.specs.Stamps.{Given}
 use Rattle.model.proofs.History.Growth.{push_cases}
 use Rattle.threads_lines.specs.Answers.{AreLinesOfProxy}
-use Rattle.threads_lines.specs.Faults.{join_results}
-use Rattle.threads_lines.specs.Parts.{GrowsBy, IsInParts}
-use Rattle.threads_lines.specs.Threads.{AreInOrder, AreInPlace, AreLinesOfThread, AreLinesOfThreads}
+use Rattle.system_keys.specs.AsSpecified.{IsAsSpecifiedIfAllocated}
+use Rattle.threads_lines.specs.Faults.{run_fault, text_of, texts_of}
+use Rattle.threads_lines.specs.Parts.{IsInParts}
+use Rattle.threads_lines.specs.Threads.{AreInOrder, AreInPlace, AreLinesOfThread, AreLinesOfThreads, KeepPromises}
 use Rattle.threads_lines.specs.declared.faults.RunFault.{RunFault}
+use Rattle.threads_lines.proofs.FaultLemmas.{joined_parts, texts_more}
 use Rattle.threads_lines.proofs.PartLemmas.{parts_weaker}
 
 -- the first of those that are left
@@ -48,28 +53,63 @@ lines_of_proxies threads number batches AreLines work text ordered count lines =
     let (same, there) = ordered p thread at in
     (batches thread, there, subst (λ (n : ℕ). AreLines n (batches thread) part) same is)) lines)
 
--- both went well
-pub both_ok : (one other : Result ⊤ RunFault) → IsOk (join_results one other) → IsOk one × IsOk other
-both_ok (Ok _) (Ok _) ok = (search, search)
-both_ok (Ok _) (Err fault) ok = absurd (cc)
-both_ok (Err fault) (Ok _) ok = absurd (cc)
-both_ok (Err fault) (Err second) ok = absurd (cc)
-
--- a thread that did not fail returned the lines that it promised
-pub returned_lines : (AreLines : List ℕ → Type 0) (returned : Result (String Global) RunFault) (appended : Result ⊤ RunFault) (old new : List ℕ)
-    → IfOk returned (λ text. AreLines (string_bytes text))
-    → MatchResult returned (λ lines. OnOk appended (new ≡ old ++ string_bytes lines)) (λ fault. appended ≡ Err fault)
-    → IsOk appended → GrowsBy AreLines old new
-returned_lines AreLines (Ok lines) (Ok _) old new kept is ok = (string_bytes lines, kept, is)
-returned_lines AreLines (Ok lines) (Err fault) old new kept is ok = absurd (cc)
-returned_lines AreLines (Err fault) (Ok x) old new kept is ok = absurd (cc)
-returned_lines AreLines (Err fault) (Err second) old new kept is ok = absurd (cc)
-
 -- one more thread was joined
-pub one_more_joined : {X : Type 0} (AreLines : ℕ → List (List Given) → List ℕ → Type 0) (threads : List X) (number : X → ℕ) (batches : X → List (List Given)) (k : ℕ) (thread : X) (old new : List ℕ)
-    → slice_get threads k ≡ Some thread → IsInParts (AreLinesOfThread AreLines threads number batches) k old
-    → GrowsBy (AreLines (number thread) (batches thread)) old new
-    → IsInParts (AreLinesOfThread AreLines threads number batches) (k + 1) new
-one_more_joined AreLines threads number batches k thread old new at before later =
-    let (part, is, last) = later in
-    rw add-one (old, part, before, (thread, at, is), last)
+pub one_more_joined : {X Y : Type 0} (AreLines : ℕ → List (List Given) → List ℕ → Type 0) (threads : List X) (number : X → ℕ) (batches : X → List (List Given))
+    (returned : List (Result Y RunFault)) (bytes : Y → List ℕ) (thread : X) (one : Result Y RunFault)
+    → slice_get threads (length returned) ≡ Some thread → IfOk one (λ text. AreLines (number thread) (batches thread) (bytes text))
+    → KeepPromises AreLines threads number batches returned bytes → KeepPromises AreLines threads number batches (returned ++ one ∷ []) bytes
+one_more_joined {X = X} {Y = Y} AreLines threads number batches returned bytes thread one here kept before place found result at there = by (push_cases returned one place result there)
+  where
+    by : ((place ≡ length returned) × (one ≡ result)) ⊎ ((place < length returned) × (slice_get returned place ≡ Some result)) → IfOk result (λ text. AreLines (number found) (batches found) (bytes text))
+    by (inl (last, same)) =
+        let is : thread ≡ found = same_Some thread found (sym here ∙ ap (slice_get threads) (sym last) ∙ at) in
+        subst (λ (t : X). IfOk result (λ text. AreLines (number t) (batches t) (bytes text))) is
+        (subst (λ (r : Result Y RunFault). IfOk r (λ text. AreLines (number thread) (batches thread) (bytes text))) same kept)
+    by (inr (within, earlier)) = before place found result at earlier
+
+-- a thread that returned a text kept its promise
+kept_text : {Y : Type 0} (P : List ℕ → Type 0) (bytes : Y → List ℕ) (one : Result Y RunFault) (part : List ℕ)
+    → text_of bytes one ≡ Ok part → IfOk one (λ text. P (bytes text)) → P part
+kept_text P bytes (Ok text) part is kept = let same : bytes text ≡ part = cc in subst P same kept
+kept_text P bytes (Err fault) part is kept = absurd (cc)
+
+-- the texts of the first threads are the lines that they promise
+lines_of_first : {X Y : Type 0} (AreLines : ℕ → List (List Given) → List ℕ → Type 0) (threads : List X) (number : X → ℕ) (batches : X → List (List Given)) (bytes : Y → List ℕ)
+    (returned : List (Result Y RunFault)) → length returned ≡ length threads → KeepPromises AreLines threads number batches returned bytes
+    → (k : ℕ) (text : List ℕ) → k ≤ length returned → texts_of bytes (take k returned) ≡ Ok text
+    → IsInParts (AreLinesOfThread AreLines threads number batches) k text
+lines_of_first AreLines threads number batches bytes returned count kept zero text within is = let none : [] ≡ text = cc in sym none
+lines_of_first AreLines threads number batches bytes returned count kept (suc k) text within is =
+    let (one, there) = element_at returned k (omega (arith, within)) in
+    let (thread, at) = element_at threads k (omega (arith, within, count)) in
+    let more : suc k ≡ k + 1 = omega arith in
+    let next : take (suc k) returned ≡ take k returned ++ one ∷ [] = ap (λ (n : ℕ). take n returned) more ∙ take_next returned k one there in
+    let (before, part, first, last, whole) = joined_parts (texts_of bytes (take k returned)) (text_of bytes one) text
+    (sym (texts_more bytes (take k returned) one) ∙ ap (texts_of bytes) (sym next) ∙ is) in (
+      before,
+      part,
+      lines_of_first AreLines threads number batches bytes returned count kept k before (omega (arith, within)) first,
+      (thread, at, kept_text (AreLines (number thread) (batches thread)) bytes one part last (kept k thread one at there)),
+      whole,
+    )
+
+-- if each thread returned a text, the texts are the lines that all threads promise
+pub lines_of_threads : {X Y : Type 0} (AreLines : ℕ → List (List Given) → List ℕ → Type 0) (threads : List X) (number : X → ℕ) (batches : X → List (List Given)) (bytes : Y → List ℕ)
+    (returned : List (Result Y RunFault)) (text : List ℕ) → length returned ≡ length threads → KeepPromises AreLines threads number batches returned bytes
+    → texts_of bytes returned ≡ Ok text → AreLinesOfThreads AreLines threads number batches text
+lines_of_threads AreLines threads number batches bytes returned text count kept is =
+    subst (λ (n : ℕ). IsInParts (AreLinesOfThread AreLines threads number batches) n text) count
+    (lines_of_first AreLines threads number batches bytes returned count kept (length returned) text (omega arith)
+    (ap (texts_of bytes) (take_all returned (length returned) (omega arith)) ∙ is))
+
+-- what the threads promise is what the proxies are answered
+pub answered_proxies : {X Y : Type 0} (AreLines : ℕ → List (List Given) → List ℕ → Type 0) (threads : List X) (number : X → ℕ) (batches : X → List (List Given)) (work : List (List (List Given)))
+    (returned : List (Result Y RunFault)) (result : Result Y RunFault) (bytes : Y → List ℕ)
+    → AreInOrder threads number batches work → length threads ≡ length work
+    → length returned ≡ length threads → KeepPromises AreLines threads number batches returned bytes
+    → IsAsSpecifiedIfAllocated run_fault bytes result (texts_of bytes returned)
+    → IfOk result (λ text. IsInParts (AreLinesOfProxy AreLines work) (length work) (bytes text))
+answered_proxies AreLines threads number batches work returned (Ok text) bytes ordered count all kept is =
+    lines_of_proxies threads number batches AreLines work (bytes text) ordered count
+    (lines_of_threads AreLines threads number batches bytes returned (bytes text) all kept is)
+answered_proxies AreLines threads number batches work returned (Err fault) bytes ordered count all kept is = search

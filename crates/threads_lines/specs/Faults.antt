@@ -1,6 +1,7 @@
 -- How a run fails by the faults of its commits, and which refusals are printed (this project's
 -- profile).
-use Rattle.std.specs.Prelude.{⊤, Bool, true, false, Result, Ok, Err}
+use Rattle.std.specs.Prelude.{⊤, ℕ, List, [], ◌∷◌, ◌++◌, Bool, true, false}
+use Rattle.std.specs.Prelude.{Option, Some, None, Result, Ok, Err}
 use Rattle.agreed_ledger.specs.declared.refusal.Refusal.{Refusal as LedgerRefusal}
 use Rattle.agreed_ledger.specs.declared.refusal.Refusal.TheVariants as ledger
 use Rattle.scripts.specs.declared.status.RunStatus.{RunStatus}
@@ -27,6 +28,31 @@ abbrev pub join_results : Result ⊤ RunFault → Result ⊤ RunFault → Result
 join_results (Ok _) other = other
 join_results (Err fault) (Ok _) = Err fault
 join_results (Err fault) (Err second) = Err (graver fault second)
+
+-- a result, by the bytes of its text
+abbrev pub text_of : {X : Type 0} → (bytes : X → List ℕ) → Result X RunFault
+    → Result (List ℕ) RunFault
+text_of bytes (Ok text) = Ok (bytes text)
+text_of bytes (Err fault) = Err fault
+
+-- both texts, one after the other, if both are texts, and otherwise the graver fault
+abbrev pub join_texts :
+    Result (List ℕ) RunFault → Result (List ℕ) RunFault → Result (List ℕ) RunFault
+join_texts (Ok text) (Ok other) = Ok (text ++ other)
+join_texts (Ok text) (Err fault) = Err fault
+join_texts (Err fault) (Ok other) = Err fault
+join_texts (Err fault) (Err second) = Err (graver fault second)
+
+-- all texts, one after the other, if all are texts, and otherwise the gravest fault
+abbrev pub texts_of : {X : Type 0} → (bytes : X → List ℕ) → List (Result X RunFault)
+    → Result (List ℕ) RunFault
+texts_of bytes [] = Ok []
+texts_of bytes (one ∷ rest) = join_texts (text_of bytes one) (texts_of bytes rest)
+
+-- the fault, but for `OutOfMemory`, which may come in place of any result
+abbrev pub run_fault : RunFault → Option RunFault
+run_fault faults.OutOfMemory = None
+run_fault faults.Refused = Some faults.Refused
 
 -- how a run fails that the sequencer refused so
 abbrev pub ledger_fault : LedgerRefusal → RunFault

@@ -8,6 +8,10 @@ pub mod Threads
 pub mod Parts
 -- the lines that are printed of batches and closings
 pub mod Lines
+-- what the sequencer keeps once it has carried out the moves
+pub mod Moves
+-- what the guards of all proxies and resolvers show
+pub mod Guards
 -- the lines that are printed of two proxies that meet, and of audits
 pub mod Meetings
 -- how a run fails, and which refusals are printed

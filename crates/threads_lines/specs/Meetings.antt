@@ -1,14 +1,15 @@
 -- The lines that are printed of two proxies that meet, and of audits (this project's profile).
+-- `proxies` and `resolvers` are all of a cluster, as their locks keep them at one time.
 use Rattle.std.specs.Prelude.{◌≡◌, ◌+◌, ◌-◌, ⊤, ℕ, List, ◌++◌, length, slice_get, Some, codes}
 use Rattle.std.specs.Prelude.{MatchResult, Result, Ok, Err}
 use Rattle.std.specs.Fmt.{decimal}
 use Rattle.model.specs.Configs.{Config}
-use Rattle.model.specs.Numbers.{ProxyNumber, ResolverNumber}
+use Rattle.model.specs.Numbers.{ProxyNumber}
 use Rattle.scripts.specs.Lines.{line, spaced}
 use Rattle.locked_cluster.specs.Audits.{HaveReached, IsAudited, IsFirstBehind}
 use Rattle.locked_cluster.specs.Meetings.{Met}
-use Rattle.locked_cluster.specs.Proxies.{LockedProxyView, IsLockedProxy}
-use Rattle.locked_resolvers.specs.Resolvers.{LockedResolverView, IsLockedResolver}
+use Rattle.locked_cluster.specs.Proxies.{LockedProxyView}
+use Rattle.locked_resolvers.specs.Resolvers.{LockedResolverView}
 use Rattle.locked_cluster.specs.declared.audits.behind_by.BehindBy.{BehindBy}
 use Rattle.locked_cluster.specs.declared.proxies.meeting.Meeting.{Meeting}
 use Rattle.locked_cluster.specs.declared.proxies.meeting.Meeting.TheVariants as meetings
@@ -25,23 +26,26 @@ abbrev pub meeting_line : (one other : ProxyNumber) → Meeting → List ℕ
 meeting_line one other met =
     line (codes "meet " ++ decimal one ++ spaced (decimal other) ++ spaced (meeting_name met))
 
--- the line of two proxies that their locks keep: how far the one has come as the other is met
-abbrev pub IsMeetingLine : Config → (one other : ProxyNumber) → (text : List ℕ) → Type 0
-IsMeetingLine config one other text =
+-- the line of the proxies at these places: how far the one has come as the other is met
+abbrev pub IsMeetingLine :
+    (proxies : List LockedProxyView) → (one other : ProxyNumber) → (text : List ℕ) → Type 0
+IsMeetingLine proxies one other text =
     (met : Meeting) × (v : LockedProxyView) × (w : LockedProxyView)
-    × IsLockedProxy config v × (v.proxy.number ≡ one)
-    × IsLockedProxy config w × (w.proxy.number ≡ other) × Met met v.proxy w.proxy
-    × (text ≡ meeting_line one other met)
+    × (slice_get proxies one ≡ Some v) × (slice_get proxies other ≡ Some w)
+    × Met met v.proxy w.proxy × (text ≡ meeting_line one other met)
 
 -- the lines of a proxy with each of the `count` proxies after it
-abbrev pub AreMeetingLines : Config → (one count : ℕ) → (text : List ℕ) → Type 0
-AreMeetingLines config one count text =
-    IsInParts (λ place. IsMeetingLine config one (one + 1 + place)) count text
+abbrev pub AreMeetingLines :
+    (proxies : List LockedProxyView) → (one : ProxyNumber) → (count : ℕ) → (text : List ℕ)
+    → Type 0
+AreMeetingLines proxies one count text =
+    IsInParts (λ place. IsMeetingLine proxies one (one + 1 + place)) count text
 
--- the lines of each two of the `count` proxies, the lower one first
-abbrev pub AreMeetingsOf : Config → (count : ℕ) → (text : List ℕ) → Type 0
-AreMeetingsOf config count text =
-    IsInParts (λ one. AreMeetingLines config one (count - (one + 1))) count text
+-- the lines of each proxy with those after it
+abbrev pub AreMeetingsOf : (proxies : List LockedProxyView) → (text : List ℕ) → Type 0
+AreMeetingsOf proxies text =
+    IsInParts (λ one. AreMeetingLines proxies one (length proxies - (one + 1)))
+    (length proxies) text
 
 -- ---- audits
 
@@ -54,25 +58,20 @@ audit_text (Err behind) =
 abbrev pub audit_line : ProxyNumber → Result ⊤ BehindBy → List ℕ
 audit_line p audited = line (codes "audit " ++ decimal p ++ spaced (audit_text audited))
 
--- the locks of the resolvers of these numbers keep these, in their order
-abbrev pub AreKept : Config → (numbers : List ResolverNumber) → List LockedResolverView → Type 0
-AreKept config numbers resolvers =
-    (place : ℕ) (w : LockedResolverView) → slice_get resolvers place ≡ Some w
-    → IsLockedResolver config w × (slice_get numbers place ≡ Some w.memory.number)
-
--- resolvers that their locks keep, each at the place of its number
-abbrev pub AreKeptInPlace : Config → List LockedResolverView → Type 0
-AreKeptInPlace config resolvers =
-    (place : ℕ) (w : LockedResolverView) → slice_get resolvers place ≡ Some w
-    → IsLockedResolver config w × (w.memory.number ≡ place)
-
--- the line of an audit of a proxy that its lock keeps, by all resolvers, in order, as their locks keep
--- them
-abbrev pub IsAuditLine : Config → ProxyNumber → (text : List ℕ) → Type 0
-IsAuditLine config p text =
-    (audited : Result ⊤ BehindBy) × (v : LockedProxyView) × (resolvers : List LockedResolverView)
-    × IsAudited config v × (v.proxy.number ≡ p) × (length resolvers ≡ config.resolvers)
-    × AreKeptInPlace config resolvers
+-- the line of the audit of the proxy at this place, by all resolvers, in order
+abbrev pub IsAuditLine :
+    Config → (proxies : List LockedProxyView) → (resolvers : List LockedResolverView)
+    → ProxyNumber → (text : List ℕ) → Type 0
+IsAuditLine config proxies resolvers p text =
+    (audited : Result ⊤ BehindBy) × (v : LockedProxyView) × (slice_get proxies p ≡ Some v)
+    × IsAudited config v
     × MatchResult audited
     (λ _. HaveReached config v resolvers) (IsFirstBehind config v resolvers)
     × (text ≡ audit_line p audited)
+
+-- the lines of the audits of all proxies, in order
+abbrev pub AreAuditsOf :
+    Config → (proxies : List LockedProxyView) → (resolvers : List LockedResolverView)
+    → (text : List ℕ) → Type 0
+AreAuditsOf config proxies resolvers text =
+    IsInParts (IsAuditLine config proxies resolvers) (length proxies) text

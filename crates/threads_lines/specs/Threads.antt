@@ -1,10 +1,11 @@
 -- Threads that are started and joined, one for each proxy. `number` is the proxy of a thread, and
 -- `batches` those that it commits.
-use Rattle.std.specs.Prelude.{◌≡◌, ℕ, List, length, slice_get, Some, ◌++◌}
+use Rattle.std.specs.Prelude.{◌≡◌, ℕ, List, length, slice_get, Some, ◌++◌, Result, IfOk}
 use Rattle.model.specs.Numbers.{ProxyNumber}
 use Rattle.model.specs.Stamps.{Given}
 use Rattle.threads_lines.specs.Answers.{AreLinesOfProxy}
 use Rattle.threads_lines.specs.Parts.{IsInParts}
+use Rattle.threads_lines.specs.declared.faults.RunFault.{RunFault}
 
 -- each number is its place
 abbrev pub AreInPlace : (numbers : List ProxyNumber) → Type 0
@@ -27,6 +28,17 @@ abbrev pub AreLinesOfThread :
 AreLinesOfThread AreLines threads number batches place text =
     (thread : _) × (slice_get threads place ≡ Some thread)
     × AreLines (number thread) (batches thread) text
+
+-- each thread returned what it promises, if it returned a text
+abbrev pub KeepPromises :
+    {X Y : Type 0} → (AreLines : ProxyNumber → List (List Given) → (text : List ℕ) → Type 0)
+    → (threads : List X) → (number : X → ProxyNumber)
+    → (batches : X → List (List Given)) → (returned : List (Result Y RunFault))
+    → (bytes : Y → List ℕ) → Type 0
+KeepPromises AreLines threads number batches returned bytes =
+    (place : ℕ) (thread : _) (one : _) → slice_get threads place ≡ Some thread
+    → slice_get returned place ≡ Some one
+    → IfOk one (λ text. AreLines (number thread) (batches thread) (bytes text))
 
 -- the lines that all threads promise, in order
 abbrev pub AreLinesOfThreads :

@@ -1,11 +1,15 @@
 //! The cluster of a run: the sequencer, the resolvers and the proxies of one ledger.
 
-ghost use Rattle.std.specs.Prelude.{◌≡◌, ◌<◌, length, IfOk};
+ghost use Rattle.std.specs.Prelude.{◌≡◌, ◌<◌, length, IfOk, IfErr};
+ghost use Rattle.threads_lines.specs.Guards.{AreLockedProxies, AreLockedResolvers};
+ghost use Rattle.threads_lines.specs.Moves.{IsFaultOfSome};
 ghost use Rattle.threads_lines.specs.Threads.{AreInPlace};
 
-use crate::faults::{RunFault, ledger_fault};
+use crate::faults::RunFault;
+use crate::guards::{lock_proxies, lock_resolvers};
+use crate::moves::move_all;
 use agreed_ledger::{Ledger, Naming, Sequencer};
-use locked_cluster::{SharedProxy, SharedResolver};
+use locked_cluster::{ProxyGuard, ResolverGuard, SharedProxy, SharedResolver};
 use model::ProxyNumber;
 use std::alloc::Global;
 use std::sync::Wait;
@@ -23,6 +27,8 @@ pub struct Cluster<'l, N: Naming> {
     pub proxies: Vec<SharedProxy<'l, N>>,
     ghost in_place: { AreInPlace proxies.items },
     pub ghost resolvers_in_place: { AreInPlace resolvers.items },
+    ghost proxy_count: { length proxies.items ≡ N.cells.config.proxies },
+    ghost resolver_count: { length resolvers.items ≡ N.cells.config.resolvers },
 }
 
 impl<'l, N: Naming> Cluster<'l, N> {
@@ -48,15 +54,34 @@ impl<'l, N: Naming> Cluster<'l, N> {
         &self.proxies[number]
     }
 
-    /// Carries out the moves, in order.
-    pub fn move_ranges<R: Wait>(&self, rt: &R, moves: &[UndatedMove]) -> Result<(), RunFault> {
-        let mut guard = self.sequencer.lock(rt);
-        for one in moves {
-            if let Err(refusal) = guard.move_range(&one.range, one.dest) {
-                return Err(ledger_fault(refusal));
-            }
-        }
-        Ok(())
+    /// Carries out the moves, in order, under the lock of the sequencer. Fails as the first move does
+    /// that fails: those before it are then carried out, and no other.
+    pub fn move_ranges<R: Wait>(&self, rt: &R, moves: &[UndatedMove]) -> Result<(), RunFault>
+        ensures { IfErr result (IsFaultOfSome N.cells.config moves.now) }
+    {
+        move_all(&mut self.sequencer.lock(rt), moves)
+    }
+
+    /// Locks all proxies, in order. Fails only with `OutOfMemory`.
+    pub fn lock_proxies<R: Wait>(
+        &self,
+        rt: &R,
+        alloc: Global,
+    ) -> Result<Vec<ProxyGuard<'_, N>>, OutOfMemory>
+        ensures { IfOk result (λ guards. AreLockedProxies N.cells.config guards.items) }
+    {
+        lock_proxies(rt, alloc, self.proxies.as_slice())
+    }
+
+    /// Locks all resolvers, in order. Fails only with `OutOfMemory`.
+    pub fn lock_resolvers<R: Wait>(
+        &self,
+        rt: &R,
+        alloc: Global,
+    ) -> Result<Vec<ResolverGuard<'_, N>>, OutOfMemory>
+        ensures { IfOk result (λ guards. AreLockedResolvers N.cells.config guards.items) }
+    {
+        lock_resolvers(rt, alloc, self.resolvers.as_slice())
     }
 }
 

@@ -15,7 +15,7 @@ use system_keys::OutOfMemory;
 pub enum RunFault {
     /// An allocation failed, or a thread could not be started.
     OutOfMemory,
-    /// The cluster refused a call, and not because an allocation failed.
+    /// The cluster refused a call, and not because an allocation failed; or a worker was cut off.
     Refused,
 }
 

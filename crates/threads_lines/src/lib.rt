@@ -10,8 +10,10 @@
 mod cluster;
 mod committer;
 mod faults;
+mod guards;
 mod lines;
 mod meetings;
+mod moves;
 mod serving;
 mod threads;
 

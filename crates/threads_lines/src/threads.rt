@@ -1,14 +1,17 @@
 //! The threads of a run, one for each proxy: what each commits (a trait), how they are started and
 //! joined, and their lines in order.
 
-ghost use Rattle.std.specs.Prelude.{◌≡◌, ◌++◌, ◌≤◌, ◌<◌, length, ℕ, List, IfOk, OnOk, MatchResult};
-ghost use Rattle.std.specs.Prelude.{Err, string_bytes};
+ghost use Rattle.std.specs.Prelude.{◌≡◌, ◌++◌, ◌≤◌, ◌<◌, [], length, ℕ, List, IfOk, OnOk};
+ghost use Rattle.std.specs.Prelude.{Err, MatchResult, string_bytes};
 ghost use Rattle.model.specs.Numbers.{ProxyNumber};
 ghost use Rattle.model.specs.Stamps.{Given};
 ghost use Rattle.threads_lines.specs.Answers.{AreLinesOfProxy};
-ghost use Rattle.threads_lines.specs.Faults.{join_results};
+ghost use Rattle.std.specs.Vec.{vec_capacity};
+ghost use Rattle.system_keys.specs.AsSpecified.{IsAsSpecifiedIfAllocated};
+ghost use Rattle.threads_lines.specs.Faults.{join_results, run_fault, texts_of};
 ghost use Rattle.threads_lines.specs.Parts.{GrowsBy, IsInParts};
-ghost use Rattle.threads_lines.specs.Threads.{AreInOrder, AreLinesOfThreads};
+ghost use Rattle.threads_lines.specs.Threads.{AreInOrder, KeepPromises};
+ghost use Rattle.threads_lines.specs.declared.faults.RunFault.TheVariants as faults;
 
 use crate::faults::RunFault;
 use model::ProxyNumber;
@@ -114,8 +117,11 @@ fn commit_in_scope<'s, E, C: CommitsBatches + Sync, R: Threads + Wait + Sync>(
     ensures { IfOk result (λ text. IsInParts (AreLinesOfProxy C.are_lines work.now)
         (length work.now) (string_bytes text)) }
 {
+    let Ok(room) = Vec::with_capacity(alloc, work.len()) else {
+        return Err(RunFault::OutOfMemory);
+    };
     let handles = start_proxy_threads(scope, rt, alloc, shared, work)?;
-    join_proxy_threads(rt, alloc, handles)
+    join_texts(alloc, join_proxy_threads(rt, handles, room))
 }
 
 /// Starts a thread for each proxy. If one cannot be started, closes what the threads wait for, waits
@@ -181,33 +187,52 @@ fn await_proxy_threads<C: CommitsBatches, R: Threads>(rt: &R, handles: Vec<Handl
     }
 }
 
-/// Waits for the threads to end, and returns their texts, one after the other. If any failed, fails
-/// with the gravest of their faults.
+/// Waits for the threads to end, and returns what each returned, in order. `returned` is the room for
+/// it.
 fn join_proxy_threads<C: CommitsBatches, R: Threads>(
     rt: &R,
-    alloc: Global,
     handles: Vec<Handle<'_, C>>,
-) -> Result<String, RunFault>
-    ensures { IfOk result (λ text. AreLinesOfThreads C.are_lines handles.entry.items
-        (λ thread. thread.promise.number) (λ thread. thread.promise.batches.now)
-        (string_bytes text)) }
+    mut returned: Vec<Result<String, RunFault>>,
+) -> Vec<Result<String, RunFault>>
+    requires empty { returned.items ≡ [] }
+    requires room { length handles.items ≤ vec_capacity returned }
+    ensures count { length result.items ≡ length handles.entry.items }
+    ensures kept { KeepPromises C.are_lines handles.entry.items
+        (λ thread. thread.promise.number) (λ thread. thread.promise.batches.now) result.items
+        (λ text. string_bytes text) }
+{
+    for handle in handles {
+        returned.push_reserved(handle.join(rt));
+    }
+    returned
+}
+
+/// Returns the texts, one after the other. If some of the results are faults, fails with the gravest
+/// of them; or with `OutOfMemory`.
+fn join_texts(alloc: Global, results: Vec<Result<String, RunFault>>) -> Result<String, RunFault>
+    ensures { IsAsSpecifiedIfAllocated run_fault (λ text. string_bytes text)
+        result (texts_of (λ text. string_bytes text) results.items) }
 {
     let mut text = String::new(alloc);
     let mut outcome = Ok(());
-    for handle in handles {
-        outcome = join_results(outcome, append_returned_lines(&mut text, handle.join(rt)));
+    for one in results {
+        outcome = join_results(outcome, append_returned_lines(&mut text, one));
     }
-    outcome?;
-    Ok(text)
+    match outcome {
+        Ok(()) => Ok(text),
+        Err(fault) => Err(fault),
+    }
 }
 
-/// Appends what a thread returned, or fails as it did.
+/// Appends what a thread returned, or fails as it did. Otherwise fails only with `OutOfMemory`.
 fn append_returned_lines(
     text: &mut String,
     returned: Result<String, RunFault>,
 ) -> Result<(), RunFault>
     ensures { MatchResult returned
-        (λ lines. OnOk result (string_bytes text.new ≡ string_bytes text.old ++ string_bytes lines))
+        (λ lines. MatchResult result
+        (λ _. string_bytes text.new ≡ string_bytes text.old ++ string_bytes lines)
+        (λ fault. fault ≡ faults.OutOfMemory))
         (λ fault. result ≡ Err fault) }
 {
     let lines = returned?;

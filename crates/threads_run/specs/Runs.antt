@@ -33,25 +33,27 @@ answer_in output = record { text = string_bytes output.text; status = output.sta
 abbrev pub AnswersInput : Option (List ℕ) → Answer → Type 0
 AnswersInput input answer = (bytes : List ℕ) × IsInput input bytes × IsAnswerTo bytes answer
 
--- The whole text of the answer was written; or a beginning of it, perhaps nothing, if a device
--- failed. Nothing was written if an allocation failed, or the cluster refused a call.
-abbrev pub WritesAnswer : Answer → (input old new : Option (List ℕ)) → RunStatus → Type 0
-WritesAnswer answer input old new Done =
+-- The whole text of the answer was written; or a beginning of it, perhaps nothing, if a write failed.
+-- The sink is unchanged if reading or an allocation failed, or the cluster refused a call; `Unchanged`
+-- says that it is.
+abbrev pub WritesAnswer :
+    Answer → (Unchanged : Type 0) → (input old new : Option (List ℕ)) → RunStatus → Type 0
+WritesAnswer answer Unchanged input old new Done =
     AnswersInput input answer × Appends old new answer.text × (answer.status ≡ Done)
-WritesAnswer answer input old new ScriptRefused =
+WritesAnswer answer Unchanged input old new ScriptRefused =
     AnswersInput input answer × Appends old new answer.text × (answer.status ≡ ScriptRefused)
-WritesAnswer answer input old new DeviceFailed =
-    (new ≡ old) ⊎ (AnswersInput input answer × AppendsBeginning old new answer.text)
-WritesAnswer answer input old new OutOfMemory = new ≡ old
-WritesAnswer answer input old new ClusterRefused =
-    (new ≡ old) × ((bytes : List ℕ) × IsInput input bytes × IsOk (script_of bytes))
+WritesAnswer answer Unchanged input old new DeviceFailed =
+    Unchanged ⊎ (AnswersInput input answer × AppendsBeginning old new answer.text)
+WritesAnswer answer Unchanged input old new OutOfMemory = Unchanged
+WritesAnswer answer Unchanged input old new ClusterRefused =
+    Unchanged × ((bytes : List ℕ) × IsInput input bytes × IsOk (script_of bytes))
 
 -- what a run writes, and what it leaves of its devices; `answer` is the one that it had to write, and
 -- the empty one if it came to none
 pub record RunsThreads {S T : Type 0} (source : SourceView S) (source_old source_new : S)
     (sink : SinkView T) (sink_old sink_new : T) (status : RunStatus) : Type 0 where
   pub answer : Answer
-  pub text : WritesAnswer answer (source.remaining source_old)
+  pub text : WritesAnswer answer (sink_new ≡ sink_old) (source.remaining source_old)
       (sink.written sink_old) (sink.written sink_new) status
   pub devices : LeavesDevices (λ _. answer) source source_old source_new
       sink sink_old sink_new status

@@ -1,13 +1,14 @@
 -- The text of a threads script: which answers it is of, and their lines (this project's profile).
-use Rattle.std.specs.Prelude.{◌≡◌, ℕ, List, ◌++◌, length}
+use Rattle.std.specs.Prelude.{◌≡◌, ℕ, List, ◌++◌, length, slice_get, Some}
 use Rattle.system_keys.specs.Keys.{Key}
-use Rattle.model.specs.Configs.{Config}
 use Rattle.model.specs.Metadata.{metadata}
 use Rattle.model.specs.Numbers.{ProxyNumber}
 use Rattle.cluster_lines.specs.MetadataLines.{metadata_text, proxy_line}
-use Rattle.locked_cluster.specs.Proxies.{LockedProxyView, IsLockedProxy}
+use Rattle.locked_cluster.specs.Proxies.{LockedProxyView}
+use Rattle.locked_resolvers.specs.Resolvers.{LockedResolverView}
 use Rattle.threads_lines.specs.Answers.{AreBatchLines, AreLinesOfProxy, IsClosingLine}
-use Rattle.threads_lines.specs.Meetings.{AreMeetingsOf, IsAuditLine}
+use Rattle.threads_lines.specs.Guards.{AreLockedProxies, AreLockedResolvers}
+use Rattle.threads_lines.specs.Meetings.{AreAuditsOf, AreMeetingsOf}
 use Rattle.threads_lines.specs.Parts.{IsInParts}
 use Rattle.threads_scripts.specs.declared.script.ThreadsScript.{ThreadsScript}
 
@@ -17,26 +18,38 @@ abbrev pub proxy_text : List Key → ProxyNumber → LockedProxyView → List �
 proxy_text ask p v =
     proxy_line p ++ metadata_text v.proxy.version (metadata v.proxy.journal) ask
 
--- the lines of proxy p, as its lock keeps it: it is agreed with the ledger up to the row of its version
-abbrev pub IsProxyText : Config → List Key → ProxyNumber → (text : List ℕ) → Type 0
-IsProxyText config ask p text =
-    (v : LockedProxyView) × IsLockedProxy config v × (v.proxy.number ≡ p)
-    × (text ≡ proxy_text ask p v)
+-- the lines of the proxy at this place
+abbrev pub IsProxyText :
+    List Key → (proxies : List LockedProxyView) → ProxyNumber → (text : List ℕ) → Type 0
+IsProxyText ask proxies p text =
+    (v : LockedProxyView) × (slice_get proxies p ≡ Some v) × (text ≡ proxy_text ask p v)
+
+-- the lines of all of these proxies, in order
+abbrev pub AreProxyTexts :
+    List Key → (proxies : List LockedProxyView) → (text : List ℕ) → Type 0
+AreProxyTexts ask proxies text =
+    IsInParts (IsProxyText ask proxies) (length proxies) text
 
 -- The text of the script: the lines of answers to its batches, those of answers to one empty batch of
--- each proxy, those of each proxy, of each two proxies that meet, and of the audit of each proxy.
+-- each proxy, those of each proxy, of each two proxies that meet, and of the audit of each proxy. All
+-- lines of proxies, meetings and audits are of the same state of the proxies and the resolvers, as
+-- their locks keep it.
 pub record IsThreadsText (script : ThreadsScript) (text : List ℕ) : Type 0 where
   pub batches : List ℕ
   pub closings : List ℕ
-  pub proxies : List ℕ
+  pub routings : List ℕ
   pub meetings : List ℕ
   pub audits : List ℕ
+  pub proxies : List LockedProxyView
+  pub resolvers : List LockedResolverView
   pub answered :
       IsInParts (AreLinesOfProxy (AreBatchLines script.config script.rows) script.work)
       (length script.work) batches
   pub closed :
       IsInParts (IsClosingLine script.config script.rows) script.config.proxies closings
-  pub shown : IsInParts (IsProxyText script.config script.ask) script.config.proxies proxies
-  pub met : AreMeetingsOf script.config script.config.proxies meetings
-  pub audited : IsInParts (IsAuditLine script.config) script.config.proxies audits
-  pub text_is : text ≡ (((batches ++ closings) ++ proxies) ++ meetings) ++ audits
+  pub all_proxies : AreLockedProxies script.config proxies
+  pub all_resolvers : AreLockedResolvers script.config resolvers
+  pub shown : AreProxyTexts script.ask proxies routings
+  pub met : AreMeetingsOf proxies meetings
+  pub audited : AreAuditsOf script.config proxies resolvers audits
+  pub text_is : text ≡ (((batches ++ closings) ++ routings) ++ meetings) ++ audits

@@ -35,8 +35,7 @@ pub fn run_threads<R: Threads + Wait + Sync, S: Source, T: Sink>(
     };
     let output = match threads_answer(rt, alloc, &bytes) {
         Ok(output) => output,
-        Err(RunFault::OutOfMemory) => return RunStatus::OutOfMemory,
-        Err(RunFault::Refused) => return RunStatus::ClusterRefused,
+        Err(fault) => return fault.status(),
     };
     match write_all(sink, output.text.as_bytes()) {
         Ok(()) => output.status,

@@ -3,7 +3,7 @@
 ghost use Rattle.std.specs.Prelude.{◌≡◌, ◌<◌, [], length, IfOk, OnOk, string_bytes};
 ghost use Rattle.std.specs.List.{list_any};
 ghost use Rattle.threads_lines.specs.Answers.{AreBatchLines, IsClosingLine};
-ghost use Rattle.threads_run.specs.Beside.{lines_beside, was_refused_memory};
+ghost use Rattle.threads_run.specs.Beside.{lines_beside, was_cut_off, was_refused_memory};
 ghost use Rattle.threads_lines.specs.Parts.{GrowsBy, IsInParts};
 ghost use Rattle.threads_lines.specs.Threads.{AreInPlace};
 
@@ -58,7 +58,8 @@ impl<'a, 'l, N: Naming, M: Channels> ServesInbox<FreshEnd<N, AskedRequest<N>, M>
 
 /// The lines of the run, or why it has none. A worker that was refused memory may show to a proxy
 /// only as a resolver that is closed, so the workers are asked too. If each proxy was answered, the
-/// lines are right whatever the workers were refused.
+/// lines are right whatever the workers were refused; but a run in which a worker was cut off fails,
+/// since some proxy did not send its last message to it.
 pub(crate) fn lines_of<N: Naming, M: Channels>(
     outcome: RunOutcome<Ended<N, M>>,
 ) -> Result<String, RunFault>
@@ -66,7 +67,9 @@ pub(crate) fn lines_of<N: Naming, M: Channels>(
 {
     let RunOutcome { lines, workers } = outcome;
     let refused_memory = were_refused_memory(workers.as_slice());
+    let cut_off = were_cut_off(workers.as_slice());
     match lines {
+        Ok(_lines) if cut_off => Err(RunFault::Refused.beside(refused_memory)),
         Ok(text) => Ok(text),
         Err(fault) => Err(fault.beside(refused_memory)),
     }
@@ -77,6 +80,13 @@ fn were_refused_memory<N: Naming, M: Channels>(workers: &[Ended<N, M>]) -> bool
     ensures { result ≡ list_any was_refused_memory workers.now }
 {
     workers.iter().any(|ended| ended.wanted_memory())
+}
+
+/// Whether one of the workers was cut off.
+fn were_cut_off<N: Naming, M: Channels>(workers: &[Ended<N, M>]) -> bool
+    ensures { result ≡ list_any was_cut_off workers.now }
+{
+    workers.iter().any(|ended| ended.cut_off())
 }
 
 /// The cluster, and the inboxes of its resolvers as each proxy sends to them.

@@ -1,18 +1,18 @@
 //! What a threads script comes to.
 
-ghost use Rattle.std.specs.Prelude.{◌≡◌, length, IfOk, OnOk, string_bytes};
+ghost use Rattle.std.specs.Prelude.{◌≡◌, ◌++◌, length, IfOk, OnOk, string_bytes};
 ghost use Rattle.inboxes.specs.Blanks.{AreSides};
 ghost use Rattle.threads_lines.specs.Answers.{AreBatchLines, IsClosingLine};
 ghost use Rattle.threads_lines.specs.Parts.{GrowsBy, IsInParts};
 ghost use Rattle.threads_scripts.specs.Runnable.{IsRunnable};
 ghost use Rattle.threads_lines.specs.Threads.{AreAnswerLines, AreInPlace};
-ghost use Rattle.threads_run.specs.Text.{IsProxyText, IsThreadsText};
+ghost use Rattle.threads_run.specs.Text.{AreProxyTexts, IsThreadsText, proxy_text};
 
 use crate::running::{Running, Serving, lines_of};
 use agreed_ledger::{BlankLedger, Ledger, Naming};
 use cluster_lines::print_proxy_metadata;
 use inboxes::{BlankInboxes, Channels, InboxRoom, ProxySenders};
-use locked_cluster::SharedProxy;
+use locked_cluster::ProxyGuard;
 use model::ProxyNumber;
 use mutation::Batch;
 use std::alloc::Global;
@@ -66,9 +66,11 @@ fn threads_text_in<N: Naming + Send + Sync, R: Threads + Wait + Sync>(
     let inboxes = BlankInboxes::new(alloc, &ledger)?;
     let work = script.work.as_slice();
     let mut text = answers_over::<N, Brand, R>(rt, alloc, &ledger, &cluster, inboxes, work)?;
-    print_proxies(rt, alloc, &mut text, &cluster, script.ask.as_slice())?;
-    print_meetings(rt, &mut text, &cluster)?;
-    print_audits(rt, alloc, &mut text, &cluster)?;
+    let proxies = cluster.lock_proxies(rt, alloc)?;
+    let resolvers = cluster.lock_resolvers(rt, alloc)?;
+    print_proxies(alloc, &mut text, proxies.as_slice(), script.ask.as_slice())?;
+    print_meetings(&mut text, proxies.as_slice())?;
+    print_audits(&mut text, proxies.as_slice(), resolvers.as_slice())?;
     Ok(text)
 }
 
@@ -120,39 +122,33 @@ fn inboxes_of<N: Naming, M: Channels>(
     Ok(inboxes)
 }
 
-/// Prints each proxy, in order: its number, its routing, and the tags of the asked keys. Fails only
-/// with `OutOfMemory`.
-fn print_proxies<N: Naming, R: Wait>(
-    rt: &R,
+/// Prints each of the proxies, in order: its place, its routing, and the tags of the asked keys. Fails
+/// only with `OutOfMemory`.
+fn print_proxies<N: Naming>(
     alloc: Global,
     text: &mut String,
-    cluster: &Cluster<'_, N>,
+    proxies: &[ProxyGuard<'_, N>],
     keys: &[Bytes],
 ) -> Result<(), OutOfMemory>
-    ensures { OnOk result
-        (GrowsBy (IsInParts (IsProxyText N.cells.config keys.now) (length cluster.now.proxies.items))
+    ensures { OnOk result (GrowsBy (AreProxyTexts keys.now proxies.now)
         (string_bytes text.old) (string_bytes text.new)) }
 {
-    for number in 0..cluster.proxies.len() {
-        print_proxy(rt, alloc, text, number, cluster.proxy(number), keys)?;
+    for number in 0..proxies.len() {
+        print_proxy(alloc, text, number, &proxies[number], keys)?;
     }
     Ok(())
 }
 
 /// Prints a proxy, as its lock shows it. Fails only with `OutOfMemory`.
-fn print_proxy<N: Naming, R: Wait>(
-    rt: &R,
+fn print_proxy<N: Naming>(
     alloc: Global,
     text: &mut String,
     number: ProxyNumber,
-    proxy: &SharedProxy<'_, N>,
+    guard: &ProxyGuard<'_, N>,
     keys: &[Bytes],
 ) -> Result<(), OutOfMemory>
-    requires { proxy.now ≡ number }
-    ensures { OnOk result
-        (GrowsBy (IsProxyText N.cells.config keys.now number)
-        (string_bytes text.old) (string_bytes text.new)) }
+    ensures { OnOk result (string_bytes text.new
+        ≡ string_bytes text.old ++ proxy_text keys.now number guard.now) }
 {
-    let guard = proxy.lock(rt);
     print_proxy_metadata(alloc, text, number, guard.version(), guard.metadata(), keys)
 }

@@ -1,23 +1,25 @@
 -- One more proxy was audited.
-use Rattle.std.proofs.Common.{ℕ, List, rules, subst, sym}
+use Rattle.std.proofs.Common.{length, refl}
 use Rattle.std.specs.Prelude.{string_bytes}
-use Rattle.locked_resolvers.specs.Resolvers.{LockedResolverView}
-use Rattle.threads_lines.specs.Meetings.{AreKept, IsAuditLine, audit_line}
-use Rattle.threads_lines.proofs.MeetingLemmas.{kept_in_place}
+use Rattle.std.proofs.lemmas.Option.{slice_get_read}
+use Rattle.threads_lines.specs.Meetings.{IsAuditLine, audit_line}
 use Rattle.threads_lines.proofs.PartLemmas.{one_more_part}
 use Rattle.threads_lines.proofs.meetings.print_audits.Goals as goal
 
 pub loop-number-preserved : goal.loop-number-preserved
 loop-number-preserved g c =
     let l = c.loop-number in
-    let config = g.N.Naming.cells.config in
+    let proxies = c.args.proxies.now in
     let audited = c.audit-audited.result in
-    let numbers = c.args.cluster.now.resolvers.items in
-    let resolvers = c.as_slice-in-loop-number.result.now in
-    let kept = subst (λ (ns : List ℕ). AreKept config ns resolvers) c.as_slice.ensures.value
-    (subst (λ (ws : List LockedResolverView). AreKept config c.as_slice.result.now ws) (sym c.as_slice-in-loop-number.ensures.value) c.in_ok-guards.ensures.kept) in
-    one_more_part (IsAuditLine g.N.Naming.cells.config) l.number (string_bytes c.args.text.now) (string_bytes l.text) (string_bytes c.print_audit.new.text) l.invariant (
+    one_more_part (IsAuditLine g.N.Naming.cells.config proxies c.args.resolvers.now) l.number (string_bytes c.args.text.now) (string_bytes l.text) (string_bytes c.print_audit.new.text) l.invariant (
       audit_line l.number audited,
-      (audited, c.lock.result, resolvers, c.audit-audited.ensures.audited, search rules, search rules, kept_in_place config numbers resolvers c.args.cluster.now.resolvers_in_place kept, c.audit-audited.ensures.reached, search rules),
+      (
+        audited,
+        c.index-proxies-number.result,
+        slice_get_read proxies (length proxies) l.number c.index-proxies-number.result refl c.loop-number-test.true c.index-proxies-number.is,
+        c.audit-audited.ensures.audited,
+        c.audit-audited.ensures.reached,
+        refl,
+      ),
       c.in_ok-print_audit.ensures,
     )

@@ -5,4 +5,4 @@ use Rattle.threads_lines.specs.Parts.{GrowsBy, IsInParts}
 use Rattle.threads_lines.proofs.meetings.print_audits.Given as goal
 
 abbrev pub invariant-loop-number : goal.invariant-loop-number
-invariant-loop-number g l = GrowsBy (IsInParts (IsAuditLine g.N.Naming.cells.config) l.number) (string_bytes l.fn.text) (string_bytes l.text)
+invariant-loop-number g l = GrowsBy (IsInParts (IsAuditLine g.N.Naming.cells.config l.proxies l.resolvers) l.number) (string_bytes l.fn.text) (string_bytes l.text)

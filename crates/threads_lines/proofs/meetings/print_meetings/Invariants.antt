@@ -6,6 +6,4 @@ use Rattle.threads_lines.specs.Parts.{GrowsBy, IsInParts}
 use Rattle.threads_lines.proofs.meetings.print_meetings.Given as goal
 
 abbrev pub invariant-loop-one : goal.invariant-loop-one
-invariant-loop-one g l =
-    let count = length l.cluster.proxies.items in
-    GrowsBy (IsInParts (λ one. AreMeetingLines g.N.Naming.cells.config one (count - (one + 1))) l.one) (string_bytes l.fn.text) (string_bytes l.text)
+invariant-loop-one g l = GrowsBy (IsInParts (λ one. AreMeetingLines l.proxies one (length l.proxies - (one + 1))) l.one) (string_bytes l.fn.text) (string_bytes l.text)

@@ -8,5 +8,5 @@ use Rattle.threads_lines.proofs.meetings.print_meetings_of.Given as goal
 abbrev pub invariant-loop-other : goal.invariant-loop-other
 invariant-loop-other g l = record {
   above : l.one + 1 ≤ l.other;
-  lines : GrowsBy (AreMeetingLines g.N.Naming.cells.config l.one (l.other - (l.one + 1))) (string_bytes l.fn.text) (string_bytes l.text);
+  lines : GrowsBy (AreMeetingLines l.proxies l.one (l.other - (l.one + 1))) (string_bytes l.fn.text) (string_bytes l.text);
 }

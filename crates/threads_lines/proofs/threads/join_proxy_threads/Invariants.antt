@@ -1,14 +1,16 @@
--- The threads that are left are the last ones. If none failed so far, the text has the lines of the others.
-use Rattle.std.proofs.Common.{◌≡◌, length, drop}
-use Rattle.std.specs.Prelude.{IsOk, string_bytes}
+-- The threads that are left are the last ones. The others kept their promises, and there is room for what all return.
+use Rattle.std.proofs.Common.{◌≡◌, ◌+◌, ◌≤◌, length, drop}
+use Rattle.std.specs.Prelude.{string_bytes}
+use Rattle.std.specs.Vec.{vec_capacity}
 use Rattle.std.specs.Vec.Iter.{into_iter_items, into_iter_len}
-use Rattle.threads_lines.specs.Parts.{IsInParts}
-use Rattle.threads_lines.specs.Threads.{AreLinesOfThread}
+use Rattle.threads_lines.specs.Threads.{KeepPromises}
 use Rattle.threads_lines.proofs.threads.join_proxy_threads.Given as goal
 
 abbrev pub invariant-loop-handle : goal.invariant-loop-handle
 invariant-loop-handle g l = record {
-  left : into_iter_items l.handle-iterator ≡ drop (length l.yielded) l.fn.handles.items;
+  left : into_iter_items l.handle-iterator ≡ drop (length l.returned.items) l.fn.handles.items;
+  all : length l.returned.items + length (into_iter_items l.handle-iterator) ≡ length l.fn.handles.items;
   count : into_iter_len l.handle-iterator ≡ length (into_iter_items l.handle-iterator);
-  lines : IsOk l.outcome → IsInParts (AreLinesOfThread g.C.CommitsBatches.are_lines l.fn.handles.items (λ thread. thread.promise.number) (λ thread. thread.promise.batches.now)) (length l.yielded) (string_bytes l.text);
+  room : length l.fn.handles.items ≤ vec_capacity l.returned;
+  kept : KeepPromises g.C.CommitsBatches.are_lines l.fn.handles.items (λ thread. thread.promise.number) (λ thread. thread.promise.batches.now) l.returned.items (λ text. string_bytes text);
 }

@@ -13,20 +13,17 @@ returns-in-Err-Device g c = record { answer = no_answer; text = inl refl; device
 pub returns-in-Err-Limit : goal.returns-in-Err-Limit
 returns-in-Err-Limit g c = record { answer = no_answer; text = inl refl; devices = search rules }
 
-pub returns-in-Err-OutOfMemory-threads_answer : goal.returns-in-Err-OutOfMemory-threads_answer
-returns-in-Err-OutOfMemory-threads_answer g c = record { answer = no_answer; text = refl; devices = search rules }
-
-pub returns-in-Err-Refused : goal.returns-in-Err-Refused
-returns-in-Err-Refused g c = record {
+pub returns-in-Err-threads_answer : goal.returns-in-Err-threads_answer
+returns-in-Err-threads_answer g c = record {
   answer = no_answer;
-  text = (refl, (c.in-Ok.bytes.items, search rules, search rules));
+  text = fails_so c.in-Err-threads_answer.fault _ _ _ _ c.in-Ok.bytes.items refl (search rules) (search rules);
   devices = search rules;
 }
 
 pub returns-in-Ok-write_all : goal.returns-in-Ok-write_all
 returns-in-Ok-write_all g c = record {
   answer = answer_in c.in-Ok-threads_answer.output;
-  text = writes_whole c.in-Ok-threads_answer.output _ _ _ c.in-Ok.bytes.items c.in-Ok-threads_answer.ensures.answered (search rules) (search rules) (search rules);
+  text = writes_whole c.in-Ok-threads_answer.output _ _ _ _ c.in-Ok.bytes.items c.in-Ok-threads_answer.ensures.answered (search rules) (search rules) (search rules);
   devices = search rules;
 }
 

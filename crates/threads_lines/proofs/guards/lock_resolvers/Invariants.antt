@@ -1,10 +1,10 @@
 -- Those that were looked at are locked.
 use Rattle.std.proofs.Common.{◌≡◌, length}
-use Rattle.threads_lines.specs.Meetings.{AreKept}
-use Rattle.threads_lines.proofs.meetings.lock_resolvers.Given as goal
+use Rattle.threads_lines.specs.Guards.{AreResolversKept}
+use Rattle.threads_lines.proofs.guards.lock_resolvers.Given as goal
 
 abbrev pub invariant-loop-resolver : goal.invariant-loop-resolver
 invariant-loop-resolver g l = record {
   count : length l.guards.items ≡ l.resolver-index;
-  kept : AreKept g.N.Naming.cells.config l.resolvers l.guards.items;
+  kept : AreResolversKept g.N.Naming.cells.config l.resolvers l.guards.items;
 }

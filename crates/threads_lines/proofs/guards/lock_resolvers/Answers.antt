@@ -2,9 +2,9 @@
 use Rattle.std.proofs.Common.{◌≡◌, ◌∙◌, ◌+◌, ◌<◌, [], ◌∷◌, List, sym, ap, subst, length, slice_get, Some, length-append, arith}
 use Rattle.std.proofs.lemmas.Option.{slice_get-get_or}
 use Rattle.locked_resolvers.specs.Resolvers.{LockedResolverView}
-use Rattle.threads_lines.specs.Meetings.{AreKept}
-use Rattle.threads_lines.proofs.MeetingLemmas.{one_more_kept}
-use Rattle.threads_lines.proofs.meetings.lock_resolvers.Goals as goal
+use Rattle.threads_lines.specs.Guards.{AreResolversKept}
+use Rattle.threads_lines.proofs.GuardLemmas.{one_more_resolver}
+use Rattle.threads_lines.proofs.guards.lock_resolvers.Goals as goal
 
 pub loop-resolver-preserved : goal.loop-resolver-preserved
 loop-resolver-preserved g c =
@@ -20,5 +20,5 @@ loop-resolver-preserved g c =
     let last : slice_get resolvers (length l.guards.items) ≡ Some guard.memory.number = ap (slice_get resolvers) l.invariant.count ∙ at ∙ ap Some (sym c.lock.ensures.number) in
     record {
       count = ap (λ (ws : List LockedResolverView). length ws) grown ∙ length-append l.guards.items (guard ∷ []) ∙ ap (λ n. n + 1) l.invariant.count;
-      kept = subst (λ (ws : List LockedResolverView). AreKept config resolvers ws) (sym grown) (one_more_kept config resolvers l.guards.items guard c.lock.ensures.kept last l.invariant.kept);
+      kept = subst (λ (ws : List LockedResolverView). AreResolversKept config resolvers ws) (sym grown) (one_more_resolver config resolvers l.guards.items guard c.lock.ensures.kept last l.invariant.kept);
     }

@@ -1,0 +1,8 @@
+-- The resolvers stand in the places of their numbers.
+use Rattle.threads_lines.proofs.GuardLemmas.{all_resolvers}
+use Rattle.threads_lines.proofs.cluster.Cluster.lock_resolvers.Goals as goal
+
+pub returns : goal.returns
+returns g c =
+    let cluster = c.args.self.now in
+    all_resolvers g.N.Naming.cells.config cluster.resolvers.items c.as_slice.result.now c.lock_resolvers.result (λ guards. guards.items) c.as_slice.ensures.value cluster.resolvers_in_place cluster.resolver_count c.lock_resolvers.ensures.count c.lock_resolvers.ensures.kept
