@@ -1,5 +1,5 @@
 -- What a run of a threads script answers.
-use Rattle.std.proofs.Common.{◌≡◌, ℕ, List, [], Option, ap₂, refl}
+use Rattle.std.proofs.Common.{◌≡◌, ℕ, List, [], Option, ap₂, refl, subst, sym}
 use Rattle.std.specs.Prelude.{None, Result, IsOk, IsSome}
 use Rattle.std.specs.Io.KnownBytes.{Appends}
 use Rattle.system_keys.specs.AsSpecified.{IsFaultIfAllocated}
@@ -8,7 +8,9 @@ use Rattle.scripts.specs.ScriptFaults.{fault_number, script_fault}
 use Rattle.scripts.specs.declared.output.Output.{Output}
 use Rattle.scripts.specs.declared.script_fault.ScriptFault.{ScriptFault}
 use Rattle.scripts.specs.declared.script_fault.ScriptFault.TheVariants as faults
-use Rattle.scripts.specs.Runs.{IsInput}
+use Rattle.scripts.specs.Runs.{IsInput, LeavesDevices}
+use Rattle.scripts.specs.declared.devices.Sink.{Ghosts as SinkView}
+use Rattle.scripts.specs.declared.devices.Source.{Ghosts as SourceView}
 use Rattle.scripts.specs.Statuses.{IsAnswered}
 use Rattle.scripts.specs.declared.status.RunStatus.{RunStatus}
 use Rattle.scripts.specs.declared.status.RunStatus.TheVariants.{Done, ScriptRefused, DeviceFailed}
@@ -16,7 +18,7 @@ use Rattle.scripts.specs.declared.status.RunStatus.TheVariants.{OutOfMemory, Clu
 use Rattle.threads_lines.specs.Faults.{fault_status}
 use Rattle.threads_lines.specs.declared.faults.RunFault.{RunFault}
 use Rattle.threads_lines.specs.declared.faults.RunFault.TheVariants as run_faults
-use Rattle.threads_run.specs.Runs.{Answers, IsAnswerTo, WritesAnswer, answer_in}
+use Rattle.threads_run.specs.Runs.{Answers, IsAnswerTo, RunsThreads, WritesAnswer, answer_in}
 use Rattle.threads_scripts.specs.Scripts.{script_of}
 use Rattle.threads_scripts.specs.declared.script.ThreadsScript.{ThreadsScript}
 
@@ -53,13 +55,15 @@ writes_whole output Unchanged input old new bytes answered read is put = by outp
     by ClusterRefused same ok = absurd ok
 
 -- a run that fails so left the sink as it was
-pub writes_nothing : (fault : RunFault) (Unchanged : Type 0) (input old new : Option (List ℕ)) (bytes : List ℕ)
-    → Unchanged → IsInput input bytes → (fault ≡ run_faults.Refused → IsOk (script_of bytes))
-    → WritesAnswer no_answer Unchanged input old new (fault_status fault)
-writes_nothing run_faults.OutOfMemory Unchanged input old new bytes same read refused = same
-writes_nothing run_faults.Refused Unchanged input old new bytes same read refused = (same, (bytes, read, refused refl))
-
--- what holds of both statuses with which a run fails so
-pub either_status : (P : RunStatus → Type 0) (fault : RunFault) → P OutOfMemory → P ClusterRefused → P (fault_status fault)
-either_status P run_faults.OutOfMemory lacking refusing = lacking
-either_status P run_faults.Refused lacking refusing = refusing
+pub fails_so : {S T : Type 0} (source : SourceView S) (source_old source_new : S) (sink : SinkView T) (sink_old sink_new : T)
+    (fault : RunFault) (status : RunStatus) (bytes : List ℕ) → status ≡ fault_status fault
+    → sink_new ≡ sink_old → IsInput (source.remaining source_old) bytes → (fault ≡ run_faults.Refused → IsOk (script_of bytes))
+    → LeavesDevices (λ _. no_answer) source source_old source_new sink sink_old sink_new OutOfMemory
+    → LeavesDevices (λ _. no_answer) source source_old source_new sink sink_old sink_new ClusterRefused
+    → RunsThreads source source_old source_new sink sink_old sink_new status
+fails_so source source_old source_new sink sink_old sink_new run_faults.OutOfMemory status bytes is same read refused lacking refusing =
+    subst (λ (s : RunStatus). RunsThreads source source_old source_new sink sink_old sink_new s) (sym is)
+    (record { answer = no_answer; text = same; devices = lacking })
+fails_so source source_old source_new sink sink_old sink_new run_faults.Refused status bytes is same read refused lacking refusing =
+    subst (λ (s : RunStatus). RunsThreads source source_old source_new sink sink_old sink_new s) (sym is)
+    (record { answer = no_answer; text = (same, (bytes, read, refused refl)); devices = refusing })

@@ -1,7 +1,9 @@
 -- What each exit of a run writes, and what it leaves of the devices.
-use Rattle.std.proofs.Common.{rules, inl, inr, refl}
+use Rattle.std.proofs.Common.{◌≡◌, ◌∙◌, ap, rules, inl, inr, refl}
+use Rattle.std.specs.Prelude.{Err}
+use Rattle.threads_lines.specs.declared.faults.RunFault.TheVariants as run_faults
 use Rattle.threads_run.specs.Runs.{answer_in}
-use Rattle.threads_run.proofs.RunLemmas.{no_answer, writes_whole}
+use Rattle.threads_run.proofs.RunLemmas.{fails_so, no_answer, writes_whole}
 use Rattle.threads_run.proofs.run.run_threads.Goals as goal
 
 pub returns-in-Err-OutOfMemory : goal.returns-in-Err-OutOfMemory
@@ -13,12 +15,10 @@ returns-in-Err-Device g c = record { answer = no_answer; text = inl refl; device
 pub returns-in-Err-Limit : goal.returns-in-Err-Limit
 returns-in-Err-Limit g c = record { answer = no_answer; text = inl refl; devices = search rules }
 
-pub returns-in-Err-threads_answer : goal.returns-in-Err-threads_answer
-returns-in-Err-threads_answer g c = record {
-  answer = no_answer;
-  text = fails_so c.in-Err-threads_answer.fault _ _ _ _ c.in-Ok.bytes.items refl (search rules) (search rules);
-  devices = search rules;
-}
+pub returns-in-Err : goal.returns-in-Err
+returns-in-Err g c =
+    fails_so _ _ _ _ _ _ c.in-Err.fault _ c.in-Ok.bytes.items c.status.ensures refl (search rules)
+    (λ is. let told : c.threads_answer.result ≡ Err run_faults.Refused = c.in-Err.is ∙ ap Err is in search rules) (search rules) (search rules)
 
 pub returns-in-Ok-write_all : goal.returns-in-Ok-write_all
 returns-in-Ok-write_all g c = record {

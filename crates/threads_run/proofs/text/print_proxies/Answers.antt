@@ -7,7 +7,7 @@ use Rattle.threads_lines.proofs.PartLemmas.{one_more_part}
 use Rattle.threads_run.proofs.text.print_proxies.Goals as goal
 
 pub loop-number-preserved : goal.loop-number-preserved
-loop-number-preserved c =
+loop-number-preserved g c =
     let l = c.loop-number in
     let proxies = c.args.proxies.now in
     let proxy = c.index-proxies-number.result in

@@ -5,4 +5,4 @@ use Rattle.threads_run.specs.Text.{IsProxyText}
 use Rattle.threads_run.proofs.text.print_proxies.Given as goal
 
 abbrev pub invariant-loop-number : goal.invariant-loop-number
-invariant-loop-number l = GrowsBy (IsInParts (IsProxyText l.keys l.proxies) l.number) (string_bytes l.fn.text) (string_bytes l.text)
+invariant-loop-number g l = GrowsBy (IsInParts (IsProxyText l.keys l.proxies) l.number) (string_bytes l.fn.text) (string_bytes l.text)
