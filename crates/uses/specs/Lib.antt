@@ -10,5 +10,7 @@ pub mod Starting
 pub mod Resolving
 -- the replies of all resolvers to a record that was begun
 pub mod Asking
+-- the metadata of two proxies of a cluster without threads
+pub mod Running
 -- why a batch was not committed, whichever the phase
 pub mod Causes

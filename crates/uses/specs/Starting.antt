@@ -5,7 +5,6 @@ use Rattle.model.specs.Stamps.{Given}
 use Rattle.model.specs.Metadata.{Entries}
 use Rattle.model.specs.declared.outcome.Finished.{Finished}
 use Rattle.locked_cluster.specs.Answers.{NotedFinishedView}
-use Rattle.model.specs.Numbers.{ProxyNumber}
 use Rattle.locked_cluster.specs.Commits.{IsCommitted}
 use Rattle.locked_cluster.specs.Headline.{Headline}
 use Rattle.locked_cluster.specs.Proxies.{LockedProxyView}
@@ -20,8 +19,8 @@ pub record ShowsPromise
   pub promise : Headline config one other mine theirs answer
   pub next_promise : Headline config one other mine theirs next_answer
 
--- Some two proxies have each just committed one of the batches, and show this metadata. What they
--- finished are these, and the promise holds.
+-- The first two proxies, 0 and 1, have each just committed one of the batches, and show this metadata.
+-- What they finished are these, and the promise holds.
 pub record KeepsPromise
     (config : Config) (batch next_batch : List Given)
     (mine theirs : Entries) (finished next_finished : Finished) : Type 0 where
@@ -29,9 +28,7 @@ pub record KeepsPromise
   pub other : LockedProxyView
   pub answer : NotedFinishedView
   pub next_answer : NotedFinishedView
-  pub number : ProxyNumber
-  pub other_number : ProxyNumber
-  pub committed : IsCommitted number batch answer one
-  pub next_committed : IsCommitted other_number next_batch next_answer other
+  pub committed : IsCommitted 0 batch answer one
+  pub next_committed : IsCommitted 1 next_batch next_answer other
   pub shows :
       ShowsPromise config one other answer next_answer mine theirs finished next_finished

@@ -1,8 +1,10 @@
 //! A batch is committed, and after one failure from the phase that failed: it is begun, resolved,
 //! finished.
 
-ghost use Rattle.std.specs.Prelude.{◌≡◌, IfOk};
+ghost use Rattle.std.specs.Prelude.{◌≡◌, List, IfErr, IfOk};
+ghost use Rattle.model.specs.Stamps.{Given};
 ghost use Rattle.locked_cluster.specs.Commits.{HoldsBatch};
+ghost use Rattle.uses.specs.Causes.{WasNotCommitted};
 
 use crate::refused::Refused;
 use agreed_ledger::{Naming, Sequencer, Ticket};
@@ -21,8 +23,9 @@ pub fn commit_or_go_on<N: Naming, R: Wait, A: Asking<N>>(
     asking: &A,
     batch: Batch,
 ) -> Result<NotedFinished<N>, Refused>
-    ensures { IfOk result (λ noted.
+    ensures holds { IfOk result (λ noted.
         HoldsBatch proxy.now noted.finished.row noted.records batch) }
+    ensures refused { IfErr result (WasNotCommitted N.cells proxy.now batch) }
 {
     match proxy.commit(rt, sequencer, asking, batch) {
         Ok((noted, _guard)) => Ok(noted),
@@ -43,8 +46,9 @@ fn commit_once<N: Naming, R: Wait, A: Asking<N>>(
     asking: &A,
     batch: Batch,
 ) -> Result<NotedFinished<N>, Refused>
-    ensures { IfOk result (λ noted.
+    ensures holds { IfOk result (λ noted.
         HoldsBatch proxy.now noted.finished.row noted.records batch) }
+    ensures refused { IfErr result (WasNotCommitted N.cells proxy.now batch) }
 {
     match proxy.commit(rt, sequencer, asking, batch) {
         Ok((noted, _guard)) => Ok(noted),
@@ -59,8 +63,10 @@ fn begin<N: Naming, R: Wait, A: Asking<N>>(
     asking: &A,
     ticket: Ticket<N>,
 ) -> Result<NotedFinished<N>, Refused>
-    ensures { IfOk result (λ noted.
+    ensures answer { IfOk result (λ noted.
         (noted.finished.row ≡ ticket.row) × (noted.records ≡ ticket.records)) }
+    ensures refused { (batch : List Given) → HoldsBatch proxy.now ticket.row ticket.records batch
+        → IfErr result (WasNotCommitted N.cells proxy.now batch) }
 {
     let begun = begun(rt, proxy, ticket)?;
     resolve(rt, proxy, asking, begun)
@@ -74,6 +80,8 @@ fn begun<N: Naming, R: Wait>(
 ) -> Result<Begun<N>, Refused>
     ensures row { IfOk result (λ begun. begun.row ≡ ticket.row) }
     ensures records { IfOk result (λ begun. begun.records ≡ ticket.records) }
+    ensures refused { (batch : List Given) → HoldsBatch proxy.now ticket.row ticket.records batch
+        → IfErr result (WasNotCommitted N.cells proxy.now batch) }
 {
     match proxy.lock(rt).begin(ticket) {
         Ok(begun) => Ok(begun),
@@ -88,8 +96,10 @@ fn resolve<N: Naming, R: Wait, A: Asking<N>>(
     asking: &A,
     begun: Begun<N>,
 ) -> Result<NotedFinished<N>, Refused>
-    ensures { IfOk result (λ noted.
+    ensures answer { IfOk result (λ noted.
         (noted.finished.row ≡ begun.row) × (noted.records ≡ begun.records)) }
+    ensures refused { (batch : List Given) → HoldsBatch proxy.now begun.row begun.records batch
+        → IfErr result (WasNotCommitted N.cells proxy.now batch) }
 {
     match proxy.resolve_all(rt, asking, begun) {
         Ok(ready) => finish(rt, proxy, ready),
@@ -103,8 +113,10 @@ fn finish<N: Naming, R: Wait>(
     proxy: &SharedProxy<'_, N>,
     ready: Ready<N>,
 ) -> Result<NotedFinished<N>, Refused>
-    ensures { IfOk result (λ noted.
+    ensures answer { IfOk result (λ noted.
         (noted.finished.row ≡ ready.row) × (noted.records ≡ ready.records)) }
+    ensures refused { (batch : List Given) → HoldsBatch proxy.now ready.row ready.records batch
+        → IfErr result (WasNotCommitted N.cells proxy.now batch) }
 {
     match proxy.lock(rt).finish(ready) {
         Ok(noted) => Ok(noted),

@@ -9,6 +9,7 @@ ghost use Rattle.model.specs.Serial.{IsSerial};
 ghost use Rattle.model.specs.World.{initial_world, world_after, proxy_metadata};
 ghost use Rattle.turn_world.specs.Events.{event_of};
 ghost use Rattle.turn_world.specs.Steps.{HasCarriedOut, HasStopped};
+ghost use Rattle.uses.specs.Running.{AreAtOneVersion, AreNotAtOneVersion};
 
 use model::Config;
 use model::laws::{chain_law, events_law};
@@ -48,7 +49,9 @@ pub fn at_one_version(
     first: usize,
     second: usize,
 ) -> Option<(&Metadata, &Metadata)>
-    ensures { IfSome result (λ both. both.0.now ≡ both.1.now) }
+    ensures same { IfSome result (λ both. both.0.now ≡ both.1.now) }
+    ensures shown { MatchOption result (AreNotAtOneVersion cluster.now first second)
+        (λ both. AreAtOneVersion cluster.now first second both.0.now both.1.now) }
 {
     let first = cluster.proxy(first)?;
     let second = cluster.proxy(second)?;

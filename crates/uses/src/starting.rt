@@ -33,8 +33,8 @@ pub struct Shown {
 }
 
 /// Makes a cluster of these numbers, whose ledger has so many rows, and commits a batch on its first
-/// proxy and one on its second. Both then show their metadata, of which the promise of this project
-/// holds.
+/// proxy, number 0, and one on its second, number 1. Both then show their metadata, of which the promise
+/// of this project holds.
 ///
 /// Fails if the cluster has no second proxy, and as the calls do that make its parts and commit.
 pub fn promise_from_nothing<R: Wait>(
@@ -120,7 +120,7 @@ fn asking_all<'a, 'l, N: Naming>(
     asking
 }
 
-/// Commits a batch on each of two different proxies. Both stay locked until their metadata is shown.
+/// Commits a batch on each of the first two proxies. Both stay locked until their metadata is shown.
 fn commit_on_both<N: Naming, R: Wait, A: Asking<N>>(
     rt: &R,
     sequencer: &Sequencer<'_, N>,
@@ -130,6 +130,8 @@ fn commit_on_both<N: Naming, R: Wait, A: Asking<N>>(
     batch: Batch,
     next_batch: Batch,
 ) -> Result<Shown, Refused>
+    requires one { one.now ≡ 0 }
+    requires other { other.now ≡ 1 }
     ensures { IfOk result (λ shown. KeepsPromise N.cells.config batch next_batch
         shown.mine shown.theirs shown.finished shown.next_finished) }
 {
