@@ -7,3 +7,4 @@ pub mod Joins
 pub mod KeptProxies
 pub mod MadeMoves
 pub mod Misfits
+pub mod RefusedCalls

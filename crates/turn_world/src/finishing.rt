@@ -5,7 +5,7 @@ ghost use Rattle.turn_world.specs.Parts.{kept_replies_at, missing_of};
 ghost use Rattle.turn_world.specs.Parts.{AreAllKept, MayFinishAt, IsFinishedAt};
 
 use model::{Config, Finished, ProxyNumber, RowNumber, Version};
-use proxy_state::{Proxy, Replies};
+use proxy_state::{Proxy, Refusal, Replies};
 use state_memory::Resolver;
 use std::alloc::Global;
 use system_keys::OutOfMemory;
@@ -39,7 +39,7 @@ pub(crate) fn kept_replies(
     for resolver in resolvers {
         if let Some(reply) = resolver.kept_reply(proxy, version) {
             let Ok(()) = replies.put(reply.copy()?) else {
-                return Err(OutOfMemory);
+                unreachable!();
             };
         }
     }
@@ -47,6 +47,7 @@ pub(crate) fn kept_replies(
 }
 
 /// Lets the proxy finish its earliest record by the replies. The other proxies are left as they are.
+#[tactic(auto, using(proxy_state::proofs::RefusedCalls::wants_memory))]
 pub(crate) fn finish_at(
     proxies: &mut Vec<Proxy>,
     proxy: ProxyNumber,
@@ -59,6 +60,11 @@ pub(crate) fn finish_at(
 {
     match proxies[proxy].finish(replies) {
         Ok(finished) => Ok(finished),
-        Err(_) => Err(OutOfMemory),
+        Err((refusal, _)) => {
+            let Refusal::OutOfMemory = refusal else {
+                unreachable!();
+            };
+            Err(OutOfMemory)
+        }
     }
 }

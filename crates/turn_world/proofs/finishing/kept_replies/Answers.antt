@@ -1,6 +1,12 @@
--- One resolver more.
-use Rattle.std.proofs.Common.{◌≡◌, ◌∙◌, sym, ap, ℕ, slice_set, Some, arith}
+-- One resolver more, whose place is empty.
+use Rattle.std.proofs.Common.{◌≡◌, ◌∙◌, sym, ap, ℕ, ◌-◌, length, length-take-le, take, slice_set, Some, arith}
+use Rattle.std.proofs.lemmas.List.{length-map}
+use Rattle.std.proofs.lemmas.Option.{none-some}
 use Rattle.model.specs.declared.reply.Reply.{Reply}
+use Rattle.model.specs.ResolverMemory.{ResolverView}
+use Rattle.state_memory.specs.Kept.{kept_reply}
+use Rattle.proxy_state.proofs.RefusedCalls.{no_next_fault}
+use Rattle.turn_world.specs.Parts.{kept_replies_at}
 use Rattle.turn_world.proofs.NewParts.{kept_next, none_next}
 use Rattle.turn_world.proofs.OfferedParts.{got}
 use Rattle.turn_world.proofs.finishing.kept_replies.Goals as goal
@@ -23,3 +29,14 @@ loop-resolver-preserved c =
       | in_default w ↦
           w.replies-is ∙ none_next c.args.resolvers.now c.args.proxy c.args.version i c.resolver-item.result c.loop-resolver.replies (omega arith) at w.in_default.ensures c.loop-resolver.invariant
     ]
+
+pub unreachable-requires : goal.unreachable-requires
+unreachable-requires c =
+    let i = c.loop-resolver.resolver-index in
+    let at = got c.args.resolvers.now i c.resolver-item.result (omega arith) c.resolver-item.is in
+    let k = c.requires.kept i c.resolver-item.result at in
+    let own = c.in_ok-copy.ensures ∙ same_reply c.in-Some.reply.now k.0 (sym c.in-Some.ensures ∙ k.1) in
+    let named : c.in_ok-copy.field-0.resolver ≡ i = ap (λ (reply : Reply). reply.resolver) own ∙ k.2 in
+    let behind = sym (length-map (take i c.args.resolvers.now) (λ (v : ResolverView). kept_reply v c.args.proxy c.args.version) ∙ length-take-le i c.args.resolvers.now (omega arith)) in
+    let none = no_next_fault c.loop-resolver.replies (kept_replies_at (take i c.args.resolvers.now) c.args.proxy c.args.version) (length c.args.resolvers.now - i) i c.in_ok-copy.field-0 c.loop-resolver.invariant named behind (omega arith) in
+    none-some c.in_default-put.field-0.0 (sym none ∙ c.in_default-put.ensures.refused)

@@ -14,7 +14,8 @@ use Rattle.locked_resolvers.specs.declared.refusal.Refusal.{Refusal}
 use Rattle.locked_resolvers.specs.declared.refusal.Refusal.TheVariants as refusals
 use Rattle.locked_cluster.proofs.ProxyRows.{agree_from_zero, from_zero}
 use Rattle.locked_cluster.proofs.ProxyBegins.{Continues, all_count, are_requests_for, begins_ticket, begun_keeps, is_begun, may_begin, not_mine, out_of_order}
-use Rattle.locked_cluster.proofs.ProxyRefusals.{no_begin_fault, wants_memory}
+use Rattle.locked_cluster.proofs.ProxyRefusals.{no_begin_fault}
+use Rattle.proxy_state.proofs.RefusedCalls.{wants_memory}
 use Rattle.locked_cluster.proofs.proxies.locked_proxy.LockedProxy.begin_record.Goals as goal
 
 pub returns-then-proxy-self-clause-refused : goal.returns-then-proxy-self-clause-refused

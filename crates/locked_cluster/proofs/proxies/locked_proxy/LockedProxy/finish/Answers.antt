@@ -12,7 +12,7 @@ use Rattle.locked_cluster.specs.Proxies.{LockedProxyView, IsLockedProxy, IsFinis
 use Rattle.locked_resolvers.specs.declared.refusal.Refusal.TheVariants as refusals
 use Rattle.locked_cluster.proofs.ProxyRows.{agree_from_zero}
 use Rattle.locked_cluster.proofs.ProxyFinishes.{IsNext, is_next, no_fault, finished_keeps, is_noted, finishes_ready, none_awaited, other_awaited, awaited_fails}
-use Rattle.locked_cluster.proofs.ProxyRefusals.{wants_memory}
+use Rattle.proxy_state.proofs.RefusedCalls.{wants_memory}
 use Rattle.locked_cluster.proofs.proxies.locked_proxy.LockedProxy.finish.Goals as goal
 
 pub returns-in_default-clause-refused : goal.returns-in_default-clause-refused
