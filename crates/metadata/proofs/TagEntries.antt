@@ -1,6 +1,8 @@
 -- What the calls of the map to tags do to the tags at each key.
-use Rattle.std.proofs.Common.{◌≡◌, refl, sym, ap, ◌∙◌, Result, Ok, Err, OnOk, OnErr, ℕ, length, List, [], ◌∷◌, Bool, true, false, cond, if◌then◌else◌, ◌||◌, Option, Some, None, Ordering, Less, Equal, Greater, nat_cmp}
+use Rattle.std.proofs.Common.{◌≡◌, refl, sym, ap, ◌∙◌, Result, Ok, Err, OnOk, OnErr, ℕ, length, List, [], ◌∷◌, filter, Bool, true, false, cond, if◌then◌else◌, ◌||◌, Option, Some, None, Ordering, Less, Equal, Greater, nat_cmp}
 use Rattle.std.specs.Global.{Vec}
+use Rattle.std.specs.List.{AllByRecursion}
+use Rattle.std.specs.List.Sorted.{IsStrictlySortedBy}
 use Rattle.std.specs.Option.{is_some}
 use Rattle.std.specs.Ordering.{match_ordering}
 use Rattle.std.specs.Map.{keys_of, lookup, remove_entry}
@@ -13,7 +15,7 @@ use Rattle.system_keys.specs.Keys.{Key}
 use Rattle.metadata.specs.MapEntries.{bytes_of_keys}
 use Rattle.metadata.specs.Overwrites.{is_same_key, is_listed}
 use Rattle.metadata.specs.CachedTags.{TagLists, KeyTags, tags_at, tags_written}
-use Rattle.metadata.specs.TagEntries.{rows_of}
+use Rattle.metadata.specs.TagEntries.{rows_of, AreThere}
 use Rattle.metadata.proofs.KeyValues.{key_cmp, same_key, same_itself}
 use Rattle.metadata.proofs.MapEntries.{vec_cmp}
 
@@ -22,6 +24,34 @@ use Rattle.metadata.proofs.MapEntries.{vec_cmp}
 pub looked_up : (key : Key) (es : List (Vec ℕ × List Tag)) → lookup (is_at (λ (k : Vec ℕ). slice_cmp nat_cmp key k.items)) es ≡ tags_at (rows_of es) key
 looked_up key [] = refl
 looked_up key (e ∷ es) = ap (λ (later : Option (List Tag)). cond (is_same_key key e.0.items) (Some e.1) later) (looked_up key es)
+
+-- of two keys in order, the greater is another
+others_key : (a b : Vec ℕ) → vec_cmp a b ≡ Less → is_same_key b.items a.items ≡ false
+others_key a b less = by (is_same_key b.items a.items) refl
+  where
+    by : (t : Bool) → is_same_key b.items a.items ≡ t → is_same_key b.items a.items ≡ false
+    by true h =
+        let tied : key_cmp a.items b.items ≡ Equal = ap (key_cmp a.items) (same_key b.items a.items h) ∙ tied_itself nat_list_cmp_total a.items in
+        let none : Less ≡ Equal = sym less ∙ tied in absurd (cc)
+    by false h = h
+
+there_behind : (e : Vec ℕ × List Tag) (all es : List (Vec ℕ × List Tag)) → AllByRecursion (λ (other : Vec ℕ). vec_cmp e.0 other ≡ Less) (keys_of es) → AreThere (tags_at (rows_of all)) es → AreThere (tags_at (rows_of (e ∷ all))) es
+there_behind e all [] behind there = tt
+there_behind e all (f ∷ es) behind there = (rw (others_key e.0 f.0 behind.0) there.0, there_behind e all es behind.1 there.1)
+
+-- each entry of a map in order has its tags at its key
+pub all_there : (es : List (Vec ℕ × List Tag)) → IsStrictlySortedBy vec_cmp (keys_of es) → AreThere (tags_at (rows_of es)) es
+unfolding IsStrictlySortedBy
+all_there [] s = tt
+all_there (e ∷ es) s = (rw (same_itself e.0.items) refl, there_behind e es es s.0 (all_there es s.1))
+
+pub some_there : (lists : TagLists) (p : Vec ℕ × List Tag → Bool) (es : List (Vec ℕ × List Tag)) → AreThere lists es → AreThere lists (filter p es)
+some_there lists p [] there = tt
+some_there lists p (e ∷ es) there = by (p e) (some_there lists p es there.1)
+  where
+    by : (t : Bool) → AreThere lists (filter p es) → AreThere lists (cond t (e ∷ filter p es) (filter p es))
+    by true rest = (there.0, rest)
+    by false rest = rest
 
 pub tags_put : (es : List (Vec ℕ × List Tag)) (key : Vec ℕ) (tags : List Tag) (other : Key) → tags_at (rows_of (insert_entry vec_cmp es key tags)) other ≡ (if is_same_key other key.items then Some tags else tags_at (rows_of es) other)
 tags_put [] key tags other = refl

@@ -1,17 +1,20 @@
 //! The tags that are kept for the keyServers entries.
 
-ghost use Rattle.std.specs.Prelude.{◌≡◌, ◌++◌, [], true, false, None, Some, IfOk, OnOk, OnErr};
+ghost use Rattle.std.specs.Prelude.{◌≡◌, ◌++◌, [], true, false, None, Some, IfOk, IfSome, OnOk, OnErr};
 ghost use Rattle.std.specs.Prelude.{if◌then◌else◌, option_map};
 ghost use Rattle.std.specs.Option.{is_some};
 ghost use Rattle.std.specs.Map.{keys_of};
 ghost use Rattle.system_keys.specs.Keys.{Key};
 ghost use Rattle.metadata.specs.CachedTags.{displaced_tags, tags_at, tags_there, tags_written};
 ghost use Rattle.metadata.specs.Overwrites.{is_same_key, is_listed};
+ghost use Rattle.metadata.specs.TagEntries.{AreThere};
 
 use crate::key_set::KeySet;
 use std::alloc::Global;
 use std::collections::BTreeMap;
+use std::collections::btree_map::Range;
 use std::marker::Model;
+use std::ops::Bound;
 use system_keys::{Items, OutOfMemory, Tag};
 
 /// A key, and tags for it.
@@ -92,6 +95,14 @@ impl TagMap {
     {
         let tags = self.lists.get(key)?;
         Some(tags.as_slice())
+    }
+
+    /// The keys behind this one, in order, each with its tags. Does not allocate.
+    fn behind<'a>(&'a self, key: &Vec<u8>) -> Range<'a, Vec<u8>, Items<Tag>>
+        ensures { AreThere (tags_at self.now) result }
+    {
+        let bounds = (Bound::Excluded(key), Bound::Unbounded);
+        self.lists.range(bounds)
     }
 
     /// Puts the tags at the key. Fails only with `OutOfMemory`; the map is then unchanged.
@@ -177,6 +188,67 @@ impl TagMap {
             → tags_at self.new other ≡ tags_at self.old other }
     {
         self.lists.remove(key);
+    }
+}
+
+/// The tags of a map, as they are looked up at one key after another. Contracts see those of the map.
+#[derive(Drop)]
+pub(crate) struct TagSteps<'a> {
+    kept: &'a TagMap,
+    /// The keys behind the last one that was looked up.
+    behind: Range<'a, Vec<u8>, Items<Tag>>,
+}
+
+impl<'a> Model for TagSteps<'a> {
+    ghost use Rattle.std.specs.Prelude.{List};
+    ghost use Rattle.metadata.specs.CachedTags.{KeyTags, tags_at};
+    ghost use Rattle.metadata.specs.TagEntries.{AreThere};
+
+    ghost Value = { List KeyTags };
+
+    ghost view = { λ s. s.kept.now };
+
+    ghost invariant = { λ s. AreThere (tags_at s.kept.now) s.behind };
+}
+
+impl<'a> TagSteps<'a> {
+    /// The tags of the map. Does not allocate.
+    pub(crate) fn new(kept: &'a TagMap) -> TagSteps<'a>
+        ensures { result ≡ kept.now }
+    {
+        let least = Vec::new(kept.alloc);
+        TagSteps {
+            kept,
+            behind: kept.behind(&least),
+        }
+    }
+
+    /// The tags at a key: one step if the key is the next behind the last one, and else a look-up. Does
+    /// not allocate.
+    pub(crate) fn at(&mut self, key: &Vec<u8>) -> Option<&'a [Tag]>
+        ensures kept { self.new ≡ self.old }
+        ensures found { option_map (λ tags. tags.now) result ≡ tags_at self.old key.now.items }
+    {
+        match self.step_to(key) {
+            Some(tags) => Some(tags),
+            None => {
+                self.behind = self.kept.behind(key);
+                self.kept.get(key.as_slice())
+            }
+        }
+    }
+
+    /// The tags at the key, if it is the next behind the last one. Does not allocate.
+    fn step_to(&mut self, key: &Vec<u8>) -> Option<&'a [Tag]>
+        ensures kept { self.new ≡ self.old }
+        ensures found { IfSome result (λ tags. tags_at self.old key.now.items ≡ Some tags.now) }
+    {
+        let (next, tags) = self.behind.next()?;
+        if next.as_slice() == key.as_slice() {
+            Some(tags.as_slice())
+        } else {
+            None
+        }
     }
 }
 

@@ -15,7 +15,7 @@ ghost use Rattle.metadata.specs.Overwrites.{is_listed};
 use crate::entry_view::EntryView;
 use crate::key_set::KeySet;
 use crate::server_tags::{add_tags, listed};
-use crate::tag_map::{TagMap, copied_tags};
+use crate::tag_map::{TagSteps, copied_tags};
 use std::collections::BTreeSet;
 use system_keys::{Change, Items, KeyRange, OutOfMemory, Tag};
 
@@ -77,9 +77,10 @@ fn add_tags_inside(
         (flat_map (entry_tags entries.now)
         (filter (is_entry_inside range.now) (key_servers_entries entries.now)))) }
 {
+    let mut kept = TagSteps::new(entries.tags);
     let mut inside = entries.entries.serving_inside(range)?;
     while let Some((key, _)) = inside.next() {
-        add_unless_hidden(entries.hidden, entries.tags, key.as_slice(), tags)?;
+        add_unless_hidden(entries.hidden, &mut kept, key, tags)?;
         if let Some((_, last)) = entries.runs.run_of(key) {
             inside = entries.entries.serving_after(last, range)?;
         }
@@ -90,20 +91,23 @@ fn add_tags_inside(
 /// Adds the tags kept at a key, if it is not hidden. Fails only with `OutOfMemory`.
 fn add_unless_hidden(
     hidden: &KeySet,
-    kept: &TagMap,
-    key: &[u8],
+    kept: &mut TagSteps<'_>,
+    key: &Vec<u8>,
     tags: &mut BTreeSet<Tag>,
 ) -> Result<(), OutOfMemory>
-    ensures hides { is_listed hidden.now key.now ≡ true
+    ensures kept { kept.new ≡ kept.old }
+    ensures hides { is_listed hidden.now key.now.items ≡ true
         → OnOk result (tags.new.keys ≡ tags.old.keys) }
-    ensures shows { (some : List Tag) → is_listed hidden.now key.now ≡ false
-        → tags_at kept.now key.now ≡ Some some
+    ensures shows { (some : List Tag) → is_listed hidden.now key.now.items ≡ false
+        → tags_at kept.old key.now.items ≡ Some some
         → OnOk result (tags.new.keys ≡ fold (insert_key tag_cmp) tags.old.keys some) }
 {
-    if hidden.contains(key) {
+    // (also at a hidden key, so that the next one is one step away)
+    let there = kept.at(key);
+    if hidden.contains(key.as_slice()) {
         return Ok(());
     }
-    match kept.get(key) {
+    match there {
         Some(list) => add_tags(list, tags),
         None => Ok(()),
     }

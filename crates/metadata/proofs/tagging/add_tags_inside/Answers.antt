@@ -4,7 +4,7 @@ use Rattle.std.specs.Global.{Vec}
 use Rattle.model.specs.Metadata.{Entries, entry_value, entry_tags}
 use Rattle.metadata.specs.MapEntries.{entry_from, entries_of, is_serving_inside}
 use Rattle.metadata.specs.Overwrites.{is_listed}
-use Rattle.metadata.specs.CachedTags.{tags_at, tags_by}
+use Rattle.metadata.specs.CachedTags.{KeyTags, tags_at, tags_by}
 use Rattle.metadata.proofs.Tags.{added}
 use Rattle.metadata.proofs.KeptTags.{rows_passing, key_servers_passing, row_first, own_first, rows_rest, own_rest, tags_shown_at, row_added}
 use Rattle.metadata.specs.HiddenRuns.{Run, is_serving_after}
@@ -21,6 +21,7 @@ loop-key-init c =
       own = key_servers_passing c.entries.inside.entries.now _ c.in_ok-inside.inside found;
       back = whole_back c.in_ok-inside.inside (inside_rows c.args.range.now c.entries.inside.entries.now) found;
       order = c.serving_inside.ensures.order;
+      kept = c.new-kept.ensures;
     }
 
 pub loop-key-preserved : goal.loop-key-preserved
@@ -28,15 +29,14 @@ loop-key-preserved c =
     let entry : Vec ℕ × List ℕ = (c.in-Some.key.now, c.in-Some.field-0-1.now) in
     let steps = c.in-Some.ensures.steps in
     let view = c.args.entries.now in
-    let key = c.as_slice.ensures.value in
     let rows = row_first c.entries.inside.entries.now entry c.next.new.self c.loop-key.inside steps c.loop-key.invariant.rows in
     let own = own_first entry c.next.new.self c.loop-key.inside steps c.loop-key.invariant.own in
     let so_far =
     inside_next view (entries_of c.next.new.self) c.entries.inside.hidden.now (entry_from entry) c.loop-key.tags.keys c.add_unless_hidden.new.tags.keys _
-    (λ hides. c.in_ok-add_unless_hidden.ensures.hides (ap (is_listed c.entries.inside.hidden.now) key ∙ hides))
+    (λ hides. c.in_ok-add_unless_hidden.ensures.hides hides)
     (λ shows.
-    c.in_ok-add_unless_hidden.ensures.shows (tags_by (entry_value view) c.in-Some.field-0-1.now) (ap (is_listed c.entries.inside.hidden.now) key ∙ shows)
-    (ap (tags_at c.entries.inside.tags.now) key
+    c.in_ok-add_unless_hidden.ensures.shows (tags_by (entry_value view) c.in-Some.field-0-1.now) shows
+    (ap (λ (rows : List KeyTags). tags_at rows c.in-Some.key.now.items) c.loop-key.invariant.kept
     ∙ tags_shown_at c.entries.inside.hidden.now c.entries.inside.entries.now (tags_at c.entries.inside.tags.now) (entry_from entry) c.entries.invariant.0 shows rows own
     ∙ ap (λ (entries : Entries). Some (tags_by (entry_value entries) c.in-Some.field-0-1.now)) c.entries.view_is)
     ∙ row_added view c.loop-key.tags.keys (entry_from entry))
@@ -47,6 +47,7 @@ loop-key-preserved c =
       own = own_rest entry c.next.new.self c.loop-key.inside steps c.loop-key.invariant.own;
       back = back_stepped entry c.next.new.self c.loop-key.inside (inside_rows c.args.range.now c.entries.inside.entries.now) steps c.loop-key.invariant.back;
       order = c.loop-key.invariant.order;
+      kept = c.add_unless_hidden.ensures.kept ∙ c.loop-key.invariant.kept;
     }
 
 -- the entries after the last key of the run that the entry is in
@@ -65,15 +66,14 @@ loop-key-preserved-in-Some-run_of c =
     let entry : Vec ℕ × List ℕ = (c.in-Some.key.now, c.in-Some.field-0-1.now) in
     let steps = c.in-Some.ensures.steps in
     let view = c.args.entries.now in
-    let key = c.as_slice.ensures.value in
     let rows = row_first c.entries.inside.entries.now entry c.next.new.self c.loop-key.inside steps c.loop-key.invariant.rows in
     let own = own_first entry c.next.new.self c.loop-key.inside steps c.loop-key.invariant.own in
     let so_far =
     inside_next view (entries_of c.next.new.self) c.entries.inside.hidden.now (entry_from entry) c.loop-key.tags.keys c.add_unless_hidden.new.tags.keys _
-    (λ hides. c.in_ok-add_unless_hidden.ensures.hides (ap (is_listed c.entries.inside.hidden.now) key ∙ hides))
+    (λ hides. c.in_ok-add_unless_hidden.ensures.hides hides)
     (λ shows.
-    c.in_ok-add_unless_hidden.ensures.shows (tags_by (entry_value view) c.in-Some.field-0-1.now) (ap (is_listed c.entries.inside.hidden.now) key ∙ shows)
-    (ap (tags_at c.entries.inside.tags.now) key
+    c.in_ok-add_unless_hidden.ensures.shows (tags_by (entry_value view) c.in-Some.field-0-1.now) shows
+    (ap (λ (rows : List KeyTags). tags_at rows c.in-Some.key.now.items) c.loop-key.invariant.kept
     ∙ tags_shown_at c.entries.inside.hidden.now c.entries.inside.entries.now (tags_at c.entries.inside.tags.now) (entry_from entry) c.entries.invariant.0 shows rows own
     ∙ ap (λ (entries : Entries). Some (tags_by (entry_value entries) c.in-Some.field-0-1.now)) c.entries.view_is)
     ∙ row_added view c.loop-key.tags.keys (entry_from entry))
@@ -84,6 +84,7 @@ loop-key-preserved-in-Some-run_of c =
       own = own_after c.entries.inside.entries.now c.in-Some-run_of.last.now.items c.args.range.now c.in_ok-inside-2.inside c.in_ok-inside-2.ensures;
       back = (jump c).back_is;
       order = c.loop-key.invariant.order;
+      kept = c.add_unless_hidden.ensures.kept ∙ c.loop-key.invariant.kept;
     }
 
 pub loop-key-smaller-in-Some-run_of : goal.loop-key-smaller-in-Some-run_of

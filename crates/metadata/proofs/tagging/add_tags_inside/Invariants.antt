@@ -17,6 +17,7 @@ invariant-loop-key l = record {
   own : AreKeyServers l.inside;
   back : IsBack l.inside (inside_rows l.range l.entries-inside.entries.now);
   order : IsInOrder l.entries-inside.entries.now;
+  kept : l.kept ≡ l.entries-inside.tags.now;
 }
 
 abbrev pub decreases-loop-key : goal.decreases-loop-key
