@@ -1,7 +1,10 @@
 -- Which keys a set has, after one more and after several.
-use Rattle.std.proofs.Common.{◌≡◌, refl, sym, ap, ◌∙◌, ℕ, ◌+◌, ◌<◌, length, drop, get_or, add-one, List, [], ◌∷◌, Bool, true, false, not, ◌&&◌, ◌||◌, Ordering, Less, Equal, Greater, nat_cmp}
+use Rattle.std.proofs.Common.{◌≡◌, refl, sym, ap, ◌∙◌, ℕ, ◌+◌, ◌<◌, length, drop, get_or, add-one, List, [], ◌∷◌, Bool, true, false, cond, not, ◌&&◌, ◌||◌, Option, Some, None, is_eq, Ordering, Less, Equal, Greater, nat_cmp}
 use Rattle.std.specs.Global.{Vec}
-use Rattle.std.specs.List.{list_any}
+use Rattle.std.specs.List.{AllByRecursion, list_any}
+use Rattle.std.specs.List.Sorted.{IsStrictlySortedBy}
+use Rattle.std.specs.Option.{is_some}
+use Rattle.std.specs.Set.{remove_key}
 use Rattle.std.specs.Ordering.{match_ordering}
 use Rattle.std.specs.BTreeMap.{is_at}
 use Rattle.std.specs.BTreeSet.{insert_key}
@@ -9,10 +12,10 @@ use Rattle.std.specs.Cmp.Lexicographic.{slice_cmp}
 use Rattle.std.proofs.Math.Seq.{drop-cons}
 use Rattle.std.proofs.lemmas.Map.Lookups.{exact_bytes}
 use Rattle.system_keys.specs.Keys.{Key}
-use Rattle.model.specs.Metadata.{Entries}
-use Rattle.metadata.specs.MapEntries.{bytes_of_keys}
+use Rattle.model.specs.Metadata.{Entries, entry_value}
+use Rattle.metadata.specs.MapEntries.{bytes_of_keys, entries_of}
 use Rattle.metadata.specs.Overwrites.{is_same_key, is_listed, has_entry}
-use Rattle.metadata.proofs.KeyValues.{same_key}
+use Rattle.metadata.proofs.KeyValues.{same_key, same_itself}
 use Rattle.metadata.proofs.MapEntries.{vec_cmp}
 
 -- a look-up in the set is one among the bytes of its keys
@@ -43,6 +46,43 @@ listed_inserted (k ∷ keys) key other = by (vec_cmp key k) refl (listed_inserte
         rw same (twice (is_same_key other k.items) (is_listed (bytes_of_keys keys) other))
     by Greater is rest = ap (λ (t : Bool). is_same_key other k.items || t) rest ∙ swapped (is_same_key other k.items) (is_same_key other key.items) (is_listed (bytes_of_keys keys) other)
 
+-- ---- one key less
+
+none_behind_it : (key : Key) (keys : List (Vec ℕ)) → AllByRecursion (λ (other : Vec ℕ). slice_cmp nat_cmp key other.items ≡ Less) keys → is_listed (bytes_of_keys keys) key ≡ false
+none_behind_it key [] all = refl
+none_behind_it key (k ∷ keys) all =
+    let apart : is_same_key key k.items ≡ false = ap is_eq all.0 in
+    rw apart (none_behind_it key keys all.1)
+
+nothing : (t : Bool) → false ≡ (not t && false)
+nothing true = refl
+nothing false = refl
+
+pub listed_removed : (keys : List (Vec ℕ)) (key other : Key) → IsStrictlySortedBy vec_cmp keys → is_listed (bytes_of_keys (remove_key (is_at (λ (k : Vec ℕ). slice_cmp nat_cmp key k.items)) keys)) other ≡ (not (is_same_key other key) && is_listed (bytes_of_keys keys) other)
+unfolding IsStrictlySortedBy
+listed_removed [] key other s = nothing (is_same_key other key)
+listed_removed (k ∷ keys) key other s = by (is_same_key key k.items) refl (is_same_key other key) refl (is_same_key other k.items) refl (listed_removed keys key other s.1)
+  where
+    gone : List (Vec ℕ)
+    gone = remove_key (is_at (λ (q : Vec ℕ). slice_cmp nat_cmp key q.items)) keys
+
+    by : (t : Bool) → is_same_key key k.items ≡ t → (u : Bool) → is_same_key other key ≡ u → (v : Bool) → is_same_key other k.items ≡ v
+        → is_listed (bytes_of_keys gone) other ≡ (not u && is_listed (bytes_of_keys keys) other)
+        → is_listed (bytes_of_keys (cond t keys (k ∷ gone))) other ≡ (not u && (v || is_listed (bytes_of_keys keys) other))
+    by true h true w v x later =
+        let same : other ≡ k.items = same_key other key w ∙ same_key key k.items h in
+        ap (is_listed (bytes_of_keys keys)) same ∙ none_behind_it k.items keys s.0
+    by true h false w true x later =
+        let same : other ≡ key = same_key other k.items x ∙ sym (same_key key k.items h) in
+        let two : false ≡ true = sym w ∙ ap (is_same_key other) (sym same) ∙ same_itself other in absurd (cc)
+    by true h false w false x later = refl
+    by false h true w true x later =
+        let same : k.items ≡ key = sym (same_key other k.items x) ∙ same_key other key w in
+        let two : false ≡ true = sym h ∙ ap (is_same_key key) same ∙ same_itself key in absurd (cc)
+    by false h true w false x later = rw x later
+    by false h false w true x later = rw x refl
+    by false h false w false x later = rw x later
+
 -- ---- several keys
 
 -- the keys that are left, beside those so far, are all
@@ -66,35 +106,22 @@ added_next keys d i old before after within one so_far = λ other.
 
 -- ---- the keys that entries lack
 
--- the keys so far, and those that the entries lack of the rest, are all that they lack
-abbrev pub AreLacked : (entries : Entries) (keys now : List Key) (left : List (Vec ℕ)) → Type 0
-AreLacked entries keys now left = (key : Key) → (is_listed now key || (not (has_entry entries key) && is_listed (bytes_of_keys left) key)) ≡ (not (has_entry entries key) && is_listed keys key)
+-- the keys so far, without those of the entries that are left, are all that the entries lack
+abbrev pub AreLacked : (entries : Entries) (keys now : List Key) (left : List (Vec ℕ × List ℕ)) → Type 0
+AreLacked entries keys now left = (key : Key) → (not (has_entry (entries_of left) key) && is_listed now key) ≡ (not (has_entry entries key) && is_listed keys key)
 
-pub lacked_more : (entries : Entries) (keys before after : List Key) (k : Vec ℕ) (left : List (Vec ℕ)) → has_entry entries k.items ≡ false → ((other : Key) → is_listed after other ≡ (is_same_key other k.items || is_listed before other))
-    → AreLacked entries keys before (k ∷ left) → AreLacked entries keys after left
-lacked_more entries keys before after k left lacks one so_far = λ key.
-    ap (λ (t : Bool). t || (not (has_entry entries key) && is_listed (bytes_of_keys left) key)) (one key)
-    ∙ by key (is_same_key key k.items) refl (has_entry entries key) refl (is_listed before key) (is_listed (bytes_of_keys left) key)
+pub lacked_next : (entries : Entries) (keys before after : List Key) (e : Vec ℕ × List ℕ) (left : List (Vec ℕ × List ℕ)) → ((other : Key) → is_listed after other ≡ (not (is_same_key other e.0.items) && is_listed before other))
+    → AreLacked entries keys before (e ∷ left) → AreLacked entries keys after left
+lacked_next entries keys before after e left one so_far = λ key.
+    ap (λ (t : Bool). not (has_entry (entries_of left) key) && t) (one key)
+    ∙ by (is_same_key key e.0.items) (entry_value (entries_of left) key) (is_listed before key)
     ∙ so_far key
   where
-    by : (key : Key) (s : Bool) → is_same_key key k.items ≡ s → (h : Bool) → has_entry entries key ≡ h → (b l : Bool) → ((s || b) || (not h && l)) ≡ (b || (not h && (s || l)))
-    by key true same true has b l = let two : true ≡ false = sym has ∙ ap (has_entry entries) (same_key key k.items same) ∙ lacks in absurd (cc)
-    by key true same false has true l = refl
-    by key true same false has false l = refl
-    by key false same h has b l = refl
-
-pub lacked_same : (entries : Entries) (keys now : List Key) (k : Vec ℕ) (left : List (Vec ℕ)) → has_entry entries k.items ≡ true → AreLacked entries keys now (k ∷ left) → AreLacked entries keys now left
-lacked_same entries keys now k left there so_far = λ key. by key (is_same_key key k.items) refl (has_entry entries key) refl (is_listed now key) (is_listed (bytes_of_keys left) key) ∙ so_far key
-  where
-    by : (key : Key) (s : Bool) → is_same_key key k.items ≡ s → (h : Bool) → has_entry entries key ≡ h → (b l : Bool) → (b || (not h && l)) ≡ (b || (not h && (s || l)))
-    by key true same true has b l = refl
-    by key true same false has b l = let two : false ≡ true = sym has ∙ ap (has_entry entries) (same_key key k.items same) ∙ there in absurd (cc)
-    by key false same h has b l = refl
-
-nothing_more : (b t : Bool) → (b || (t && false)) ≡ b
-nothing_more true t = refl
-nothing_more false true = refl
-nothing_more false false = refl
+    by : (s : Bool) (found : Option (List ℕ)) (b : Bool) → (not (is_some found) && (not s && b)) ≡ (not (is_some (cond s (Some e.1) found)) && b)
+    by true None b = refl
+    by true (Some value) b = refl
+    by false None b = refl
+    by false (Some value) b = refl
 
 pub all_lacked : (entries : Entries) (keys now : List Key) → AreLacked entries keys now [] → (key : Key) → is_listed now key ≡ (not (has_entry entries key) && is_listed keys key)
-all_lacked entries keys now done key = sym (nothing_more (is_listed now key) (not (has_entry entries key))) ∙ done key
+all_lacked entries keys now done = done

@@ -326,18 +326,16 @@ impl EntryMap {
         self.write(undo.displaced);
     }
 
-    /// The keys of the set at which the map has no entry. Fails only with `OutOfMemory`.
-    pub(crate) fn keys_lacked(&self, keys: &KeySet) -> Result<KeySet, OutOfMemory>
-        ensures { IfOk result (λ lacked. (key : Key) → is_listed lacked key
-            ≡ (not (has_entry self.now key) && is_listed keys.now key)) }
+    /// The set without the keys at which the map has an entry. Takes a look-up in the set for each entry.
+    /// Does not allocate.
+    pub(crate) fn keys_lacked(&self, mut keys: KeySet) -> KeySet
+        ensures { (key : Key) → is_listed result key
+            ≡ (not (has_entry self.now key) && is_listed keys key) }
     {
-        let mut lacked = KeySet::new(self.alloc);
-        for key in keys.iter() {
-            if self.get(key.as_slice()).is_none() {
-                lacked.insert(key.as_slice())?;
-            }
+        for (key, _) in self.iter() {
+            keys.remove(key.as_slice());
         }
-        Ok(lacked)
+        keys
     }
 
     /// Puts all entries of the other map, if this one has an entry at each of their keys. Does not
@@ -393,11 +391,9 @@ impl EntryMap {
         Ok(self.values.range(bounds))
     }
 
-    /// The key of the entry before this key. Does not allocate.
-    pub(crate) fn before(&self, key: &Vec<u8>) -> Option<&Vec<u8>> {
-        let bounds = (Bound::Unbounded, Bound::Excluded(key));
-        let (before, _) = self.values.range(bounds).next_back()?;
-        Some(before)
+    /// The entries behind this key, in the order of their keys. Does not allocate.
+    pub(crate) fn behind<'a>(&'a self, key: &Vec<u8>) -> Range<'a, Vec<u8>, Bytes> {
+        self.values.range((Bound::Excluded(key), Bound::Unbounded))
     }
 
     /// Whether each of the runs begins with the prefix of keyServers keys, and the entries from its

@@ -171,10 +171,10 @@ impl KeptEntries {
         }
     }
 
-    /// The keys of the set at which the metadata has no entry. Fails only with `OutOfMemory`.
-    pub(crate) fn keys_lacked(&self, keys: &KeySet) -> Result<KeySet, OutOfMemory>
-        ensures { IfOk result (λ lacked. (key : Key) → is_listed lacked key
-            ≡ (not (has_entry self.now key) && is_listed keys.now key)) }
+    /// The set without the keys at which the metadata has an entry. Does not allocate.
+    pub(crate) fn keys_lacked(&self, keys: KeySet) -> KeySet
+        ensures { (key : Key) → is_listed result key
+            ≡ (not (has_entry self.now key) && is_listed keys key) }
     {
         self.entries.keys_lacked(keys)
     }

@@ -10,10 +10,10 @@ use crate::key_set::KeySet;
 use crate::order::is_between;
 use std::alloc::Global;
 use std::collections::BTreeMap;
-use std::collections::btree_map::Iter;
+use std::collections::btree_map::{Iter, Range};
 use std::marker::Model;
 use std::ops::Bound;
-use system_keys::{KEY_SERVERS_PREFIX, OutOfMemory};
+use system_keys::{Bytes, KEY_SERVERS_PREFIX, OutOfMemory};
 
 /// Runs of keys. Contracts see the first and the last key of each.
 #[derive(Drop)]
@@ -44,8 +44,8 @@ impl KeyRuns {
     }
 
     /// Runs of the keyServers keys among these: a key is in one run with the entry before it if that
-    /// is among these too. Takes a look-up for each of them, and copies two keys for each run. Some
-    /// runs are left out if memory runs out.
+    /// is among these too. Takes a step for each of them, and a look-up and copies of two keys for each
+    /// run. Some runs are left out if memory runs out.
     pub(crate) fn of(entries: &EntryMap, keys: &KeySet) -> KeyRuns {
         let mut runs = KeyRuns::new(entries.alloc());
         let _ = runs.add_runs_of(entries, keys);
@@ -55,35 +55,34 @@ impl KeyRuns {
     /// Adds the runs of the keyServers keys among these. Fails only with `OutOfMemory`; some of the
     /// runs are then added.
     fn add_runs_of(&mut self, entries: &EntryMap, keys: &KeySet) -> Result<(), OutOfMemory> {
-        let mut run = None;
+        let mut open = None;
         for key in keys.iter() {
             if key.as_slice().starts_with(KEY_SERVERS_PREFIX) {
-                run = Some(self.run_up_to(entries, run, key)?);
+                open = Some(self.run_up_to(entries, open, key)?);
             }
         }
-        match run {
-            Some((first, last)) => self.add(first, last),
+        match open {
+            Some(run) => self.add(run.first, run.last),
             None => Ok(()),
         }
     }
 
-    /// The run that ends with the key: the one before goes on if its last key is that of the entry
-    /// before the key, and else it is added, and a run begins. Fails only with `OutOfMemory`; the runs
-    /// are then unchanged.
+    /// The run that ends with the key: the one before goes on if the entry behind it has the key, and
+    /// else it is added, and a run begins. Fails only with `OutOfMemory`; the runs are then unchanged.
     fn run_up_to<'a>(
         &mut self,
-        entries: &EntryMap,
-        before: Option<(&'a Vec<u8>, &'a Vec<u8>)>,
+        entries: &'a EntryMap,
+        before: Option<OpenRun<'a>>,
         key: &'a Vec<u8>,
-    ) -> Result<(&'a Vec<u8>, &'a Vec<u8>), OutOfMemory> {
-        let Some((first, last)) = before else {
-            return Ok((key, key));
+    ) -> Result<OpenRun<'a>, OutOfMemory> {
+        let Some(mut run) = before else {
+            return Ok(OpenRun::new(entries, key));
         };
-        if is_entry_before(entries, last, key) {
-            return Ok((first, key));
+        if run.goes_on_to(key) {
+            return Ok(run);
         }
-        self.add(first, last)?;
-        Ok((key, key))
+        self.add(run.first, run.last)?;
+        Ok(OpenRun::new(entries, key))
     }
 
     /// Adds a run with copies of its first and its last key. Fails only with `OutOfMemory`; the runs
@@ -122,10 +121,32 @@ impl KeyRuns {
     }
 }
 
-/// Whether the entry before the key has this other key. Does not allocate.
-fn is_entry_before(entries: &EntryMap, other: &Vec<u8>, key: &Vec<u8>) -> bool {
-    match entries.before(key) {
-        Some(before) => before.as_slice() == other.as_slice(),
-        None => false,
+/// A run that may go on: its first and its last key, and the entries behind these.
+#[derive(Drop)]
+struct OpenRun<'a> {
+    first: &'a Vec<u8>,
+    last: &'a Vec<u8>,
+    behind: Range<'a, Vec<u8>, Bytes>,
+}
+
+impl<'a> OpenRun<'a> {
+    /// The run of one key. Does not allocate.
+    fn new(entries: &'a EntryMap, key: &'a Vec<u8>) -> OpenRun<'a> {
+        OpenRun {
+            first: key,
+            last: key,
+            behind: entries.behind(key),
+        }
+    }
+
+    /// Whether the entry behind the run has the key; it is then the last of the run. Does not allocate.
+    fn goes_on_to(&mut self, key: &'a Vec<u8>) -> bool {
+        match self.behind.next() {
+            Some((next, _)) if next.as_slice() == key.as_slice() => {
+                self.last = key;
+                true
+            }
+            _ => false,
+        }
     }
 }

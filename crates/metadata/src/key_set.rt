@@ -1,6 +1,6 @@
 //! Sets of keys, such as those that are hidden.
 
-ghost use Rattle.std.specs.Prelude.{◌≡◌, ◌||◌, [], OnOk, length};
+ghost use Rattle.std.specs.Prelude.{◌≡◌, ◌&&◌, ◌||◌, [], OnOk, length, not};
 ghost use Rattle.system_keys.specs.Keys.{Key};
 ghost use Rattle.metadata.specs.MapEntries.{bytes_of_keys};
 ghost use Rattle.metadata.specs.Overwrites.{is_same_key, is_listed};
@@ -68,6 +68,16 @@ impl KeySet {
         let key = Vec::from_slice(self.alloc, key)?;
         self.keys.insert(key)?;
         Ok(())
+    }
+
+    /// Removes the key. Does not allocate.
+    pub(crate) fn remove(&mut self, key: &[u8])
+        ensures { (other : Key) → is_listed self.new other
+            ≡ (not (is_same_key other key.now) && is_listed self.old other) }
+    {
+        // (gives the proof that the keys are in order)
+        let _count = self.keys.len();
+        self.keys.remove(key);
     }
 
     /// Adds copies of the keys. Fails only with `OutOfMemory`; some of them are then added.

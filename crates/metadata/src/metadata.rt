@@ -217,8 +217,8 @@ impl Metadata {
         ensures locked { IfOk result (λ started. started.locked ≡ locked) }
         ensures err { OnErr result (self.new ≡ self.old) }
     {
-        let removed = staged.removed()?;
-        let mut puts = staged.puts;
+        let Staged { cleared, mut puts } = staged;
+        let removed = puts.keys_lacked(cleared);
         puts.blank(&removed)?;
         let put = self.put_over(puts)?;
         Ok(StartedRows {
