@@ -52,7 +52,7 @@ pub key_servers_passing : (rows : Entries) (p : Entry → Bool) (es : List (Vec 
 key_servers_passing rows p es is = λ entry has.
     and_left (is_key_servers entry) (p entry) (Has-from_filter (λ (e : Entry). is_key_servers e && p e) rows entry (subst (λ (found : Entries). Has found entry) is has)).1
 
-both_of : (es fs : List (Vec ℕ × List ℕ)) → entries_of (es ++ fs) ≡ entries_of es ++ entries_of fs
+pub both_of : (es fs : List (Vec ℕ × List ℕ)) → entries_of (es ++ fs) ≡ entries_of es ++ entries_of fs
 both_of [] fs = refl
 both_of (e ∷ es) fs = ap (λ (rest : Entries). entry_from e ∷ rest) (both_of es fs)
 

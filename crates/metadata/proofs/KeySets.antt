@@ -1,5 +1,5 @@
 -- Which keys a set has, after one more and after several.
-use Rattle.std.proofs.Common.{◌≡◌, refl, sym, ap, ◌∙◌, ℕ, ◌+◌, ◌<◌, length, drop, get_or, add-one, List, [], ◌∷◌, Bool, true, false, cond, not, ◌&&◌, ◌||◌, Option, Some, None, is_eq, Ordering, Less, Equal, Greater, nat_cmp}
+use Rattle.std.proofs.Common.{◌≡◌, refl, sym, ap, ◌∙◌, ℕ, List, [], ◌∷◌, ◌++◌, Bool, true, false, cond, not, ◌&&◌, ◌||◌, Option, Some, None, is_eq, Ordering, Less, Equal, Greater, nat_cmp}
 use Rattle.std.specs.Global.{Vec}
 use Rattle.std.specs.List.{AllByRecursion, list_any}
 use Rattle.std.specs.List.Sorted.{IsStrictlySortedBy}
@@ -9,7 +9,6 @@ use Rattle.std.specs.Ordering.{match_ordering}
 use Rattle.std.specs.BTreeMap.{is_at}
 use Rattle.std.specs.BTreeSet.{insert_key}
 use Rattle.std.specs.Cmp.Lexicographic.{slice_cmp}
-use Rattle.std.proofs.Math.Seq.{drop-cons}
 use Rattle.std.proofs.lemmas.Map.Lookups.{exact_bytes}
 use Rattle.system_keys.specs.Keys.{Key}
 use Rattle.model.specs.Metadata.{Entries, entry_value}
@@ -89,19 +88,24 @@ listed_removed (k ∷ keys) key other s = by (is_same_key key k.items) refl (is_
 abbrev pub AreAdded : (keys left : List (Vec ℕ)) (old now : List Key) → Type 0
 AreAdded keys left old now = (other : Key) → (is_listed (bytes_of_keys left) other || is_listed now other) ≡ (is_listed (bytes_of_keys keys) other || is_listed old other)
 
-grouped : (l s b : Bool) → (l || (s || b)) ≡ ((s || l) || b)
-grouped true true b = refl
-grouped true false b = refl
-grouped false true b = refl
-grouped false false b = refl
+or_nothing : (t : Bool) → (t || false) ≡ t
+or_nothing true = refl
+or_nothing false = refl
 
-pub added_next : (keys : List (Vec ℕ)) (d : Vec ℕ) (i : ℕ) (old before after : List Key) → i < length keys → ((other : Key) → is_listed after other ≡ (is_same_key other (get_or keys i d).items || is_listed before other))
-    → AreAdded keys (drop i keys) old before → AreAdded keys (drop (i + 1) keys) old after
-added_next keys d i old before after within one so_far = λ other.
-    let split : drop i keys ≡ get_or keys i d ∷ drop (i + 1) keys = rw (add-one, drop-cons keys i d) in
-    ap (λ (t : Bool). is_listed (bytes_of_keys (drop (i + 1) keys)) other || t) (one other)
-    ∙ grouped (is_listed (bytes_of_keys (drop (i + 1) keys)) other) (is_same_key other (get_or keys i d).items) (is_listed before other)
-    ∙ ap (λ (left : List (Vec ℕ)). is_listed (bytes_of_keys left) other || is_listed before other) (sym split)
+grouped : (l s b : Bool) → (l || (s || b)) ≡ ((l || s) || b)
+grouped true s b = refl
+grouped false s b = refl
+
+last_listed : (front : List (Vec ℕ)) (k : Vec ℕ) (other : Key) → is_listed (bytes_of_keys (front ++ k ∷ [])) other ≡ (is_listed (bytes_of_keys front) other || is_same_key other k.items)
+last_listed [] k other = or_nothing (is_same_key other k.items)
+last_listed (x ∷ front) k other = ap (λ (t : Bool). is_same_key other x.items || t) (last_listed front k other) ∙ grouped (is_same_key other x.items) (is_listed (bytes_of_keys front) other) (is_same_key other k.items)
+
+pub added_last : (keys front : List (Vec ℕ)) (k : Vec ℕ) (old before after : List Key) → ((other : Key) → is_listed after other ≡ (is_same_key other k.items || is_listed before other))
+    → AreAdded keys (front ++ k ∷ []) old before → AreAdded keys front old after
+added_last keys front k old before after one so_far = λ other.
+    ap (λ (t : Bool). is_listed (bytes_of_keys front) other || t) (one other)
+    ∙ grouped (is_listed (bytes_of_keys front) other) (is_same_key other k.items) (is_listed before other)
+    ∙ ap (λ (t : Bool). t || is_listed before other) (sym (last_listed front k other))
     ∙ so_far other
 
 -- ---- the keys that entries lack

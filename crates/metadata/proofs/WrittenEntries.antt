@@ -1,5 +1,5 @@
 -- Entries that are put one after another.
-use Rattle.std.proofs.Common.{◌≡◌, refl, sym, ap, ◌∙◌, ℕ, List, [], ◌∷◌, Bool, true, false, cond, if◌then◌else◌, fold, Option, Some, None}
+use Rattle.std.proofs.Common.{◌≡◌, refl, sym, ap, ◌∙◌, ℕ, List, [], ◌∷◌, ◌++◌, Bool, true, false, cond, if◌then◌else◌, fold, Option, Some, None}
 use Rattle.std.specs.Option.{is_some, option_or}
 use Rattle.std.specs.BTreeMap.{insert_entry}
 use Rattle.system_keys.specs.Keys.{Key}
@@ -54,40 +54,63 @@ written_value rows (put ∷ puts) key s =
 pub all_written : (old puts now : Entries) (key : Key) → IsInOrder puts → IsWriting old puts now [] → entry_value now key ≡ option_or (entry_value puts key) (entry_value old key)
 all_written old puts now key s done = ap (λ (rows : Entries). entry_value rows key) done.left ∙ written_value old puts key s
 
--- ---- where some of the keys may have no entry yet
+-- ---- where some of the keys may have no entry yet, from the last to the first
 
--- the rest gives from here what all give from the start, no other key has changed, and no entry is gone
+-- what is left goes over what is put so far, and gives what all give; and no entry is gone
 pub record IsPuttingOver (old puts now rest : Entries) : Type 0 where
-  pub left : written now rest ≡ written old puts
+  pub left : (key : Key) → option_or (entry_value rest key) (entry_value now key) ≡ option_or (entry_value puts key) (entry_value old key)
   pub among : (key : Key) → has_entry rest key ≡ true → has_entry puts key ≡ true
-  pub others : (key : Key) → has_entry puts key ≡ false → entry_value now key ≡ entry_value old key
   pub there : (key : Key) → has_entry old key ≡ true → has_entry now key ≡ true
 
 pub putting_over_first : (old puts rest : Entries) → rest ≡ puts → IsPuttingOver old puts old rest
 putting_over_first old puts rest is =
     record {
-      left = ap (written old) is;
+      left = λ key. ap (λ (rows : Entries). option_or (entry_value rows key) (entry_value old key)) is;
       among = λ key has. ap (λ (rows : Entries). has_entry rows key) (sym is) ∙ has;
-      others = λ key out. refl;
       there = λ key has. has;
     }
 
-pub putting_over_next : (old puts now next : Entries) (row : Entry) (rest : Entries) → next ≡ insert_entry key_cmp now row.0 row.1 → IsPuttingOver old puts now (row ∷ rest) → IsPuttingOver old puts next rest
-putting_over_next old puts now next row rest put so_far =
+last_value : (front : Entries) (row : Entry) (key : Key) → entry_value (front ++ row ∷ []) key ≡ option_or (entry_value front key) (if is_same_key key row.0 then Some row.1 else None)
+last_value [] row key = refl
+last_value (e ∷ front) row key = by (is_same_key key e.0) (last_value front row key)
+  where
+    by : (t : Bool) → entry_value (front ++ row ∷ []) key ≡ option_or (entry_value front key) (if is_same_key key row.0 then Some row.1 else None)
+        → cond t (Some e.1) (entry_value (front ++ row ∷ []) key) ≡ option_or (cond t (Some e.1) (entry_value front key)) (if is_same_key key row.0 then Some row.1 else None)
+    by true later = refl
+    by false later = later
+
+over_one : (found now : Option (List ℕ)) (s : Bool) (value : List ℕ) → option_or found (if s then Some value else now) ≡ option_or (option_or found (if s then Some value else None)) now
+over_one (Some x) now s value = refl
+over_one None now true value = refl
+over_one None now false value = refl
+
+still_some : (found other : Option (List ℕ)) → is_some found ≡ true → is_some (option_or found other) ≡ true
+still_some (Some x) other h = refl
+still_some None other h = absurd (cc)
+
+pub putting_over_next : (old puts now next : Entries) (row : Entry) (front : Entries) → next ≡ insert_entry key_cmp now row.0 row.1 → IsPuttingOver old puts now (front ++ row ∷ []) → IsPuttingOver old puts next front
+putting_over_next old puts now next row front put so_far =
     record {
-      left = ap (λ (rows : Entries). written rows rest) put ∙ so_far.left;
-      among = λ key has. so_far.among key (later_there (is_same_key key row.0) row.1 (entry_value rest key) has);
-      others = λ key out. put_is key ∙ unlike key (is_same_key key row.0) refl out ∙ so_far.others key out;
+      left = λ key.
+          ap (option_or (entry_value front key)) (put_is key)
+          ∙ over_one (entry_value front key) (entry_value now key) (is_same_key key row.0) row.1
+          ∙ ap (λ (found : Option (List ℕ)). option_or found (entry_value now key)) (sym (last_value front row key))
+          ∙ so_far.left key;
+      among = λ key has. so_far.among key (ap is_some (last_value front row key) ∙ still_some (entry_value front key) (if is_same_key key row.0 then Some row.1 else None) has);
       there = λ key has. ap is_some (put_is key) ∙ put_there (is_same_key key row.0) row.1 (entry_value now key) (so_far.there key has);
     }
   where
     put_is : (key : Key) → entry_value next key ≡ (if is_same_key key row.0 then Some row.1 else entry_value now key)
     put_is key = ap (λ (rows : Entries). entry_value rows key) put ∙ value_put now row.0 key row.1
 
-    unlike : (key : Key) (t : Bool) → is_same_key key row.0 ≡ t → has_entry puts key ≡ false → (if t then Some row.1 else entry_value now key) ≡ entry_value now key
-    unlike key false same out = refl
-    unlike key true same out =
-        let two : true ≡ false = sym (so_far.among row.0 (has_first row rest)) ∙ ap (has_entry puts) (sym (same_key key row.0 same)) ∙ out in absurd (cc)
-
-pub putting_over_last : (old puts now : Entries) (key : Key) → IsInOrder puts → IsPuttingOver old puts now [] → entry_value now key ≡ option_or (entry_value puts key) (entry_value old key)
-putting_over_last old puts now key s done = ap (λ (rows : Entries). entry_value rows key) done.left ∙ written_value old puts key s
+-- no other key has changed
+pub putting_over_others : (old puts now rest : Entries) → IsPuttingOver old puts now rest → (key : Key) → has_entry puts key ≡ false → entry_value now key ≡ entry_value old key
+putting_over_others old puts now rest so_far key out = by (entry_value rest key) refl (entry_value puts key) refl
+  where
+    by : (found : Option (List ℕ)) → entry_value rest key ≡ found → (own : Option (List ℕ)) → entry_value puts key ≡ own → entry_value now key ≡ entry_value old key
+    by (Some x) at own h = let two : true ≡ false = sym (so_far.among key (ap is_some at)) ∙ out in absurd (cc)
+    by None at (Some y) h = let two : true ≡ false = sym (ap is_some h) ∙ out in absurd (cc)
+    by None at None h =
+        sym (ap (λ (found : Option (List ℕ)). option_or found (entry_value now key)) at)
+        ∙ so_far.left key
+        ∙ ap (λ (found : Option (List ℕ)). option_or found (entry_value old key)) h

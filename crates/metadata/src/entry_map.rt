@@ -301,8 +301,8 @@ impl EntryMap {
         self.put_owned(key, Bytes::from(value))
     }
 
-    /// Puts the entries of the other map, one after another. Fails only with `OutOfMemory`; some of
-    /// them are then put.
+    /// Puts the entries of the other map, from the last to the first: each key is then compared with
+    /// few of those that are put. Fails only with `OutOfMemory`; some of them are then put.
     fn put_each(&mut self, puts: EntryMap) -> Result<(), OutOfMemory>
         ensures ok { OnOk result (IsPutOver puts self.old self.new) }
         ensures others { (key : Key) → has_entry puts key ≡ false
@@ -311,7 +311,8 @@ impl EntryMap {
             → has_entry self.new key ≡ true }
         ensures order { IsInOrder self.old → IsInOrder self.new }
     {
-        for (key, value) in puts.values {
+        let mut rest = puts.values.into_iter();
+        while let Some((key, value)) = rest.next_back() {
             self.put_owned(key, value)?;
         }
         Ok(())

@@ -80,13 +80,16 @@ impl KeySet {
         self.keys.remove(key);
     }
 
-    /// Adds copies of the keys. Fails only with `OutOfMemory`; some of them are then added.
+    /// Adds copies of the keys, from the last to the first: keys that rise are then each compared with
+    /// few others. Fails only with `OutOfMemory`; some of them are then added.
     pub(crate) fn insert_all(&mut self, keys: &[Vec<u8>]) -> Result<(), OutOfMemory>
         ensures { OnOk result ((other : Key) → is_listed self.new other
             ≡ (is_listed (bytes_of_keys keys.now) other || is_listed self.old other)) }
     {
-        for key in keys {
+        let mut rest = keys;
+        while let Some((key, before)) = rest.split_last() {
             self.insert(key.as_slice())?;
+            rest = before;
         }
         Ok(())
     }

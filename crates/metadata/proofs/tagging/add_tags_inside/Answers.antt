@@ -3,7 +3,6 @@ use Rattle.std.proofs.Common.{◌∙◌, ap, sym, Some, flat_map, filter, ℕ, L
 use Rattle.std.specs.Global.{Vec}
 use Rattle.model.specs.Metadata.{Entries, entry_value, entry_tags}
 use Rattle.metadata.specs.MapEntries.{entry_from, entries_of, is_serving_inside}
-use Rattle.metadata.specs.Overwrites.{is_listed}
 use Rattle.metadata.specs.CachedTags.{KeyTags, tags_at, tags_by}
 use Rattle.metadata.proofs.Tags.{added}
 use Rattle.metadata.proofs.KeptTags.{rows_passing, key_servers_passing, row_first, own_first, rows_rest, own_rest, tags_shown_at, row_added}

@@ -1,5 +1,5 @@
 -- A turn of the loop removes the key of an entry.
-use Rattle.std.proofs.Common.{◌≡◌, ◌∙◌, ap, subst, not, ◌&&◌, List, ℕ}
+use Rattle.std.proofs.Common.{◌∙◌, ap, subst, not, ◌&&◌, List, ℕ}
 use Rattle.std.specs.Global.{Vec}
 use Rattle.system_keys.specs.Keys.{Key}
 use Rattle.metadata.specs.Overwrites.{is_same_key, is_listed}
