@@ -9,7 +9,7 @@ use crate::faults::RunFault;
 use crate::guards::{lock_proxies, lock_resolvers};
 use crate::moves::move_all;
 use agreed_ledger::{Ledger, Naming, Sequencer};
-use locked_cluster::{ProxyGuard, ResolverGuard, SharedProxy, SharedResolver};
+use locked_cluster::{ProxyGuard, Refusal, ResolverGuard, SharedProxy, SharedResolver};
 use model::ProxyNumber;
 use std::alloc::Global;
 use std::sync::Wait;
@@ -98,8 +98,14 @@ fn shared_resolvers<'l, N: Naming>(
     let mut resolvers = Vec::with_capacity(alloc, count)?;
     for number in 0..count {
         // The ledger has a resolver of each of these numbers.
-        let Ok(resolver) = SharedResolver::new(alloc, ledger, number) else {
-            return Err(OutOfMemory);
+        let resolver = match SharedResolver::new(alloc, ledger, number) {
+            Ok(resolver) => resolver,
+            Err(refusal) => {
+                let Refusal::OutOfMemory = refusal else {
+                    unreachable!();
+                };
+                return Err(OutOfMemory);
+            }
         };
         resolvers.push(resolver)?;
     }
@@ -118,8 +124,14 @@ fn shared_proxies<'l, N: Naming>(
     let mut proxies = Vec::with_capacity(alloc, count)?;
     for number in 0..count {
         // The ledger has a proxy of each of these numbers.
-        let Ok(proxy) = SharedProxy::new(alloc, ledger, number) else {
-            return Err(OutOfMemory);
+        let proxy = match SharedProxy::new(alloc, ledger, number) {
+            Ok(proxy) => proxy,
+            Err(refusal) => {
+                let Refusal::OutOfMemory = refusal else {
+                    unreachable!();
+                };
+                return Err(OutOfMemory);
+            }
         };
         proxies.push(proxy)?;
     }

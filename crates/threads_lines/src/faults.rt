@@ -85,7 +85,7 @@ fn commit_fault<N: Naming>(fault: &CommitFault<N>) -> RunFault
 }
 
 /// How a run fails that the sequencer refused so.
-pub fn ledger_fault(refusal: LedgerRefusal) -> RunFault
+pub(crate) fn ledger_fault(refusal: LedgerRefusal) -> RunFault
     ensures { result ≡ ledger_fault refusal }
 {
     match refusal {

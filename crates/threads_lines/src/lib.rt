@@ -19,7 +19,7 @@ mod threads;
 
 pub use cluster::Cluster;
 pub use committer::Committer;
-pub use faults::{RunFault, ledger_fault, status_of};
+pub use faults::{RunFault, status_of};
 pub use meetings::{print_audits, print_meetings};
 pub use serving::{RunOutcome, ServesInbox, commit_over_workers};
 pub use threads::CommitsBatches;

@@ -1,6 +1,6 @@
 //! What the threads of a run share.
 
-ghost use Rattle.std.specs.Prelude.{◌≡◌, ◌<◌, [], length, IfOk, OnOk, string_bytes};
+ghost use Rattle.std.specs.Prelude.{◌≡◌, ◌<◌, [], length, OnOk, string_bytes};
 ghost use Rattle.std.specs.List.{list_any};
 ghost use Rattle.threads_lines.specs.Answers.{AreBatchLines, IsClosingLine};
 ghost use Rattle.threads_run.specs.Beside.{lines_beside, was_cut_off, was_refused_memory};
@@ -14,7 +14,6 @@ use model::{ProxyNumber, ResolverNumber};
 use mutation::Batch;
 use std::alloc::Global;
 use std::sync::Wait;
-use system_keys::OutOfMemory;
 use threads_lines::{Cluster, CommitsBatches, Committer, RunFault, RunOutcome, ServesInbox};
 use workers::{AskedRequest, EndedWorker, Open, ProxyInboxes, ResolverWorker};
 
@@ -143,7 +142,7 @@ impl<'a, 'l, N: Naming, M: Channels> CommitsBatches for Running<'a, 'l, N, M> {
         alloc: Global,
         text: &mut String,
     ) -> Result<(), RunFault> {
-        let empty = empty_batch(alloc)?;
+        let empty = empty_batch(alloc);
         for number in 0..self.cluster.proxies.len() {
             self.committer(number).print_closing(rt, text, &empty)?;
         }
@@ -163,12 +162,12 @@ impl<'a, 'l, N: Naming, M: Channels> CommitsBatches for Running<'a, 'l, N, M> {
     }
 }
 
-/// The batch without transactions. Fails only with `OutOfMemory`, and in fact never.
-fn empty_batch(alloc: Global) -> Result<Batch, OutOfMemory>
-    ensures { IfOk result (λ batch. batch ≡ []) }
+/// The batch without transactions.
+fn empty_batch(alloc: Global) -> Batch
+    ensures { result ≡ [] }
 {
-    match Batch::new(Vec::new(alloc)) {
-        Ok(batch) => Ok(batch),
-        Err(_refused) => Err(OutOfMemory),
-    }
+    let Ok(batch) = Batch::new(Vec::new(alloc)) else {
+        unreachable!();
+    };
+    batch
 }

@@ -9,7 +9,7 @@ ghost use Rattle.threads_lines.specs.Threads.{AreAnswerLines, AreInPlace};
 ghost use Rattle.threads_run.specs.Text.{AreProxyTexts, IsThreadsText, proxy_text};
 
 use crate::running::{Running, Serving, lines_of};
-use agreed_ledger::{BlankLedger, Ledger, Naming};
+use agreed_ledger::{BlankLedger, Ledger, Naming, Refusal};
 use cluster_lines::print_proxy_metadata;
 use inboxes::{BlankInboxes, Channels, InboxRoom, ProxySenders};
 use locked_cluster::ProxyGuard;
@@ -20,9 +20,7 @@ use std::marker::Brand;
 use std::sync::Wait;
 use std::thread::Threads;
 use system_keys::{Bytes, Items, OutOfMemory};
-use threads_lines::{
-    Cluster, RunFault, commit_over_workers, ledger_fault, print_audits, print_meetings,
-};
+use threads_lines::{Cluster, RunFault, commit_over_workers, print_audits, print_meetings};
 use threads_scripts::ThreadsScript;
 use workers::{AskedRequest, ProxyInboxes};
 
@@ -41,9 +39,20 @@ pub(crate) fn threads_text<R: Threads + Wait + Sync>(
     requires { IsRunnable script.now }
     ensures { IfOk result (λ text. IsThreadsText script.now (string_bytes text)) }
 {
+    let blank = blank_ledger(alloc, script)?;
+    threads_text_in::<Brand, R>(rt, alloc, blank, script)
+}
+
+/// The ledger of the script before its first batch. Fails only with `OutOfMemory`.
+fn blank_ledger(alloc: Global, script: &ThreadsScript) -> Result<BlankLedger, OutOfMemory>
+    requires { IsRunnable script.now }
+    ensures rows { IfOk result (λ blank. length blank.records ≡ script.now.rows) }
+    ensures config { IfOk result (λ blank. blank.config ≡ script.now.config) }
+{
     match Ledger::new(alloc, script.rows, script.config) {
-        Ok(blank) => threads_text_in::<Brand, R>(rt, alloc, blank, script),
-        Err(refusal) => Err(ledger_fault(refusal)),
+        Ok(blank) => Ok(blank),
+        Err(Refusal::OutOfMemory) => Err(OutOfMemory),
+        Err(_) => unreachable!(),
     }
 }
 
