@@ -1,5 +1,5 @@
 -- Which keys a set has, after one more and after several.
-use Rattle.std.proofs.Common.{◌≡◌, refl, sym, ap, ◌∙◌, ℕ, List, [], ◌∷◌, ◌++◌, Bool, true, false, cond, not, ◌&&◌, ◌||◌, Option, Some, None, is_eq, Ordering, Less, Equal, Greater, nat_cmp}
+use Rattle.std.proofs.Common.{◌≡◌, refl, sym, ap, ◌∙◌, ℕ, List, [], ◌∷◌, ◌++◌, filter, Bool, true, false, cond, not, ◌&&◌, ◌||◌, Option, Some, None, is_eq, Ordering, Less, Equal, Greater, nat_cmp}
 use Rattle.std.specs.Global.{Vec}
 use Rattle.std.specs.List.{AllByRecursion, list_any}
 use Rattle.std.specs.List.Sorted.{IsStrictlySortedBy}
@@ -107,6 +107,33 @@ added_last keys front k old before after one so_far = λ other.
     ∙ grouped (is_listed (bytes_of_keys front) other) (is_same_key other k.items) (is_listed before other)
     ∙ ap (λ (t : Bool). t || is_listed before other) (sym (last_listed front k other))
     ∙ so_far other
+
+-- ---- some of the keys, one after another
+
+or_right : (a b : Bool) → b ≡ true → (a || b) ≡ true
+or_right true b h = refl
+or_right false b h = h
+
+or_later : (s a b : Bool) → (a ≡ true → b ≡ true) → (s || a) ≡ true → (s || b) ≡ true
+or_later true a b later h = refl
+or_later false a b later h = later h
+
+pub listed_some : (p : Vec ℕ → Bool) (keys : List (Vec ℕ)) (other : Key) → is_listed (bytes_of_keys (filter p keys)) other ≡ true → is_listed (bytes_of_keys keys) other ≡ true
+listed_some p [] other h = h
+listed_some p (k ∷ keys) other h = by (p k) (listed_some p keys other) h
+  where
+    by : (t : Bool) → (is_listed (bytes_of_keys (filter p keys)) other ≡ true → is_listed (bytes_of_keys keys) other ≡ true)
+        → is_listed (bytes_of_keys (cond t (k ∷ filter p keys) (filter p keys))) other ≡ true → (is_same_key other k.items || is_listed (bytes_of_keys keys) other) ≡ true
+    by true later h = or_later (is_same_key other k.items) (is_listed (bytes_of_keys (filter p keys)) other) (is_listed (bytes_of_keys keys) other) later h
+    by false later h = or_right (is_same_key other k.items) (is_listed (bytes_of_keys keys) other) (later h)
+
+pub listed_first : (k : Vec ℕ) (left all : List (Vec ℕ)) (key : Key) → all ≡ k ∷ left → k.items ≡ key → is_listed (bytes_of_keys all) key ≡ true
+listed_first k left all key steps same =
+    let it : is_same_key key k.items ≡ true = ap (is_same_key key) same ∙ same_itself key in
+    ap (λ (keys : List (Vec ℕ)). is_listed (bytes_of_keys keys) key) steps ∙ ap (λ (t : Bool). t || is_listed (bytes_of_keys left) key) it
+
+pub listed_rest : (k : Vec ℕ) (left all : List (Vec ℕ)) (other : Key) → all ≡ k ∷ left → is_listed (bytes_of_keys left) other ≡ true → is_listed (bytes_of_keys all) other ≡ true
+listed_rest k left all other steps h = ap (λ (keys : List (Vec ℕ)). is_listed (bytes_of_keys keys) other) steps ∙ or_right (is_same_key other k.items) (is_listed (bytes_of_keys left) other) h
 
 -- ---- the keys that entries lack
 

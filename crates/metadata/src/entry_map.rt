@@ -21,7 +21,7 @@ ghost use Rattle.metadata.specs.HiddenRuns.{is_serving_after};
 ghost use Rattle.metadata.specs.ServerTables.{AreServerKeys};
 
 use crate::key_runs::KeyRuns;
-use crate::key_set::KeySet;
+use crate::key_set::{KeySet, is_next};
 use crate::order::{is_between, precedes};
 use std::alloc::Global;
 use std::collections::BTreeMap;
@@ -398,8 +398,9 @@ impl EntryMap {
     }
 
     /// Whether each of the runs begins with the prefix of keyServers keys, and the entries from its
-    /// first to its last key are hidden. False too if the last key of a run is before its first. Does
-    /// not allocate; takes a step for each of these entries.
+    /// first to its last key are hidden. False too if the last key of a run is before its first, or if a
+    /// key between them is hidden that has no entry. Does not allocate; takes a step for each of these
+    /// entries, and a look-up for each run.
     pub(crate) fn are_hidden_runs(&self, runs: &KeyRuns, hidden: &KeySet) -> bool
         ensures { result ≡ true → AreHiddenRuns hidden.now self.now runs.now }
     {
@@ -419,9 +420,10 @@ impl EntryMap {
         if !begins || precedes(last.as_slice(), first.as_slice()) {
             return false;
         }
+        let mut listed = hidden.from_key(first);
         let bounds = (Bound::Included(first), Bound::Included(last));
         for (key, _) in self.values.range(bounds) {
-            if !hidden.contains(key.as_slice()) {
+            if !is_next(&mut listed, key.as_slice()) {
                 return false;
             }
         }

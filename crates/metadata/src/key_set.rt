@@ -1,14 +1,15 @@
 //! Sets of keys, such as those that are hidden.
 
-ghost use Rattle.std.specs.Prelude.{◌≡◌, ◌&&◌, ◌||◌, [], OnOk, length, not};
+ghost use Rattle.std.specs.Prelude.{◌≡◌, ◌&&◌, ◌||◌, [], true, OnOk, length, not};
 ghost use Rattle.system_keys.specs.Keys.{Key};
 ghost use Rattle.metadata.specs.MapEntries.{bytes_of_keys};
 ghost use Rattle.metadata.specs.Overwrites.{is_same_key, is_listed};
 
 use std::alloc::Global;
 use std::collections::BTreeSet;
-use std::collections::btree_set::Iter;
+use std::collections::btree_set::{Iter, Range};
 use std::marker::Model;
+use std::ops::Bound;
 use system_keys::OutOfMemory;
 
 /// A set of keys. Contracts see the list of them.
@@ -60,6 +61,15 @@ impl KeySet {
         self.keys.iter()
     }
 
+    /// The keys from this one on. Does not allocate.
+    pub(crate) fn from_key(&self, key: &Vec<u8>) -> Range<'_, Vec<u8>>
+        ensures { (other : Key) → is_listed (bytes_of_keys result) other ≡ true
+            → is_listed self.now other ≡ true }
+    {
+        let bounds = (Bound::Included(key), Bound::Unbounded);
+        self.keys.range(bounds)
+    }
+
     /// Adds a copy of the key. Fails only with `OutOfMemory`.
     pub(crate) fn insert(&mut self, key: &[u8]) -> Result<(), OutOfMemory>
         ensures { OnOk result ((other : Key)
@@ -92,5 +102,18 @@ impl KeySet {
             rest = before;
         }
         Ok(())
+    }
+}
+
+/// Whether the key is the next of these, which is passed over. Does not allocate.
+#[tactic(auto, using(crate::proofs::KeySets::listed_rest))]
+pub(crate) fn is_next(keys: &mut Range<'_, Vec<u8>>, key: &[u8]) -> bool
+    ensures found { result ≡ true → is_listed (bytes_of_keys keys.old) key.now ≡ true }
+    ensures rest { (other : Key) → is_listed (bytes_of_keys keys.new) other ≡ true
+        → is_listed (bytes_of_keys keys.old) other ≡ true }
+{
+    match keys.next() {
+        Some(next) => next.as_slice() == key,
+        None => false,
     }
 }
