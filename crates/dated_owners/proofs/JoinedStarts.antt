@@ -84,33 +84,98 @@ last_alike d xs ys e = sym (last_joined d xs) ∙ ap (last_value d) e ∙ last_j
 
 -- ---- sweeping
 
--- what a closure did at each entry: it left the owners that are needed, and dropped the entry only if they are those noted before
-abbrev pub Sweeps : {F : Type 0} → (oldest : ℕ) → (IsGood : F → Type 0) → (is_noted : F → Bool) → (noted : F → List LaterOwner) → (F → Vec ℕ → List LaterOwner → Bool → List LaterOwner → F → Type 0) → Type 0
-Sweeps {F} oldest IsGood is_noted noted T =
+-- what a closure did at each entry: it changed the owners as the relation says, and dropped the entry only if they are those noted before
+abbrev pub Sweeps : {F : Type 0} → (Changes : List LaterOwner → List LaterOwner → Type 0) → (IsGood : F → Type 0) → (is_noted : F → Bool) → (noted : F → List LaterOwner) → (F → Vec ℕ → List LaterOwner → Bool → List LaterOwner → F → Type 0) → Type 0
+Sweeps {F} Changes IsGood is_noted noted T =
     (f : F) (k : Vec ℕ) (v : List LaterOwner) (b : Bool) (w : List LaterOwner) (next : F) → IsGood f → T f k v b w next
-    → (w ≡ needed oldest v) × (b ≡ false → (is_noted f ≡ true) × (w ≡ noted f)) × (is_noted next ≡ true → noted next ≡ w) × IsGood next
+    → Changes v w × (b ≡ false → (is_noted f ≡ true) × (w ≡ noted f)) × (is_noted next ≡ true → noted next ≡ w) × IsGood next
 
-pub swept : {F : Type 0} (T : F → Vec ℕ → List LaterOwner → Bool → List LaterOwner → F → Type 0) (oldest : ℕ) (IsGood : F → Type 0) (is_noted : F → Bool) (noted : F → List LaterOwner) → Sweeps oldest IsGood is_noted noted T
+-- the same starts, with owners that are changed as the relation says
+abbrev pub AreChanged : (List LaterOwner → List LaterOwner → Type 0) → (before after : Starts) → Type 0
+AreChanged Changes [] [] = Unit {0}
+AreChanged Changes [] (t ∷ ts) = ⊥
+AreChanged Changes (s ∷ ss) [] = ⊥
+AreChanged Changes (s ∷ ss) (t ∷ ts) = (t.0 ≡ s.0) × Changes s.1 t.1 × AreChanged Changes ss ts
+
+-- the starts that are left change where all changed ones do
+pub record IsSwept (Changes : List LaterOwner → List LaterOwner → Type 0) (d : List LaterOwner) (old new : Starts) : Type 0 where
+  pub all : Starts
+  pub changed : AreChanged Changes old all
+  pub same : joined d new ≡ joined d all
+
+pub swept_by : {F : Type 0} (T : F → Vec ℕ → List LaterOwner → Bool → List LaterOwner → F → Type 0) (Changes : List LaterOwner → List LaterOwner → Type 0) (IsGood : F → Type 0) (is_noted : F → Bool) (noted : F → List LaterOwner) → Sweeps Changes IsGood is_noted noted T
     → (f : F) (es kept : List (Vec ℕ × List LaterOwner)) (d : List LaterOwner) → IsGood f → (is_noted f ≡ true → noted f ≡ d) → RetainsPairs T f es kept
-    → joined d (starts_of kept) ≡ joined d (with_values (needed oldest) (starts_of es))
-swept T oldest IsGood is_noted noted law f [] kept d good at done = ap (λ (es : List (Vec ℕ × List LaterOwner)). joined d (starts_of es)) done
-swept {F} T oldest IsGood is_noted noted law f ((k, v) ∷ es) kept d good at (b, w, next, rest, step, more, is) =
-    ap (λ (xs : List (Vec ℕ × List LaterOwner)). joined d (starts_of xs)) is
-    ∙ by b (law f k v b w next good step) (swept T oldest IsGood is_noted noted law next es rest w (law f k v b w next good step).3 (law f k v b w next good step).2 more)
+    → IsSwept Changes d (starts_of es) (starts_of kept)
+swept_by T Changes IsGood is_noted noted law f [] kept d good at done = record { all = []; changed = tt; same = ap (λ (es : List (Vec ℕ × List LaterOwner)). joined d (starts_of es)) done }
+swept_by {F} T Changes IsGood is_noted noted law f ((k, v) ∷ es) kept d good at (b, w, next, rest, step, more, is) =
+    let facts = law f k v b w next good step in
+    let rec = swept_by T Changes IsGood is_noted noted law next es rest w facts.3 facts.2 more in
+    record {
+      all = (k.items, w) ∷ rec.all;
+      changed = (refl, facts.0, rec.changed);
+      same = ap (λ (xs : List (Vec ℕ × List LaterOwner)). joined d (starts_of xs)) is ∙ by b facts.1 rec.all rec.same;
+    }
   where
-    others : Starts
-    others = with_values (needed oldest) (starts_of es)
+    by : (t : Bool) → (t ≡ false → (is_noted f ≡ true) × (w ≡ noted f)) → (others : Starts) → joined w (starts_of rest) ≡ joined w others
+        → joined d (starts_of (cond t ((k, w) ∷ rest) rest)) ≡ joined d ((k.items, w) ∷ others)
+    by true dropped others same = joined_after d (k.items, w) (starts_of rest) others same
+    by false dropped others same =
+        let noted_is : w ≡ d = (dropped refl).1 ∙ at (dropped refl).0 in
+        ap (λ (x : List LaterOwner). joined x (starts_of rest)) (sym noted_is)
+        ∙ same
+        ∙ ap (λ (x : List LaterOwner). joined x others) noted_is
+        ∙ sym (joined_same d w k.items others noted_is)
 
-    by : (t : Bool) → (w ≡ needed oldest v) × (t ≡ false → (is_noted f ≡ true) × (w ≡ noted f)) × (is_noted next ≡ true → noted next ≡ w) × IsGood next
-        → joined w (starts_of rest) ≡ joined w others
-        → joined d (starts_of (cond t ((k, w) ∷ rest) rest)) ≡ joined d ((k.items, needed oldest v) ∷ others)
-    by true facts rec = joined_after d (k.items, w) (starts_of rest) others rec ∙ ap (λ (x : List LaterOwner). joined d ((k.items, x) ∷ others)) facts.0
-    by false facts rec =
-        let same : w ≡ d = (facts.1 refl).1 ∙ at (facts.1 refl).0 in
-        ap (λ (x : List LaterOwner). joined x (starts_of rest)) (sym same)
-        ∙ rec
-        ∙ ap (λ (x : List LaterOwner). joined x others) same
-        ∙ sym (joined_same d (needed oldest v) k.items others (sym facts.0 ∙ same))
+-- owners changed by a function
+changed_all : (f : List LaterOwner → List LaterOwner) (ss ts : Starts) → AreChanged (λ v w. w ≡ f v) ss ts → ts ≡ with_values f ss
+changed_all f [] [] changed = refl
+changed_all f [] (t ∷ ts) changed = absurd changed
+changed_all f (s ∷ ss) [] changed = absurd changed
+changed_all f (s ∷ ss) (t ∷ ts) changed =
+    ap₂ (λ (x : Key × List LaterOwner) (xs : Starts). x ∷ xs) (λ i. (changed.0 i, changed.1 i)) (changed_all f ss ts changed.2)
+
+pub swept_all : (f : List LaterOwner → List LaterOwner) (d : List LaterOwner) (old new : Starts) → IsSwept (λ v w. w ≡ f v) d old new → joined d new ≡ joined d (with_values f old)
+swept_all f d old new is = is.same ∙ ap (joined d) (changed_all f old is.all is.changed)
+
+above_changed : (Changes : List LaterOwner → List LaterOwner → Type 0) (b : Key) (ss ts : Starts) → AreChanged Changes ss ts → AreAbove b ss → AreAbove b ts
+above_changed Changes b [] [] changed above = tt
+above_changed Changes b [] (t ∷ ts) changed above = absurd changed
+above_changed Changes b (s ∷ ss) [] changed above = absurd changed
+above_changed Changes b (s ∷ ss) (t ∷ ts) changed above = (ap (is_key_below b) changed.0 ∙ above.0, above_changed Changes b ss ts changed.2 above.1)
+
+rising_changed : (Changes : List LaterOwner → List LaterOwner → Type 0) (ss ts : Starts) → AreChanged Changes ss ts → AreRising ss → AreRising ts
+rising_changed Changes [] [] changed r = tt
+rising_changed Changes [] (t ∷ ts) changed r = absurd changed
+rising_changed Changes (s ∷ ss) [] changed r = absurd changed
+rising_changed Changes (s ∷ ss) (t ∷ ts) changed r =
+    (subst (λ (b : Key). AreAbove b ts) (sym changed.0) (above_changed Changes s.0 ss ts changed.2 r.0), rising_changed Changes ss ts changed.2 r.1)
+
+last_changed : (Changes : List LaterOwner → List LaterOwner → Type 0) (d e : List LaterOwner) (ss ts : Starts) → Changes d e → AreChanged Changes ss ts → Changes (last_value d ss) (last_value e ts)
+last_changed Changes d e [] [] first changed = first
+last_changed Changes d e [] (t ∷ ts) first changed = absurd changed
+last_changed Changes d e (s ∷ ss) [] first changed = absurd changed
+last_changed Changes d e (s ∷ ss) (t ∷ ts) first changed = last_changed Changes s.1 t.1 ss ts changed.1 changed.2
+
+value_changed : (Changes : List LaterOwner → List LaterOwner → Type 0) (d e : List LaterOwner) (ss ts : Starts) (q : Key) → Changes d e → AreChanged Changes ss ts → Changes (value_from d ss q) (value_from e ts q)
+value_changed Changes d e [] [] q first changed = first
+value_changed Changes d e [] (t ∷ ts) q first changed = absurd changed
+value_changed Changes d e (s ∷ ss) [] q first changed = absurd changed
+value_changed Changes d e (s ∷ ss) (t ∷ ts) q first changed =
+    subst (λ (b : Key). Changes (value_from d (s ∷ ss) q) (value_from e ((b, t.1) ∷ ts) q)) (sym changed.0) (by (is_key_below q s.0) (value_changed Changes s.1 t.1 ss ts q changed.1 changed.2))
+  where
+    by : (c : Bool) → Changes (value_from s.1 ss q) (value_from t.1 ts q) → Changes (cond c d (value_from s.1 ss q)) (cond c e (value_from t.1 ts q))
+    by true rec = first
+    by false rec = rec
+
+-- the owners of each key are changed as the relation says
+pub value_swept : (Changes : List LaterOwner → List LaterOwner → Type 0) (d : List LaterOwner) (old new : Starts) (q : Key) → Changes d d → AreRising old → AreRising new → IsSwept Changes d old new → Changes (value_from d old q) (value_from d new q)
+value_swept Changes d old new q first r s is =
+    subst (Changes (value_from d old q)) (sym (value_alike d new is.all q s (rising_changed Changes old is.all is.changed r) is.same))
+    (value_changed Changes d d old is.all q first is.changed)
+
+pub last_swept : (Changes : List LaterOwner → List LaterOwner → Type 0) (d : List LaterOwner) (old new : Starts) → Changes d d → IsSwept Changes d old new → Changes (last_value d old) (last_value d new)
+last_swept Changes d old new first is =
+    subst (Changes (last_value d old)) (sym (last_alike d new is.all is.same)) (last_changed Changes d d old is.all first is.changed)
 
 -- ---- moves
 

@@ -3,6 +3,7 @@ pub mod KeyStarts
 pub mod PutStarts
 pub mod SomeStarts
 pub mod LaterOwnerLaws
+pub mod MergedOwnerLaws
 pub mod JoinedStarts
 pub mod AddedOwners
 pub mod MadeMaps

@@ -1,8 +1,8 @@
--- What a map of owners promises, whichever moves it stands for.
+-- What a map of owners promises, whichever moves it stands for, or asks as.
 use Rattle.std.specs.Prelude.{◌≡◌, ℕ, List, [], ◌∷◌, ◌++◌, max}
 use Rattle.system_keys.specs.Keys.{Key, Range}
 use Rattle.model.specs.declared.moves.Move.{Move}
-use Rattle.model.specs.OwnerMaps.{OwnerMapView, StandsForMoves, readers, writers}
+use Rattle.model.specs.OwnerMaps.{OwnerMapView, StandsForMoves, AsksAs, readers, writers}
 use Rattle.model.specs.OwnerMaps.{owners_left, left_after_move}
 
 -- the map stands for one more move than before
@@ -15,17 +15,26 @@ abbrev pub KeepsMoves : (before after : OwnerMapView) → Type 0
 KeepsMoves before after =
     (moves : List Move) → StandsForMoves before moves → StandsForMoves after moves
 
+-- the map asks as one more move does
+abbrev pub AsksOneMore : (before : OwnerMapView) (m : Move) (after : OwnerMapView) → Type 0
+AsksOneMore before m after =
+    (moves : List Move) → AsksAs before moves → AsksAs after (moves ++ m ∷ [])
+
+-- the map asks as before
+abbrev pub KeepsAsking : (before after : OwnerMapView) → Type 0
+KeepsAsking before after = (moves : List Move) → AsksAs before moves → AsksAs after moves
+
 -- these are the resolvers that a read of the range at the snapshot asks, in rising order: back to
 -- the greater of the snapshot and the map's oldest version
 abbrev pub AreReaders : (map : OwnerMapView) (range : Range) (snapshot : ℕ) (list : List ℕ) → Type 0
 AreReaders map range snapshot list =
-    (moves : List Move) → StandsForMoves map moves
+    (moves : List Move) → AsksAs map moves
     → list ≡ readers map.resolvers moves (max snapshot map.oldest) range
 
 -- these are the resolvers that a write of the range asks, in rising order
 abbrev pub AreWriters : (map : OwnerMapView) (range : Range) (list : List ℕ) → Type 0
 AreWriters map range list =
-    (moves : List Move) → StandsForMoves map moves → list ≡ writers map.resolvers moves range
+    (moves : List Move) → AsksAs map moves → list ≡ writers map.resolvers moves range
 
 -- at each key the owners that are left are those before and the owner of the move
 abbrev pub AddsOwner : (before : OwnerMapView) (m : Move) (after : OwnerMapView) → Type 0

@@ -12,5 +12,7 @@ pub mod Refusals
 pub mod Pieces
 -- the owners of a key after the first one
 pub mod LaterOwners
+-- lists of owners by which walks visit the same resolvers
+pub mod MergedOwners
 -- what is kept: the keys at which the owners change
 pub mod Starts

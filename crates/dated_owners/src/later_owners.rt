@@ -2,7 +2,9 @@
 
 ghost use Rattle.std.specs.Prelude.{◌≡◌, ◌≤◌, ◌++◌, ◌∷◌, [], true, drop, length, IfOk};
 ghost use Rattle.dated_owners.specs.LaterOwners.{is_first, is_needless, needed, is_same, are_same};
+ghost use Rattle.dated_owners.specs.MergedOwners.{IsMerged};
 
+use crate::merging::{has_one_date_twice, merged};
 use model::{ResolverNumber, Version};
 use std::alloc::{AllocError, Global};
 use std::marker::Model;
@@ -82,6 +84,19 @@ impl LaterOwners {
         let kept = self.list.len() - count;
         self.list.rotate_left(count);
         self.list.truncate(kept);
+    }
+
+    /// Leaves out owners that make no difference to any walk, and puts those of one date in order, so
+    /// that lists by which walks visit the same resolvers are often equal. Without memory for it,
+    /// changes nothing.
+    pub(crate) fn merge(&mut self)
+        ensures { IsMerged self.old self.new }
+    {
+        if has_one_date_twice(self.list.as_slice()) {
+            if let Ok(list) = merged(self.alloc(), self.list.as_slice()) {
+                self.list = list;
+            }
+        }
     }
 
     /// How many owners there is room for.

@@ -5,12 +5,13 @@ ghost use Rattle.std.specs.Prelude.{◌≡◌, ◌≤◌, [], max, None, IfOk, O
 ghost use Rattle.model.specs.declared.moves.Move.{Move};
 ghost use Rattle.model.specs.OwnerMaps.{StandsForMoves};
 ghost use Rattle.dated_owners.specs.Pieces.{CountsPieces};
-ghost use Rattle.dated_owners.specs.Answers.{AddsOwner, GainsMove, KeepsMoves, AreReaders, AreWriters};
+ghost use Rattle.dated_owners.specs.Answers.{AddsOwner, GainsMove, KeepsMoves, AsksOneMore, KeepsAsking};
+ghost use Rattle.dated_owners.specs.Answers.{AreReaders, AreWriters};
 ghost use Rattle.dated_owners.specs.Walks.{askers};
 ghost use Rattle.dated_owners.specs.Refusals.{move_fault, refusal_fault};
 
 use crate::later_owners::{LaterOwner, LaterOwners};
-use crate::pieces::{Pieces, add_owner, count_pieces, sweep};
+use crate::pieces::{Pieces, add_owner, count_owners, count_pieces, merge, sweep};
 use crate::refusal::Refusal;
 use crate::walks::{Walk, askers};
 use model::{ResolverNumber, Version};
@@ -22,6 +23,9 @@ use system_keys::{Items, KeyRange, OutOfMemory};
 /// How many pieces are paid for by a move: each of its two ends makes one, which is swept a few
 /// times.
 const PAID_BY_MOVE: usize = 8;
+
+/// Fewer owners than these are not merged.
+const FEW_OWNERS: usize = 64;
 
 /// The owners of every key, with the date from which each owned it.
 ///
@@ -38,6 +42,10 @@ pub struct OwnerMap {
     due: Version,
     /// How many pieces the moves and the calls of `forget` since the last sweep have paid for.
     paid: usize,
+    /// How many owners moves have added to pieces since the last merge.
+    added: usize,
+    /// How many owners the last merge left.
+    left: usize,
 }
 
 impl Model for OwnerMap {
@@ -73,6 +81,8 @@ impl OwnerMap {
             spare: LaterOwners::new(alloc),
             due: Version::MAX,
             paid: 0,
+            added: 0,
+            left: 0,
         })
     }
 
@@ -115,6 +125,8 @@ impl OwnerMap {
         ensures oldest { self.new.oldest ≡ self.old.oldest }
         ensures stands { let m : Move = record { range = range.now; date = date; dest = dest } in
             OnOk result (GainsMove self.old m self.new) }
+        ensures asks { let m : Move = record { range = range.now; date = date; dest = dest } in
+            OnOk result (AsksOneMore self.old m self.new) }
         ensures err { OnErr result (self.new ≡ self.old) }
     {
         if self.resolvers <= dest {
@@ -148,10 +160,11 @@ impl OwnerMap {
             date,
             resolver: dest,
         };
-        add_owner(&mut self.pieces, &mut self.spare, &first, &end, owner)?;
+        let grown = add_owner(&mut self.pieces, &mut self.spare, &first, &end, owner)?;
         self.last_date = date;
         self.due = self.due.min(date);
         self.paid = self.paid.saturating_add(PAID_BY_MOVE);
+        self.added = self.added.saturating_add(grown);
         Ok(())
     }
 
@@ -198,6 +211,7 @@ impl OwnerMap {
         ensures resolvers { self.new.resolvers ≡ self.old.resolvers }
         ensures oldest { self.new.oldest ≡ max self.old.oldest oldest }
         ensures stands { KeepsMoves self.old self.new }
+        ensures asks { KeepsAsking self.old self.new }
     {
         self.oldest = self.oldest.max(oldest);
         self.paid = self.paid.saturating_add(1);
@@ -206,6 +220,24 @@ impl OwnerMap {
             self.paid = self.paid.saturating_sub(pieces);
             self.due = next_due(self.last_date, self.oldest);
             sweep(&mut self.pieces, &mut self.spare, self.oldest);
+        }
+    }
+
+    /// Merges owners where that is paid for by moves: the map asks as before, by fewer pieces and
+    /// owners, but then no longer stands for moves. Without memory for a piece, that one stays as it
+    /// is.
+    ///
+    /// Of the owners of a key with one date, each resolver is left once, and all but the last of them
+    /// come in the order of their numbers; neighbours with equal owners are joined.
+    pub fn merge(&mut self)
+        ensures resolvers { self.new.resolvers ≡ self.old.resolvers }
+        ensures oldest { self.new.oldest ≡ self.old.oldest }
+        ensures asks { KeepsAsking self.old self.new }
+    {
+        if self.left.max(FEW_OWNERS) <= self.added {
+            merge(&mut self.pieces, &mut self.spare);
+            self.left = count_owners(&self.pieces);
+            self.added = 0;
         }
     }
 
@@ -239,6 +271,8 @@ impl Clone for OwnerMap {
             spare,
             due: self.due,
             paid: self.paid,
+            added: self.added,
+            left: self.left,
         })
     }
 }

@@ -4,6 +4,7 @@
 ghost use Rattle.std.specs.Prelude.{◌≡◌, suc, ◌++◌, ◌∷◌, [], true, false, IfOk, OnOk, OnErr};
 ghost use Rattle.system_keys.specs.Keys.{Range, is_key_below};
 ghost use Rattle.dated_owners.specs.LaterOwners.{needed, are_same};
+ghost use Rattle.dated_owners.specs.MergedOwners.{WalkAlike, IsMerged};
 ghost use Rattle.dated_owners.specs.Starts.{starts_of, value_from, IsStart, AreStarts, AreKept, AddsIn};
 ghost use Rattle.dated_owners.specs.Starts.{put_all, changed_in, with_values, joined, changes};
 
@@ -42,15 +43,16 @@ pub(crate) fn cut(alloc: Global, pieces: &mut Pieces, key: &Vec<u8>) -> Result<(
     Ok(())
 }
 
-/// Adds an owner to each key from `begin` up to `end`. Fails only with `OutOfMemory`: then the owners
-/// change at the same keys as before. `spare` gets room for the longest list.
+/// Adds an owner to each key from `begin` up to `end`, and returns the number of pieces that got it.
+/// Fails only with `OutOfMemory`: then the owners change at the same keys as before. `spare` gets room
+/// for the longest list.
 pub(crate) fn add_owner(
     pieces: &mut Pieces,
     spare: &mut LaterOwners,
     begin: &Vec<u8>,
     end: &Vec<u8>,
     owner: LaterOwner,
-) -> Result<(), OutOfMemory>
+) -> Result<usize, OutOfMemory>
     requires below { is_key_below begin.now.items end.now.items ≡ true }
     requires kept { AreKept (starts_of pieces.old.entries) }
     ensures ok { let range : Range = record { begin = begin.now.items; end = end.now.items } in
@@ -63,8 +65,9 @@ pub(crate) fn add_owner(
     cut(alloc, pieces, end)?;
     cut(alloc, pieces, begin)?;
     let grown = grown_inside(pieces, spare, begin, end, owner)?;
+    let count = grown.len();
     put_all(pieces, grown);
-    Ok(())
+    Ok(count)
 }
 
 /// The pieces from `begin` up to `end`, each with one owner more. Fails only with `OutOfMemory`.
@@ -144,11 +147,61 @@ fn is_kept(
     ensures noted { is_noted.new ≡ true → spare.new ≡ owners.new }
 {
     owners.drop_needless(oldest);
-    if *is_noted && are_same(owners.as_slice(), spare.as_slice()) {
+    is_other(owners.as_slice(), spare, is_noted)
+}
+
+/// Merges the owners of each piece, and joins neighbours with equal owners. A piece for which there is
+/// no memory stays as it is.
+///
+/// `spare` holds the owners of the piece before; one that there is no room for is not joined.
+pub(crate) fn merge(pieces: &mut Pieces, spare: &mut LaterOwners)
+    ensures walks { AreKept (starts_of pieces.old.entries) → (key : _)
+        → WalkAlike (value_from [] (starts_of pieces.old.entries) key)
+        (value_from [] (starts_of pieces.new.entries) key) }
+    ensures kept { AreKept (starts_of pieces.old.entries) → AreKept (starts_of pieces.new.entries) }
+{
+    spare.clear();
+    let mut is_noted = true;
+    pieces.retain(
+        |_, owners| -> bool
+            ensures { IsMerged owners.old owners.new
+                × (result ≡ false → (is_noted.entry ≡ true) × (owners.new ≡ spare.entry.now))
+                × (is_noted.exit ≡ true → spare.exit.now ≡ owners.new) }
+        { is_left(owners, spare, &mut is_noted) },
+    );
+}
+
+/// Merges the owners of a piece, and tells whether those left differ from the owners noted in `spare`;
+/// then notes them, if there is room.
+fn is_left(owners: &mut LaterOwners, spare: &mut LaterOwners, is_noted: &mut bool) -> bool
+    ensures merged { IsMerged owners.old owners.new }
+    ensures joined { result ≡ false → (is_noted.old ≡ true) × (owners.new ≡ spare.old) }
+    ensures noted { is_noted.new ≡ true → spare.new ≡ owners.new }
+{
+    owners.merge();
+    is_other(owners.as_slice(), spare, is_noted)
+}
+
+/// Whether the owners differ from those noted in `spare`, or none are noted; then notes them, if there
+/// is room. Does not allocate.
+fn is_other(owners: &[LaterOwner], spare: &mut LaterOwners, is_noted: &mut bool) -> bool
+    ensures joined { result ≡ false → (is_noted.old ≡ true) × (owners.now ≡ spare.old) }
+    ensures noted { is_noted.new ≡ true → spare.new ≡ owners.now }
+{
+    if *is_noted && are_same(owners, spare.as_slice()) {
         return false;
     }
-    *is_noted = spare.note(owners.as_slice());
+    *is_noted = spare.note(owners);
     true
+}
+
+/// How many owners all pieces have.
+pub(crate) fn count_owners(pieces: &Pieces) -> usize {
+    let mut count: usize = 0;
+    for owners in pieces.values() {
+        count = count.saturating_add(owners.as_slice().len());
+    }
+    count
 }
 
 /// How many greatest ranges of keys have one list of owners that a walk may need.

@@ -1,4 +1,5 @@
 pub mod Asked
+pub mod Asking
 pub mod FiniteTests
 pub mod MadeMoves
 pub mod Maps

@@ -2,7 +2,7 @@
 use Rattle.std.specs.Prelude.{◌≡◌, ℕ, ◌≤◌, max, List, [], ◌∷◌, ◌++◌, filter, if◌then◌else◌}
 use Rattle.system_keys.specs.Keys.{Key, Range, holds}
 use Rattle.model.specs.declared.moves.Move.{Move}
-use Rattle.model.specs.Owners.{Owner, owners, trimmed, walk_visits, asks_read, asks_write}
+use Rattle.model.specs.Owners.{Owner, owners, trimmed, is_last, walk_visits, asks_read, asks_write}
 use Rattle.model.specs.Shares.{each_below}
 use Rattle.model.specs.VersionOrder.{NeverDecrease, last_version_or}
 
@@ -32,6 +32,16 @@ pub record StandsForMoves (map : OwnerMapView) (moves : List Move) : Type 0 wher
   pub in_order : DatesInOrder 0 moves
   pub last : map.last_date ≡ last_date 0 moves
   pub same : (key : Key) → owners_left map key ≡ trimmed map.oldest (owners moves key)
+
+-- the map asks as these moves do, also if it has other owners: at each key the walks back to a bound
+-- that is not below its oldest version visit the same resolvers, and the last owner is the same
+pub record AsksAs (map : OwnerMapView) (moves : List Move) : Type 0 where
+  pub in_order : DatesInOrder 0 moves
+  pub last : map.last_date ≡ last_date 0 moves
+  pub visits : (bound r : ℕ) (key : Key) → map.oldest ≤ bound
+      → walk_visits bound r (owners map.moves key) ≡ walk_visits bound r (owners moves key)
+  pub last_owner : (r : ℕ) (key : Key)
+      → is_last r (owners map.moves key) ≡ is_last r (owners moves key)
 
 -- ---- who is asked
 
@@ -129,3 +139,42 @@ SameMovesAnswerAlike =
     → StandsForMoves map moves → StandsForMoves other moves
     → map.resolvers ≡ other.resolvers → map.oldest ≡ other.oldest
     → AnswerAlike map other
+
+-- ---- the same of a map that asks as some moves do
+
+-- a map that stands for moves asks as they do
+abbrev pub StandingMapsAskAlike : Type 0
+StandingMapsAskAlike =
+    (map : OwnerMapView) (moves : List Move) → StandsForMoves map moves → AsksAs map moves
+
+-- a map that at each key has gained the owner of one more move asks as one more move does
+abbrev pub MoveAddsOneToAsk : Type 0
+MoveAddsOneToAsk =
+    (map next : OwnerMapView) (moves : List Move) (m : Move)
+    → AsksAs map moves → map.last_date ≤ m.date
+    → next.oldest ≡ map.oldest → next.last_date ≡ m.date
+    → ((key : Key) → owners_left next key ≡ left_after_move map m key)
+    → AsksAs next (moves ++ m ∷ [])
+
+-- a map that at each key has forgotten more of the front asks as before, with the greater bound
+abbrev pub ForgettingAsksAlike : Type 0
+ForgettingAsksAlike =
+    (map next : OwnerMapView) (moves : List Move)
+    → AsksAs map moves → map.oldest ≤ next.oldest → next.last_date ≡ map.last_date
+    → ((key : Key) → owners_left next key ≡ trimmed next.oldest (owners_left map key))
+    → AsksAs next moves
+
+-- the resolvers that the map's own moves ask to read a range are those of the moves as which it asks
+abbrev pub ReadersAreThoseAsked : Type 0
+ReadersAreThoseAsked =
+    (map : OwnerMapView) (moves : List Move) (bound : ℕ) (range : Range)
+    → AsksAs map moves
+    → readers map.resolvers map.moves (max bound map.oldest) range
+    ≡ readers map.resolvers moves (max bound map.oldest) range
+
+-- and so are those that they ask to write it
+abbrev pub WritersAreThoseAsked : Type 0
+WritersAreThoseAsked =
+    (map : OwnerMapView) (moves : List Move) (range : Range)
+    → AsksAs map moves
+    → writers map.resolvers map.moves range ≡ writers map.resolvers moves range

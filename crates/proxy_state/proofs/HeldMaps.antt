@@ -2,9 +2,10 @@
 use Rattle.std.proofs.Common.{◌≡◌, refl, sym, ap, ◌∙◌, subst, ℕ, max, ◌≤◌, List, [], Option, Some, None, arith}
 use Rattle.model.specs.declared.moves.Move.{Move}
 use Rattle.model.specs.Owners.{owners, trimmed}
-use Rattle.model.specs.OwnerMaps.{OwnerMapView, StandsForMoves, DatesInOrder}
+use Rattle.model.specs.OwnerMaps.{OwnerMapView, StandsForMoves, AsksAs, DatesInOrder}
 use Rattle.model.specs.Finishing.{MayBeMade}
 use Rattle.model.proofs.Owners.Maps.{same_left}
+use Rattle.model.proofs.Owners.Asking.{standing_asks}
 use Rattle.dated_owners.specs.Answers.{KeepsMoves}
 use Rattle.proxy_state.specs.Beginning.{MayGain, HasGained}
 use Rattle.proxy_state.specs.HeldMaps.{held_map, IsAlike, IsHeld, IsMapOf, IsFilled, IsForgetful}
@@ -95,3 +96,8 @@ stands_filled before kept moves oldest filled = stands_held before.resolvers old
 -- a copy keeps the same
 pub held_copy : (resolvers oldest : ℕ) (moves moves_copy : List Move) (kept kept_copy : Option OwnerMapView) → moves_copy ≡ moves → kept_copy ≡ kept → IsHeld resolvers oldest moves kept → IsHeld resolvers oldest moves_copy kept_copy
 held_copy resolvers oldest moves moves_copy kept kept_copy same same_kept is = rw (same, same_kept) is
+
+-- ---- a map that proxies share
+
+pub asks_first : (moves : List Move) (map : OwnerMapView) → moves ≡ [] → StandsForMoves map [] → AsksAs map moves
+asks_first moves map none stands = subst (AsksAs map) (sym none) (standing_asks map [] stands)

@@ -7,12 +7,13 @@ use Rattle.model.specs.declared.journal.JournalRow.{JournalRow}
 use Rattle.model.specs.Records.{Record, oldest}
 use Rattle.model.specs.Shares.{asked}
 use Rattle.model.specs.Metadata.{Entries, metadata}
-use Rattle.model.specs.OwnerMaps.{OwnerMapView, StandsForMoves, DatesInOrder}
+use Rattle.model.specs.OwnerMaps.{OwnerMapView, StandsForMoves, AsksAs, DatesInOrder}
 use Rattle.model.specs.Finishing.{ProxyView, MayBegin, MayBeMade}
+use Rattle.model.proofs.Owners.Asking.{standing_asks}
 use Rattle.proxy_state.specs.declared.begun.BegunRecord.{BegunRecord}
 use Rattle.proxy_state.specs.Begun.{FollowsOwn, AreBegun, IsKept}
-use Rattle.proxy_state.specs.Beginning.{begin_fault, MayGain, HasGained, HasMapFor, IsMapFor, IsKeptFor}
-use Rattle.proxy_state.specs.HeldMaps.{IsMapOf, IsFilled}
+use Rattle.proxy_state.specs.Beginning.{begin_fault, MayGain, HasGained, HasMapFor, AsksFor, IsMapFor, IsKeptFor}
+use Rattle.proxy_state.specs.HeldMaps.{IsMapOf, IsFilled, AsksBackTo}
 
 -- ---- at the start, and in a copy
 
@@ -116,19 +117,28 @@ pub map_for : (config : Config) (rec : Record) (owned after : OwnerMapView) (kep
 map_for config rec owned after kept moves is same raised stands =
     record { stands = subst (StandsForMoves after) is.moves_are stands; resolvers = same ∙ is.resolvers; oldest = raised }
 
--- a map that proxies share is one for the record
-pub shared_map : (config : Config) (rec : Record) (moves : List Move) (n : ℕ) (map : OwnerMapView) → moves ≡ rec.moves → n ≡ oldest config rec → IsMapOf moves config.resolvers n map → HasMapFor config rec map
-shared_map config rec moves n map same oldest_is is =
-    let remembered = is.remembered in
-    record { stands = subst (StandsForMoves map) same is.stands; resolvers = is.resolvers; remembered = omega (arith, remembered, oldest_is) }
+-- ---- whom the record asks
 
-pub in_order_for : (config : Config) (rec : Record) (map : OwnerMapView) → HasMapFor config rec map → DatesInOrder 0 rec.moves
-in_order_for config rec map has = has.stands.in_order
+-- a map that proxies share asks for the record
+pub shared_asks : (config : Config) (rec : Record) (moves : List Move) (n : ℕ) (map : OwnerMapView) → moves ≡ rec.moves → n ≡ oldest config rec → AsksBackTo moves config.resolvers n map → AsksFor config rec map
+shared_asks config rec moves n map same oldest_is is =
+    let remembered = is.remembered in
+    record { asks = subst (AsksAs map) same is.asks; resolvers = is.resolvers; remembered = omega (arith, remembered, oldest_is) }
+
+-- and so does one that stands for its moves
+pub own_asks : (config : Config) (rec : Record) (map : OwnerMapView) → HasMapFor config rec map → AsksFor config rec map
+own_asks config rec map has = record { asks = standing_asks map rec.moves has.stands; resolvers = has.resolvers; remembered = has.remembered }
+
+pub in_order_for : (config : Config) (rec : Record) (map : OwnerMapView) → AsksFor config rec map → DatesInOrder 0 rec.moves
+in_order_for config rec map asks = asks.asks.in_order
+
+pub in_order_own : (config : Config) (rec : Record) (map : OwnerMapView) → HasMapFor config rec map → DatesInOrder 0 rec.moves
+in_order_own config rec map has = has.stands.in_order
 
 -- ---- the requests by a map that remembers further back
 
-pub greatest : (config : Config) (rec : Record) (map_of : OwnerMapView) → HasMapFor config rec map_of → max map_of.oldest (oldest config rec) ≡ oldest config rec
-greatest config rec map_of has = let remembered = has.remembered in omega (arith, remembered)
+pub greatest : (config : Config) (rec : Record) (map_of : OwnerMapView) → AsksFor config rec map_of → max map_of.oldest (oldest config rec) ≡ oldest config rec
+greatest config rec map_of asks = let remembered = asks.remembered in omega (arith, remembered)
 
 -- a record of the proxy whose own previous version is that of the record begun last has no fault
 pub no_fault : (v : ProxyView) (rec : Record) → rec.proxy ≡ v.number → rec.own_previous ≡ v.last_begun → begin_fault v rec ≡ None

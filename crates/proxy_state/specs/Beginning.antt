@@ -8,7 +8,7 @@ use Rattle.model.specs.declared.journal.JournalRow.{JournalRow}
 use Rattle.model.specs.Records.{Record, oldest}
 use Rattle.model.specs.Shares.{each_below}
 use Rattle.model.specs.Requests.{Request, request}
-use Rattle.model.specs.OwnerMaps.{OwnerMapView, StandsForMoves, DatesInOrder}
+use Rattle.model.specs.OwnerMaps.{OwnerMapView, StandsForMoves, AsksAs, DatesInOrder}
 use Rattle.model.specs.Finishing.{ProxyView, MayBeMade}
 use Rattle.proxy_state.specs.declared.refusal.Refusal.{Refusal}
 use Rattle.proxy_state.specs.declared.refusal.Refusal.TheVariants.{NotMine, OutOfOrder, OutOfMemory}
@@ -65,7 +65,14 @@ pub record HasMapFor (config : Config) (rec : Record) (map : OwnerMapView) : Typ
   pub resolvers : map.resolvers ≡ config.resolvers
   pub remembered : map.oldest ≤ oldest config rec
 
--- and it remembers them no further
+-- the map asks as the moves of the record do, and remembers owners as far back
+pub record AsksFor (config : Config) (rec : Record) (map : OwnerMapView) : Type 0 where
+  pub asks : AsksAs map rec.moves
+  pub resolvers : map.resolvers ≡ config.resolvers
+  pub remembered : map.oldest ≤ oldest config rec
+
+-- the map stands for the moves of the record, and remembers owners as far back as the record asks and
+-- no further
 pub record IsMapFor (config : Config) (rec : Record) (map : OwnerMapView) : Type 0 where
   pub stands : StandsForMoves map rec.moves
   pub resolvers : map.resolvers ≡ config.resolvers

@@ -1,7 +1,7 @@
 -- The map of owners of a proxy, and the moves for which it stands.
 use Rattle.std.specs.Prelude.{◌≡◌, ℕ, ◌≤◌, List, [], ◌∷◌, ◌++◌, Option, IfSome}
 use Rattle.model.specs.declared.moves.Move.{Move}
-use Rattle.model.specs.OwnerMaps.{OwnerMapView, StandsForMoves, DatesInOrder, last_date}
+use Rattle.model.specs.OwnerMaps.{OwnerMapView, StandsForMoves, AsksAs, DatesInOrder, last_date}
 use Rattle.dated_owners.specs.Answers.{KeepsMoves}
 
 -- the map of these moves
@@ -49,8 +49,16 @@ IsForgetful before oldest after =
     (moves : List Move) (resolvers : ℕ) → IfSome before (IsMapOf moves resolvers oldest)
     → IfSome after (IsAlike (held_map resolvers oldest moves))
 
--- the map, if there is one, stands for one move more than before
-abbrev pub StandsAfterMove : (before : Option OwnerMapView) (one : Move) (after : Option OwnerMapView) → Type 0
-StandsAfterMove before one after =
-    (moves : List Move) → IfSome before (λ (map : OwnerMapView). StandsForMoves map moves)
-    → IfSome after (λ (map : OwnerMapView). StandsForMoves map (moves ++ one ∷ []))
+-- ---- a map that proxies share
+
+-- the map asks as the moves do, has so many resolvers, and remembers owners at least back to `oldest`
+pub record AsksBackTo (moves : List Move) (count oldest : ℕ) (map : OwnerMapView) : Type 0 where
+  pub asks : AsksAs map moves
+  pub resolvers : map.resolvers ≡ count
+  pub remembered : map.oldest ≤ oldest
+
+-- the map, if there is one, asks as one move more does than before
+abbrev pub AsksAfterMove : (before : Option OwnerMapView) (one : Move) (after : Option OwnerMapView) → Type 0
+AsksAfterMove before one after =
+    (moves : List Move) → IfSome before (λ (map : OwnerMapView). AsksAs map moves)
+    → IfSome after (λ (map : OwnerMapView). AsksAs map (moves ++ one ∷ []))

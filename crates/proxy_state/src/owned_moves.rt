@@ -1,7 +1,7 @@
-//! All moves so far, and the map of owners that they give.
+//! All moves so far, and a map of owners that asks as they do.
 
 ghost use Rattle.std.specs.Prelude.{◌≡◌, ◌++◌, ◌∷◌, [], IfOk, OnOk, OnErr, IfSome};
-ghost use Rattle.proxy_state.specs.HeldMaps.{IsMapOf, StandsAfterMove};
+ghost use Rattle.proxy_state.specs.HeldMaps.{AsksBackTo, AsksAfterMove};
 
 use dated_owners::OwnerMap;
 use model::{Config, Move, Version};
@@ -10,11 +10,12 @@ use std::alloc::Global;
 use std::marker::Model;
 use system_keys::OutOfMemory;
 
-/// All moves so far, in the order in which they were made, and the map of owners that they give.
+/// All moves so far, in the order in which they were made, and a map of owners that asks as they do.
 ///
 /// Proxies that begin records one after another can share it, so each move is made in one map. Contracts
-/// see the moves. The map forgets what no later record asks about. If an allocation for it fails there
-/// is no map any more, and each proxy makes the moves in a map of its own.
+/// see the moves. The map forgets what no later record asks about, and merges owners that make no
+/// difference to whom it asks, so it does not grow with moves that others of the same date cover. If an
+/// allocation for it fails there is no map any more, and each proxy makes the moves in a map of its own.
 #[derive(Drop)]
 pub struct OwnedMoves {
     window: Version,
@@ -25,17 +26,18 @@ pub struct OwnedMoves {
 impl Model for OwnedMoves {
     ghost use Rattle.std.specs.Prelude.{List, IfSome};
     ghost use Rattle.model.specs.declared.moves.Move.{Move};
-    ghost use Rattle.model.specs.OwnerMaps.{OwnerMapView, StandsForMoves};
+    ghost use Rattle.model.specs.OwnerMaps.{OwnerMapView, AsksAs};
 
     ghost Value = { List Move };
 
     ghost view = { λ o. o.moves };
 
-    ghost invariant = { λ o. IfSome o.map (λ (map : OwnerMapView). StandsForMoves map o.moves) };
+    ghost invariant = { λ o. IfSome o.map (λ (map : OwnerMapView). AsksAs map o.moves) };
 }
 
 impl OwnedMoves {
     /// No moves, in a cluster with these numbers. Fails only with `OutOfMemory`.
+    #[tactic(auto, using(crate::proofs::HeldMaps::asks_first))]
     pub fn new(alloc: Global, config: &Config) -> Result<OwnedMoves, OutOfMemory>
         ensures { IfOk result (λ made. made ≡ []) }
     {
@@ -67,7 +69,7 @@ impl OwnedMoves {
 
     /// The map, if there is one of so many resolvers that remembers owners back to `oldest`.
     pub(crate) fn map_back_to(&self, resolvers: usize, oldest: Version) -> Option<&OwnerMap>
-        ensures { IfSome result (λ map. IsMapOf self.now resolvers oldest map.now) }
+        ensures { IfSome result (λ map. AsksBackTo self.now resolvers oldest map.now) }
     {
         match &self.map {
             Some(map) => {
@@ -82,10 +84,10 @@ impl OwnedMoves {
     }
 }
 
-/// The map with one move more, in which it forgets back to `oldest`; None if there is no map, or if it
+/// The map with one move more, in which it forgets back to `oldest` and merges; None if there is no map, or if it
 /// cannot be made.
 fn with_move(map: Option<OwnerMap>, one: &Move, oldest: Version) -> Option<OwnerMap>
-    ensures { StandsAfterMove map one.now result }
+    ensures { AsksAfterMove map one.now result }
 {
     let Some(map) = map else {
         return None;
@@ -94,6 +96,7 @@ fn with_move(map: Option<OwnerMap>, one: &Move, oldest: Version) -> Option<Owner
     match map.move_range(&one.range, one.date, one.dest) {
         Ok(()) => {
             map.forget(oldest);
+            map.merge();
             Some(map)
         }
         Err(_) => None,

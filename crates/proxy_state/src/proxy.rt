@@ -10,7 +10,7 @@ ghost use Rattle.model.specs.Shares.{asked};
 ghost use Rattle.model.specs.Finishing.{HoldsMoves, MayBegin, HasBegun, HasFinished};
 ghost use Rattle.proxy_state.specs.declared.refusal.Refusal.TheVariants as refusals;
 ghost use Rattle.proxy_state.specs.Beginning.{refusal_fault, begin_fault, requests_for, rows_up_to};
-ghost use Rattle.proxy_state.specs.Beginning.{HasMapFor, IsFirst, has_row_up_to};
+ghost use Rattle.proxy_state.specs.Beginning.{HasMapFor, AsksFor, IsFirst, has_row_up_to};
 ghost use Rattle.proxy_state.specs.Finishing.{finish_fault, IsReplied, IsLearned};
 
 use crate::begun::BegunRecord;
@@ -178,7 +178,7 @@ impl Proxy {
 
     /// Begins a record of this proxy as [`Proxy::begin`] does, by the map of owners that these moves
     /// give, which proxies share. They must be the moves of the record.
-    #[tactic(auto, using(crate::proofs::KeptProxies::shared_map))]
+    #[tactic(auto, using(crate::proofs::KeptProxies::shared_asks))]
     pub fn begin_with(&mut self, rec: &Record, owned: &OwnedMoves) -> Result<Requests, Refusal>
         requires may { MayBegin self.old rec.now }
         requires moves { owned.now ≡ rec.now.moves }
@@ -199,7 +199,7 @@ impl Proxy {
     /// Begins a record of this proxy by the map that proxies share, if there is one.
     fn begin_by(&mut self, rec: &Record, shared: Option<&OwnerMap>) -> Result<Requests, Refusal>
         requires may { MayBegin self.old rec.now }
-        requires shared { IfSome shared (λ map. HasMapFor self.old.config rec.now map.now) }
+        requires shared { IfSome shared (λ map. AsksFor self.old.config rec.now map.now) }
         ensures ok { OnOk result (begin_fault self.old rec.now ≡ None) }
         ensures refused { let fault = begin_fault self.old rec.now in
             IfErr result (λ refusal. refusal_fault refusal ≡ fault) }
@@ -232,7 +232,7 @@ impl Proxy {
 
     /// The requests for the record, by the map that proxies share, or by the proxy's own, which then
     /// is beside them, with the moves of the record.
-    #[tactic(auto, using(crate::proofs::KeptProxies::in_order_for))]
+    #[tactic(auto, using(crate::proofs::KeptProxies::in_order_for, crate::proofs::KeptProxies::in_order_own))]
     fn asked(
         &mut self,
         rec: &Record,
@@ -240,7 +240,7 @@ impl Proxy {
     ) -> Result<(Requests, Option<OwnerMap>), OutOfMemory>
         requires may { MayBegin self.old rec.now }
         requires own { begin_fault self.old rec.now ≡ None }
-        requires shared { IfSome shared (λ map. HasMapFor self.old.config rec.now map.now) }
+        requires shared { IfSome shared (λ map. AsksFor self.old.config rec.now map.now) }
         ensures requests { IfOk result (λ asked. asked.0.requests ≡ requests_for self.old rec.now) }
         ensures asked { IfOk result (λ made.
             made.0.asked ≡ map (asked self.old.config rec.now) rec.now.batch) }
@@ -272,7 +272,7 @@ impl Proxy {
     /// The requests for the record by this map of owners.
     #[tactic(auto, using(crate::proofs::KeptProxies::greatest))]
     fn requests_by(&self, owners: &OwnerMap, rec: &Record) -> Result<Requests, OutOfMemory>
-        requires { HasMapFor self.now.config rec.now owners.now }
+        requires { AsksFor self.now.config rec.now owners.now }
         ensures requests { IfOk result (λ built. built.requests ≡ requests_for self.now rec.now) }
         ensures asked { IfOk result (λ built.
             built.asked ≡ map (asked self.now.config rec.now) rec.now.batch) }

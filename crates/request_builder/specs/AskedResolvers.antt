@@ -12,7 +12,7 @@ use Rattle.model.specs.Records.{Record}
 use Rattle.model.specs.Shares.{each_below}
 use Rattle.model.specs.Journal.{carried_by}
 use Rattle.model.specs.Requests.{Request}
-use Rattle.model.specs.OwnerMaps.{OwnerMapView, StandsForMoves, readers, writers}
+use Rattle.model.specs.OwnerMaps.{OwnerMapView, AsksAs, readers, writers}
 use Rattle.request_builder.specs.declared.asked_resolvers.AskedResolvers.{AskedResolvers}
 
 -- ---- whom a map asks
@@ -42,37 +42,37 @@ asked_resolvers_of map_of moves t =
 abbrev pub back_to : (oldest : ℕ) → OwnerMapView → OwnerMapView
 back_to oldest map_of = record map_of { oldest = max map_of.oldest oldest }
 
--- whichever moves the map stands for, these read the range
+-- whichever moves the map asks as, these read the range
 abbrev pub AreReadersBackTo :
     (oldest : ℕ) → OwnerMapView → Range → (snapshot : ℕ) → List ℕ → Type 0
 AreReadersBackTo oldest map_of range snapshot list =
-    (moves : List Move) → StandsForMoves map_of moves
+    (moves : List Move) → AsksAs map_of moves
     → list ≡ readers map_of.resolvers moves (max snapshot (max map_of.oldest oldest)) range
 
 -- and these are the lists of those that read the ranges
 abbrev pub AreReaderLists :
     (oldest : ℕ) → OwnerMapView → (snapshot : ℕ) → List Range → List (List ℕ) → Type 0
 AreReaderLists oldest map_of snapshot ranges lists =
-    (moves : List Move) → StandsForMoves map_of moves
+    (moves : List Move) → AsksAs map_of moves
     → lists ≡ reader_lists (back_to oldest map_of) moves snapshot ranges
 
 -- and of those that write them
 abbrev pub AreWriterLists : OwnerMapView → List Range → List (List ℕ) → Type 0
 AreWriterLists map_of ranges lists =
-    (moves : List Move) → StandsForMoves map_of moves → lists ≡ writer_lists map_of moves ranges
+    (moves : List Move) → AsksAs map_of moves → lists ≡ writer_lists map_of moves ranges
 
 -- these are whom it asks about a transaction
 abbrev pub AreAskedResolvers :
     (oldest : ℕ) → OwnerMapView → Transaction → AskedResolvers → Type 0
 AreAskedResolvers oldest map_of t asking =
-    (moves : List Move) → StandsForMoves map_of moves
+    (moves : List Move) → AsksAs map_of moves
     → asking ≡ asked_resolvers_of (back_to oldest map_of) moves t
 
 -- and about each transaction of a batch
 abbrev pub AreAllAskedResolvers :
     (oldest : ℕ) → OwnerMapView → List Transaction → List AskedResolvers → Type 0
 AreAllAskedResolvers oldest map_of batch askings =
-    (moves : List Move) → StandsForMoves map_of moves
+    (moves : List Move) → AsksAs map_of moves
     → askings ≡ map (asked_resolvers_of (back_to oldest map_of) moves) batch
 
 -- ---- what a resolver gets by such lists

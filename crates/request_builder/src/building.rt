@@ -6,7 +6,7 @@
 ghost use Rattle.std.specs.Prelude.{◌≡◌, length, map, max, IfOk};
 ghost use Rattle.model.specs.Shares.{each_below, asked_back_to};
 ghost use Rattle.model.specs.Requests.{request_back_to};
-ghost use Rattle.model.specs.OwnerMaps.{StandsForMoves};
+ghost use Rattle.model.specs.OwnerMaps.{AsksAs};
 ghost use Rattle.request_builder.specs.AskedResolvers.{request_by};
 
 use crate::asked_resolvers::{AskedResolvers, all_asked_resolvers, asked_lists};
@@ -25,7 +25,7 @@ use system_keys::{Items, OutOfMemory};
 /// Returns the requests for a record, one for each resolver of the map, and the resolvers that get
 /// a part of each transaction.
 ///
-/// The map must stand for the record's moves; otherwise nothing is promised but the rules of the
+/// The map must ask as the record's moves do; otherwise nothing is promised but the rules of the
 /// types. Owners count back to `oldest` or to the map's oldest version, whichever is later
 /// (*profile*). `last_received` is the version of the last record that the proxy had finished when
 /// it began this one, or 0. Each range is looked up in the map once, and copied only for the
@@ -38,11 +38,11 @@ pub fn build(
     last_received: Version,
 ) -> Result<Requests, OutOfMemory>
     ensures requests { let oldest = max owners.now.oldest oldest in
-        StandsForMoves owners.now rec.now.moves → IfOk result (λ built.
+        AsksAs owners.now rec.now.moves → IfOk result (λ built.
         built.requests ≡ map (request_back_to oldest rec.now last_received)
         (each_below owners.now.resolvers)) }
     ensures asked { let oldest = max owners.now.oldest oldest in
-        StandsForMoves owners.now rec.now.moves → IfOk result (λ built.
+        AsksAs owners.now rec.now.moves → IfOk result (λ built.
         built.asked ≡ map (asked_back_to oldest owners.now.resolvers rec.now) rec.now.batch) }
 {
     let askings = all_asked_resolvers(alloc, owners, oldest, rec.batch())?;

@@ -113,28 +113,28 @@ same_truth true q to from = sym (to refl)
 same_truth false true to from = absurd (cc (from refl))
 same_truth false false to from = refl
 
-filter_alike : (p q : ℕ → Bool) (xs : List ℕ) → ((x : ℕ) → p x ≡ q x) → filter p xs ≡ filter q xs
+pub filter_alike : (p q : ℕ → Bool) (xs : List ℕ) → ((x : ℕ) → p x ≡ q x) → filter p xs ≡ filter q xs
 filter_alike p q [] e = refl
 filter_alike p q (x ∷ xs) e = ap₂ (λ b rest. cond b (x ∷ rest) rest) (e x) (filter_alike p q xs e)
 
 -- if the walks over two lists of moves visit a resolver at the same keys, it is asked to read the same ranges
-same_reads : (moves others : List Move) (bound r : ℕ) (range : Range) → ((key : Key) → walk_visits bound r (owners moves key) ≡ walk_visits bound r (owners others key)) → asks_read moves bound r range ≡ asks_read others bound r range
+pub same_reads : (moves others : List Move) (bound r : ℕ) (range : Range) → ((key : Key) → walk_visits bound r (owners moves key) ≡ walk_visits bound r (owners others key)) → asks_read moves bound r range ≡ asks_read others bound r range
 same_reads moves others bound r range same =
     same_truth (asks_read moves bound r range) (asks_read others bound r range)
     (λ h. let a = (asks_read_iff moves bound r range).0 h in (asks_read_iff others bound r range).1 (record { key = a.key; inside = a.inside; met = sym (same a.key) ∙ a.met }))
     (λ h. let a = (asks_read_iff others bound r range).0 h in (asks_read_iff moves bound r range).1 (record { key = a.key; inside = a.inside; met = same a.key ∙ a.met }))
 
-same_writes : (moves others : List Move) (r : ℕ) (range : Range) → ((key : Key) → is_last r (owners moves key) ≡ is_last r (owners others key)) → asks_write moves r range ≡ asks_write others r range
+pub same_writes : (moves others : List Move) (r : ℕ) (range : Range) → ((key : Key) → is_last r (owners moves key) ≡ is_last r (owners others key)) → asks_write moves r range ≡ asks_write others r range
 same_writes moves others r range same =
     same_truth (asks_write moves r range) (asks_write others r range)
     (λ h. let a = (asks_write_iff moves r range).0 h in (asks_write_iff others r range).1 (record { key = a.key; inside = a.inside; owns = sym (same a.key) ∙ a.owns }))
     (λ h. let a = (asks_write_iff others r range).0 h in (asks_write_iff moves r range).1 (record { key = a.key; inside = a.inside; owns = same a.key ∙ a.owns }))
 
-same_visits : (map : OwnerMapView) (moves : List Move) (bound r : ℕ) (key : Key) → StandsForMoves map moves → map.oldest ≤ bound → walk_visits bound r (owners map.moves key) ≡ walk_visits bound r (owners moves key)
+pub same_visits : (map : OwnerMapView) (moves : List Move) (bound r : ℕ) (key : Key) → StandsForMoves map moves → map.oldest ≤ bound → walk_visits bound r (owners map.moves key) ≡ walk_visits bound r (owners moves key)
 same_visits map moves bound r key stands h =
     sym (visits_trimmed bound map.oldest r (owners map.moves key) h) ∙ ap (walk_visits bound r) (stands.same key) ∙ visits_trimmed bound map.oldest r (owners moves key) h
 
-same_last : (map : OwnerMapView) (moves : List Move) (r : ℕ) (key : Key) → StandsForMoves map moves → is_last r (owners map.moves key) ≡ is_last r (owners moves key)
+pub same_last : (map : OwnerMapView) (moves : List Move) (r : ℕ) (key : Key) → StandsForMoves map moves → is_last r (owners map.moves key) ≡ is_last r (owners moves key)
 same_last map moves r key stands =
     sym (last_trimmed map.oldest r (owners map.moves key)) ∙ ap (is_last r) (stands.same key) ∙ last_trimmed map.oldest r (owners moves key)
 

@@ -14,6 +14,9 @@ ghost use Rattle.model.specs.OwnerMaps.{NewStandsForNoMoves, MoveAddsOneMove};
 ghost use Rattle.model.specs.OwnerMaps.{ForgettingKeepsTheMoves, SameMovesLeaveTheSame};
 ghost use Rattle.model.specs.OwnerMaps.{LeftOwnersAreEnough, ReadersAreThoseOfTheMap};
 ghost use Rattle.model.specs.OwnerMaps.{WritersAreThoseOfTheMap, SameMovesAnswerAlike};
+ghost use Rattle.model.specs.OwnerMaps.{StandingMapsAskAlike, MoveAddsOneToAsk};
+ghost use Rattle.model.specs.OwnerMaps.{ForgettingAsksAlike, ReadersAreThoseAsked};
+ghost use Rattle.model.specs.OwnerMaps.{WritersAreThoseAsked};
 
 /// Two ranges have a key in common exactly if one of their begins is in both.
 pub fn overlap_law()
@@ -88,4 +91,15 @@ pub fn stand_answers_law()
     ensures reads { ReadersAreThoseOfTheMap }
     ensures writes { WritersAreThoseOfTheMap }
     ensures alike { SameMovesAnswerAlike }
+{}
+
+/// A map that stands for moves asks as they do. One that asks as some moves do goes on so when each
+/// key gains the owner of one more move, and when each key loses more of its front; and whom it
+/// asks are those whom the moves ask.
+pub fn asking_law()
+    ensures stands { StandingMapsAskAlike }
+    ensures moved { MoveAddsOneToAsk }
+    ensures forgotten { ForgettingAsksAlike }
+    ensures reads { ReadersAreThoseAsked }
+    ensures writes { WritersAreThoseAsked }
 {}

@@ -9,5 +9,5 @@ returns c =
     let map_of = c.args.owners.now in
     let bound : max c.max.result map_of.oldest ≡ max c.args.snapshot (max map_of.oldest c.args.oldest) = omega (arith, c.max.ensures) in
     IfOk-weaker c.read_owners.result _ _
-    (λ list are moves stands. are moves stands ∙ ap (λ (n : ℕ). readers map_of.resolvers moves n c.args.range.now) bound)
+    (λ list are moves asks. are moves asks ∙ ap (λ (n : ℕ). readers map_of.resolvers moves n c.args.range.now) bound)
     c.read_owners.ensures

@@ -1,4 +1,4 @@
--- If the map stands for the record's moves, its lists give each resolver what the moves say.
+-- If the map asks as the record's moves do, its lists give each resolver what the moves say.
 use Rattle.std.proofs.Common.{ℕ, ap₂, subst, ◌∙◌, List, map}
 use Rattle.model.specs.Transactions.{Transaction}
 use Rattle.model.specs.Shares.{each_below}
@@ -8,15 +8,15 @@ use Rattle.request_builder.proofs.Built.{requests_are, asked_lists_are}
 use Rattle.request_builder.proofs.building.build.Goals as goal
 
 pub returns-clause-requests : goal.returns-clause-requests
-returns-clause-requests c = λ stands.
+returns-clause-requests c = λ asks.
     let asked = subst (λ (batch : List Transaction). AreAllAskedResolvers c.args.oldest c.args.owners.now batch c.in_ok-askings.askings.items) c.batch.ensures c.in_ok-askings.ensures.asked in
     c.in_ok-requests.ensures
     ∙ ap₂ (λ (askings : List AskedResolvers) (resolvers : ℕ). map (request_by c.args.rec.now c.args.last_received askings) (each_below resolvers)) c.deref.ensures.value c.resolvers.ensures
-    ∙ requests_are c.args.owners.now c.args.oldest c.args.rec.now c.args.last_received c.in_ok-askings.askings.items stands asked
+    ∙ requests_are c.args.owners.now c.args.oldest c.args.rec.now c.args.last_received c.in_ok-askings.askings.items asks asked
 
 pub returns-clause-asked : goal.returns-clause-asked
-returns-clause-asked c = λ stands.
+returns-clause-asked c = λ asks.
     let asked = subst (λ (batch : List Transaction). AreAllAskedResolvers c.args.oldest c.args.owners.now batch c.in_ok-askings.askings.items) c.batch.ensures c.in_ok-askings.ensures.asked in
     c.in_ok-asked.ensures
     ∙ ap₂ (λ (askings : List AskedResolvers) (resolvers : ℕ). map (asked_by resolvers) askings) c.deref-2.ensures.value c.resolvers-2.ensures
-    ∙ asked_lists_are c.args.owners.now c.args.oldest c.args.rec.now c.in_ok-askings.askings.items stands asked
+    ∙ asked_lists_are c.args.owners.now c.args.oldest c.args.rec.now c.in_ok-askings.askings.items asks asked
