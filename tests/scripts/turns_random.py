@@ -282,6 +282,25 @@ class Wide(Drawn):
         return turns(*events, ask=ask, proxies=self.proxies, resolvers=self.resolvers, window=self.window, step=self.step)
 
 
+class Moved(Drawn):
+    """A script of many moves between its batches, so that keys have many owners of one date."""
+
+    def __init__(self, rng):
+        super().__init__(rng)
+        self.resolvers = rng.choice([2, 3, 4, 9])
+        self.judged = [0] * self.resolvers
+
+    def script(self):
+        rng = self.rng
+        events = [self.first_batch()]
+        for _ in range(rng.choice([1, 2, 4])):
+            events += [self.move() for _ in range(rng.choice([2, 40, 120]))]
+            events += [self.sequence() for _ in range(rng.choice([1, 3]))]
+            events += [self.offer() for _ in range(self.resolvers * len(self.owners))] + [self.finish() for _ in self.owners]
+        ask = [text(rng.choice([*POINTS, *KEYS]))]
+        return turns(*events, ask=ask, proxies=self.proxies, resolvers=self.resolvers, window=self.window, step=self.step)
+
+
 def right_script(rng):
     return Drawn(rng).script()
 
@@ -382,6 +401,13 @@ def wide_turns(seeds):
         if seed % WIDE_AMONG == 0:
             rng = random.Random("wide %d" % seed)
             yield "turns", "random_wide", "seed %d" % seed, spell(rng, Wide(rng).script()).encode(), None
+
+
+def moved_turns(seeds):
+    """Each case of many moves at one date, as `random_turns` gives them."""
+    for seed in seeds:
+        rng = random.Random("moved %d" % seed)
+        yield "turns", "random_moved", "seed %d" % seed, spell(rng, Moved(rng).script()).encode(), None
 
 
 # ---- what the scripts meet

@@ -15,6 +15,8 @@ enum Call {
     Move(Ends<'static>, u64, usize, Option<Refusal>),
     /// What is dated before the version is forgotten.
     Forget(u64),
+    /// Owners are merged.
+    Merge,
     /// A read of the range at the snapshot, and whom it asks.
     Read(Ends<'static>, u64, &'static [usize]),
     /// A write of the range, and whom it asks.
@@ -89,6 +91,10 @@ fn is_right(map: &mut OwnerMap, alloc: Global, call: Call) -> Result<bool, Fail>
         }
         Call::Forget(version) => {
             map.forget(version);
+            Ok(true)
+        }
+        Call::Merge => {
+            map.merge();
             Ok(true)
         }
         Call::Read(ends, snapshot, asked) => asks(map, alloc, ends, Some(snapshot), asked),
@@ -304,4 +310,50 @@ fn forgets_many<R: Abort + AllocGlobal>(rt: &R, map: &mut OwnerMap) -> Result<()
 fn many_moves_are_forgotten_and_stay_in_a_copy(rt: HostRuntime) -> Result<(), Fail> {
     let mut map = OwnerMap::new(rt.alloc(), 64)?;
     forgets_many(&rt, &mut map)
+}
+
+const FIRST_KEYS: Ends<'static> = (b"\x01", b"\x02");
+
+const LATE_KEYS: Ends<'static> = (b"\x30", b"\x31");
+
+/// The keys from each one of 63 to 1 on move at date 7: first to resolver 1, and those from 32 on to
+/// resolver 2.
+fn move_at_one_date(alloc: Global, map: &mut OwnerMap) -> Result<(), Fail> {
+    for back in 1..64u8 {
+        let number = 64 - back;
+        let dest: usize = if number <= 32 { 2 } else { 1 };
+        moved(map, alloc, (&[number], b"\xff"), 7, dest)?;
+    }
+    Ok(())
+}
+
+const MOVED_AT_ONE_DATE: &[Call] = &[
+    Call::Read(FIRST_KEYS, 7, &[0, 2]),
+    Call::Read(LATE_KEYS, 7, &[0, 1, 2]),
+    Call::Read(LATE_KEYS, 8, &[2]),
+    Call::Write(LATE_KEYS, &[2]),
+    Call::Write(ALL, &[0, 2]),
+];
+
+/// Each key has resolver 2 alone, or 1 and 2, or the first owner, before and behind.
+const MERGED: &[Call] = &[Call::Pieces(65), Call::Merge, Call::Pieces(4)];
+
+const MOVED_AFTER_MERGE: &[Call] = &[
+    Call::Move(LATE_KEYS, 9, 0, None),
+    Call::Read(LATE_KEYS, 8, &[0, 2]),
+    Call::Read(LATE_KEYS, 7, &[0, 1, 2]),
+    Call::Forget(9),
+    Call::Read(LATE_KEYS, 0, &[0, 2]),
+    Call::Write(LATE_KEYS, &[0]),
+    Call::Move(LATE_KEYS, 8, 1, Some(Refusal::DateGoesBack)),
+];
+
+#[test]
+fn merged_owners_are_fewer_and_ask_as_before(rt: HostRuntime) -> Result<(), Fail> {
+    let mut map = new_map(rt.alloc())?;
+    move_at_one_date(rt.alloc(), &mut map)?;
+    are_right(&rt, &mut map, MOVED_AT_ONE_DATE)?;
+    are_right(&rt, &mut map, MERGED)?;
+    are_right(&rt, &mut map, MOVED_AT_ONE_DATE)?;
+    are_right(&rt, &mut map, MOVED_AFTER_MERGE)
 }
