@@ -22,8 +22,8 @@ pub use journal::{journal_law, journal_rows_law, reply_rows_law, version_law};
 pub use metadata::{change_law, fold_law, lock_law, private_law, route_law, tags_law};
 pub use outcomes::{committed_law, finished_law, finished_numbers_law, held_lock_law, outcome_law};
 pub use owners::{
-    asked_law, asking_law, moves_law, overlap_law, owner_law, stand_answers_law, stand_law, trimmed_law,
-    visited_law, walk_law,
+    asked_law, asking_law, moves_law, overlap_law, owner_law, stand_answers_law, stand_law,
+    trimmed_law, visited_law, walk_law,
 };
 pub use proxies::{
     begin_law, finish_law, proxy_law, replies_agree_law, routing_law, world_finish_law,
