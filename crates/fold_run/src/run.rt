@@ -23,7 +23,7 @@ impl ScriptKind for FoldKind {
     ghost answer_to = { fold_text };
 
     fn print(alloc: Global, text: &mut String, script: FoldScript) -> Result<(), OutOfMemory> {
-        print_folded(alloc, text, &script)
+        print_folded(alloc, text, script)
     }
 
     ghost answers = { λ bytes. unfold fold_text in unfold script_of in refl };

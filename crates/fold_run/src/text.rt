@@ -17,15 +17,15 @@ use system_keys::OutOfMemory;
 pub(crate) fn print_folded(
     alloc: Global,
     text: &mut String,
-    script: &FoldScript,
+    script: FoldScript,
 ) -> Result<(), OutOfMemory>
     ensures { OnOk result (string_bytes text.new
-        ≡ string_bytes text.old ++ folded_text script.now) }
+        ≡ string_bytes text.old ++ folded_text script) }
 {
-    let rows = script.rows.as_slice();
-    let metadata = Metadata::new(alloc).fold_rows(rows)?;
-    let keys = script.ask.as_slice();
-    print_metadata(alloc, text, last_version(rows), &metadata, keys)
+    let FoldScript { rows, ask } = script;
+    let version = last_version(rows.as_slice());
+    let metadata = Metadata::new(alloc).fold_own_rows(rows)?;
+    print_metadata(alloc, text, version, &metadata, ask.as_slice())
 }
 
 /// The version of the last row, or 0 if there is none.

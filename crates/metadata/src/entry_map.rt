@@ -106,7 +106,7 @@ impl EntryMap {
     }
 
     /// Sets the value at the key. Fails only with `OutOfMemory`; the map is then unchanged.
-    fn put_owned(&mut self, key: Vec<u8>, value: Bytes) -> Result<(), OutOfMemory>
+    pub(crate) fn put_owned(&mut self, key: Vec<u8>, value: Bytes) -> Result<(), OutOfMemory>
         ensures ok { OnOk result
             (self.new ≡ insert_entry (slice_cmp nat_cmp) self.old key.items value) }
         ensures order { IsInOrder self.new }

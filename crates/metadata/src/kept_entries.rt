@@ -23,8 +23,8 @@ use model::{JournalRow, StateTxn};
 use std::alloc::Global;
 use std::marker::Model;
 use system_keys::{
-    Bytes, Change, KeyRange, LOCKED_KEY, METADATA_VERSION_KEY, OutOfMemory, SERVER_TAG_PREFIX,
-    is_kept,
+    Bytes, Change, Items, KeyRange, LOCKED_KEY, METADATA_VERSION_KEY, OutOfMemory,
+    SERVER_TAG_PREFIX, is_kept,
 };
 
 /// The kept entries in the order of their keys: which storage servers have which keys, their tags,
@@ -242,6 +242,65 @@ impl KeptEntries {
             self.apply_states(self.is_locked(), row.states.as_slice())?;
         }
         Ok(self)
+    }
+
+    /// The same as `fold_rows` of rows that are given away: their keys and values are moved, and not
+    /// copied. Fails only with `OutOfMemory`; the metadata is then dropped.
+    pub(crate) fn fold_own_rows(
+        mut self,
+        rows: Items<JournalRow>,
+    ) -> Result<KeptEntries, OutOfMemory>
+        ensures { IfOk result (λ folded. folded ≡ fold after_journal_row self rows) }
+    {
+        let rows = Vec::from(rows);
+        for row in rows {
+            let locked = self.is_locked();
+            self.apply_own_states(locked, row.states)?;
+        }
+        Ok(self)
+    }
+
+    /// Applies the transactions as `apply_states` does, and moves their keys and values. Fails only
+    /// with `OutOfMemory`; some of their changes are then applied.
+    fn apply_own_states(&mut self, locked: bool, states: Items<StateTxn>) -> Result<(), OutOfMemory>
+        ensures { OnOk result (self.new ≡ fold (after_state locked) self.old states) }
+    {
+        let states = Vec::from(states);
+        for transaction in states {
+            if is_applied(locked, &transaction) {
+                self.apply_own_changes(transaction.mutations)?;
+            }
+        }
+        Ok(())
+    }
+
+    fn apply_own_changes(&mut self, changes: Items<Change>) -> Result<(), OutOfMemory>
+        ensures { OnOk result (self.new ≡ after_changes self.old changes) }
+    {
+        let changes = Vec::from(changes);
+        for change in changes {
+            self.apply_own(change)?;
+        }
+        Ok(())
+    }
+
+    fn apply_own(&mut self, change: Change) -> Result<(), OutOfMemory>
+        ensures { OnOk result (self.new ≡ after_change self.old change) }
+    {
+        match change {
+            Change::Set { key, value } => self.set_own(key, value),
+            Change::Clear { range } => self.clear(&range),
+        }
+    }
+
+    /// Puts the value at the key, if the key is kept.
+    fn set_own(&mut self, key: Bytes, value: Bytes) -> Result<(), OutOfMemory>
+        ensures { OnOk result (self.new ≡ after_change self.old (Set key value)) }
+    {
+        if is_kept(key.as_slice()) {
+            self.entries.put_owned(Vec::from(key), value)?;
+        }
+        Ok(())
     }
 
     /// Applies the transactions, if the lock permits them. Fails only with `OutOfMemory`; some of

@@ -367,6 +367,16 @@ impl Metadata {
         Metadata::of(self.entries.fold_rows(rows)?)
     }
 
+    /// The same as [`Metadata::fold_rows`] of rows that are given away: their keys and values are
+    /// moved into the metadata, and not copied.
+    ///
+    /// Fails only with `OutOfMemory`; the metadata is then dropped.
+    pub fn fold_own_rows(self, rows: Items<JournalRow>) -> Result<Metadata, OutOfMemory>
+        ensures { IfOk result (λ folded. folded ≡ fold after_journal_row self rows) }
+    {
+        Metadata::of(self.entries.fold_own_rows(rows)?)
+    }
+
     /// The value of the entry at this key, if there is one. The entries are strictly increasing by
     /// their keys, and each key is kept. Does not allocate.
     pub fn row(&self, key: &[u8]) -> Option<&[u8]>

@@ -8,7 +8,6 @@ use Rattle.fold_run.proofs.text.print_folded.Goals as goal
 pub returns : goal.returns
 unfolding metadata
 returns c =
-    let rows = c.as_slice-rows.ensures in
-    let version : c.last_version.result ≡ last_version c.args.script.now.rows = c.last_version.ensures ∙ ap last_version rows in
-    let folded : c.in_ok-metadata.metadata ≡ metadata c.args.script.now.rows = rw (c.new.ensures, rows) at c.in_ok-metadata.ensures in
-    on_ok_weaker c.print_metadata.result (λ printed. rw (version, folded, c.as_slice-keys.ensures) at printed) c.print_metadata.ensures
+    let version : c.last_version-version.result ≡ last_version c.args.script.rows = c.last_version-version.ensures ∙ ap last_version c.as_slice.ensures in
+    let folded : c.in_ok-metadata.metadata ≡ metadata c.args.script.rows = rw (c.new.ensures) at c.in_ok-metadata.ensures in
+    on_ok_weaker c.print_metadata.result (λ printed. rw (version, folded, c.as_slice-2.ensures) at printed) c.print_metadata.ensures
