@@ -274,7 +274,7 @@ def greatest_dates():
 
 def told_of_many():
     """A late proxy is told of many rows, at each resolver, also where it asks again."""
-    for count in (16, 17, 18, 101, 257):
+    for count in (16, 17, 18, 101, 257, 513):
         rows = range(count)
         told, end = versions(0, count - 1), 10 * count + 10
         yield case(
