@@ -2,7 +2,8 @@
 //! ASCII character, and every other byte is `\x` and two lower-case hexadecimal digits (this
 //! project's profile).
 
-ghost use Rattle.std.specs.Prelude.{◌≡◌, ◌+◌, ◌-◌, ◌^◌, ◌<◌, ◌≤◌, ◌++◌, length, min, string_bytes};
+ghost use Rattle.std.specs.Prelude.{◌≡◌, ℕ, ◌+◌, ◌-◌, ◌^◌, ◌<◌, ◌≤◌, ◌++◌, true, get_or, length};
+ghost use Rattle.std.specs.Prelude.{min, string_bytes};
 ghost use Rattle.std.specs.Prelude.{IfOk, IfSome, OnOk, IsSome, IsTrue, Some, option_map, drop, take};
 ghost use Rattle.std.specs.Char.{digit_char};
 ghost use Rattle.system_keys.specs.AsSpecified.{IsAsSpecified};
@@ -13,6 +14,12 @@ ghost use Rattle.system_keys.specs.Text.{is_plain, is_escape, is_digit, digit_of
 use crate::memory::OutOfMemory;
 use crate::refusal::RowFault;
 use std::alloc::Global;
+
+/// How many characters are tested at once.
+const GROUP: usize = 16;
+
+/// How many characters are counted at once: as many as fit in a byte.
+const PART: usize = 255;
 
 /// Returns the text of the bytes. Fails only with `OutOfMemory`.
 pub fn print_bytes(alloc: Global, bytes: &[u8]) -> Result<String, OutOfMemory>
@@ -136,23 +143,62 @@ fn plain_length(text: &[u8]) -> usize
     ensures value { bytes_of text.now
         ≡ option_map (λ bytes. take result text.now ++ bytes) (bytes_of (drop result text.now)) }
 {
-    let mut length = 0usize;
+    let mut length = plain_groups(text);
     while length < text.len() && is_plain(text[length]) {
         length += 1;
     }
     length
 }
 
+/// The same, but only in whole groups, which are tested many characters at once.
+#[inline(always)]
+fn plain_groups(text: &[u8]) -> usize
+    ensures within { result ≤ length text.now }
+    ensures value { bytes_of text.now
+        ≡ option_map (λ bytes. take result text.now ++ bytes) (bytes_of (drop result text.now)) }
+{
+    let mut length = 0usize;
+    while GROUP <= text.len() - length && are_plain(&text[length..length + GROUP]) {
+        length += GROUP;
+    }
+    length
+}
+
+/// Whether all of the characters stand for themselves. It tests each, since a loop that never stops
+/// early is compiled to instructions that test many at once.
+#[inline(always)]
+fn are_plain(text: &[u8]) -> bool
+    ensures { result ≡ true
+        → (i : ℕ) → i < length text.now → is_plain (get_or text.now i 0) ≡ true }
+{
+    let mut plain = true;
+    for i in 0..text.len() {
+        if !is_plain(text[i]) {
+            plain = false;
+        }
+    }
+    plain
+}
+
 /// How many bytes the text stands for, if each backslash begins an escape. It only says how much
 /// room to make, so nothing rests on it.
 fn expected_length(text: &[u8]) -> usize {
-    let mut escapes = 0usize;
-    for character in text {
+    let mut length = text.len();
+    for part in text.chunks(PART) {
+        length = length.saturating_sub(3 * usize::from(escapes_in(part)));
+    }
+    length
+}
+
+/// How many backslashes there are, of up to 255 characters.
+fn escapes_in(part: &[u8]) -> u8 {
+    let mut escapes = 0u8;
+    for character in part {
         if *character == b'\\' {
             escapes = escapes.wrapping_add(1);
         }
     }
-    text.len().saturating_sub(escapes.saturating_mul(3))
+    escapes
 }
 
 /// The first byte that the text stands for, and the rest of the text. Every byte of a script goes
