@@ -102,6 +102,13 @@ taken_next first before after more (inl (tag, one, same)) =
     }
 taken_next first before after more (inr (none, cut)) = subst (λ (t : TakerView). HasTakenMore first t) (sym none) more
 
+-- once nobody is left who could send one, an End is missing, if one was before
+pub missing_next : (proxies : ℕ) (before after : WorkerView) → TakesOne before after → (0 < before.proxies_left) × IsFalse before.cut_off
+    → before.proxies_left + ends_in before.taken.got ≡ proxies → IsTrue after.cut_off → ends_in after.taken.got < proxies
+missing_next proxies before after (inl (tag, one, same)) went left cut = absurd (true≢false (sym cut ∙ same ∙ went.1))
+missing_next proxies before after (inr (none, now)) went left cut =
+    let same = ap (λ (t : TakerView). ends_in t.got) none in let some = went.0 in omega (arith, left, same, some)
+
 -- a worker that has failed stays so
 pub stays_same : (v : WorkerView) → StaysFailed v v
 stays_same v = record { closed = λ closed. closed; wanted = λ wanted. wanted; cut_off = λ cut_off. cut_off }

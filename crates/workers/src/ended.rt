@@ -110,7 +110,7 @@ impl<N: Naming, M: Channels, G: Gate + Drop> EndedWorker<N, M, G> {
     }
 
     /// Whether it was cut off: it ended since its inbox had no sender left, before it took an End of each
-    /// proxy. No clause gives the cause.
+    /// proxy. No clause says that no sender was left.
     pub fn cut_off(&self) -> bool
         ensures value { result ≡ self.now.cut_off }
         ensures kept { IsEnded N.cells.config.proxies self.now }

@@ -1,6 +1,8 @@
 //! The worker of a resolver, which runs in a thread of its own.
 
-ghost use Rattle.std.specs.Prelude.{◌≡◌, ◌≢◌, ◌<◌, ◌⊎◌, [], IsFalse, IsTrue, MatchBool, MatchResult};
+ghost use Rattle.std.specs.Prelude.{◌≡◌, ◌≢◌, ◌+◌, ◌<◌, ◌⊎◌, [], IsFalse, IsTrue, MatchBool};
+ghost use Rattle.std.specs.Prelude.{MatchResult};
+ghost use Rattle.inboxes.specs.Sending.{ends_in};
 ghost use Rattle.workers.specs.Workers.{HasTakenMore, IsWorkerOf, StaysFailed, TakesOne, new_worker};
 ghost use Rattle.locked_resolvers.specs.declared.refusal.Refusal.TheVariants as refusals;
 
@@ -76,13 +78,16 @@ impl<'a, 'l, N: Naming, M: Channels, G: Gate + Drop> ResolverWorker<'a, 'l, N, M
     }
 
     /// Takes messages and serves them, until it has taken the last message of each proxy, or until
-    /// nobody is left who could send one. Requests that are then still held back are answered that
-    /// the resolver is closed. If it was closed, refused memory or cut off before, it ends so.
+    /// nobody is left who could send one: then the last message of some proxy is missing. Requests that
+    /// are then still held back are answered that the resolver is closed. If it was closed, refused
+    /// memory or cut off before, it ends so.
     pub fn run<R: Wait>(self, rt: &R) -> EndedWorker<N, M, G>
         ensures taken { HasTakenMore self.entry.taken result.taken }
         ensures closed { IsTrue self.entry.desk.closed → IsTrue result.closed }
         ensures wanted { IsTrue self.entry.desk.wanted → IsTrue result.wanted }
         ensures cut_off { IsTrue self.entry.cut_off → IsTrue result.cut_off }
+        ensures missing { IsFalse self.entry.cut_off → IsTrue result.cut_off
+            → ends_in result.taken.got < N.cells.config.proxies }
     {
         let mut worker = self;
         for _ in rt.forever() {
@@ -96,9 +101,11 @@ impl<'a, 'l, N: Naming, M: Channels, G: Gate + Drop> ResolverWorker<'a, 'l, N, M
 
     /// Whether it took the last message of each proxy, or nobody is left who could send one.
     fn has_ended(&self) -> bool
-        ensures { MatchBool result
+        ensures ended { MatchBool result
             ((self.now.proxies_left ≡ 0) ⊎ IsTrue self.now.cut_off)
             ((0 < self.now.proxies_left) × IsFalse self.now.cut_off) }
+        ensures kept { self.now.proxies_left + ends_in self.now.taken.got
+            ≡ N.cells.config.proxies }
     {
         self.cut_off || self.proxies_left == 0
     }
