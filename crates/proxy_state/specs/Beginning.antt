@@ -65,7 +65,8 @@ pub record HasMapFor (config : Config) (rec : Record) (map : OwnerMapView) : Typ
   pub resolvers : map.resolvers ≡ config.resolvers
   pub remembered : map.oldest ≤ oldest config rec
 
--- the map asks as the moves of the record do, and remembers owners as far back
+-- the map asks as the moves of the record do, has as many resolvers as the cluster, and remembers
+-- owners at least as far back as the record asks
 pub record AsksFor (config : Config) (rec : Record) (map : OwnerMapView) : Type 0 where
   pub asks : AsksAs map rec.moves
   pub resolvers : map.resolvers ≡ config.resolvers

@@ -1,4 +1,5 @@
--- The map of owners of a proxy, and the moves for which it stands.
+-- The map of owners of a proxy, and the moves for which it stands; and one that proxies share, which
+-- asks as moves do.
 use Rattle.std.specs.Prelude.{◌≡◌, ℕ, ◌≤◌, List, [], ◌∷◌, ◌++◌, Option, IfSome}
 use Rattle.model.specs.declared.moves.Move.{Move}
 use Rattle.model.specs.OwnerMaps.{OwnerMapView, StandsForMoves, AsksAs, DatesInOrder, last_date}

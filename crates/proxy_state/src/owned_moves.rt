@@ -84,8 +84,8 @@ impl OwnedMoves {
     }
 }
 
-/// The map with one move more, in which it forgets back to `oldest` and merges; None if there is no map, or if it
-/// cannot be made.
+/// The map with one move more, in which it forgets back to `oldest` and merges; None if there is no map,
+/// or if the move cannot be made.
 fn with_move(map: Option<OwnerMap>, one: &Move, oldest: Version) -> Option<OwnerMap>
     ensures { AsksAfterMove map one.now result }
 {

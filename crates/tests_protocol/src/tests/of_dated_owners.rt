@@ -15,8 +15,6 @@ enum Call {
     Move(Ends<'static>, u64, usize, Option<Refusal>),
     /// What is dated before the version is forgotten.
     Forget(u64),
-    /// Owners are merged.
-    Merge,
     /// A read of the range at the snapshot, and whom it asks.
     Read(Ends<'static>, u64, &'static [usize]),
     /// A write of the range, and whom it asks.
@@ -91,10 +89,6 @@ fn is_right(map: &mut OwnerMap, alloc: Global, call: Call) -> Result<bool, Fail>
         }
         Call::Forget(version) => {
             map.forget(version);
-            Ok(true)
-        }
-        Call::Merge => {
-            map.merge();
             Ok(true)
         }
         Call::Read(ends, snapshot, asked) => asks(map, alloc, ends, Some(snapshot), asked),
@@ -335,9 +329,6 @@ const MOVED_AT_ONE_DATE: &[Call] = &[
     Call::Write(ALL, &[0, 2]),
 ];
 
-/// Each key has resolver 2 alone, or 1 and 2, or the first owner, before and behind.
-const MERGED: &[Call] = &[Call::Pieces(65), Call::Merge, Call::Pieces(4)];
-
 const MOVED_AFTER_MERGE: &[Call] = &[
     Call::Move(LATE_KEYS, 9, 0, None),
     Call::Read(LATE_KEYS, 8, &[0, 2]),
@@ -348,12 +339,59 @@ const MOVED_AFTER_MERGE: &[Call] = &[
     Call::Move(LATE_KEYS, 8, 1, Some(Refusal::DateGoesBack)),
 ];
 
+/// Each key has resolver 2 alone, or 1 and 2, or the first owner, before and behind. A piece for which
+/// an allocation fails stays as it is, and is merged once the moves are made again.
 #[test]
 fn merged_owners_are_fewer_and_ask_as_before(rt: HostRuntime) -> Result<(), Fail> {
     let mut map = new_map(rt.alloc())?;
     move_at_one_date(rt.alloc(), &mut map)?;
     are_right(&rt, &mut map, MOVED_AT_ONE_DATE)?;
-    are_right(&rt, &mut map, MERGED)?;
+    assert!(rt; map.pieces() == 65);
+    map.merge();
+    let pieces = map.pieces();
+    are_right(&rt, &mut map, MOVED_AT_ONE_DATE)?;
+    move_at_one_date(rt.alloc(), &mut map)?;
+    map.merge();
+    assert!(rt; pieces.min(map.pieces()) == 4);
     are_right(&rt, &mut map, MOVED_AT_ONE_DATE)?;
     are_right(&rt, &mut map, MOVED_AFTER_MERGE)
+}
+
+/// Moves by which two neighbours get the same owners in other orders.
+const OTHER_ORDERS: &[(Ends<'static>, usize)] = &[
+    (A_TO_B, 0),
+    (A_TO_C, 1),
+    (B_TO_C, 0),
+    (A_TO_C, 2),
+];
+
+const A_TO_C: Ends<'static> = (b"a", b"c");
+
+const B_TO_C: Ends<'static> = (b"b", b"c");
+
+fn move_in_other_orders(alloc: Global, map: &mut OwnerMap) -> Result<(), Fail> {
+    for _ in 0..11 {
+        for (ends, dest) in OTHER_ORDERS {
+            moved(map, alloc, *ends, 7, *dest)?;
+        }
+    }
+    Ok(())
+}
+
+const MOVED_IN_OTHER_ORDERS: &[Call] = &[
+    Call::Read(A_TO_B, 7, &[0, 1, 2]),
+    Call::Read(B_TO_C, 8, &[2]),
+    Call::Write(A_TO_C, &[2]),
+];
+
+#[test]
+fn neighbours_with_the_same_owners_in_other_orders_are_joined(rt: HostRuntime) -> Result<(), Fail> {
+    let mut map = new_map(rt.alloc())?;
+    move_in_other_orders(rt.alloc(), &mut map)?;
+    map.merge();
+    let pieces = map.pieces();
+    move_in_other_orders(rt.alloc(), &mut map)?;
+    map.merge();
+    assert!(rt; pieces.min(map.pieces()) == 3);
+    are_right(&rt, &mut map, MOVED_IN_OTHER_ORDERS)
 }
