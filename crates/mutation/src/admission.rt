@@ -111,8 +111,5 @@ fn to_range(begin: Bytes, end: Bytes) -> KeyRange
     requires { fault_of_range (record { begin = begin; end = end }) ≡ None }
     ensures { result ≡ record { begin = begin; end = end } }
 {
-    let Ok(range) = KeyRange::new(Vec::from(begin), Vec::from(end)) else {
-        unreachable!();
-    };
-    range
+    KeyRange::from_checked(Vec::from(begin), Vec::from(end))
 }

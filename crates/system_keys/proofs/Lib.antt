@@ -2,6 +2,7 @@ pub mod FaultLaws
 pub mod KeyLaws
 pub mod KeyOrder
 pub mod KindLaws
+pub mod LaneLaws
 pub mod ListedTagLaws
 pub mod LocationLaws
 pub mod RowLaws

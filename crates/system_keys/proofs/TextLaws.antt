@@ -1,12 +1,11 @@
 -- Bytes as text: what a text spells is spelled so, and what was printed is read again.
-use Rattle.std.proofs.Common.{◌≡◌, ℕ, zero, suc, ◌+◌, ◌*◌, ◌/◌, ◌%◌, ◌<◌, ◌≤◌, ◌-◌, Bool, true, false, cond, not, ◌&&◌, List, [], ◌∷◌, ◌++◌, length, get_or, take, drop, Option, Some, None, refl, sym, ap, ◌∙◌, append_assoc, arith}
-use Rattle.std.proofs.lemmas.List.{length-drop, length-take-le, get_or-take, get_or-drop}
+use Rattle.std.proofs.Common.{◌≡◌, ℕ, zero, suc, ◌+◌, ◌*◌, ◌/◌, ◌%◌, ◌<◌, ◌≤◌, Bool, true, false, cond, not, ◌&&◌, List, [], ◌∷◌, ◌++◌, length, get_or, take, drop, Option, Some, None, refl, sym, ap, ◌∙◌, append_assoc, arith}
 use Rattle.std.specs.Prelude.{option_map, ◌==◌}
 use Rattle.std.specs.Char.{digit_char}
 use Rattle.std.proofs.lemmas.Bool.Decides.{nat_tests}
 use Rattle.std.proofs.lemmas.Bool.{and_parts, eqb-true}
 use Rattle.std.proofs.lemmas.List.{append-nil}
-use Rattle.system_keys.specs.Text.{is_plain, byte_text, text_of, is_digit, digit_of, byte_of, is_escape, with_byte, bytes_of, first_of}
+use Rattle.system_keys.specs.Text.{is_plain, ArePlain, byte_text, text_of, is_digit, digit_of, byte_of, is_escape, with_byte, bytes_of, first_of}
 
 -- ---- digits
 
@@ -221,35 +220,12 @@ plain_step zero (a ∷ tail) within plain = kept_none (bytes_of (a ∷ tail)) �
 plain_step (suc n) (a ∷ tail) within plain =
     kept_front a (take n tail) (bytes_of (drop n tail)) ∙ ap (with_byte a) (plain_step n tail (omega arith) plain) ∙ sym (kept_front a (take (suc n) tail) (bytes_of (drop (suc n) tail)))
 
--- a plain character more at the front stands for itself
-pub plain_more : (n : ℕ) (text : List ℕ) → n < length text → is_plain (get_or text n 0) ≡ true → behind_kept (take n text) (bytes_of (drop n text)) ≡ behind_kept (take (n + 1) text) (bytes_of (drop (n + 1) text))
-plain_more n text within plain =
-    let next : suc n ≡ n + 1 = omega arith in
-    plain_step n text within plain ∙ ap (λ (k : ℕ). behind_kept (take k text) (bytes_of (drop k text))) next
-
-plain_run : (count n : ℕ) (text : List ℕ) → n + count ≤ length text → ((i : ℕ) → i < count → is_plain (get_or text (n + i) 0) ≡ true) → behind_kept (take n text) (bytes_of (drop n text)) ≡ behind_kept (take (n + count) text) (bytes_of (drop (n + count) text))
-plain_run zero n text within plain =
-    let same : n ≡ n + 0 = omega arith in
-    ap (λ (k : ℕ). behind_kept (take k text) (bytes_of (drop k text))) same
-plain_run (suc count) n text within plain =
-    let last : is_plain (get_or text (n + count) 0) ≡ true = plain count (omega arith) in
-    let next : (n + count) + 1 ≡ n + suc count = omega arith in
-    plain_run count n text (omega (arith, within)) (λ i below. plain i (omega (arith, below)))
-    ∙ plain_more (n + count) text (omega (arith, within)) last
-    ∙ ap (λ (k : ℕ). behind_kept (take k text) (bytes_of (drop k text))) next
-
--- plain characters more at the front stand for themselves
-pub plain_part : (count n m : ℕ) (text : List ℕ) → m ≡ n + count → m ≤ length text → ((i : ℕ) → i < length (take (m - n) (drop n text)) → is_plain (get_or (take (m - n) (drop n text)) i 0) ≡ true)
-    → behind_kept (take n text) (bytes_of (drop n text)) ≡ behind_kept (take m text) (bytes_of (drop m text))
-plain_part count n m text is within plain =
-    let same : m - n ≡ count = omega (arith, is) in
-    let left : length (drop n text) ≡ length text - n = length-drop n text in
-    let long : length (take (m - n) (drop n text)) ≡ m - n = length-take-le (m - n) (drop n text) (omega (arith, left, is, within)) in
-    plain_run count n text (omega (arith, is, within))
-    (λ i below.
-    ap is_plain (sym (get_or-take (m - n) (drop n text) i 0 (omega (arith, same, below)) ∙ get_or-drop n text i 0))
-    ∙ plain i (omega (arith, below, same, long)))
-    ∙ ap (λ (k : ℕ). behind_kept (take k text) (bytes_of (drop k text))) (sym is)
+-- plain characters at the front stand for themselves
+pub plain_front : (count : ℕ) (text : List ℕ) → count ≤ length text → ArePlain text 0 count → bytes_of text ≡ behind_kept (take count text) (bytes_of (drop count text))
+plain_front zero text within plain = sym (kept_none (bytes_of text))
+plain_front (suc count) text within plain =
+    plain_front count text (omega (arith, within)) (λ i from below. plain i from (omega (arith, below)))
+    ∙ plain_step count text (omega (arith, within)) (plain count (omega arith) (omega arith))
 
 -- the text of a loop that has printed all bytes
 pub printed_again : (text rest bytes : List ℕ) → rest ≡ [] → ((i : ℕ) → get_or bytes i 0 < 256) → text ++ text_of rest ≡ text_of bytes → bytes_of text ≡ Some bytes

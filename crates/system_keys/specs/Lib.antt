@@ -2,6 +2,8 @@
 
 -- a key, the order of keys, a range, which keys it holds, and when two ranges overlap
 pub mod Keys
+-- how a range keeps the key at which it begins
+pub mod KeptRanges
 -- the families of rows, as data: the four that the metadata keeps, and that of server keys; and the
 -- kind of any key
 pub mod Families

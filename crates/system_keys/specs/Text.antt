@@ -1,7 +1,9 @@
 -- Bytes as text: one text for each string of bytes (this project's profile).
 use Rattle.std.specs.Prelude.{ℕ, ◌+◌, ◌-◌, ◌*◌, ◌/◌, ◌%◌, List, [], ◌∷◌, Bool, ◌==◌, ◌&&◌, ◌||◌}
+use Rattle.std.specs.Prelude.{◌≡◌, ◌<◌, ◌≤◌, true, get_or}
 use Rattle.std.specs.Prelude.{not, nat_le, nat_lt, if◌then◌else◌, Option, Some, None, option_map}
 use Rattle.std.specs.Prelude.{ok_or, Result}
+use Rattle.std.specs.Int.{w64, trailing_zeros}
 use Rattle.std.specs.List.{flat_map}
 use Rattle.std.specs.Char.{digit_char}
 use Rattle.system_keys.specs.declared.refusal.RowFault.{RowFault}
@@ -68,3 +70,12 @@ first_of (a ∷ b ∷ c ∷ d ∷ rest) =
     if is_plain a then Some (a, b ∷ c ∷ d ∷ rest)
     else if is_escape a b c d then Some (byte_of c d, rest)
     else None
+
+-- Two words of private clauses:
+-- the characters from one place up to another stand for themselves
+abbrev pub ArePlain : List ℕ → ℕ → ℕ → Type 0
+ArePlain text from to = (i : ℕ) → from ≤ i → i < to → is_plain (get_or text i 0) ≡ true
+
+-- the place of the lowest bit that is set, or else a number
+abbrev pub first_set : ℕ → ℕ → ℕ
+first_set mask other = if mask == 0 then other else trailing_zeros w64 mask

@@ -29,6 +29,13 @@ impl Bytes {
         self.bytes.as_slice()
     }
 
+    /// Borrows the vector in which the bytes are kept, as a key of a map of vectors is looked up.
+    pub fn as_vec(&self) -> &Vec<u8>
+        ensures { result.now.items ≡ self.now }
+    {
+        &self.bytes
+    }
+
     /// Returns a deep copy. Fails only with `OutOfMemory`.
     pub fn copy(&self) -> Result<Bytes, OutOfMemory>
         ensures { IfOk result (λ copy. copy ≡ self.now) }

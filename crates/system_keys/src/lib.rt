@@ -14,6 +14,7 @@ mod limits;
 mod location;
 mod memory;
 mod order;
+mod plain;
 mod range;
 mod refusal;
 mod rows;

@@ -1,6 +1,7 @@
 //! Half-open ranges of keys.
 
 ghost use Rattle.std.specs.Prelude.{◌≡◌, ◌↔◌, IsTrue, IfOk, MatchResult, None};
+ghost use Rattle.system_keys.specs.KeptRanges.{begin_of, HasFront};
 
 use crate::bytes::Bytes;
 use crate::limits::check_range;
@@ -9,11 +10,23 @@ use crate::order::{both_precede, precedes};
 use crate::refusal::Refusal;
 use std::marker::Model;
 
+/// Where a range begins.
+#[derive(Clone, Debug, Drop)]
+enum Begin {
+    /// At the key that so many first bytes of the range's end make.
+    Front(usize),
+    /// At another key.
+    Other(Bytes),
+}
+
 /// The keys from `begin` up to `end`, without `end`. Never empty: `begin` is below `end`, and both
 /// are within the limits.
+///
+/// A begin with which the end begins is kept as a part of it, so the range of one key takes one
+/// block of memory.
 #[derive(Clone, Debug, Drop)]
 pub struct KeyRange {
-    begin: Bytes,
+    begin: Begin,
     end: Bytes,
 }
 
@@ -21,12 +34,14 @@ impl Model for KeyRange {
     ghost use Rattle.std.specs.Prelude.{◌≡◌, None};
     ghost use Rattle.system_keys.specs.Keys.{Range};
     ghost use Rattle.system_keys.specs.Limits.{range_fault};
+    ghost use Rattle.system_keys.specs.KeptRanges.{begin_of, HasFront};
 
     ghost Value = { Range };
 
-    ghost view = { λ r. record { begin = r.begin; end = r.end } };
+    ghost view = { λ r. record { begin = begin_of r.begin r.end; end = r.end } };
 
-    ghost invariant = { λ r. range_fault r.begin r.end ≡ None };
+    ghost invariant = { λ r. (range_fault (begin_of r.begin r.end) r.end ≡ None)
+        × HasFront r.begin r.end };
 }
 
 impl KeyRange {
@@ -42,10 +57,19 @@ impl KeyRange {
             (λ refusal. range_fault begin.items end.items ≡ Some refusal) }
     {
         check_range(&begin, &end)?;
-        Ok(KeyRange {
-            begin: Bytes::from(begin),
+        Ok(KeyRange::from_checked(begin, end))
+    }
+
+    /// Returns the range from `begin` up to `end`, in which `check_range` has found no fault. Does not
+    /// allocate.
+    pub fn from_checked(begin: Vec<u8>, end: Vec<u8>) -> KeyRange
+        requires { range_fault begin.items end.items ≡ None }
+        ensures { result ≡ record { begin = begin.items; end = end.items } }
+    {
+        KeyRange {
+            begin: kept_begin(begin, &end),
             end: Bytes::from(end),
-        })
+        }
     }
 
     /// The least key of the range.
@@ -53,7 +77,10 @@ impl KeyRange {
         ensures value { result.now ≡ self.now.begin }
         ensures kept { range_fault self.now.begin self.now.end ≡ None }
     {
-        self.begin.as_slice()
+        match &self.begin {
+            Begin::Front(length) => &self.end.as_slice()[..*length],
+            Begin::Other(begin) => begin.as_slice(),
+        }
     }
 
     /// The key at which the range ends: it is not in the range.
@@ -62,6 +89,13 @@ impl KeyRange {
         ensures kept { range_fault self.now.begin self.now.end ≡ None }
     {
         self.end.as_slice()
+    }
+
+    /// The key at which the range ends, as it is kept.
+    pub fn end_bytes(&self) -> &Bytes
+        ensures { result.now ≡ self.now.end }
+    {
+        &self.end
     }
 
     /// Whether the key is in the range.
@@ -84,5 +118,17 @@ impl KeyRange {
         ensures { IfOk result (λ copy. copy ≡ self.now) }
     {
         Ok(self.clone()?)
+    }
+}
+
+/// The begin as it is kept beside the end. Does not allocate.
+fn kept_begin(begin: Vec<u8>, end: &[u8]) -> Begin
+    ensures same { begin_of result end.now ≡ begin.items }
+    ensures front { HasFront result end.now }
+{
+    if end.starts_with(&begin) {
+        Begin::Front(begin.len())
+    } else {
+        Begin::Other(Bytes::from(begin))
     }
 }

@@ -12,11 +12,12 @@ ghost use Rattle.system_keys.specs.Text.{text_of, byte_text, bytes_of, bytes_rea
 ghost use Rattle.system_keys.specs.Text.{is_plain, is_escape, is_digit, digit_of, byte_of};
 
 use crate::memory::OutOfMemory;
+use crate::plain::plain_length;
 use crate::refusal::RowFault;
 use std::alloc::Global;
 
-/// How many characters are tested at once.
-const GROUP: usize = 16;
+/// Up to how many characters a text gets as much room as it has characters.
+const SHORT: usize = 64;
 
 /// How many characters are counted at once: as many as fit in a byte.
 const PART: usize = 255;
@@ -51,7 +52,8 @@ fn byte_length(byte: u8) -> usize
     if is_plain(byte) { 1 } else { 4 }
 }
 
-fn is_plain(byte: u8) -> bool
+#[inline(always)]
+pub(crate) fn is_plain(byte: u8) -> bool
     ensures { result ≡ is_plain byte }
 {
     byte.is_ascii_graphic() && byte != b'"' && byte != b'\\'
@@ -120,9 +122,9 @@ fn decode(alloc: Global, text: &[u8]) -> Result<Option<Vec<u8>>, OutOfMemory>
     ensures { IfOk result
         (λ found. option_map (λ bytes. bytes.items) found ≡ bytes_of text.now) }
 {
-    let mut bytes = Vec::with_capacity(alloc, expected_length(text))?;
+    let mut bytes = Vec::with_capacity(alloc, room_for(text))?;
     let mut rest = text;
-    loop {
+    while !rest.is_empty() {
         let (plain, behind) = rest.split_at(plain_length(rest));
         bytes.extend_from_slice(plain)?;
         if behind.is_empty() {
@@ -134,54 +136,19 @@ fn decode(alloc: Global, text: &[u8]) -> Result<Option<Vec<u8>>, OutOfMemory>
         bytes.push(byte)?;
         rest = after;
     }
+    Ok(Some(bytes))
 }
 
-/// How many characters at the front of the text stand for themselves.
-#[inline(always)]
-fn plain_length(text: &[u8]) -> usize
-    ensures within { result ≤ length text.now }
-    ensures value { bytes_of text.now
-        ≡ option_map (λ bytes. take result text.now ++ bytes) (bytes_of (drop result text.now)) }
-{
-    let mut length = plain_groups(text);
-    while length < text.len() && is_plain(text[length]) {
-        length += 1;
+/// How much room to make for the bytes of the text. It is only a guess: nothing rests on it.
+fn room_for(text: &[u8]) -> usize {
+    if text.len() <= SHORT {
+        text.len()
+    } else {
+        expected_length(text)
     }
-    length
 }
 
-/// The same, but only in whole groups, which are tested many characters at once.
-#[inline(always)]
-fn plain_groups(text: &[u8]) -> usize
-    ensures within { result ≤ length text.now }
-    ensures value { bytes_of text.now
-        ≡ option_map (λ bytes. take result text.now ++ bytes) (bytes_of (drop result text.now)) }
-{
-    let mut length = 0usize;
-    while GROUP <= text.len() - length && are_plain(&text[length..length + GROUP]) {
-        length += GROUP;
-    }
-    length
-}
-
-/// Whether all of the characters stand for themselves. It tests each, since a loop that never stops
-/// early is compiled to instructions that test many at once.
-#[inline(always)]
-fn are_plain(text: &[u8]) -> bool
-    ensures { result ≡ true
-        → (i : ℕ) → i < length text.now → is_plain (get_or text.now i 0) ≡ true }
-{
-    let mut plain = true;
-    for i in 0..text.len() {
-        if !is_plain(text[i]) {
-            plain = false;
-        }
-    }
-    plain
-}
-
-/// How many bytes the text stands for, if each backslash begins an escape. It only says how much
-/// room to make, so nothing rests on it.
+/// How many bytes the text stands for, if each backslash begins an escape.
 fn expected_length(text: &[u8]) -> usize {
     let mut length = text.len();
     for part in text.chunks(PART) {
