@@ -1,5 +1,5 @@
 -- The owners at the begin of a range, and at each start inside, say who is asked.
-use Rattle.std.proofs.Common.{◌≡◌, ℕ, ◌<◌, refl, sym, ap, ap₂, subst, ◌∙◌, Bool, true, false, not, cond, ◌&&◌, ◌||◌, List, [], ◌∷◌, ◌++◌, length, take, replicate, zero, suc, filter, arith}
+use Rattle.std.proofs.Common.{◌≡◌, ℕ, ◌<◌, ◌≤◌, refl, sym, ap, ap₂, subst, ◌∙◌, Bool, true, false, not, cond, ◌&&◌, ◌||◌, List, [], ◌∷◌, ◌++◌, length, take, replicate, zero, suc, filter, arith}
 use Rattle.std.specs.Global.{Vec}
 use Rattle.std.specs.List.{list_any}
 use Rattle.std.specs.declared.ops.Bound.TheVariants.{Included, Excluded, Unbounded}
@@ -258,10 +258,10 @@ as_many_flags : (n : ℕ) → length (replicate n false) ≡ n
 as_many_flags zero = refl
 as_many_flags (suc n) = ap suc (as_many_flags n)
 
-pub filter_flagged : (test : ℕ → Bool) (n : ℕ) (flags : List Bool) → Flags (replicate n false) test flags → filter (is_flagged flags) (each_below (length flags)) ≡ filter test (each_below n)
-filter_flagged test n flags flagged =
-    ap (λ k. filter (is_flagged flags) (each_below k)) (flagged.as_many ∙ as_many_flags n)
-    ∙ filter_below (is_flagged flags) test n (λ r there. flagged.each r (omega (arith, there, as_many_flags n)) ∙ ap (λ b. b || test r) (no_flags n r))
+-- the first n of them that are flagged in the end are those that pass the test
+pub first_flagged : (test : ℕ → Bool) (n most : ℕ) (flags : List Bool) → n ≤ most → Flags (replicate most false) test flags → filter (is_flagged flags) (each_below n) ≡ filter test (each_below n)
+first_flagged test n most flags few flagged =
+    filter_below (is_flagged flags) test n (λ r there. flagged.each r (omega (arith, there, few, as_many_flags most)) ∙ ap (λ b. b || test r) (no_flags most r))
 
 -- a list in front of another is what is taken of both
 pub taken_front : (n : ℕ) (xs ys : List Bool) → n ≡ length xs → take n (xs ++ ys) ≡ xs

@@ -1,7 +1,9 @@
 -- Flags of resolvers: one after another, and read off in the end.
-use Rattle.std.proofs.Common.{◌≡◌, ℕ, zero, suc, ◌+◌, ◌<◌, ◌≤◌, refl, sym, ap, ap₂, ◌∙◌, Bool, true, false, ◌||◌, cond, nat_eq, List, [], ◌∷◌, ◌++◌, length, filter, get_or-set_same, get_or-set_other, length-set, add-one, arith}
-use Rattle.std.proofs.lemmas.Bool.{eq-eqb, eqb-true}
+use Rattle.std.proofs.Common.{◌≡◌, ℕ, zero, suc, ◌+◌, ◌<◌, ◌≤◌, refl, sym, ap, ap₂, ◌∙◌, Bool, true, false, ◌||◌, cond, nat_eq, List, [], ◌∷◌, ◌++◌, length, filter, get_or-set_same, get_or-set_other, get_or-take, length-take-le, length-set, take, add-one, arith}
+use Rattle.std.specs.List.{list_any}
+use Rattle.std.proofs.lemmas.Bool.{eq-eqb, eqb-true, eqb-false, ne_eqb}
 use Rattle.std.proofs.lemmas.List.Elements.{filter-append}
+use Rattle.std.proofs.lemmas.List.Folds.{list_any-append}
 use Rattle.std.proofs.Math.ListN.{set}
 use Rattle.model.specs.Shares.{each_below}
 use Rattle.dated_owners.specs.Flags.{is_flagged, Flags}
@@ -65,3 +67,50 @@ filter_below p q (suc n) same =
 -- one number more
 pub filter_next : (p : ℕ → Bool) (n : ℕ) → filter p (each_below (n + 1)) ≡ filter p (each_below n) ++ cond (p n) (n ∷ []) []
 filter_next p n = ap (λ k. filter p (each_below k)) (add-one n) ∙ filter-append p (each_below n) (n ∷ [])
+
+-- ---- a list of the numbers that pass a test
+
+bool_or_false : (b : Bool) → (b || false) ≡ b
+bool_or_false true = refl
+bool_or_false false = refl
+
+-- no number above is in the list
+pub none_above : (p : ℕ → Bool) (r n : ℕ) → n ≤ r → list_any (λ a. nat_eq a r) (filter p (each_below n)) ≡ false
+none_above p r zero h = refl
+none_above p r (suc n) h =
+    ap (list_any (λ a. nat_eq a r)) (filter-append p (each_below n) (n ∷ []))
+    ∙ list_any-append (λ a. nat_eq a r) (filter p (each_below n)) (filter p (n ∷ []))
+    ∙ ap₂ (λ x y. x || y) (none_above p r n (omega arith)) (one (p n))
+  where
+    one : (b : Bool) → list_any (λ a. nat_eq a r) (cond b (n ∷ []) []) ≡ false
+    one true = bool_or_false (nat_eq n r) ∙ ne_eqb n r (λ same. absurd (omega arith))
+    one false = refl
+
+-- a number below n is in the list of those that pass exactly if it passes
+pub in_filter : (p : ℕ → Bool) (r n : ℕ) → r < n → list_any (λ a. nat_eq a r) (filter p (each_below n)) ≡ p r
+in_filter p r zero h = absurd (omega arith)
+in_filter p r (suc n) h =
+    ap (list_any (λ a. nat_eq a r)) (filter-append p (each_below n) (n ∷ []))
+    ∙ list_any-append (λ a. nat_eq a r) (filter p (each_below n)) (filter p (n ∷ []))
+    ∙ by (nat_eq n r) refl (in_filter p r n)
+  where
+    last : (b : Bool) → nat_eq n r ≡ true → list_any (λ a. nat_eq a r) (cond b (n ∷ []) []) ≡ b
+    last true e = bool_or_false (nat_eq n r) ∙ e
+    last false e = refl
+
+    other : (b : Bool) → nat_eq n r ≡ false → list_any (λ a. nat_eq a r) (cond b (n ∷ []) []) ≡ false
+    other true e = bool_or_false (nat_eq n r) ∙ e
+    other false e = refl
+
+    by : (t : Bool) → nat_eq n r ≡ t → (r < n → list_any (λ a. nat_eq a r) (filter p (each_below n)) ≡ p r) → (list_any (λ a. nat_eq a r) (filter p (each_below n)) || list_any (λ a. nat_eq a r) (cond (p n) (n ∷ []) [])) ≡ p r
+    by true e before =
+        let same : n ≡ r = eqb-true n r e in
+        ap₂ (λ x y. x || y) (none_above p r n (omega arith)) (last (p n) e) ∙ ap p same
+    by false e before =
+        ap₂ (λ x y. x || y) (before (omega (arith, eqb-false n r e))) (other (p n) e) ∙ bool_or_false (p r)
+
+-- the first n flags are enough to list those below n
+pub listed_front : (flags : List Bool) (n : ℕ) → n ≤ length flags → filter (is_flagged (take n flags)) (each_below (length (take n flags))) ≡ filter (is_flagged flags) (each_below n)
+listed_front flags n few =
+    ap (λ k. filter (is_flagged (take n flags)) (each_below k)) (length-take-le n flags few)
+    ∙ filter_below (is_flagged (take n flags)) (is_flagged flags) n (λ r there. get_or-take n flags r false there)

@@ -14,8 +14,10 @@ mod merging;
 mod owner_map;
 mod pieces;
 mod refusal;
+mod resolver_set;
 mod walks;
 
 pub use flags::{flag, flagged};
 pub use owner_map::OwnerMap;
 pub use refusal::Refusal;
+pub use resolver_set::ResolverSet;

@@ -13,6 +13,7 @@ ghost use Rattle.dated_owners.specs.Refusals.{move_fault, refusal_fault};
 use crate::later_owners::{LaterOwner, LaterOwners};
 use crate::pieces::{Pieces, add_owner, count_owners, count_pieces, merge, sweep};
 use crate::refusal::Refusal;
+use crate::resolver_set::ResolverSet;
 use crate::walks::{Walk, askers};
 use model::{ResolverNumber, Version};
 use std::alloc::{AllocError, Global};
@@ -49,6 +50,7 @@ pub struct OwnerMap {
 }
 
 impl Model for OwnerMap {
+    ghost use Rattle.std.specs.Prelude.{◌≤◌};
     ghost use Rattle.model.specs.OwnerMaps.{OwnerMapView};
     ghost use Rattle.dated_owners.specs.Starts.{starts_of, moves_of, AreKept};
 
@@ -61,7 +63,7 @@ impl Model for OwnerMap {
       moves = moves_of (starts_of map.pieces.entries);
     } };
 
-    ghost invariant = { λ map. AreKept (starts_of map.pieces.entries) };
+    ghost invariant = { λ map. (map.resolvers ≤ 64) × AreKept (starts_of map.pieces.entries) };
 }
 
 impl OwnerMap {
@@ -180,6 +182,13 @@ impl OwnerMap {
     ) -> Result<Items<ResolverNumber>, OutOfMemory>
         ensures { IfOk result (λ list. AreReaders self.now range.now snapshot list) }
     {
+        self.readers(range, snapshot).list(self.spare.alloc())
+    }
+
+    /// Returns the same resolvers as [`OwnerMap::read_owners`], as a set. Allocates nothing.
+    pub fn readers(&self, range: &KeyRange, snapshot: Version) -> ResolverSet
+        ensures { AreReaders self.now range.now snapshot result }
+    {
         let walk = Walk::BackTo(snapshot.max(self.oldest));
         self.askers(walk, range)
     }
@@ -189,18 +198,23 @@ impl OwnerMap {
     pub fn write_owners(&self, range: &KeyRange) -> Result<Items<ResolverNumber>, OutOfMemory>
         ensures { IfOk result (λ list. AreWriters self.now range.now list) }
     {
+        self.writers(range).list(self.spare.alloc())
+    }
+
+    /// Returns the same resolvers as [`OwnerMap::write_owners`], as a set. Allocates nothing.
+    pub fn writers(&self, range: &KeyRange) -> ResolverSet
+        ensures { AreWriters self.now range.now result }
+    {
         self.askers(Walk::LastOwner, range)
     }
 
     /// The resolvers that are asked about the range.
-    fn askers(&self, walk: Walk, range: &KeyRange) -> Result<Items<ResolverNumber>, OutOfMemory>
+    fn askers(&self, walk: Walk, range: &KeyRange) -> ResolverSet
         ensures { let map = self.now in
-            IfOk result (λ list. list ≡ askers map.resolvers map.moves walk range.now) }
+            result ≡ askers map.resolvers map.moves walk range.now }
     {
-        let alloc = self.spare.alloc();
-        let begin = Vec::from_slice(alloc, range.begin())?;
-        let end = Vec::from_slice(alloc, range.end())?;
-        askers(alloc, self.resolvers, &self.pieces, walk, &begin, &end)
+        let end = range.end_bytes().as_vec();
+        askers(self.resolvers, &self.pieces, walk, range.begin(), end)
     }
 
     /// Raises the oldest version remembered to `oldest`; a lower value changes nothing. Allocates

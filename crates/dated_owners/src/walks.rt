@@ -1,6 +1,6 @@
 //! Which resolvers are asked about a range.
 
-ghost use Rattle.std.specs.Prelude.{◌≡◌, ℕ, [], true, nat_eq, filter, IfOk};
+ghost use Rattle.std.specs.Prelude.{◌≡◌, ℕ, [], ◌≤◌, true, nat_eq, filter};
 ghost use Rattle.system_keys.specs.Keys.{Range, is_key_below};
 ghost use Rattle.model.specs.Owners.{is_last, walk_visits};
 ghost use Rattle.model.specs.Shares.{each_below};
@@ -9,12 +9,11 @@ ghost use Rattle.dated_owners.specs.Starts.{starts_of, some_start};
 ghost use Rattle.dated_owners.specs.Walks.{takes, takes_later};
 ghost use Rattle.dated_owners.specs.Flags.{Flags};
 
-use crate::flags::{flag, flagged};
+use crate::flags::flag;
 use crate::later_owners::LaterOwner;
 use crate::pieces::{Pieces, is_below};
+use crate::resolver_set::{MOST, ResolverSet};
 use model::{ResolverNumber, Version};
-use std::alloc::Global;
-use system_keys::{Items, OutOfMemory};
 
 /// Which owners of a key are asked.
 #[derive(Clone, Copy)]
@@ -25,37 +24,37 @@ pub(crate) enum Walk {
     BackTo(Version),
 }
 
-/// The resolvers that are asked about some key from `begin` up to `end`, in rising order.
+/// The resolvers that are asked about some key from `begin` up to `end`. Does not allocate.
 pub(crate) fn askers(
-    alloc: Global,
     resolvers: usize,
     pieces: &Pieces,
     walk: Walk,
-    begin: &Vec<u8>,
+    begin: &[u8],
     end: &Vec<u8>,
-) -> Result<Items<ResolverNumber>, OutOfMemory>
-    requires { is_key_below begin.now.items end.now.items ≡ true }
-    ensures { let range : Range = record { begin = begin.now.items; end = end.now.items } in
-        let starts = starts_of pieces.now.entries in IfOk result (λ list. list
-        ≡ filter (λ r. some_start [] starts (takes_later walk r) range) (each_below resolvers)) }
+) -> ResolverSet
+    requires few { resolvers ≤ 64 }
+    requires rising { is_key_below begin.now end.now.items ≡ true }
+    ensures { let range : Range = record { begin = begin.now; end = end.now.items } in
+        let starts = starts_of pieces.now.entries in result
+        ≡ filter (λ r. some_start [] starts (takes_later walk r) range) (each_below resolvers) }
 {
-    let mut flags = vec![in alloc; false; resolvers]?;
+    let mut flags = [false; MOST];
     flag_askers(pieces, walk, begin, end, &mut flags);
-    flagged(alloc, &flags)
+    ResolverSet::of_flags(resolvers, flags)
 }
 
 /// Flags the resolvers that are asked about some key from `begin` up to `end`: the owners are those
 /// from each start inside on, and from the last start up to `begin`, which are those at `begin`.
-fn flag_askers(pieces: &Pieces, walk: Walk, begin: &Vec<u8>, end: &Vec<u8>, flags: &mut [bool])
-    requires { is_key_below begin.now.items end.now.items ≡ true }
-    ensures { let range : Range = record { begin = begin.now.items; end = end.now.items } in
+fn flag_askers(pieces: &Pieces, walk: Walk, begin: &[u8], end: &Vec<u8>, flags: &mut [bool])
+    requires { is_key_below begin.now end.now.items ≡ true }
+    ensures { let range : Range = record { begin = begin.now; end = end.now.items } in
         let starts = starts_of pieces.now.entries in
         Flags flags.old (λ r. some_start [] starts (takes_later walk r) range) flags.new }
 {
     let mut left = pieces.range(..end);
     while let Some((key, owners)) = left.next_back() {
         flag_owners(owners.as_slice(), walk, flags);
-        if !is_below(begin.as_slice(), key.as_slice()) {
+        if !is_below(begin, key.as_slice()) {
             return;
         }
     }

@@ -1,7 +1,7 @@
 -- The lists of the resolvers that are asked: what they give each resolver is what it is asked about.
-use Rattle.std.proofs.Common.{◌≡◌, ℕ, zero, suc, ◌<◌, ◌≤◌, refl, sym, ap, ap₂, ◌∙◌, Bool, true, false, not, ◌&&◌, ◌||◌, ◌==◌, cond, nat_eq, List, [], ◌∷◌, ◌++◌, length, map, filter, arith}
+use Rattle.std.proofs.Common.{◌≡◌, ℕ, suc, ◌<◌, refl, sym, ap, ap₂, ◌∙◌, Bool, true, false, not, ◌&&◌, ◌||◌, ◌==◌, cond, List, [], ◌∷◌, ◌++◌, length, map, filter, arith}
 use Rattle.std.specs.List.{list_any}
-use Rattle.std.proofs.lemmas.Bool.{eqb-true, eqb-false, ne_eqb}
+use Rattle.std.proofs.lemmas.Bool.{ne_eqb}
 use Rattle.std.proofs.lemmas.List.Elements.{filter-append}
 use Rattle.std.proofs.lemmas.List.Folds.{list_any-append}
 use Rattle.system_keys.specs.Keys.{Range, only}
@@ -13,49 +13,8 @@ use Rattle.model.specs.Records.{Record}
 use Rattle.model.specs.Shares.{each_below, read_bound, part_back_to, asks_back_to, parts_back_to, asked_back_to}
 use Rattle.model.specs.Requests.{marks_from}
 use Rattle.model.specs.OwnerMaps.{OwnerMapView}
-use Rattle.dated_owners.proofs.FlagLaws.{filter_below}
-use Rattle.request_builder.specs.AskedResolvers.{reader_lists, asked_resolvers_of, is_in, is_in_some, ranges_for, part_by, is_sent, sent_part, parts_by, mark_by, marks_by, is_asked_by, asked_by}
-
--- ---- one list
-
-or_false : (b : Bool) → (b || false) ≡ b
-or_false true = refl
-or_false false = refl
-
--- no number above is in the list
-none_above : (p : ℕ → Bool) (r n : ℕ) → n ≤ r → is_in r (filter p (each_below n)) ≡ false
-none_above p r zero h = refl
-none_above p r (suc n) h =
-    ap (is_in r) (filter-append p (each_below n) (n ∷ []))
-    ∙ list_any-append (λ a. nat_eq a r) (filter p (each_below n)) (filter p (n ∷ []))
-    ∙ ap₂ (λ x y. x || y) (none_above p r n (omega arith)) (one (p n))
-  where
-    one : (b : Bool) → is_in r (cond b (n ∷ []) []) ≡ false
-    one true = or_false (nat_eq n r) ∙ ne_eqb n r (λ same. absurd (omega arith))
-    one false = refl
-
--- a number below n is in the list of those that pass exactly if it passes
-pub in_filter : (p : ℕ → Bool) (r n : ℕ) → r < n → is_in r (filter p (each_below n)) ≡ p r
-in_filter p r zero h = absurd (omega arith)
-in_filter p r (suc n) h =
-    ap (is_in r) (filter-append p (each_below n) (n ∷ []))
-    ∙ list_any-append (λ a. nat_eq a r) (filter p (each_below n)) (filter p (n ∷ []))
-    ∙ by (nat_eq n r) refl (in_filter p r n)
-  where
-    last : (b : Bool) → nat_eq n r ≡ true → is_in r (cond b (n ∷ []) []) ≡ b
-    last true e = or_false (nat_eq n r) ∙ e
-    last false e = refl
-
-    other : (b : Bool) → nat_eq n r ≡ false → is_in r (cond b (n ∷ []) []) ≡ false
-    other true e = or_false (nat_eq n r) ∙ e
-    other false e = refl
-
-    by : (t : Bool) → nat_eq n r ≡ t → (r < n → is_in r (filter p (each_below n)) ≡ p r) → (is_in r (filter p (each_below n)) || is_in r (cond (p n) (n ∷ []) [])) ≡ p r
-    by true e before =
-        let same : n ≡ r = eqb-true n r e in
-        ap₂ (λ x y. x || y) (none_above p r n (omega arith)) (last (p n) e) ∙ ap p same
-    by false e before =
-        ap₂ (λ x y. x || y) (before (omega (arith, eqb-false n r e))) (other (p n) e) ∙ or_false (p r)
+use Rattle.dated_owners.proofs.FlagLaws.{filter_below, in_filter}
+use Rattle.request_builder.specs.AskedResolvers.{reader_lists, asked_resolvers_of, is_in_some, ranges_for, part_by, is_sent, sent_part, parts_by, mark_by, marks_by, is_asked_by, asked_by}
 
 -- ---- the lists of some ranges
 

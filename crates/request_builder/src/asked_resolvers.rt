@@ -9,23 +9,23 @@ ghost use Rattle.request_builder.specs.AskedResolvers.{AreReaderLists, AreWriter
 ghost use Rattle.request_builder.specs.AskedResolvers.{AreAskedResolvers, AreAllAskedResolvers};
 ghost use Rattle.request_builder.specs.AskedResolvers.{is_in, is_in_some, is_asked_about, asked_by};
 
-use dated_owners::{OwnerMap, flag, flagged};
+use dated_owners::{OwnerMap, ResolverSet, flag, flagged};
 use model::{ResolverNumber, Version};
 use mutation::Stamped;
 use std::alloc::Global;
 use system_keys::{Items, KeyRange, LOCKED_KEY, OutOfMemory};
 
-/// The resolvers that are asked about each range of a transaction, in rising order.
+/// The resolvers that are asked about each range of a transaction.
 #[derive(Drop)]
 pub(crate) struct AskedResolvers {
     /// Whether it is a state transaction, which every resolver gets.
     pub(crate) is_state: bool,
-    /// One list for each range that it reads.
-    pub(crate) reads: Items<Items<ResolverNumber>>,
-    /// One list for the read of the lock row that is added, if it is added.
-    pub(crate) lock: Items<Items<ResolverNumber>>,
-    /// One list for each range that it writes.
-    pub(crate) writes: Items<Items<ResolverNumber>>,
+    /// One set for each range that it reads.
+    pub(crate) reads: Items<ResolverSet>,
+    /// One set for the read of the lock row that is added, if it is added.
+    pub(crate) lock: Items<ResolverSet>,
+    /// One set for each range that it writes.
+    pub(crate) writes: Items<ResolverSet>,
 }
 
 /// The keys of the lock row: one range. Most batches have no use for it.
@@ -76,47 +76,47 @@ fn ask_about(
     let is_added = is_state && !transaction.lock_aware();
     Ok(AskedResolvers {
         is_state,
-        reads: reader_lists(alloc, owners, oldest, transaction.reads(), snapshot)?,
-        lock: lock_lists(alloc, owners, oldest, is_added, snapshot)?,
-        writes: writer_lists(alloc, owners, transaction.writes())?,
+        reads: reader_sets(alloc, owners, oldest, transaction.reads(), snapshot)?,
+        lock: lock_readers(alloc, owners, oldest, is_added, snapshot)?,
+        writes: writer_sets(alloc, owners, transaction.writes())?,
     })
 }
 
-/// The resolvers that are asked to read the lock row, if that read is added, and otherwise no list.
-fn lock_lists(
+/// The resolvers that are asked to read the lock row, if that read is added, and otherwise no set.
+fn lock_readers(
     alloc: Global,
     owners: &OwnerMap,
     oldest: Version,
     is_added: bool,
     snapshot: Version,
-) -> Result<Items<Items<ResolverNumber>>, OutOfMemory>
+) -> Result<Items<ResolverSet>, OutOfMemory>
     ensures { IfOk result
-        (λ lists. AreReaderLists oldest owners.now snapshot (lock_read is_added) lists) }
+        (λ sets. AreReaderLists oldest owners.now snapshot (lock_read is_added) sets) }
 {
     if is_added {
         let row = lock_row(alloc)?;
-        reader_lists(alloc, owners, oldest, &row, snapshot)
+        reader_sets(alloc, owners, oldest, &row, snapshot)
     } else {
-        reader_lists(alloc, owners, oldest, &[], snapshot)
+        reader_sets(alloc, owners, oldest, &[], snapshot)
     }
 }
 
 /// The resolvers that are asked to read each range, back to the snapshot or to `oldest`, whichever is
 /// later.
-fn reader_lists(
+fn reader_sets(
     alloc: Global,
     owners: &OwnerMap,
     oldest: Version,
     ranges: &[KeyRange],
     snapshot: Version,
-) -> Result<Items<Items<ResolverNumber>>, OutOfMemory>
-    ensures { IfOk result (λ lists. AreReaderLists oldest owners.now snapshot ranges.now lists) }
+) -> Result<Items<ResolverSet>, OutOfMemory>
+    ensures { IfOk result (λ sets. AreReaderLists oldest owners.now snapshot ranges.now sets) }
 {
-    let mut lists = Vec::with_capacity(alloc, ranges.len())?;
+    let mut sets = Vec::with_capacity(alloc, ranges.len())?;
     for range in ranges {
-        lists.push(readers_back_to(owners, oldest, range, snapshot)?)?;
+        sets.push(readers_back_to(owners, oldest, range, snapshot))?;
     }
-    Ok(Items::from(lists))
+    Ok(Items::from(sets))
 }
 
 /// The resolvers that are asked to read the range, back to the snapshot or to `oldest`.
@@ -125,25 +125,25 @@ fn readers_back_to(
     oldest: Version,
     range: &KeyRange,
     snapshot: Version,
-) -> Result<Items<ResolverNumber>, OutOfMemory>
-    ensures { IfOk result (λ list. AreReadersBackTo oldest owners.now range.now snapshot list) }
+) -> ResolverSet
+    ensures { AreReadersBackTo oldest owners.now range.now snapshot result }
 {
-    owners.read_owners(range, snapshot.max(oldest))
+    owners.readers(range, snapshot.max(oldest))
 }
 
 /// The resolvers that are asked to write each range.
-fn writer_lists(
+fn writer_sets(
     alloc: Global,
     owners: &OwnerMap,
     ranges: &[KeyRange],
-) -> Result<Items<Items<ResolverNumber>>, OutOfMemory>
-    ensures { IfOk result (λ lists. AreWriterLists owners.now ranges.now lists) }
+) -> Result<Items<ResolverSet>, OutOfMemory>
+    ensures { IfOk result (λ sets. AreWriterLists owners.now ranges.now sets) }
 {
-    let mut lists = Vec::with_capacity(alloc, ranges.len())?;
+    let mut sets = Vec::with_capacity(alloc, ranges.len())?;
     for range in ranges {
-        lists.push(owners.write_owners(range)?)?;
+        sets.push(owners.writers(range))?;
     }
-    Ok(Items::from(lists))
+    Ok(Items::from(sets))
 }
 
 /// The resolvers that get a part of each transaction, in rising order.
@@ -178,25 +178,27 @@ fn asked_by(
 fn flag_asked(asking: &AskedResolvers, flags: &mut [bool])
     ensures { Flags flags.old (is_asked_about asking.now) flags.new }
 {
-    flag_lists(asking.reads.as_slice(), flags);
-    flag_lists(asking.lock.as_slice(), flags);
-    flag_lists(asking.writes.as_slice(), flags);
+    flag_sets(asking.reads.as_slice(), flags);
+    flag_sets(asking.lock.as_slice(), flags);
+    flag_sets(asking.writes.as_slice(), flags);
 }
 
-/// Flags the resolvers of the lists.
-fn flag_lists(lists: &[Items<ResolverNumber>], flags: &mut [bool])
-    ensures { Flags flags.old (λ r. is_in_some r lists.now) flags.new }
+/// Flags the resolvers of the sets.
+fn flag_sets(sets: &[ResolverSet], flags: &mut [bool])
+    ensures { Flags flags.old (λ r. is_in_some r sets.now) flags.new }
 {
-    for list in lists {
-        flag_list(list.as_slice(), flags);
+    for set in sets {
+        flag_set(set, flags);
     }
 }
 
-/// Flags the resolvers of the list.
-fn flag_list(list: &[ResolverNumber], flags: &mut [bool])
-    ensures { Flags flags.old (λ r. is_in r list.now) flags.new }
+/// Flags the resolvers of the set.
+fn flag_set(set: &ResolverSet, flags: &mut [bool])
+    ensures { Flags flags.old (λ r. is_in r set.now) flags.new }
 {
-    for resolver in list {
-        flag(flags, *resolver);
+    for resolver in 0..flags.len() {
+        if set.has(resolver) {
+            flag(flags, resolver);
+        }
     }
 }

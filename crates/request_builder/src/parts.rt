@@ -8,6 +8,7 @@ ghost use Rattle.request_builder.specs.AskedResolvers.{is_in, ranges_for, part_b
 ghost use Rattle.request_builder.specs.AskedResolvers.{sent_part, parts_by};
 
 use crate::asked_resolvers::{AskedResolvers, lock_row};
+use dated_owners::ResolverSet;
 use model::{Part, ResolverNumber, TransactionNumber};
 use mutation::Stamped;
 use std::alloc::Global;
@@ -82,48 +83,45 @@ fn part_by(
     })
 }
 
-/// Adds the lock row, if there is a list for it, and that has the resolver.
+/// Adds the lock row, if there is a set for it, and that has the resolver.
 fn push_lock_row(
     alloc: Global,
     copies: &mut Vec<KeyRange>,
     resolver: ResolverNumber,
-    lists: &[Items<ResolverNumber>],
+    sets: &[ResolverSet],
 ) -> Result<(), OutOfMemory>
     ensures { OnOk result (copies.new.items
-        ≡ copies.old.items ++ ranges_for resolver (only locked_key ∷ []) lists.now) }
+        ≡ copies.old.items ++ ranges_for resolver (only locked_key ∷ []) sets.now) }
 {
-    if lists.is_empty() {
+    if sets.is_empty() {
         return Ok(());
     }
     let row = lock_row(alloc)?;
-    push_ranges(copies, resolver, &row, lists)
+    push_ranges(copies, resolver, &row, sets)
 }
 
-/// Adds copies of the ranges whose lists have the resolver. Room for them is made at once.
+/// Adds copies of the ranges whose sets have the resolver. Room for them is made at once.
 fn push_ranges(
     copies: &mut Vec<KeyRange>,
     resolver: ResolverNumber,
     ranges: &[KeyRange],
-    lists: &[Items<ResolverNumber>],
+    sets: &[ResolverSet],
 ) -> Result<(), OutOfMemory>
     ensures { OnOk result
-        (copies.new.items ≡ copies.old.items ++ ranges_for resolver ranges.now lists.now) }
+        (copies.new.items ≡ copies.old.items ++ ranges_for resolver ranges.now sets.now) }
 {
-    copies.reserve(how_many_list(resolver, lists))?;
+    copies.reserve(how_many_have(resolver, sets))?;
     for (number, range) in ranges.iter().enumerate() {
-        push_if(copies, is_listed(resolver, lists, number), range)?;
+        push_if(copies, is_asked(resolver, sets, number), range)?;
     }
     Ok(())
 }
 
-/// How many of the lists have the resolver.
-fn how_many_list(resolver: ResolverNumber, lists: &[Items<ResolverNumber>]) -> usize
-    ensures { result ≡ length (filter (is_in resolver) lists.now) }
+/// How many of the sets have the resolver.
+fn how_many_have(resolver: ResolverNumber, sets: &[ResolverSet]) -> usize
+    ensures { result ≡ length (filter (is_in resolver) sets.now) }
 {
-    lists
-        .iter()
-        .filter(|list| list.as_slice().contains(&resolver))
-        .count()
+    sets.iter().filter(|set| set.has(resolver)).count()
 }
 
 /// Adds a copy of the range, if it is asked for.
@@ -137,12 +135,12 @@ fn push_if(copies: &mut Vec<KeyRange>, is_asked: bool, range: &KeyRange) -> Resu
     Ok(())
 }
 
-/// Whether the list at this place has the resolver.
-fn is_listed(resolver: ResolverNumber, lists: &[Items<ResolverNumber>], place: usize) -> bool
-    ensures { result ≡ is_in resolver (list_at lists.now place) }
+/// Whether the set at this place has the resolver.
+fn is_asked(resolver: ResolverNumber, sets: &[ResolverSet], place: usize) -> bool
+    ensures { result ≡ is_in resolver (list_at sets.now place) }
 {
-    match lists.get(place) {
-        Some(list) => list.as_slice().contains(&resolver),
+    match sets.get(place) {
+        Some(set) => set.has(resolver),
         None => false,
     }
 }

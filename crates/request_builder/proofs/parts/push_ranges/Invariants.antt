@@ -5,5 +5,5 @@ use Rattle.request_builder.proofs.parts.push_ranges.Given as goal
 
 abbrev pub invariant-loop-number : goal.invariant-loop-number
 invariant-loop-number l =
-    l.copies.items ++ ranges_for l.resolver (drop l.number l.ranges) (drop l.number l.lists)
-    ≡ l.fn.copies.items ++ ranges_for l.resolver l.ranges l.lists
+    l.copies.items ++ ranges_for l.resolver (drop l.number l.ranges) (drop l.number l.sets)
+    ≡ l.fn.copies.items ++ ranges_for l.resolver l.ranges l.sets

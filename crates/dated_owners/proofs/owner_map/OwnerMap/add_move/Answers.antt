@@ -17,5 +17,5 @@ returns-clause-ok c =
     let next : OwnerMapView = record { resolvers = c.self.inside.resolvers; last_date = c.args.date; oldest = c.self.inside.oldest; moves = moves_of (starts_of c.add_owner.new.pieces.entries) } in
     let old = starts_of c.self.inside.pieces.entries in
     adds_owner c.args.self.now next old (starts_of c.add_owner.new.pieces.entries) (record { range = c.args.range.now; date = c.args.date; dest = c.args.dest }) owner refl
-    (ap (λ (map : OwnerMapView). map.oldest) c.self.view_is) (sym (ap (λ (map : OwnerMapView). map.moves) c.self.view_is)) refl c.self.invariant c.in_ok-grown.ensures.kept
+    (ap (λ (map : OwnerMapView). map.oldest) c.self.view_is) (sym (ap (λ (map : OwnerMapView). map.moves) c.self.view_is)) refl c.self.invariant.1 c.in_ok-grown.ensures.kept
     (λ key. c.in_ok-grown.ensures.ok key ∙ ap (λ (r : Range). cond (holds r key) (value_from [] old key ++ owner ∷ []) (value_from [] old key)) same)

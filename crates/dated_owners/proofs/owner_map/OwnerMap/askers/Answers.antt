@@ -1,6 +1,5 @@
 -- The owners at the starts say the same as the moves.
 use Rattle.std.proofs.Common.{◌≡◌, ◌∙◌, ap, ap₂, true}
-use Rattle.std.proofs.lemmas.Result.{IfOk-weaker}
 use Rattle.system_keys.specs.Keys.{Range, is_key_below}
 use Rattle.system_keys.proofs.KeyLaws.{begins_below}
 use Rattle.model.specs.OwnerMaps.{OwnerMapView}
@@ -9,23 +8,20 @@ use Rattle.dated_owners.specs.Walks.{askers}
 use Rattle.dated_owners.proofs.AskedStarts.{askers_are}
 use Rattle.dated_owners.proofs.owner_map.OwnerMap.askers.Goals as goal
 
-pub askers-requires : goal.askers-requires
-askers-requires c =
-    ap₂ is_key_below (c.in_ok-begin.ensures.items ∙ c.begin.ensures.value) (c.in_ok-end.ensures.items ∙ c.end.ensures.value)
+pub askers-requires-clause-rising : goal.askers-requires-clause-rising
+askers-requires-clause-rising c =
+    ap₂ is_key_below c.begin.ensures.value (c.as_vec-end.ensures ∙ c.end_bytes.ensures)
     ∙ begins_below c.args.range.now.begin c.args.range.now.end c.begin.ensures.kept
 
 pub returns : goal.returns
 returns c =
-    let range : Range = record { begin = c.in_ok-begin.begin.items; end = c.in_ok-end.end.items } in
-    let begin = c.in_ok-begin.ensures.items ∙ c.begin.ensures.value in
-    let end = c.in_ok-end.ensures.items ∙ c.end.ensures.value in
+    let range : Range = record { begin = c.begin.result.now; end = c.as_vec-end.result.now.items } in
+    let begin = c.begin.ensures.value in
+    let end = c.as_vec-end.ensures ∙ c.end_bytes.ensures in
     let same : range ≡ c.args.range.now = λ i. record { begin = begin i; end = end i } in
     let forward : is_key_below range.begin range.end ≡ true = ap₂ is_key_below begin end ∙ begins_below c.args.range.now.begin c.args.range.now.end c.begin.ensures.kept in
     let ss = starts_of c.self.inside.pieces.entries in
-    IfOk-weaker c.askers.result _ _
-    (λ list is.
-    is
-    ∙ askers_are c.self.inside.resolvers ss c.args.walk range c.self.invariant forward
-    ∙ ap (λ (r : Range). askers c.self.inside.resolvers (moves_of ss) c.args.walk r) same
-    ∙ ap (λ (map : OwnerMapView). askers map.resolvers map.moves c.args.walk c.args.range.now) c.self.view_is)
     c.askers.ensures
+    ∙ askers_are c.self.inside.resolvers ss c.args.walk range c.self.invariant.1 forward
+    ∙ ap (λ (r : Range). askers c.self.inside.resolvers (moves_of ss) c.args.walk r) same
+    ∙ ap (λ (map : OwnerMapView). askers map.resolvers map.moves c.args.walk c.args.range.now) c.self.view_is

@@ -9,7 +9,7 @@ pub returns-then-is_due-clause-stands : goal.returns-then-is_due-clause-stands
 returns-then-is_due-clause-stands c = λ moves stands.
     let before : c.self.inside.oldest ≡ c.args.self.now.oldest = ap (λ (map : OwnerMapView). map.oldest) c.self.view_is in
     sweep_stands c.args.self.now _ (starts_of c.self.inside.pieces.entries) (starts_of c.sweep.new.pieces.entries) moves stands (omega arith)
-    (ap (λ (map : OwnerMapView). map.last_date) c.self.view_is) (sym (ap (λ (map : OwnerMapView). map.moves) c.self.view_is)) refl c.self.invariant c.sweep.ensures.swept
+    (ap (λ (map : OwnerMapView). map.last_date) c.self.view_is) (sym (ap (λ (map : OwnerMapView). map.moves) c.self.view_is)) refl c.self.invariant.1 c.sweep.ensures.swept
 
 pub returns-else-is_due-clause-stands : goal.returns-else-is_due-clause-stands
 returns-else-is_due-clause-stands c = λ moves stands.
@@ -20,7 +20,7 @@ pub returns-then-is_due-clause-asks : goal.returns-then-is_due-clause-asks
 returns-then-is_due-clause-asks c = λ moves asks.
     let before : c.self.inside.oldest ≡ c.args.self.now.oldest = ap (λ (map : OwnerMapView). map.oldest) c.self.view_is in
     sweep_asks c.args.self.now _ (starts_of c.self.inside.pieces.entries) (starts_of c.sweep.new.pieces.entries) moves asks (omega arith)
-    (ap (λ (map : OwnerMapView). map.last_date) c.self.view_is) (sym (ap (λ (map : OwnerMapView). map.moves) c.self.view_is)) refl c.self.invariant c.sweep.ensures.swept
+    (ap (λ (map : OwnerMapView). map.last_date) c.self.view_is) (sym (ap (λ (map : OwnerMapView). map.moves) c.self.view_is)) refl c.self.invariant.1 c.sweep.ensures.swept
 
 pub returns-else-is_due-clause-asks : goal.returns-else-is_due-clause-asks
 returns-else-is_due-clause-asks c = λ moves asks.

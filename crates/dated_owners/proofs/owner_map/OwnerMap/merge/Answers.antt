@@ -9,4 +9,4 @@ pub returns-then-max-self-clause-asks : goal.returns-then-max-self-clause-asks
 returns-then-max-self-clause-asks c =
     merge_asks c.args.self.now _ (starts_of c.self.inside.pieces.entries) (starts_of c.merge.new.pieces.entries)
     (ap (λ (map : OwnerMapView). map.oldest) c.self.view_is) (ap (λ (map : OwnerMapView). map.last_date) c.self.view_is) (sym (ap (λ (map : OwnerMapView). map.moves) c.self.view_is)) refl
-    c.self.invariant (c.merge.ensures.kept c.self.invariant) (c.merge.ensures.walks c.self.invariant)
+    c.self.invariant.1 (c.merge.ensures.kept c.self.invariant.1) (c.merge.ensures.walks c.self.invariant.1)

@@ -7,5 +7,5 @@ use Rattle.dated_owners.proofs.owner_map.OwnerMap.pieces.Goals as goal
 
 pub returns : goal.returns
 returns c =
-    counts_pieces c.args.self.now (starts_of c.self.inside.pieces.entries) c.count_pieces.result (sym (ap (λ (map : OwnerMapView). map.moves) c.self.view_is)) c.self.invariant
+    counts_pieces c.args.self.now (starts_of c.self.inside.pieces.entries) c.count_pieces.result (sym (ap (λ (map : OwnerMapView). map.moves) c.self.view_is)) c.self.invariant.1
     (c.count_pieces.ensures ∙ ap (λ (map : OwnerMapView). suc (changes map.oldest [] (starts_of c.self.inside.pieces.entries))) c.self.view_is)

@@ -5,7 +5,7 @@ use Rattle.dated_owners.proofs.KeyStarts.{cloned}
 use Rattle.dated_owners.proofs.owner_map.OwnerMapClone.clone.Goals as goal
 
 pub invariant_of-result : goal.invariant_of-result
-invariant_of-result c = subst AreKept (sym (cloned c.self.inside.pieces.entries c.in_ok-clone.field-0.entries c.in_ok-clone.ensures.cases)) c.self.invariant
+invariant_of-result c = (c.self.invariant.0, subst AreKept (sym (cloned c.self.inside.pieces.entries c.in_ok-clone.field-0.entries c.in_ok-clone.ensures.cases)) c.self.invariant.1)
 
 pub returns : goal.returns
 returns c =
