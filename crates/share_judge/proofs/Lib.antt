@@ -1,3 +1,4 @@
+pub mod Apart
 pub mod Counted
 pub mod JudgedParts
 pub mod KeptWrites
@@ -8,7 +9,9 @@ pub mod Overwritten
 pub mod Reached
 pub mod Repeated
 pub mod RoomBetween
+pub mod RoomForShare
 pub mod Settled
 pub mod Starts
 pub mod StepKeys
 pub mod StoodFor
+pub mod WalkBack

@@ -43,7 +43,7 @@ turned_twice a b = ap not (up_to_is a b) ∙ twice (is_key_below b a)
     twice true = refl
     twice false = refl
 
-between_below : (es : List Start) (key : Key) → (entries_between key_cmp Unbounded (Excluded key) es) ≡ starts_below key es
+pub between_below : (es : List Start) (key : Key) → (entries_between key_cmp Unbounded (Excluded key) es) ≡ starts_below key es
 between_below es key =
     let same : (s : Start) → not (is_key_up_to key s.0) ≡ is_key_below s.0 key = λ s. turned_twice key s.0 in
     ap (λ (p : Start → Bool). filter p es) (λ i s. same s i)

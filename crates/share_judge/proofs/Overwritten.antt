@@ -151,37 +151,77 @@ past_all : (first : ℕ) (ss : List Start) (key : Key) → ((k : Key) → HasSta
 past_all first [] key up_to = refl
 past_all first (s ∷ ss) key up_to = ap (λ (b : Bool). cond b first (last_from s.1 ss key)) (up_to s.0 (inl refl)) ∙ past_all s.1 ss key (λ k has. up_to k (inr has))
 
--- ---- one map over another
+-- ---- what is written over
 
-at_each : (over ss : List Start) (version : ℕ) (key : Key) → AreRising ss → ((k : Key) → HasStart over k → HasStart ss k) → last_from 0 (marked (is_written over) version ss) key ≡ cond (is_written over key) version (last_from 0 ss key)
-at_each over ss version key rising there =
-    marked_last (is_written over) version 0 false ss key
-    ∙ ap (λ (b : Bool). cond b version (last_from 0 ss key)) (tested (nat_lt 0) (last_from 0 over) 0 ss key ∙ ap (nat_lt 0) (sampled_is 0 over ss key rising there))
+-- whether a key passes the test is decided by the last start up to it, and past all starts none does
+pub record IsDecided (test : Key → Bool) (ss : List Start) : Type 0 where
+  pub at : (key : Key) → last_from false (sampled test ss) key ≡ test key
+  pub past : test (top [] ss) ≡ false
 
-past_each : (over ss : List Start) (version : ℕ) → AreRising ss → ((k : Key) → HasStart over k → HasStart ss k) → last_of_all 0 over ≡ 0 → last_of_all 0 ss ≡ 0 → last_of_all 0 (marked (is_written over) version ss) ≡ 0
-past_each over ss version rising there none_over none =
-    let key = top [] ss in
-    sym (past_all 0 (marked (is_written over) version ss) key (λ k has. has_up_to_top [] ss k rising (marked_has (is_written over) version ss k has)))
-    ∙ at_each over ss version key rising there
-    ∙ ap₂ (λ (n : ℕ) (m : ℕ). cond (nat_lt 0 n) version m) (past_all 0 over key (λ k has. has_up_to_top [] ss k rising (there k has)) ∙ none_over) (past_all 0 ss key (λ k has. has_up_to_top [] ss k rising has) ∙ none)
-
-pub takes_over : (over ss : List Start) (keys : List Key) → AreRising ss → last_of_all 0 over ≡ 0 → ((k : Key) → HasStart over k → HasStart ss k) → ((k : Key) → HasStart ss k → is_listed keys k ≡ is_written over k) → TakeOver over ss keys
-takes_over over ss keys rising none_over there listed version =
-    let same = marked_alike (is_listed keys) (is_written over) version ss listed in
+pub decided_by : (over ss : List Start) → AreRising ss → last_of_all 0 over ≡ 0 → ((k : Key) → HasStart over k → HasStart ss k) → IsDecided (is_written over) ss
+decided_by over ss rising none_over there =
     record {
-      at = λ key. ap (λ (ts : List Start). last_from 0 ts key) same ∙ at_each over ss version key rising there;
-      past = λ none. ap (last_of_all 0) same ∙ past_each over ss version rising there none_over none;
+      at = λ key. tested (nat_lt 0) (last_from 0 over) 0 ss key ∙ ap (nat_lt 0) (sampled_is 0 over ss key rising there);
+      past = ap (nat_lt 0) (past_all 0 over (top [] ss) (λ k has. has_up_to_top [] ss k rising (there k has)) ∙ none_over);
     }
 
+sampled_either : (p q : Key → Bool) (b c : Bool) (ss : List Start) (key : Key) → last_from (b || c) (sampled (λ k. p k || q k) ss) key ≡ (last_from b (sampled p ss) key || last_from c (sampled q ss) key)
+sampled_either p q b c [] key = refl
+sampled_either p q b c (s ∷ ss) key = by (is_key_below key s.0) (sampled_either p q (p s.0) (q s.0) ss key)
+  where
+    by : (t : Bool) → last_from (p s.0 || q s.0) (sampled (λ k. p k || q k) ss) key ≡ (last_from (p s.0) (sampled p ss) key || last_from (q s.0) (sampled q ss) key)
+        → cond t (b || c) (last_from (p s.0 || q s.0) (sampled (λ k. p k || q k) ss) key) ≡ (cond t b (last_from (p s.0) (sampled p ss) key) || cond t c (last_from (q s.0) (sampled q ss) key))
+    by true rest = refl
+    by false rest = rest
+
+pub decided_either : (p q : Key → Bool) (ss : List Start) → IsDecided p ss → IsDecided q ss → IsDecided (λ k. p k || q k) ss
+decided_either p q ss first second =
+    record {
+      at = λ key. sampled_either p q false false ss key ∙ ap₂ (λ (b c : Bool). b || c) (first.at key) (second.at key);
+      past = ap₂ (λ (b c : Bool). b || c) first.past second.past;
+    }
+
+no_more_sampled : (ss : List Start) (key : Key) → last_from false (sampled (λ (k : Key). false) ss) key ≡ false
+no_more_sampled [] key = refl
+no_more_sampled (s ∷ ss) key = by (is_key_below key s.0) (no_more_sampled ss key)
+  where
+    by : (t : Bool) → last_from false (sampled (λ (k : Key). false) ss) key ≡ false → cond t false (last_from false (sampled (λ (k : Key). false) ss) key) ≡ false
+    by true rest = refl
+    by false rest = rest
+
+pub decided_none : (ss : List Start) → IsDecided (λ k. false) ss
+decided_none ss = record { at = no_more_sampled ss; past = refl }
+
+-- once the starts at the keys have a version, each key that passes the test has it
+pub takes_over : (test : Key → Bool) (ss : List Start) (keys : List Key) → AreRising ss → IsDecided test ss → ((k : Key) → HasStart ss k → is_listed keys k ≡ test k) → TakeOver test ss keys
+takes_over test ss keys rising decided listed version =
+    record {
+      at = λ key. ap (λ (ts : List Start). last_from 0 ts key) same ∙ at_each key;
+      past = λ none. ap (last_of_all 0) same ∙ past_each none;
+    }
+  where
+    same : marked (is_listed keys) version ss ≡ marked test version ss
+    same = marked_alike (is_listed keys) test version ss listed
+
+    at_each : (key : Key) → last_from 0 (marked test version ss) key ≡ cond (test key) version (last_from 0 ss key)
+    at_each key = marked_last test version 0 false ss key ∙ ap (λ (b : Bool). cond b version (last_from 0 ss key)) (decided.at key)
+
+    past_each : last_of_all 0 ss ≡ 0 → last_of_all 0 (marked test version ss) ≡ 0
+    past_each none =
+        let key = top [] ss in
+        sym (past_all 0 (marked test version ss) key (λ k has. has_up_to_top [] ss k rising (marked_has test version ss k has)))
+        ∙ at_each key
+        ∙ ap₂ (λ (b : Bool) (n : ℕ). cond b version n) decided.past (past_all 0 ss key (λ k has. has_up_to_top [] ss k rising has) ∙ none)
+
 -- room is made, and then filled
-pub filled : (over old mid new : List Start) (keys : List Key) (version : ℕ) → AreRising old → AreRising mid → AreRising new → TellTheSame old mid → TakeOver over mid keys → TellTheSame (marked (is_listed keys) version mid) new → AreOver (is_written over) version old new
-filled over old mid new keys version rising rising_mid rising_new same take same_too =
+pub filled : (test : Key → Bool) (old mid new : List Start) (keys : List Key) (version : ℕ) → AreRising old → AreRising mid → AreRising new → TellTheSame old mid → TakeOver test mid keys → TellTheSame (marked (is_listed keys) version mid) new → AreOver test version old new
+filled test old mid new keys version rising rising_mid rising_new same take same_too =
     let taken = take version in
     record {
       at = λ key.
           same_last (marked (is_listed keys) version mid) new (marked_rising (is_listed keys) version mid rising_mid) rising_new same_too key
           ∙ taken.at key
-          ∙ ap (λ n. cond (is_written over key) version n) (same_last old mid rising rising_mid same key);
+          ∙ ap (λ n. cond (test key) version n) (same_last old mid rising rising_mid same key);
       past = λ none. same_past (marked (is_listed keys) version mid) new same_too ∙ taken.past (same_past old mid same ∙ none);
     }
 

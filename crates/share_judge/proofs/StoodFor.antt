@@ -1,16 +1,16 @@
 -- What a judged share and forgotten versions make of a history, seen by its writes.
-use Rattle.std.proofs.Common.{◌≡◌, ℕ, ◌-◌, ◌<◌, max, min, refl, sym, ap, ap₂, subst, ◌∙◌, ◌⊎◌, inl, inr, List, Bool, true, false, cond, nat_lt, nat_le, arith}
+use Rattle.std.proofs.Common.{◌≡◌, ℕ, ◌-◌, ◌<◌, max, min, refl, sym, ap, ap₂, subst, ◌∙◌, ◌⊎◌, inl, inr, List, Bool, true, false, cond, ◌||◌, nat_lt, nat_le, arith}
 use Rattle.std.proofs.lemmas.Bool.{lt-ltb, leb-true, leb-false}
-use Rattle.system_keys.specs.Keys.{Key}
+use Rattle.system_keys.specs.Keys.{Key, Range}
 use Rattle.model.specs.declared.part.Part.{Part}
 use Rattle.model.specs.declared.verdict.Verdict.{Verdict}
 use Rattle.model.specs.Verdicts.{judged_at}
 use Rattle.model.specs.WriteHistories.{Write, WriteHistoryView, unless_forgotten, ShareAt, verdicts_by_writes}
 use Rattle.model.proofs.Shares.ByWrites.{verdicts_of_share, shares_add, forgetting_keeps}
 use Rattle.share_judge.specs.Answers.{AreVerdicts, GainsShare, Forgets}
-use Rattle.share_judge.specs.Steps.{Start, AreRising, AreOver, TellTheSame, last_from, is_written, is_listed, marked, settled, kept_writes}
+use Rattle.share_judge.specs.Steps.{Start, AreRising, AreOver, TellTheSame, last_from, is_listed, marked, settled, kept_writes, is_in_some, is_written_in}
 use Rattle.share_judge.specs.Kept.{AreKept}
-use Rattle.share_judge.specs.Judged.{IsPlanned}
+use Rattle.share_judge.specs.Judged.{IsPlanned, own_version}
 use Rattle.share_judge.proofs.KeptWrites.{last_kept, over_kept, swept_writes}
 use Rattle.share_judge.proofs.Overwritten.{filled}
 
@@ -28,23 +28,23 @@ planned_verdicts window last dropped s kept roomy verdicts keys above planned = 
 -- ---- one more share
 
 -- the steps once the share is put in
-pub record IsPutIn (dropped version : ℕ) (kept new own : List Start) : Type 0 where
+pub record IsPutIn (dropped version : ℕ) (kept new own : List Start) (last_writes : List Range) : Type 0 where
   pub rising : AreRising new
-  pub over : AreOver (is_written own) version kept new
+  pub over : AreOver (is_written_in own last_writes) version kept new
   pub own_at : (key : Key) → (last_from 0 own key ≡ 0) ⊎ (last_from 0 own key ≡ version)
 
-put_in : (window last dropped : ℕ) (s : ShareAt) (kept roomy new : List Start) (verdicts : List Verdict) (keys : List Key) → AreKept last dropped kept → AreRising roomy → AreRising new → TellTheSame kept roomy → (planned : IsPlanned window dropped s.version kept roomy s.parts verdicts keys) → TellTheSame (marked (is_listed keys) s.version roomy) new → IsPutIn dropped s.version kept new planned.own
+put_in : (window last dropped : ℕ) (s : ShareAt) (kept roomy new : List Start) (verdicts : List Verdict) (keys : List Key) → AreKept last dropped kept → AreRising roomy → AreRising new → TellTheSame kept roomy → (planned : IsPlanned window dropped s.version kept roomy s.parts verdicts keys) → TellTheSame (marked (is_listed keys) s.version roomy) new → IsPutIn dropped s.version kept new planned.own planned.last_writes
 put_in window last dropped s kept roomy new verdicts keys is_kept rising_roomy rising_new same planned filled_is =
     record {
       rising = rising_new;
-      over = filled planned.own kept roomy new keys s.version is_kept.rising rising_roomy rising_new same planned.take_over filled_is;
+      over = filled (is_written_in planned.own planned.last_writes) kept roomy new keys s.version is_kept.rising rising_roomy rising_new same planned.take_over filled_is;
       own_at = planned.judged.own_at;
     }
 
 pub kept_next : (window last dropped : ℕ) (s : ShareAt) (kept roomy new : List Start) (verdicts : List Verdict) (keys : List Key) → AreKept last dropped kept → last < s.version → AreRising roomy → AreRising new → TellTheSame kept roomy → IsPlanned window dropped s.version kept roomy s.parts verdicts keys → TellTheSame (marked (is_listed keys) s.version roomy) new → AreKept s.version dropped new
 kept_next window last dropped s kept roomy new verdicts keys is_kept above rising_roomy rising_new same planned filled_is =
     let put = put_in window last dropped s kept roomy new verdicts keys is_kept rising_roomy rising_new same planned filled_is in
-    over_kept last dropped s.version (is_written planned.own) kept new is_kept above rising_new put.over
+    over_kept last dropped s.version (is_written_in planned.own planned.last_writes) kept new is_kept above rising_new put.over
 
 put_last : (dropped version old own : ℕ) → dropped < version → old < version → (own ≡ 0) ⊎ (own ≡ version) → unless_forgotten dropped (cond (nat_lt 0 own) version old) ≡ max (unless_forgotten dropped old) own
 put_last dropped version old own low below (inl none) = rw none (omega arith)
@@ -56,6 +56,15 @@ put_last dropped version old own low below (inr is) =
     by false e true = omega arith
     by false e false = omega (arith, below)
 
+-- a key is written exactly if it has a version then
+written_is : (b : Bool) (n version : ℕ) → 0 < version → (b || nat_lt 0 n) ≡ nat_lt 0 (cond b version n)
+written_is true n version some = sym (lt-ltb 0 version some)
+written_is false n version some = refl
+
+own_or_none : (b : Bool) (n version : ℕ) → (n ≡ 0) ⊎ (n ≡ version) → (cond b version n ≡ 0) ⊎ (cond b version n ≡ version)
+own_or_none true n version two = inr refl
+own_or_none false n version two = two
+
 gains_share : (window last dropped : ℕ) (s : ShareAt) (kept roomy new : List Start) (verdicts : List Verdict) (keys : List Key) → AreKept last dropped kept → last < s.version → AreRising roomy → AreRising new → TellTheSame kept roomy → IsPlanned window dropped s.version kept roomy s.parts verdicts keys → TellTheSame (marked (is_listed keys) s.version roomy) new
     → GainsShare (seen window last dropped kept) s (seen window s.version dropped new)
 gains_share window last dropped s kept roomy new verdicts keys is_kept above rising_roomy rising_new same planned filled_is shares forgotten stands =
@@ -65,11 +74,12 @@ gains_share window last dropped s kept roomy new verdicts keys is_kept above ris
     (λ key.
     last_kept dropped new key rising_new next.past
     ∙ ap (unless_forgotten dropped) (put.over.at key)
-    ∙ put_last dropped s.version (last_from 0 kept key) (last_from 0 planned.own key)
+    ∙ ap (λ (b : Bool). unless_forgotten dropped (cond b s.version (last_from 0 kept key))) (written_is (is_in_some planned.last_writes key) (last_from 0 planned.own key) s.version (omega (arith, above)))
+    ∙ put_last dropped s.version (last_from 0 kept key) (own_version s.version planned.own planned.last_writes key)
     (let low = is_kept.dropped_up_to in omega (arith, low, above))
     (let low = is_kept.up_to key in omega (arith, low, above))
-    (put.own_at key)
-    ∙ ap (λ n. max n (last_from 0 planned.own key)) (sym (last_kept dropped kept key is_kept.rising is_kept.past))
+    (own_or_none (is_in_some planned.last_writes key) (last_from 0 planned.own key) s.version (put.own_at key))
+    ∙ ap (λ n. max n (own_version s.version planned.own planned.last_writes key)) (sym (last_kept dropped kept key is_kept.rising is_kept.past))
     ∙ sym (planned.judged.last key))
 
 -- ---- forgetting

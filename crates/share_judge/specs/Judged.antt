@@ -1,7 +1,7 @@
 -- A share that is judged: by what is kept, and by what was written earlier in the share.
-use Rattle.std.specs.Prelude.{◌≡◌, ℕ, max, List, Bool, ◌||◌, ◌&&◌, ◌⊎◌, if◌then◌else◌}
+use Rattle.std.specs.Prelude.{◌≡◌, ℕ, max, List, [], ◌∷◌, Bool, true, not, ◌&&◌, ◌||◌, ◌⊎◌, cond, if◌then◌else◌}
 use Rattle.std.specs.List.{list_any}
-use Rattle.system_keys.specs.Keys.{Key, Range, holds}
+use Rattle.system_keys.specs.Keys.{Key, Range, is_key_below}
 use Rattle.model.specs.Numbers.{Version}
 use Rattle.model.specs.declared.part.Part.{Part}
 use Rattle.model.specs.declared.verdict.Verdict.{Verdict}
@@ -9,7 +9,7 @@ use Rattle.model.specs.declared.verdict.Verdict.TheVariants.{Conflict, TooOld, C
 use Rattle.model.specs.Verdicts.{JudgedPart, is_too_old, is_committed, judged_at}
 use Rattle.model.specs.WriteHistories.{last_at, verdicts_by_writes, writes_after}
 use Rattle.share_judge.specs.Steps.{Start, AreRising, TakeOver, last_from, last_of_all}
-use Rattle.share_judge.specs.Steps.{is_reached, kept_writes}
+use Rattle.share_judge.specs.Steps.{is_reached, kept_writes, is_in_some, is_written_in}
 
 -- some key of the read has a kept version above the bound, or was written in the share
 abbrev pub is_read_overwritten : (bound : Version) (kept own : List Start) (read : Range) → Bool
@@ -25,24 +25,29 @@ verdict_by_steps window dropped kept own t =
     then Conflict
     else Committed
 
--- the key is in one of the ranges
-abbrev pub is_in_some : (ranges : List Range) (key : Key) → Bool
-is_in_some ranges key = list_any (λ (range : Range). holds range key) ranges
+-- the writes of a part with this verdict, if that is Committed
+abbrev pub committed_writes : (verdict : Verdict) (part : Part) → List Range
+committed_writes verdict part = if is_committed verdict then part.writes else []
 
--- the key is in one of the writes of a part with this verdict, and the verdict is Committed
-abbrev pub is_written_by : (verdict : Verdict) (part : Part) (key : Key) → Bool
-is_written_by verdict part key = is_committed verdict && is_in_some part.writes key
+-- each range begins at or after the end of the one before, and the first at or after `end`
+abbrev pub are_apart : (end : Key) (ranges : List Range) → Bool
+are_apart end [] = true
+are_apart end (range ∷ ranges) = not (is_key_below range.begin end) && are_apart range.end ranges
 
--- the verdicts on the parts are those by the writes that are kept, and `own` has what the parts
--- write, each at the version
+-- the version of a key that has this one in `own`, once these ranges are written over it
+abbrev pub own_version : (version : Version) (own : List Start) (ranges : List Range) (key : Key) → Version
+own_version version own ranges key = cond (is_in_some ranges key) version (last_from 0 own key)
+
+-- The verdicts on the parts are those by the writes that are kept. The map `own` has what the parts
+-- write, each at the version, but for `last_writes`, which are writes of the last part.
 pub record IsJudged
     (window : ℕ) (dropped version : Version) (kept : List Start) (parts : List Part)
-    (verdicts : List Verdict) (own : List Start) : Type 0 where
+    (verdicts : List Verdict) (own : List Start) (last_writes : List Range) : Type 0 where
   pub verdicts_are :
       verdicts ≡ verdicts_by_writes window (kept_writes dropped kept) (judged_at version parts)
   pub last : (key : Key)
       → last_at (writes_after window (kept_writes dropped kept) (judged_at version parts)) key
-      ≡ max (last_at (kept_writes dropped kept) key) (last_from 0 own key)
+      ≡ max (last_at (kept_writes dropped kept) key) (own_version version own last_writes key)
   pub own_at : (key : Key) → (last_from 0 own key ≡ 0) ⊎ (last_from 0 own key ≡ version)
   pub rising : AreRising own
   pub past : last_of_all 0 own ≡ 0
@@ -53,5 +58,6 @@ pub record IsPlanned
     (window : ℕ) (dropped version : Version) (kept roomy : List Start) (parts : List Part)
     (verdicts : List Verdict) (keys : List Key) : Type 0 where
   pub own : List Start
-  pub judged : IsJudged window dropped version kept parts verdicts own
-  pub take_over : TakeOver own roomy keys
+  pub last_writes : List Range
+  pub judged : IsJudged window dropped version kept parts verdicts own last_writes
+  pub take_over : TakeOver (is_written_in own last_writes) roomy keys

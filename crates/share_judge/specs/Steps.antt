@@ -101,10 +101,23 @@ pub record AreOver
       → last_from 0 new key ≡ cond (test key) version (last_from 0 old key)
   pub past : last_of_all 0 old ≡ 0 → last_of_all 0 new ≡ 0
 
--- once the starts at the keys have a version, each key that is written in `over` has it
-abbrev pub TakeOver : (over starts : List Start) (keys : List Key) → Type 0
-TakeOver over starts keys =
-    (version : Version) → AreOver (is_written over) version starts (marked (is_listed keys) version starts)
+-- once the starts at the keys have a version, each key that passes the test has it
+abbrev pub TakeOver : (test : Key → Bool) (starts : List Start) (keys : List Key) → Type 0
+TakeOver test starts keys =
+    (version : Version) → AreOver test version starts (marked (is_listed keys) version starts)
+
+-- the key is in one of the ranges
+abbrev pub is_in_some : (ranges : List Range) (key : Key) → Bool
+is_in_some ranges key = list_any (λ (range : Range). holds range key) ranges
+
+-- the key is one of the two ends of one of the ranges
+abbrev pub IsEnd : (ranges : List Range) (key : Key) → Type 0
+IsEnd [] key = ⊥
+IsEnd (range ∷ ranges) key = (key ≡ range.begin) ⊎ ((key ≡ range.end) ⊎ IsEnd ranges key)
+
+-- the key is written in `over`, or in one of the ranges
+abbrev pub is_written_in : (over : List Start) (ranges : List Range) (key : Key) → Bool
+is_written_in over ranges key = is_in_some ranges key || is_written over key
 
 -- ---- what is listed
 

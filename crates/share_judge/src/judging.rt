@@ -1,16 +1,16 @@
 //! Verdicts on parts, by the writes of what was committed before them.
 
-ghost use Rattle.std.specs.Prelude.{◌≡◌, ◌<◌, IfOk, OnOk, IsTrue, max};
+ghost use Rattle.std.specs.Prelude.{◌≡◌, ◌<◌, [], IfOk, OnOk, IsTrue, max};
 ghost use Rattle.std.specs.List.{list_any};
 ghost use Rattle.system_keys.specs.Keys.{Key, Range, is_key_below};
 ghost use Rattle.model.specs.Verdicts.{JudgedPart, is_too_old};
 ghost use Rattle.share_judge.specs.Steps.{AreRising, TellTheSame, AreOver, last_from};
-ghost use Rattle.share_judge.specs.Steps.{last_of_all};
-ghost use Rattle.share_judge.specs.Judged.{is_read_overwritten, verdict_by_steps, is_in_some};
-ghost use Rattle.share_judge.specs.Judged.{is_written_by, IsJudged, IsPlanned};
+ghost use Rattle.share_judge.specs.Steps.{last_of_all, is_in_some};
+ghost use Rattle.share_judge.specs.Judged.{is_read_overwritten, verdict_by_steps};
+ghost use Rattle.share_judge.specs.Judged.{committed_writes, are_apart, IsJudged, IsPlanned};
 
 use crate::step_key::StepKey;
-use crate::step_map::StepMap;
+use crate::step_map::{StepMap, precedes};
 use crate::verdicts::{Verdicts, copy_verdicts};
 use model::{Part, Verdict, Version};
 use system_keys::{Items, KeyRange, OutOfMemory};
@@ -41,8 +41,8 @@ pub(crate) fn judge_with_room(
     ensures planned { IfOk result (λ made. IsPlanned judging.window judging.dropped judging.version
         kept.old kept.new parts.now made.0.items made.1.items) }
 {
-    let (verdicts, own) = judge_parts(kept, judging, parts)?;
-    let keys = kept.make_room(&own)?;
+    let (verdicts, own, last_writes) = judge_parts(kept, judging, parts)?;
+    let keys = kept.make_room(&own, last_writes)?;
     Ok((verdicts, keys))
 }
 
@@ -69,27 +69,34 @@ pub(crate) fn judge_with_copy(
 }
 
 /// Judges the parts of a share, one after another, and returns their verdicts and the writes of
-/// those that are committed. `kept` are the writes of the shares before.
-fn judge_parts(
+/// those that are committed: those of the last part as ranges, since no part is judged by them, if
+/// these are apart, and the others as a map. `kept` are the writes of the shares before.
+fn judge_parts<'a>(
     kept: &StepMap,
     judging: Judging,
-    parts: &[Part],
-) -> Result<(Vec<Verdict>, StepMap), OutOfMemory>
+    parts: &'a [Part],
+) -> Result<(Vec<Verdict>, StepMap, &'a [KeyRange]), OutOfMemory>
     requires rising { AreRising kept.now }
     requires past { last_of_all 0 kept.now ≡ 0 }
     requires below { (key : Key) → last_from 0 kept.now key < judging.version }
     ensures { IfOk result (λ made. IsJudged judging.window judging.dropped judging.version kept.now
-        parts.now made.0.items made.1) }
+        parts.now made.0.items made.1 made.2.now) }
 {
     let alloc = kept.alloc();
     let mut verdicts = Vec::with_capacity(alloc, parts.len())?;
     let mut own = StepMap::new(alloc);
+    let mut last_writes: &[KeyRange] = &[];
     for part in parts {
+        write_ranges(&mut own, judging.version, last_writes)?;
         let verdict = verdict_on(kept, &own, judging, part)?;
-        write_if_committed(&mut own, verdict, judging.version, part)?;
+        last_writes = committed_writes(verdict, part);
         verdicts.push(verdict)?;
     }
-    Ok((verdicts, own))
+    if are_apart(last_writes) {
+        return Ok((verdicts, own, last_writes));
+    }
+    write_ranges(&mut own, judging.version, last_writes)?;
+    Ok((verdicts, own, &[]))
 }
 
 /// The verdict on a part, where `kept` are the writes of the shares before, and `own` those of the
@@ -174,22 +181,28 @@ fn are_overwritten(
     kept.reaches(begin, end, bound) || own.reaches(begin, end, 0)
 }
 
-/// Adds the writes of a part, if its verdict is Committed.
-fn write_if_committed(
-    own: &mut StepMap,
-    verdict: Verdict,
-    version: Version,
-    part: &Part,
-) -> Result<(), OutOfMemory>
-    requires above { 0 < version }
-    requires rising { AreRising own.old }
-    ensures over { OnOk result (AreOver (is_written_by verdict part.now) version own.old own.new) }
-    ensures rising { AreRising own.new }
+/// The writes of a part, if its verdict is Committed.
+fn committed_writes(verdict: Verdict, part: &Part) -> &[KeyRange]
+    ensures { result.now ≡ committed_writes verdict part.now }
 {
     match verdict {
-        Verdict::Committed => write_ranges(own, version, part.writes.as_slice()),
-        Verdict::TooOld | Verdict::Conflict => Ok(()),
+        Verdict::Committed => part.writes.as_slice(),
+        Verdict::TooOld | Verdict::Conflict => &[],
     }
+}
+
+/// Whether each range begins at or after the end of the one before, so that no key is in two of them.
+fn are_apart(ranges: &[KeyRange]) -> bool
+    ensures { result ≡ are_apart [] ranges.now }
+{
+    let mut end: &[u8] = &[];
+    for range in ranges {
+        if precedes(range.begin(), end) {
+            return false;
+        }
+        end = range.end();
+    }
+    true
 }
 
 /// Gives each key of the ranges the version.

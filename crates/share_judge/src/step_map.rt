@@ -1,13 +1,13 @@
 //! The version of every key, kept as steps.
 
 ghost use Rattle.std.specs.Prelude.{◌≡◌, ◌<◌, ◌+◌, ◌++◌, ◌∷◌, [], IfOk, OnOk, IsTrue};
-ghost use Rattle.std.specs.Prelude.{true, nat_lt, nat_eq, not, None, Some, option_map, IfSome};
+ghost use Rattle.std.specs.Prelude.{true, ◌||◌, nat_lt, nat_eq, not, None, Some, option_map, IfSome};
 ghost use Rattle.system_keys.specs.Keys.{Key, Range, holds, is_key_below};
 ghost use Rattle.model.specs.WriteHistories.{unless_forgotten};
 ghost use Rattle.share_judge.specs.Steps.{last_from, last_before, last_of_all, settled, AreRising};
 ghost use Rattle.share_judge.specs.Steps.{HasStart, HasVersion, TellTheSame, AreOver, TakeOver, marked};
-ghost use Rattle.share_judge.specs.Steps.{is_listed, is_same_key};
-ghost use Rattle.share_judge.specs.Steps.{is_reached, has_start_above, is_written, keys_between, is_counted, changes_from};
+ghost use Rattle.share_judge.specs.Steps.{is_listed, is_same_key, IsEnd, is_in_some, is_written_in};
+ghost use Rattle.share_judge.specs.Steps.{is_reached, is_written, keys_between, is_counted, changes_from};
 
 use crate::step_key::StepKey;
 use model::Version;
@@ -100,27 +100,20 @@ impl StepMap {
         }
     }
 
-    /// Whether some key from `begin` up to `end` has a version above the bound. Does not allocate.
+    /// Whether some key from `begin` up to `end` has a version above the bound: one of a start between,
+    /// or of the last start up to `begin`. Does not allocate.
     pub(crate) fn reaches(&self, begin: &StepKey, end: &StepKey, bound: Version) -> bool
         requires { IsTrue (is_key_below begin.now end.now) }
         ensures { let range : Range = record { begin = begin.now; end = end.now } in
             result ≡ is_reached bound self.now range }
     {
-        bound < self.at(begin) || self.has_start_above(begin, end, bound)
-    }
-
-    /// Whether a start from `begin` up to `end` has a version above the bound.
-    fn has_start_above(&self, begin: &StepKey, end: &StepKey, bound: Version) -> bool
-        requires { IsTrue (is_key_below begin.now end.now) }
-        ensures { let range : Range = record { begin = begin.now; end = end.now } in
-            result ≡ has_start_above bound self.now range }
-    {
-        for (_, version) in self
-            .versions
-            .range((Bound::Included(begin), Bound::Excluded(end)))
-        {
+        let mut left = self.versions.range(..end);
+        while let Some((key, version)) = left.next_back() {
             if bound < *version {
                 return true;
+            }
+            if key <= begin {
+                return false;
             }
         }
         false
@@ -160,7 +153,7 @@ impl StepMap {
         ensures same { TellTheSame self.old self.new }
         ensures rising { AreRising self.old → AreRising self.new }
         ensures over { let over = (begin.now, 1) ∷ (end.now, 0) ∷ [] in
-            IfOk result (λ keys. TakeOver over self.new keys.items) }
+            IfOk result (λ keys. TakeOver (is_written over) self.new keys.items) }
     {
         self.put_edge(begin.copy()?)?;
         self.put_edge(end.copy()?)?;
@@ -169,17 +162,25 @@ impl StepMap {
         Ok(keys)
     }
 
-    /// Puts a start at each start of the other map, and lists the keys of those at which the other
-    /// map has a version. No key has another version, also if it fails, which is only with
-    /// `OutOfMemory`.
-    pub(crate) fn make_room(&mut self, over: &StepMap) -> Result<Vec<StepKey>, OutOfMemory>
+    /// Puts a start at each start of the other map and at the ends of the ranges, and lists the keys of
+    /// the starts at which the other map has a version, or that lie in a range. No key has another
+    /// version, also if it fails, which is only with `OutOfMemory`.
+    pub(crate) fn make_room(
+        &mut self,
+        over: &StepMap,
+        ranges: &[KeyRange],
+    ) -> Result<Vec<StepKey>, OutOfMemory>
         requires { last_of_all 0 over.now ≡ 0 }
         ensures same { TellTheSame self.old self.new }
         ensures rising { AreRising self.old → AreRising self.new }
-        ensures over { IfOk result (λ keys. TakeOver over.now self.new keys.items) }
+        ensures over { IfOk result
+            (λ keys. TakeOver (is_written_in over.now ranges.now) self.new keys.items) }
     {
         self.put_edges(over)?;
-        self.list_written(over)
+        self.put_ends(ranges)?;
+        let mut keys = self.list_written(over)?;
+        self.list_inside(ranges, &mut keys)?;
+        Ok(keys)
     }
 
     /// Puts a start at each start of the other map. No key has another version, also if it fails.
@@ -190,6 +191,20 @@ impl StepMap {
     {
         for (key, _) in over.iter() {
             self.put_edge(key.copy()?)?;
+        }
+        Ok(())
+    }
+
+    /// Puts a start at both ends of each range. No key has another version, also if it fails.
+    fn put_ends(&mut self, ranges: &[KeyRange]) -> Result<(), OutOfMemory>
+        ensures same { TellTheSame self.old self.new }
+        ensures rising { AreRising self.old → AreRising self.new }
+        ensures there { OnOk result ((key : Key) → IsEnd ranges.now key → HasStart self.new key) }
+        ensures others { (other : Key) → HasStart self.old other → HasStart self.new other }
+    {
+        for range in ranges {
+            self.put_edge(StepKey::new(self.alloc, range.begin())?)?;
+            self.put_edge(StepKey::new(self.alloc, range.end())?)?;
         }
         Ok(())
     }
@@ -220,6 +235,19 @@ impl StepMap {
             begin = if *version == 0 { None } else { Some(key) };
         }
         Ok(keys)
+    }
+
+    /// Lists the keys of the starts in the ranges, after those that are listed.
+    fn list_inside(&self, ranges: &[KeyRange], keys: &mut Vec<StepKey>) -> Result<(), OutOfMemory>
+        ensures { OnOk result ((key : Key) → HasStart self.now key → is_listed keys.new.items key
+            ≡ (is_in_some ranges.now key || is_listed keys.old.items key)) }
+    {
+        for range in ranges {
+            let begin = StepKey::new(self.alloc, range.begin())?;
+            let end = StepKey::new(self.alloc, range.end())?;
+            self.list_between(Some(&begin), &end, keys)?;
+        }
+        Ok(())
     }
 
     /// Lists the keys of the starts from `begin` up to `end`, or of none if there is no begin.
@@ -366,7 +394,7 @@ fn is_counted(key: &[u8]) -> bool
 }
 
 /// Whether the key `a` is below the key `b`.
-fn precedes(a: &[u8], b: &[u8]) -> bool
+pub(crate) fn precedes(a: &[u8], b: &[u8]) -> bool
     ensures { result ≡ is_key_below a.now b.now }
 {
     a.cmp(b).is_lt()

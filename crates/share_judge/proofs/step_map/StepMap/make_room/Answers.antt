@@ -1,10 +1,8 @@
--- All starts of the other map are there, so it takes over at those that are listed.
-use Rattle.share_judge.proofs.Overwritten.{takes_over}
-use Rattle.share_judge.proofs.MapCalls.{if_ok}
+-- All starts of the other map and the ends of the ranges are there, so it takes over at those that are listed.
+use Rattle.share_judge.proofs.RoomForShare.{room_taken}
 use Rattle.share_judge.proofs.step_map.StepMap.make_room.Goals as goal
 
 pub returns-clause-over : goal.returns-clause-over
 returns-clause-over c =
-    if_ok c.list_written.result
-    (λ keys listed. takes_over c.args.over.now c.put_edges.new.self keys.items c.list_written.ensures.rising c.requires c.in_ok-put_edges.ensures.there listed)
-    c.list_written.ensures.listed
+    room_taken c.args.over.now c.args.ranges.now c.put_ends.new.self c.in_ok-keys.keys.items c.list_inside.new.keys.items c.list_written.ensures.rising c.requires
+    (λ k has. c.put_ends.ensures.others k (c.in_ok-put_edges.ensures.there k has)) c.in_ok-put_ends.ensures.there c.in_ok-keys.ensures.listed c.in_ok-list_inside.ensures
