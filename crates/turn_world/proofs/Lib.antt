@@ -1,7 +1,12 @@
+pub mod AllKept
+pub mod DroppedParts
 pub mod EventRuns
 pub mod FinishedRecords
+pub mod KeptNumbers
+pub mod MadeOfNothing
 pub mod MovedRanges
 pub mod NewParts
 pub mod OfferedParts
 pub mod OfferedRows
+pub mod RepeatedRequests
 pub mod SequencedBatches

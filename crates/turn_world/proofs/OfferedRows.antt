@@ -1,7 +1,7 @@
 -- A resolver gets the request for a row.
-use Rattle.std.proofs.Common.{◌≡◌, refl, sym, ap, ◌∙◌, subst, ℕ, zero, suc, ◌+◌, ◌<◌, ◌≤◌, List, [], ◌∷◌, ◌++◌, map, length, slice_get, slice_set, true, nat_le, Option, Some, None, option_map, arith}
+use Rattle.std.proofs.Common.{◌≡◌, refl, sym, ap, ◌∙◌, subst, ℕ, zero, suc, ◌+◌, ◌<◌, ◌≤◌, List, [], ◌∷◌, ◌++◌, map, take, length, slice_get, slice_index, slice_set, Bool, true, false, nat_le, Option, Some, None, option_map, arith}
 use Rattle.std.specs.Prelude.{Ok, Err, IsOk}
-use Rattle.std.proofs.lemmas.Bool.{le-leb}
+use Rattle.std.proofs.lemmas.Bool.{le-leb, leb-true, leb-false}
 use Rattle.std.proofs.lemmas.List.{length-map}
 use Rattle.std.proofs.lemmas.Option.{slice_get-map}
 use Rattle.system_keys.specs.AsSpecified.{IsFaultOf}
@@ -9,7 +9,7 @@ use Rattle.model.specs.Configs.{Config}
 use Rattle.model.specs.declared.reply.Reply.{Reply}
 use Rattle.model.specs.Records.{Record}
 use Rattle.model.specs.Shares.{each_below}
-use Rattle.model.specs.Requests.{Request}
+use Rattle.model.specs.Requests.{Request, last_request_version}
 use Rattle.model.specs.Offers.{OfferResult, sent_request, judged_requests, answer_to, world_answer}
 use Rattle.model.specs.Offers as offers
 use Rattle.model.specs.ResolverMemory.{ResolverView, StandsForRequests}
@@ -20,17 +20,22 @@ use Rattle.model.specs.Turns.{TurnCluster, success_or_refusal, answer_to_event, 
 use Rattle.model.specs.Laws.Worlds.{IsOffered}
 use Rattle.model.proofs.Worlds.Offers.{answers_as_world, judged_row_next, judged_in_step}
 use Rattle.model.proofs.Resolvers.Judged.{others_change_nothing}
+use Rattle.model.proofs.Resolvers.Growth.{up_to_last_request}
+use Rattle.model.proofs.Resolvers.Offers.{judged_in_turn}
+use Rattle.model.proofs.Verdicts.Places.{slice_get-take_back}
 use Rattle.model.proofs.Journals.ReplyRows.{slice_get-each_below, length-each_below}
 use Rattle.state_memory.specs.Answers.{fault_of as offer_fault}
 use Rattle.state_memory.specs.declared.refusal.Refusal.{Refusal as Offered}
 use Rattle.state_memory.specs.declared.refusal.Refusal.TheVariants as offer_refusals
 use Rattle.turn_world.specs.Events.{fault_of}
-use Rattle.turn_world.specs.Kept.{IsKept, records_of, requests_of}
+use Rattle.turn_world.specs.KeptRequests.{IsKeptOf}
+use Rattle.turn_world.specs.Kept.{IsKept, AreRequestsKept, records_of, requests_of}
 use Rattle.turn_world.specs.Parts.{HasJudgedAt}
 use Rattle.turn_world.specs.Steps.{passed_on, IsOfTheWorld}
 use Rattle.turn_world.specs.declared.refusal.Refusal.{Refusal}
 use Rattle.turn_world.specs.declared.refusal.Refusal.TheVariants as refusals
 use Rattle.turn_world.specs.declared.kept_record.KeptRecord.{KeptRecord}
+use Rattle.turn_world.proofs.RepeatedRequests.{repeats_alike, never_judged}
 
 no_element : {X : Type 0} (xs : List X) (i : ℕ) → length xs ≤ i → slice_get xs i ≡ None
 no_element [] i past = refl
@@ -40,11 +45,11 @@ no_element (x ∷ xs) (suc i) past = no_element xs i (omega (arith, past))
 pub no_row : (config : Config) (rows : List KeptRecord) (w : World) (now : TurnCluster) (row r : ℕ) → w.history ≡ records_of rows → (record { config = config; world = w }) ≡ now → length rows ≤ row → answer_to_event now (Offer row r) ≡ Err NoSuchRow
 unfolding handle_event
 no_row config rows w now row r is view past =
-    let none : slice_get w.history row ≡ None = ap (λ (h : List Record). slice_get h row) is ∙ slice_get-map (λ (x : KeptRecord). x.rec) rows row ∙ ap (option_map (λ (x : KeptRecord). x.rec)) (no_element rows row past) in
+    let none : slice_get w.history row ≡ None = ap (λ (h : List Record). slice_get h row) is ∙ slice_get-map (λ (x : KeptRecord). x.rec.known) rows row ∙ ap (option_map (λ (x : KeptRecord). x.rec.known)) (no_element rows row past) in
     ap (λ (t : TurnCluster). answer_to_event t (Offer row r)) (sym view) ∙ rw none refl
 
-pub record_at : (rows : List KeptRecord) (row : ℕ) (one : KeptRecord) → slice_get rows row ≡ Some one → slice_get (records_of rows) row ≡ Some one.rec
-record_at rows row one at = slice_get-map (λ (x : KeptRecord). x.rec) rows row ∙ ap (option_map (λ (x : KeptRecord). x.rec)) at
+pub record_at : (rows : List KeptRecord) (row : ℕ) (one : KeptRecord) → slice_get rows row ≡ Some one → slice_get (records_of rows) row ≡ Some one.rec.known
+record_at rows row one at = slice_get-map (λ (x : KeptRecord). x.rec.known) rows row ∙ ap (option_map (λ (x : KeptRecord). x.rec.known)) at
 
 pub no_resolver : (config : Config) (w : World) (now : TurnCluster) (row r : ℕ) (rec : Record) → (record { config = config; world = w }) ≡ now → slice_get w.history row ≡ Some rec → config.resolvers ≤ r → answer_to_event now (Offer row r) ≡ Err WrongResolver
 unfolding handle_event
@@ -53,17 +58,11 @@ no_resolver config w now row r rec view at past =
     ap (λ (t : TurnCluster). answer_to_event t (Offer row r)) (sym view) ∙ rw (at, unknown) refl
 
 -- the requests for a row are those that were sent for its record
-pub requests_at : (config : Config) (w : World) (rows : List KeptRecord) (row : ℕ) (one : KeptRecord) → w.history ≡ records_of rows → requests_of rows ≡ map (sent_requests config w) w.history → slice_get rows row ≡ Some one → one.requests ≡ sent_requests config w one.rec
+pub requests_at : (config : Config) (w : World) (rows : List KeptRecord) (row : ℕ) (one : KeptRecord) → w.history ≡ records_of rows → requests_of rows ≡ map (sent_requests config w) w.history → slice_get rows row ≡ Some one → one.sent.known ≡ sent_requests config w one.rec.known
 requests_at config w rows row one is sent at =
-    let left : slice_get (requests_of rows) row ≡ Some one.requests = slice_get-map (λ (x : KeptRecord). x.requests) rows row ∙ ap (option_map (λ (x : KeptRecord). x.requests)) at in
-    let right : slice_get (requests_of rows) row ≡ Some (sent_requests config w one.rec) = ap (λ (qs : List (List Request)). slice_get qs row) sent ∙ slice_get-map (sent_requests config w) w.history row ∙ ap (option_map (sent_requests config w)) (ap (λ (h : List Record). slice_get h row) is ∙ record_at rows row one at) in
-    let both : Some one.requests ≡ Some (sent_requests config w one.rec) = sym left ∙ right in
-    cc
-
-pub request_at : (config : Config) (w : World) (rec : Record) (r : ℕ) (q : Request) → r < config.resolvers → slice_get (sent_requests config w rec) r ≡ Some q → q ≡ sent_request config w r rec
-request_at config w rec r q there at =
-    let own : slice_get (sent_requests config w rec) r ≡ Some (sent_request config w r rec) = slice_get-map (λ (s : ℕ). sent_request config w s rec) (each_below config.resolvers) r ∙ ap (option_map (λ (s : ℕ). sent_request config w s rec)) (slice_get-each_below config.resolvers r there) in
-    let both : Some q ≡ Some (sent_request config w r rec) = sym at ∙ own in
+    let left : slice_get (requests_of rows) row ≡ Some one.sent.known = slice_get-map (λ (x : KeptRecord). x.sent.known) rows row ∙ ap (option_map (λ (x : KeptRecord). x.sent.known)) at in
+    let right : slice_get (requests_of rows) row ≡ Some (sent_requests config w one.rec.known) = ap (λ (qs : List (List Request)). slice_get qs row) sent ∙ slice_get-map (sent_requests config w) w.history row ∙ ap (option_map (sent_requests config w)) (ap (λ (h : List Record). slice_get h row) is ∙ record_at rows row one at) in
+    let both : Some one.sent.known ≡ Some (sent_requests config w one.rec.known) = sym left ∙ right in
     cc
 
 -- what the world answers, by what the resolver answers
@@ -126,25 +125,59 @@ pub again_after : (config : Config) (w : World) (now : TurnCluster) (row r : ℕ
 again_after config w now row r reply view answered =
     ap (λ (x : World). record { config = config; world = x }) (sym (others_change_nothing config w row r (λ other same. let both : world.Again reply ≡ world.Judged other = sym answered ∙ same in absurd (cc)))) ∙ ap (λ (t : TurnCluster). after_event t (Offer row r)) view
 
--- what is known where a resolver has answered the request for a row
+-- what is known where a resolver has answered what is kept of the request for a row
 pub record Known (config : Config) (w : World) (row r : ℕ) (one : KeptRecord) (v : ResolverView) (q : Request) (resolvers : List ResolverView) (proxies : List ProxyView) (requests : List (List Request)) : Type 0 where
-  pub is_offered : IsOffered config w row r one.rec v resolvers proxies requests
-  pub q_is : q ≡ sent_request config w r one.rec
+  pub is_offered : IsOffered config w row r one.rec.known v resolvers proxies requests
   pub stands : StandsForRequests v (judged_requests config w r)
   pub told : world_answer (answer_to v.number (length v.proxies) v.written.window (judged_requests config w r) q) ≡ Some (handle_event config w (Offer row r)).answer
+  pub judged : (reply : Reply) → answer_to v.number (length v.proxies) v.written.window (judged_requests config w r) q ≡ Ok (offers.Judged reply) → (q ≡ sent_request config w r one.rec.known) × (slice_index w.judged_counts r ≤ row)
 
-pub known : (config : Config) (w : World) (rows : List KeptRecord) (row r : ℕ) (one : KeptRecord) (v : ResolverView) (q : Request) (resolvers : List ResolverView) (proxies : List ProxyView) (last : ℕ) → w.history ≡ records_of rows → IsKept config w resolvers proxies (requests_of rows) last → r < config.resolvers → slice_get rows row ≡ Some one → slice_get one.requests r ≡ Some q → slice_get resolvers r ≡ Some v → Known config w row r one v q resolvers proxies (requests_of rows)
-known config w rows row r one v q resolvers proxies last is keeps there at at_q at_v =
-    record { is_offered = is_offered; q_is = q_is; stands = answers.0; told = ap (λ (s : Request). world_answer (answer_to v.number (length v.proxies) v.written.window (judged_requests config w r) s)) q_is ∙ answers.1 }
+own_request : (config : Config) (w : World) (rec : Record) (r : ℕ) → r < config.resolvers → slice_get (sent_requests config w rec) r ≡ Some (sent_request config w r rec)
+own_request config w rec r there = slice_get-map (λ (s : ℕ). sent_request config w s rec) (each_below config.resolvers) r ∙ ap (option_map (λ (s : ℕ). sent_request config w s rec)) (slice_get-each_below config.resolvers r there)
+
+judged_at : (config : Config) (w : World) (row r : ℕ) (rec : Record) → slice_get w.history row ≡ Some rec → row < slice_index w.judged_counts r → slice_get (judged_requests config w r) row ≡ Some (sent_request config w r rec)
+unfolding judged_requests
+judged_at config w row r rec at passed =
+    slice_get-map (sent_request config w r) (take (slice_index w.judged_counts r) w.history) row
+    ∙ ap (option_map (sent_request config w r)) (slice_get-take_back w.history (slice_index w.judged_counts r) row rec passed at)
+
+pub known : (config : Config) (w : World) (rows : List KeptRecord) (row r : ℕ) (one : KeptRecord) (v : ResolverView) (q : Request) (resolvers : List ResolverView) (proxies : List ProxyView) (last : ℕ) → w.history ≡ records_of rows → IsKept config w resolvers proxies (requests_of rows) last → AreRequestsKept w.judged_counts rows → r < config.resolvers → slice_get rows row ≡ Some one → slice_get one.kept.requests.items r ≡ Some q → slice_get resolvers r ≡ Some v → Known config w row r one v q resolvers proxies (requests_of rows)
+known config w rows row r one v q resolvers proxies last is keeps all there at at_q at_v =
+    by (nat_le (slice_index w.judged_counts r) row) refl
   where
-    is_offered : IsOffered config w row r one.rec v resolvers proxies (requests_of rows)
-    is_offered = record { parts = keeps.parts; there = there; resolver_is = at_v; record_is = ap (λ (h : List Record). slice_get h row) is ∙ record_at rows row one at }
+    rec : Record
+    rec = one.rec.known
 
-    q_is : q ≡ sent_request config w r one.rec
-    q_is = request_at config w one.rec r q there (ap (λ (qs : List Request). slice_get qs r) (sym (requests_at config w rows row one is keeps.parts.requests_are at)) ∙ at_q)
+    at_rec : slice_get w.history row ≡ Some rec
+    at_rec = ap (λ (h : List Record). slice_get h row) is ∙ record_at rows row one at
 
-    answers : StandsForRequests v (judged_requests config w r) × (world_answer (answer_to v.number (length v.proxies) v.written.window (judged_requests config w r) (sent_request config w r one.rec)) ≡ Some (handle_event config w (Offer row r)).answer)
-    answers = answers_as_world config w row r one.rec v resolvers proxies (requests_of rows) is_offered
+    is_offered : IsOffered config w row r rec v resolvers proxies (requests_of rows)
+    is_offered = record { parts = keeps.parts; there = there; resolver_is = at_v; record_is = at_rec }
 
-pub request_count : (config : Config) (w : World) (rows : List KeptRecord) (row : ℕ) (one : KeptRecord) (resolvers : List ResolverView) (proxies : List ProxyView) (last : ℕ) → w.history ≡ records_of rows → IsKept config w resolvers proxies (requests_of rows) last → slice_get rows row ≡ Some one → length one.requests ≡ config.resolvers
-request_count config w rows row one resolvers proxies last is keeps at = ap length (requests_at config w rows row one is keeps.parts.requests_are at) ∙ length-map (each_below config.resolvers) (λ (r : ℕ). sent_request config w r one.rec) ∙ length-each_below config.resolvers
+    at_sent : slice_get one.sent.known r ≡ Some (sent_request config w r rec)
+    at_sent = ap (λ (qs : List Request). slice_get qs r) (requests_at config w rows row one is keeps.parts.requests_are at) ∙ own_request config w rec r there
+
+    kept : IsKeptOf (slice_index w.judged_counts r) row (sent_request config w r rec) q
+    kept = (all row one at).each r (sent_request config w r rec) q (omega (arith, there, keeps.parts.sound.judged_counts)) at_sent at_q
+
+    answers : StandsForRequests v (judged_requests config w r) × (world_answer (answer_to v.number (length v.proxies) v.written.window (judged_requests config w r) (sent_request config w r rec)) ≡ Some (handle_event config w (Offer row r)).answer)
+    answers = answers_as_world config w row r rec v resolvers proxies (requests_of rows) is_offered
+
+    by : (t : Bool) → nat_le (slice_index w.judged_counts r) row ≡ t → Known config w row r one v q resolvers proxies (requests_of rows)
+    by true e =
+        let left : slice_index w.judged_counts r ≤ row = leb-true (slice_index w.judged_counts r) row e in
+        let q_is = kept.whole left in
+        record { is_offered = is_offered; stands = answers.0; told = ap (λ (s : Request). world_answer (answer_to v.number (length v.proxies) v.written.window (judged_requests config w r) s)) q_is ∙ answers.1; judged = λ reply told. (q_is, left) }
+    by false e =
+        let passed : row < slice_index w.judged_counts r = leb-false (slice_index w.judged_counts r) row e in
+        let up_to : (sent_request config w r rec).version ≤ last_request_version (judged_requests config w r) = up_to_last_request r config.proxies (judged_requests config w r) row (sent_request config w r rec) (judged_in_turn config w r keeps.parts.limits.step.0 keeps.parts.sound there) (judged_at config w row r rec at_rec passed) in
+        let alike = repeats_alike v.number (length v.proxies) v.written.window (judged_requests config w r) (sent_request config w r rec) q kept.numbers up_to in
+        record {
+          is_offered = is_offered;
+          stands = answers.0;
+          told = ap world_answer alike ∙ answers.1;
+          judged = λ reply told. absurd (never_judged v.number (length v.proxies) v.written.window (judged_requests config w r) (sent_request config w r rec) reply up_to (sym alike ∙ told));
+        }
+
+pub request_count : (config : Config) (w : World) (rows : List KeptRecord) (row : ℕ) (one : KeptRecord) (resolvers : List ResolverView) (proxies : List ProxyView) (last : ℕ) → w.history ≡ records_of rows → IsKept config w resolvers proxies (requests_of rows) last → slice_get rows row ≡ Some one → length one.sent.known ≡ config.resolvers
+request_count config w rows row one resolvers proxies last is keeps at = ap length (requests_at config w rows row one is keeps.parts.requests_are at) ∙ length-map (each_below config.resolvers) (λ (r : ℕ). sent_request config w r one.rec.known) ∙ length-each_below config.resolvers

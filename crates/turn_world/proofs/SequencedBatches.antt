@@ -58,12 +58,12 @@ may_begin_at config w p batch v rec resolvers proxies requests last keeps there 
     subst (MayBeginAt proxies p) (sym is) (v, at, may_begin config w p v resolvers proxies requests batch (record { parts = keeps.parts; there = there; proxy_is = at; limit = limit }), no_fault config w p batch v (keeps.parts.each_proxy p v at))
 
 -- the world with one row more
-pushed_world : (rows new : List KeptRecord) (row : KeptRecord) (moves : List Move) (judged_counts finished : List ℕ) → new ≡ rows ++ row ∷ [] → let w : World = world_of rows moves judged_counts finished in world_of new moves judged_counts finished ≡ record w { history = w.history ++ row.rec ∷ []; received = w.received ++ row.received ∷ [] }
+pushed_world : (rows new : List KeptRecord) (row : KeptRecord) (moves : List Move) (judged_counts finished : List ℕ) → new ≡ rows ++ row ∷ [] → let w : World = world_of rows moves judged_counts finished in world_of new moves judged_counts finished ≡ record w { history = w.history ++ row.rec.known ∷ []; received = w.received ++ row.received ∷ [] }
 pushed_world rows new row moves judged_counts finished is =
     ap (λ (rs : List KeptRecord). world_of rs moves judged_counts finished) is
-    ∙ (λ i. record { history = map-append (λ (r : KeptRecord). r.rec) rows (row ∷ []) i; moves = moves; received = map-append (λ (r : KeptRecord). r.received) rows (row ∷ []) i; judged_counts = judged_counts; finished = finished })
+    ∙ (λ i. record { history = map-append (λ (r : KeptRecord). r.rec.known) rows (row ∷ []) i; moves = moves; received = map-append (λ (r : KeptRecord). r.received) rows (row ∷ []) i; judged_counts = judged_counts; finished = finished })
 
-pub world_is : (config : Config) (p : ℕ) (batch : List Given) (rows new : List KeptRecord) (row : KeptRecord) (moves : List Move) (judged_counts finished : List ℕ) → let w : World = world_of rows moves judged_counts finished in new ≡ rows ++ row ∷ [] → row.rec ≡ next_record config w p batch → row.received ≡ finished_version w p → p < config.proxies → last_version w.history + config.step < version_limit → world_of new moves judged_counts finished ≡ (handle_event config w (Sequence p batch)).world
+pub world_is : (config : Config) (p : ℕ) (batch : List Given) (rows new : List KeptRecord) (row : KeptRecord) (moves : List Move) (judged_counts finished : List ℕ) → let w : World = world_of rows moves judged_counts finished in new ≡ rows ++ row ∷ [] → row.rec.known ≡ next_record config w p batch → row.received ≡ finished_version w p → p < config.proxies → last_version w.history + config.step < version_limit → world_of new moves judged_counts finished ≡ (handle_event config w (Sequence p batch)).world
 world_is config p batch rows new row moves judged_counts finished is rec received there limit =
     let w : World = world_of rows moves judged_counts finished in
     pushed_world rows new row moves judged_counts finished is
@@ -73,15 +73,15 @@ world_is config p batch rows new row moves judged_counts finished is rec receive
 same_some : (v u : ProxyView) → Some v ≡ Some u → v ≡ u
 same_some v u same = cc
 
-pub kept : (config : Config) (p : ℕ) (batch : List Given) (rows new : List KeptRecord) (row : KeptRecord) (moves : List Move) (judged_counts finished : List ℕ) (resolvers : List ResolverView) (proxies after : List ProxyView) (last : ℕ) → let w : World = world_of rows moves judged_counts finished in IsKept config w resolvers proxies (requests_of rows) last → new ≡ rows ++ row ∷ [] → row.rec ≡ next_record config w p batch → row.received ≡ finished_version w p → p < config.proxies → last_version w.history + config.step < version_limit
-    → IsBegunAt proxies p row.rec row.requests after → IsKept config (world_of new moves judged_counts finished) resolvers after (requests_of new) row.rec.version
+pub kept : (config : Config) (p : ℕ) (batch : List Given) (rows new : List KeptRecord) (row : KeptRecord) (moves : List Move) (judged_counts finished : List ℕ) (resolvers : List ResolverView) (proxies after : List ProxyView) (last : ℕ) → let w : World = world_of rows moves judged_counts finished in IsKept config w resolvers proxies (requests_of rows) last → new ≡ rows ++ row ∷ [] → row.rec.known ≡ next_record config w p batch → row.received ≡ finished_version w p → p < config.proxies → last_version w.history + config.step < version_limit
+    → IsBegunAt proxies p row.rec.known row.sent.known after → IsKept config (world_of new moves judged_counts finished) resolvers after (requests_of new) row.rec.known.version
 kept config p batch rows new row moves judged_counts finished resolvers proxies after last keeps is rec received there limit begun =
     record {
       parts = subst (λ (x : World). AreInStep config x resolvers after (requests_of new)) (sym world)
           (subst (AreInStep config (handle_event config w (Sequence p batch)).world resolvers after) (sym sent)
           (subst (λ (fs : List ProxyView). AreInStep config (handle_event config w (Sequence p batch)).world resolvers fs (requests_of rows ++ map (request config (next_record config w p batch) begun.v.version) (each_below config.resolvers) ∷ [])) (sym begun.after_is)
           (begun_in_step config w p begun.v begun.new resolvers proxies (requests_of rows) batch (record { parts = keeps.parts; there = there; proxy_is = begun.at; limit = limit }) (subst (HasBegun begun.v begun.new) rec begun.begun))));
-      last_is = sym (ap (λ (x : World). last_version x.history) (pushed_world rows new row moves judged_counts finished is) ∙ last_version-push w.history row.rec);
+      last_is = sym (ap (λ (x : World). last_version x.history) (pushed_world rows new row moves judged_counts finished is) ∙ last_version-push w.history row.rec.known);
       below = subst (λ (r : Record). r.version < version_limit) (sym rec) limit;
     }
   where
@@ -95,7 +95,7 @@ kept config p batch rows new row moves judged_counts finished resolvers proxies 
     proxy = keeps.parts.each_proxy p begun.v begun.at
 
     sent : requests_of new ≡ requests_of rows ++ map (request config (next_record config w p batch) begun.v.version) (each_below config.resolvers) ∷ []
-    sent = ap requests_of is ∙ map-append (λ (r : KeptRecord). r.requests) rows (row ∷ []) ∙ ap (λ (q : List Request). requests_of rows ++ q ∷ []) (begun.requests_are ∙ (λ i. map (request (proxy.config_is i) (rec i) begun.v.version) (each_below (proxy.config_is i).resolvers)))
+    sent = ap requests_of is ∙ map-append (λ (r : KeptRecord). r.sent.known) rows (row ∷ []) ∙ ap (λ (q : List Request). requests_of rows ++ q ∷ []) (begun.requests_are ∙ (λ i. map (request (proxy.config_is i) (rec i) begun.v.version) (each_below (proxy.config_is i).resolvers)))
 
 pub after : (config : Config) (w x : World) (now : TurnCluster) (p : ℕ) (batch : List Given) → (record { config = config; world = w }) ≡ now → x ≡ (handle_event config w (Sequence p batch)).world → (record { config = config; world = x }) ≡ after_event now (Sequence p batch)
 after config w x now p batch view is = ap (λ (y : World). record { config = config; world = y }) is ∙ ap (λ (t : TurnCluster). after_event t (Sequence p batch)) view

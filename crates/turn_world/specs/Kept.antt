@@ -1,5 +1,5 @@
 -- What a cluster keeps, in the model's words.
-use Rattle.std.specs.Prelude.{◌≡◌, ◌<◌, ℕ, List, map}
+use Rattle.std.specs.Prelude.{◌≡◌, ◌<◌, ℕ, List, map, length, slice_get, slice_index, Some}
 use Rattle.model.specs.Numbers.{Version}
 use Rattle.model.specs.Configs.{Config, version_limit}
 use Rattle.model.specs.declared.moves.Move.{Move}
@@ -9,15 +9,16 @@ use Rattle.model.specs.ResolverMemory.{ResolverView}
 use Rattle.model.specs.Finishing.{ProxyView}
 use Rattle.model.specs.World.{World}
 use Rattle.model.specs.Turns.{AreInStep}
+use Rattle.turn_world.specs.KeptRequests.{AreKeptOf}
 use Rattle.turn_world.specs.declared.kept_record.KeptRecord.{KeptRecord}
 
 -- the records of some rows
 abbrev pub records_of : List KeptRecord → List Record
-records_of rows = map (λ (row : KeptRecord). row.rec) rows
+records_of rows = map (λ (row : KeptRecord). row.rec.known) rows
 
--- the requests for each record
+-- the requests for each record, as they were sent
 abbrev pub requests_of : List KeptRecord → List (List Request)
-requests_of rows = map (λ (row : KeptRecord). row.requests) rows
+requests_of rows = map (λ (row : KeptRecord). row.sent.known) rows
 
 -- the world of what is kept: the rows, all moves so far, how many rows each resolver has judged, and
 -- how many records each proxy has finished
@@ -31,6 +32,22 @@ world_of rows moves judged_counts finished =
       judged_counts = judged_counts;
       finished = finished;
     }
+
+-- what is kept of the requests for each row, by how many rows each resolver has judged
+abbrev pub AreRequestsKept : (judged_counts : List ℕ) (rows : List KeptRecord) → Type 0
+AreRequestsKept judged_counts rows =
+    (row : ℕ) (one : KeptRecord) → slice_get rows row ≡ Some one
+    → AreKeptOf judged_counts row one.sent.known one.kept.requests.items
+
+-- the parts of the requests for this row are dropped, which contracts do not see, and which is right
+-- once each resolver has judged the row
+pub record HasDroppedParts (row : ℕ) (before after : List KeptRecord) : Type 0 where
+  pub records : records_of after ≡ records_of before
+  pub received : map (λ (x : KeptRecord). x.received) after ≡ map (λ (x : KeptRecord). x.received) before
+  pub sent : requests_of after ≡ requests_of before
+  pub kept :
+      (judged_counts : List ℕ) → ((r : ℕ) → r < length judged_counts → row < slice_index judged_counts r)
+      → AreRequestsKept judged_counts before → AreRequestsKept judged_counts after
 
 -- What the type of a cluster keeps: its resolvers, its proxies and the requests that these sent are
 -- in step with its world. `last` is the last version given out.

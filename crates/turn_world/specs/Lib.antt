@@ -6,5 +6,7 @@ pub mod Events
 pub mod Steps
 -- what the calls of a proxy or a resolver in its list do
 pub mod Parts
+-- what is kept of the requests that a proxy sent
+pub mod KeptRequests
 -- what the type keeps
 pub mod Kept

@@ -24,6 +24,14 @@ impl Answer {
     pub fn copy(&self) -> Result<Answer, OutOfMemory>
         ensures { IfOk result (λ copy. copy ≡ self.now) }
     {
-        Ok(self.clone()?)
+        match self {
+            Answer::Sequenced { row, version } => Ok(Answer::Sequenced {
+                row: *row,
+                version: *version,
+            }),
+            Answer::Moved { date } => Ok(Answer::Moved { date: *date }),
+            Answer::Offered(answer) => Ok(Answer::Offered(answer.copy()?)),
+            Answer::Finished(finished) => Ok(Answer::Finished(finished.copy()?)),
+        }
     }
 }

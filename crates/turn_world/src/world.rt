@@ -18,9 +18,11 @@ ghost use Rattle.turn_world.specs.declared.refusal.Refusal.{Refusal as TheRefusa
 use crate::answer::Answer;
 use crate::event::Event;
 use crate::finishing::{finish_at, first_missing, kept_replies};
-use crate::kept_record::KeptRecord;
+use crate::kept_record::{KeptRecord, drop_parts_at};
 use crate::offering::{offer_at, passed_on};
+use crate::past_record::PastRecord;
 use crate::refusal::Refusal;
+use crate::sent_requests::{PastRequests, SentRequests};
 use crate::sequencing::begin_at;
 use crate::starting::{new_proxies, new_resolvers, zeros};
 use crate::stopped::Stopped;
@@ -48,7 +50,7 @@ pub struct TurnWorld {
 
 impl Model for TurnWorld {
     ghost use Rattle.model.specs.Turns.{TurnCluster};
-    ghost use Rattle.turn_world.specs.Kept.{world_of, requests_of, IsKept};
+    ghost use Rattle.turn_world.specs.Kept.{world_of, requests_of, AreRequestsKept, IsKept};
 
     ghost Value = { TurnCluster };
 
@@ -59,7 +61,8 @@ impl Model for TurnWorld {
 
     ghost invariant = { λ t. IsKept t.config
         (world_of t.rows.items t.moves t.judged_counts.items t.finished.items)
-        t.resolvers.items t.proxies.items (requests_of t.rows.items) t.last };
+        t.resolvers.items t.proxies.items (requests_of t.rows.items) t.last
+        × AreRequestsKept t.judged_counts.items t.rows.items };
 }
 
 impl TurnWorld {
@@ -237,10 +240,14 @@ impl TurnWorld {
         let version = rec.version();
         let received = self.proxies[proxy].version();
         let requests = begin_at(&mut self.proxies, proxy, &rec, &self.moves)?;
+        let kept = SentRequests {
+            requests: Vec::from(requests),
+        };
         self.rows.push_reserved(KeptRecord {
-            rec,
+            rec: PastRecord::of(&rec),
             received,
-            requests,
+            sent: PastRequests::of(&kept),
+            kept,
         });
         self.last = version;
         Ok(Answer::Sequenced { row, version })
@@ -293,7 +300,7 @@ impl TurnWorld {
         if self.config.resolvers() <= resolver {
             return Err(Refusal::WrongResolver);
         }
-        let requests = self.rows[row].requests.as_slice();
+        let requests = self.rows[row].kept.requests.as_slice();
         match offer_at(&mut self.resolvers, resolver, &requests[resolver]) {
             Ok(OfferAnswer::Judged(reply)) => {
                 self.judged_counts[resolver] = row + 1;
@@ -327,6 +334,7 @@ impl TurnWorld {
         let count = self.finished[proxy] + 1;
         let finished = finish_at(&mut self.proxies, proxy, replies)?;
         self.finished[proxy] = count;
+        drop_parts_at(&mut self.rows, row, alloc);
         Ok(Answer::Finished(finished))
     }
 }

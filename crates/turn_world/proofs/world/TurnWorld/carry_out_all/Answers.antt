@@ -1,6 +1,5 @@
 -- No event is carried out yet; and then one more.
-use Rattle.std.proofs.Common.{◌≡◌, refl, arith, ap, ◌∙◌, subst, sym, ◌+◌, [], ◌∷◌, length, length-append, map}
-use Rattle.turn_world.specs.Events.{event_of}
+use Rattle.std.proofs.Common.{◌≡◌, refl, arith, ap, ◌∙◌, subst, sym, ◌+◌, [], ◌∷◌, length, length-append}
 use Rattle.turn_world.specs.Steps.{HasCarriedOut}
 use Rattle.turn_world.proofs.EventRuns.{none_carried_out, one_more, stopped_at_first, stopped_at}
 use Rattle.turn_world.proofs.world.TurnWorld.carry_out_all.Goals as goal

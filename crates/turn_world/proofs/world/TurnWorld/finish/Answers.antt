@@ -1,12 +1,14 @@
 -- The finish is refused, or done.
-use Rattle.std.proofs.Common.{◌≡◌, ◌∙◌, ◌+◌, ◌<◌, sym, subst, suc, length, slice_get, slice_index, None, arith, rules}
+use Rattle.std.proofs.Common.{◌≡◌, ◌∙◌, ◌+◌, ◌<◌, sym, ap, subst, suc, List, length, slice_get, slice_index, slice_set, None, arith, rules}
 use Rattle.std.specs.Prelude.{Err}
-use Rattle.model.specs.World.{Finish}
+use Rattle.model.specs.Requests.{Request}
+use Rattle.model.specs.World.{World, Finish}
 use Rattle.model.specs.Laws.Worlds.{IsAwaited}
-use Rattle.turn_world.specs.Kept.{world_of, requests_of}
+use Rattle.turn_world.specs.Kept.{IsKept, world_of, requests_of}
 use Rattle.turn_world.specs.Parts.{AreAllKept, kept_replies_at, missing_of}
 use Rattle.turn_world.specs.Steps.{AnswersEvent}
 use Rattle.turn_world.specs.declared.refusal.Refusal.TheVariants as refusals
+use Rattle.turn_world.proofs.AllKept.{all_judged}
 use Rattle.turn_world.proofs.OfferedParts.{got}
 use Rattle.turn_world.proofs.FinishedRecords.{no_proxy, none_begun, first_named, none_missing, not_refused, all_kept, are_of_the_world, may_finish_at, count_is_small, counted, answered, world_is, kept, event_after}
 use Rattle.turn_world.proofs.world.TurnWorld.finish.Goals as goal
@@ -22,20 +24,20 @@ returns-in_default-clause-answer c =
     let t = c.self.inside in
     let w = world_of t.rows.items t.moves t.judged_counts.items t.finished.items in
     let there : c.args.proxy < t.config.proxies = omega (arith, c.proxies.ensures.value, c.if-proxies-proxy.false) in
-    let at = got t.proxies.items c.args.proxy c.index.result.now (omega (arith, there, c.self.invariant.parts.proxy_count)) c.index.ensures in
-    none_begun t.config w c.args.self.now c.args.proxy c.index.result.now t.resolvers.items t.proxies.items (requests_of t.rows.items) c.self.view_is c.self.invariant.parts there at c.in_default.ensures.first
+    let at = got t.proxies.items c.args.proxy c.index.result.now (omega (arith, there, c.self.invariant.0.parts.proxy_count)) c.index.ensures in
+    none_begun t.config w c.args.self.now c.args.proxy c.index.result.now t.resolvers.items t.proxies.items (requests_of t.rows.items) c.self.view_is c.self.invariant.0.parts there at c.in_default.ensures.first
 
 pub returns-in-Some-first_missing-clause-answer : goal.returns-in-Some-first_missing-clause-answer
 returns-in-Some-first_missing-clause-answer c =
     let t = c.self.inside in
     let w = world_of t.rows.items t.moves t.judged_counts.items t.finished.items in
     let there : c.args.proxy < t.config.proxies = omega (arith, c.proxies.ensures.value, c.if-proxies-proxy.false) in
-    let at = got t.proxies.items c.args.proxy c.index.result.now (omega (arith, there, c.self.invariant.parts.proxy_count)) c.index.ensures in
+    let at = got t.proxies.items c.args.proxy c.index.result.now (omega (arith, there, c.self.invariant.0.parts.proxy_count)) c.index.ensures in
     let rec = c.in-Some.rec.now in
     let rest = c.in-Some.ensures.first.0 in
     let v = c.index.result.now in
     let requests = requests_of t.rows.items in
-    let is : IsAwaited t.config w c.args.proxy rec rest v t.resolvers.items t.proxies.items requests = record { parts = c.self.invariant.parts; there = there; proxy_is = at; begun = c.in-Some.ensures.first.1 } in
+    let is : IsAwaited t.config w c.args.proxy rec rest v t.resolvers.items t.proxies.items requests = record { parts = c.self.invariant.0.parts; there = there; proxy_is = at; begun = c.in-Some.ensures.first.1 } in
     let row : c.row-row.result ≡ rec.row = c.row-row.ensures in
     let counts : c.as_slice.result.now ≡ t.judged_counts.items = c.as_slice.ensures.value in
     first_named t.config w c.args.self.now c.args.proxy rec rest v t.resolvers.items t.proxies.items requests c.in-Some-first_missing.resolver c.self.view_is is (c.in-Some-first_missing.ensures ∙ (λ i. slice_get (missing_of (row i) (counts i)) 0))
@@ -45,12 +47,12 @@ kept_replies-requires-clause-kept c =
     let t = c.self.inside in
     let w = world_of t.rows.items t.moves t.judged_counts.items t.finished.items in
     let there : c.args.proxy < t.config.proxies = omega (arith, c.proxies.ensures.value, c.if-proxies-proxy.false) in
-    let at = got t.proxies.items c.args.proxy c.index.result.now (omega (arith, there, c.self.invariant.parts.proxy_count)) c.index.ensures in
+    let at = got t.proxies.items c.args.proxy c.index.result.now (omega (arith, there, c.self.invariant.0.parts.proxy_count)) c.index.ensures in
     let rec = c.in-Some.rec.now in
     let rest = c.in-Some.ensures.first.0 in
     let v = c.index.result.now in
     let requests = requests_of t.rows.items in
-    let is : IsAwaited t.config w c.args.proxy rec rest v t.resolvers.items t.proxies.items requests = record { parts = c.self.invariant.parts; there = there; proxy_is = at; begun = c.in-Some.ensures.first.1 } in
+    let is : IsAwaited t.config w c.args.proxy rec rest v t.resolvers.items t.proxies.items requests = record { parts = c.self.invariant.0.parts; there = there; proxy_is = at; begun = c.in-Some.ensures.first.1 } in
     let row : c.row-row.result ≡ rec.row = c.row-row.ensures in
     let counts : c.as_slice.result.now ≡ t.judged_counts.items = c.as_slice.ensures.value in
     let first : None ≡ slice_get (missing_of rec.row t.judged_counts.items) 0 = c.in_default-first_missing.ensures ∙ (λ i. slice_get (missing_of (row i) (counts i)) 0) in
@@ -64,12 +66,12 @@ returns-in_err-replies-clause-answer c =
     let t = c.self.inside in
     let w = world_of t.rows.items t.moves t.judged_counts.items t.finished.items in
     let there : c.args.proxy < t.config.proxies = omega (arith, c.proxies.ensures.value, c.if-proxies-proxy.false) in
-    let at = got t.proxies.items c.args.proxy c.index.result.now (omega (arith, there, c.self.invariant.parts.proxy_count)) c.index.ensures in
+    let at = got t.proxies.items c.args.proxy c.index.result.now (omega (arith, there, c.self.invariant.0.parts.proxy_count)) c.index.ensures in
     let rec = c.in-Some.rec.now in
     let rest = c.in-Some.ensures.first.0 in
     let v = c.index.result.now in
     let requests = requests_of t.rows.items in
-    let is : IsAwaited t.config w c.args.proxy rec rest v t.resolvers.items t.proxies.items requests = record { parts = c.self.invariant.parts; there = there; proxy_is = at; begun = c.in-Some.ensures.first.1 } in
+    let is : IsAwaited t.config w c.args.proxy rec rest v t.resolvers.items t.proxies.items requests = record { parts = c.self.invariant.0.parts; there = there; proxy_is = at; begun = c.in-Some.ensures.first.1 } in
     let row : c.row-row.result ≡ rec.row = c.row-row.ensures in
     let counts : c.as_slice.result.now ≡ t.judged_counts.items = c.as_slice.ensures.value in
     let first : None ≡ slice_get (missing_of rec.row t.judged_counts.items) 0 = c.in_default-first_missing.ensures ∙ (λ i. slice_get (missing_of (row i) (counts i)) 0) in
@@ -82,12 +84,12 @@ returns-in_err-finished-clause-answer c =
     let t = c.self.inside in
     let w = world_of t.rows.items t.moves t.judged_counts.items t.finished.items in
     let there : c.args.proxy < t.config.proxies = omega (arith, c.proxies.ensures.value, c.if-proxies-proxy.false) in
-    let at = got t.proxies.items c.args.proxy c.index.result.now (omega (arith, there, c.self.invariant.parts.proxy_count)) c.index.ensures in
+    let at = got t.proxies.items c.args.proxy c.index.result.now (omega (arith, there, c.self.invariant.0.parts.proxy_count)) c.index.ensures in
     let rec = c.in-Some.rec.now in
     let rest = c.in-Some.ensures.first.0 in
     let v = c.index.result.now in
     let requests = requests_of t.rows.items in
-    let is : IsAwaited t.config w c.args.proxy rec rest v t.resolvers.items t.proxies.items requests = record { parts = c.self.invariant.parts; there = there; proxy_is = at; begun = c.in-Some.ensures.first.1 } in
+    let is : IsAwaited t.config w c.args.proxy rec rest v t.resolvers.items t.proxies.items requests = record { parts = c.self.invariant.0.parts; there = there; proxy_is = at; begun = c.in-Some.ensures.first.1 } in
     let row : c.row-row.result ≡ rec.row = c.row-row.ensures in
     let counts : c.as_slice.result.now ≡ t.judged_counts.items = c.as_slice.ensures.value in
     let first : None ≡ slice_get (missing_of rec.row t.judged_counts.items) 0 = c.in_default-first_missing.ensures ∙ (λ i. slice_get (missing_of (row i) (counts i)) 0) in
@@ -100,15 +102,15 @@ overflow_add-count c =
     let t = c.self.inside in
     let w = world_of t.rows.items t.moves t.judged_counts.items t.finished.items in
     let there : c.args.proxy < t.config.proxies = omega (arith, c.proxies.ensures.value, c.if-proxies-proxy.false) in
-    let at = got t.proxies.items c.args.proxy c.index.result.now (omega (arith, there, c.self.invariant.parts.proxy_count)) c.index.ensures in
+    let at = got t.proxies.items c.args.proxy c.index.result.now (omega (arith, there, c.self.invariant.0.parts.proxy_count)) c.index.ensures in
     let rec = c.in-Some.rec.now in
     let rest = c.in-Some.ensures.first.0 in
     let v = c.index.result.now in
     let requests = requests_of t.rows.items in
-    let is : IsAwaited t.config w c.args.proxy rec rest v t.resolvers.items t.proxies.items requests = record { parts = c.self.invariant.parts; there = there; proxy_is = at; begun = c.in-Some.ensures.first.1 } in
-    let within : c.args.proxy < length t.finished.items = omega (arith, there, c.self.invariant.parts.sound.finished) in
+    let is : IsAwaited t.config w c.args.proxy rec rest v t.resolvers.items t.proxies.items requests = record { parts = c.self.invariant.0.parts; there = there; proxy_is = at; begun = c.in-Some.ensures.first.1 } in
+    let within : c.args.proxy < length t.finished.items = omega (arith, there, c.self.invariant.0.parts.sound.finished) in
     let count : c.index-2.result.now + 1 ≡ suc (slice_index t.finished.items c.args.proxy) = counted t.finished.items c.args.proxy c.index-2.result.now within c.index-2.ensures in
-    let small : slice_index t.finished.items c.args.proxy < 9223372036854775808 = count_is_small t.config w c.args.proxy t.last rec rest v t.resolvers.items t.proxies.items requests is c.self.invariant.last_is c.self.invariant.below in
+    let small : slice_index t.finished.items c.args.proxy < 9223372036854775808 = count_is_small t.config w c.args.proxy t.last rec rest v t.resolvers.items t.proxies.items requests is c.self.invariant.0.last_is c.self.invariant.0.below in
     omega (arith, count, small)
 
 pub finish_at-requires : goal.finish_at-requires
@@ -116,12 +118,12 @@ finish_at-requires c =
     let t = c.self.inside in
     let w = world_of t.rows.items t.moves t.judged_counts.items t.finished.items in
     let there : c.args.proxy < t.config.proxies = omega (arith, c.proxies.ensures.value, c.if-proxies-proxy.false) in
-    let at = got t.proxies.items c.args.proxy c.index.result.now (omega (arith, there, c.self.invariant.parts.proxy_count)) c.index.ensures in
+    let at = got t.proxies.items c.args.proxy c.index.result.now (omega (arith, there, c.self.invariant.0.parts.proxy_count)) c.index.ensures in
     let rec = c.in-Some.rec.now in
     let rest = c.in-Some.ensures.first.0 in
     let v = c.index.result.now in
     let requests = requests_of t.rows.items in
-    let is : IsAwaited t.config w c.args.proxy rec rest v t.resolvers.items t.proxies.items requests = record { parts = c.self.invariant.parts; there = there; proxy_is = at; begun = c.in-Some.ensures.first.1 } in
+    let is : IsAwaited t.config w c.args.proxy rec rest v t.resolvers.items t.proxies.items requests = record { parts = c.self.invariant.0.parts; there = there; proxy_is = at; begun = c.in-Some.ensures.first.1 } in
     let row : c.row-row.result ≡ rec.row = c.row-row.ensures in
     let counts : c.as_slice.result.now ≡ t.judged_counts.items = c.as_slice.ensures.value in
     let first : None ≡ slice_get (missing_of rec.row t.judged_counts.items) 0 = c.in_default-first_missing.ensures ∙ (λ i. slice_get (missing_of (row i) (counts i)) 0) in
@@ -138,12 +140,12 @@ invariant_of-self-2 c =
     let t = c.self.inside in
     let w = world_of t.rows.items t.moves t.judged_counts.items t.finished.items in
     let there : c.args.proxy < t.config.proxies = omega (arith, c.proxies.ensures.value, c.if-proxies-proxy.false) in
-    let at = got t.proxies.items c.args.proxy c.index.result.now (omega (arith, there, c.self.invariant.parts.proxy_count)) c.index.ensures in
+    let at = got t.proxies.items c.args.proxy c.index.result.now (omega (arith, there, c.self.invariant.0.parts.proxy_count)) c.index.ensures in
     let rec = c.in-Some.rec.now in
     let rest = c.in-Some.ensures.first.0 in
     let v = c.index.result.now in
     let requests = requests_of t.rows.items in
-    let is : IsAwaited t.config w c.args.proxy rec rest v t.resolvers.items t.proxies.items requests = record { parts = c.self.invariant.parts; there = there; proxy_is = at; begun = c.in-Some.ensures.first.1 } in
+    let is : IsAwaited t.config w c.args.proxy rec rest v t.resolvers.items t.proxies.items requests = record { parts = c.self.invariant.0.parts; there = there; proxy_is = at; begun = c.in-Some.ensures.first.1 } in
     let row : c.row-row.result ≡ rec.row = c.row-row.ensures in
     let counts : c.as_slice.result.now ≡ t.judged_counts.items = c.as_slice.ensures.value in
     let first : None ≡ slice_get (missing_of rec.row t.judged_counts.items) 0 = c.in_default-first_missing.ensures ∙ (λ i. slice_get (missing_of (row i) (counts i)) 0) in
@@ -154,23 +156,32 @@ invariant_of-self-2 c =
     let are : replies ≡ kept_replies_at t.resolvers.items c.args.proxy rec.version = c.in_ok-replies.ensures ∙ (λ i. kept_replies_at (resolvers i) c.args.proxy (version i)) in
     let of_world = are_of_the_world t.config w c.args.proxy rec rest v t.resolvers.items t.proxies.items requests replies is none are in
     let done = c.in_ok-finished.ensures.finished in
-    let within : c.args.proxy < length t.finished.items = omega (arith, there, c.self.invariant.parts.sound.finished) in
+    let within : c.args.proxy < length t.finished.items = omega (arith, there, c.self.invariant.0.parts.sound.finished) in
     let count : c.index-2.result.now + 1 ≡ suc (slice_index t.finished.items c.args.proxy) = counted t.finished.items c.args.proxy c.index-2.result.now within c.index-2.ensures in
     let after = c.finish_at.new.proxies.items in
     let finished = c.in_ok-finished.finished in
-    kept t.config w c.args.proxy (c.index-2.result.now + 1) t.last rec rest v t.resolvers.items t.proxies.items after requests replies finished c.self.invariant is of_world done count
+    let dropped = c.drop_parts_at.ensures in
+    let rows = c.drop_parts_at.new.rows.items in
+    let counted_up = slice_set t.finished.items c.args.proxy (c.index-2.result.now + 1) in
+    let world : world_of rows t.moves t.judged_counts.items counted_up ≡ record w { finished = counted_up } = λ i. record { history = dropped.records i; moves = t.moves; received = dropped.received i; judged_counts = t.judged_counts.items; finished = counted_up } in
+    let judged = all_judged c.row-row.result t.judged_counts.items (c.in_default-first_missing.ensures ∙ (λ i. slice_get (missing_of c.row-row.result (counts i)) 0)) in (
+      subst (λ (x : World). IsKept t.config x t.resolvers.items after (requests_of rows) t.last) (sym world)
+          (subst (λ (qs : List (List Request)). IsKept t.config (record w { finished = counted_up }) t.resolvers.items after qs t.last) (sym dropped.sent)
+          (kept t.config w c.args.proxy (c.index-2.result.now + 1) t.last rec rest v t.resolvers.items t.proxies.items after requests replies finished c.self.invariant.0 is of_world done count)),
+      dropped.kept t.judged_counts.items judged c.self.invariant.1,
+    )
 
 pub returns-clause-answer : goal.returns-clause-answer
 returns-clause-answer c =
     let t = c.self.inside in
     let w = world_of t.rows.items t.moves t.judged_counts.items t.finished.items in
     let there : c.args.proxy < t.config.proxies = omega (arith, c.proxies.ensures.value, c.if-proxies-proxy.false) in
-    let at = got t.proxies.items c.args.proxy c.index.result.now (omega (arith, there, c.self.invariant.parts.proxy_count)) c.index.ensures in
+    let at = got t.proxies.items c.args.proxy c.index.result.now (omega (arith, there, c.self.invariant.0.parts.proxy_count)) c.index.ensures in
     let rec = c.in-Some.rec.now in
     let rest = c.in-Some.ensures.first.0 in
     let v = c.index.result.now in
     let requests = requests_of t.rows.items in
-    let is : IsAwaited t.config w c.args.proxy rec rest v t.resolvers.items t.proxies.items requests = record { parts = c.self.invariant.parts; there = there; proxy_is = at; begun = c.in-Some.ensures.first.1 } in
+    let is : IsAwaited t.config w c.args.proxy rec rest v t.resolvers.items t.proxies.items requests = record { parts = c.self.invariant.0.parts; there = there; proxy_is = at; begun = c.in-Some.ensures.first.1 } in
     let row : c.row-row.result ≡ rec.row = c.row-row.ensures in
     let counts : c.as_slice.result.now ≡ t.judged_counts.items = c.as_slice.ensures.value in
     let first : None ≡ slice_get (missing_of rec.row t.judged_counts.items) 0 = c.in_default-first_missing.ensures ∙ (λ i. slice_get (missing_of (row i) (counts i)) 0) in
@@ -181,7 +192,7 @@ returns-clause-answer c =
     let are : replies ≡ kept_replies_at t.resolvers.items c.args.proxy rec.version = c.in_ok-replies.ensures ∙ (λ i. kept_replies_at (resolvers i) c.args.proxy (version i)) in
     let of_world = are_of_the_world t.config w c.args.proxy rec rest v t.resolvers.items t.proxies.items requests replies is none are in
     let done = c.in_ok-finished.ensures.finished in
-    let within : c.args.proxy < length t.finished.items = omega (arith, there, c.self.invariant.parts.sound.finished) in
+    let within : c.args.proxy < length t.finished.items = omega (arith, there, c.self.invariant.0.parts.sound.finished) in
     let count : c.index-2.result.now + 1 ≡ suc (slice_index t.finished.items c.args.proxy) = counted t.finished.items c.args.proxy c.index-2.result.now within c.index-2.ensures in
     let after = c.finish_at.new.proxies.items in
     let finished = c.in_ok-finished.finished in
@@ -192,12 +203,12 @@ returns-clause-ok c =
     let t = c.self.inside in
     let w = world_of t.rows.items t.moves t.judged_counts.items t.finished.items in
     let there : c.args.proxy < t.config.proxies = omega (arith, c.proxies.ensures.value, c.if-proxies-proxy.false) in
-    let at = got t.proxies.items c.args.proxy c.index.result.now (omega (arith, there, c.self.invariant.parts.proxy_count)) c.index.ensures in
+    let at = got t.proxies.items c.args.proxy c.index.result.now (omega (arith, there, c.self.invariant.0.parts.proxy_count)) c.index.ensures in
     let rec = c.in-Some.rec.now in
     let rest = c.in-Some.ensures.first.0 in
     let v = c.index.result.now in
     let requests = requests_of t.rows.items in
-    let is : IsAwaited t.config w c.args.proxy rec rest v t.resolvers.items t.proxies.items requests = record { parts = c.self.invariant.parts; there = there; proxy_is = at; begun = c.in-Some.ensures.first.1 } in
+    let is : IsAwaited t.config w c.args.proxy rec rest v t.resolvers.items t.proxies.items requests = record { parts = c.self.invariant.0.parts; there = there; proxy_is = at; begun = c.in-Some.ensures.first.1 } in
     let row : c.row-row.result ≡ rec.row = c.row-row.ensures in
     let counts : c.as_slice.result.now ≡ t.judged_counts.items = c.as_slice.ensures.value in
     let first : None ≡ slice_get (missing_of rec.row t.judged_counts.items) 0 = c.in_default-first_missing.ensures ∙ (λ i. slice_get (missing_of (row i) (counts i)) 0) in
@@ -208,8 +219,13 @@ returns-clause-ok c =
     let are : replies ≡ kept_replies_at t.resolvers.items c.args.proxy rec.version = c.in_ok-replies.ensures ∙ (λ i. kept_replies_at (resolvers i) c.args.proxy (version i)) in
     let of_world = are_of_the_world t.config w c.args.proxy rec rest v t.resolvers.items t.proxies.items requests replies is none are in
     let done = c.in_ok-finished.ensures.finished in
-    let within : c.args.proxy < length t.finished.items = omega (arith, there, c.self.invariant.parts.sound.finished) in
+    let within : c.args.proxy < length t.finished.items = omega (arith, there, c.self.invariant.0.parts.sound.finished) in
     let count : c.index-2.result.now + 1 ≡ suc (slice_index t.finished.items c.args.proxy) = counted t.finished.items c.args.proxy c.index-2.result.now within c.index-2.ensures in
     let after = c.finish_at.new.proxies.items in
     let finished = c.in_ok-finished.finished in
-    event_after t.config w _ c.args.self.now c.args.proxy c.self.view_is (world_is t.config w c.args.proxy (c.index-2.result.now + 1) rec rest v t.resolvers.items t.proxies.items after requests replies finished is of_world done count)
+    let dropped = c.drop_parts_at.ensures in
+    let rows = c.drop_parts_at.new.rows.items in
+    let counted_up = slice_set t.finished.items c.args.proxy (c.index-2.result.now + 1) in
+    let world : world_of rows t.moves t.judged_counts.items counted_up ≡ record w { finished = counted_up } = λ i. record { history = dropped.records i; moves = t.moves; received = dropped.received i; judged_counts = t.judged_counts.items; finished = counted_up } in
+    ap (λ (x : World). record { config = t.config; world = x }) world
+    ∙ event_after t.config w _ c.args.self.now c.args.proxy c.self.view_is (world_is t.config w c.args.proxy (c.index-2.result.now + 1) rec rest v t.resolvers.items t.proxies.items after requests replies finished is of_world done count)

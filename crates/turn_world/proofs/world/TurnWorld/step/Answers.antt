@@ -9,4 +9,4 @@ use Rattle.turn_world.proofs.world.TurnWorld.step.Goals as goal
 pub returns-clause-serial : goal.returns-clause-serial
 returns-clause-serial c =
     let t = c.self.inside in
-    subst (λ (now : TurnCluster). IsSerial now.config now.world.history) c.self.view_is (history_is_serial t.config (records_of t.rows.items) c.self.invariant.parts.limits c.self.invariant.parts.sound.sequencer.history)
+    subst (λ (now : TurnCluster). IsSerial now.config now.world.history) c.self.view_is (history_is_serial t.config (records_of t.rows.items) c.self.invariant.0.parts.limits c.self.invariant.0.parts.sound.sequencer.history)
