@@ -12,7 +12,7 @@ use Rattle.system_keys.specs.Families.{is_kept}
 use Rattle.model.proofs.Members.{Contains-from_Has}
 use Rattle.model.proofs.Metadata.Entries.{filter_in_order}
 use Rattle.metadata.specs.Overwrites.{is_same_key, is_listed, has_entry, entries_without, IsPutOver, IsOverwritten}
-use Rattle.metadata.specs.CachedTags.{Values, TagLists, KeyTags, tag_by, tags_by, AreTags, tags_written, displaced_tags, values_over, names_server, names_put, is_row_named, row_tags, chosen_tags, puts_server, changed_tags, may_tag, may_tag_some, TagsTakeBack, IsBlanked}
+use Rattle.metadata.specs.CachedTags.{Values, TagLists, KeyTags, tag_by, tags_by, AreTags, tags_at, tags_written, displaced_tags, values_over, names_server, names_put, is_row_named, row_tags, chosen_tags, puts_server, changed_tags, may_tag, may_tag_some, TagsTakeBack, IsBlanked}
 use Rattle.metadata.proofs.KeyValues.{same_key, same_itself, same_entries, none_behind, first_behind, rest_in_order}
 use Rattle.metadata.proofs.EntriesLeft.{value_without, value_kept}
 
@@ -55,6 +55,25 @@ written_chosen values p (row ∷ rows) lists key s =
         ∙ ap (λ (t : Bool). if t then Some (tags_by values row.1) else lists key) (sym (passes same ∙ h))
     by false h false other put left = left
 
+some_same : {X : Type 0} (a b : X) → Some a ≡ Some b → a ≡ b
+some_same a b h = cc
+
+-- what a key of the rows has among the tags of those that pass
+pub chosen_at : (values : Values) (p : Entry → Bool) (rows : Entries) (key : Key) (value : List ℕ) → p (key, value) ≡ true → entry_value rows key ≡ Some value → tags_at (chosen_tags values p rows) key ≡ Some (tags_by values value)
+chosen_at values p [] key value passes there = absurd (cc)
+chosen_at values p (row ∷ rows) key value passes there = by (p row) refl (is_same_key key row.0) refl there (chosen_at values p rows key value passes)
+  where
+    by : (t : Bool) → p row ≡ t → (e : Bool) → is_same_key key row.0 ≡ e → cond e (Some row.1) (entry_value rows key) ≡ Some value
+        → (entry_value rows key ≡ Some value → tags_at (chosen_tags values p rows) key ≡ Some (tags_by values value))
+        → tags_at (map (row_tags values) (cond t (row ∷ filter p rows) (filter p rows))) key ≡ Some (tags_by values value)
+    by true h true same there later = rw same (ap (λ (v : List ℕ). Some (tags_by values v)) (some_same row.1 value there))
+    by true h false other there later = rw other (later there)
+    by false h true same there later =
+        let key_is : key ≡ row.0 = same_key key row.0 same in
+        let value_is : value ≡ row.1 = sym (some_same row.1 value there) in
+        let two : true ≡ false = sym passes ∙ (λ i. p (key_is i, value_is i)) ∙ h in absurd (cc)
+    by false h false other there later = later there
+
 -- ---- rows whose tags stay
 
 untouched_servers : (puts entries : Entries) (ids : List Id) → list_any (λ (id : Id). has_entry puts (server_tag_family.prefix ++ id)) ids ≡ false → flat_map (tag_by (values_over puts entries)) ids ≡ flat_map (tag_by (entry_value entries)) ids
@@ -93,9 +112,6 @@ none_named puts [] none = refl
 none_named puts (id ∷ ids) none = rw (no_entry puts (server_tag_family.prefix ++ id) (begins id) none) (none_named puts ids none)
 
 -- ---- entries that are put
-
-some_same : {X : Type 0} (a b : X) → Some a ≡ Some b → a ≡ b
-some_same a b h = cc
 
 -- the tags after those that change are put
 pub changed_are_tags : (puts entries : Entries) (lists : TagLists) → IsInOrder puts → IsInOrder entries → AreTags lists (entry_value entries) → AreTags (tags_written lists (changed_tags puts entries)) (values_over puts entries)

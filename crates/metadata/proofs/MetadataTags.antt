@@ -1,36 +1,26 @@
 -- The tags that a metadata keeps, when it is made, when entries are put over it, and when some are removed.
-use Rattle.std.proofs.Common.{◌≡◌, refl, sym, ap, ◌∙◌, subst, ℕ, List, [], ◌++◌, if◌then◌else◌, ◌&&◌, Bool, true, false, Some, None}
+use Rattle.std.proofs.Common.{◌≡◌, refl, sym, ap, ◌∙◌, subst, ℕ, List, [], if◌then◌else◌, ◌&&◌, Bool, true, false, Some, None}
 use Rattle.std.specs.Option.{is_some}
 use Rattle.std.specs.Map.{keys_of}
 use Rattle.system_keys.specs.Keys.{Key}
 use Rattle.system_keys.specs.Families.{key_servers_family, is_in}
-use Rattle.model.specs.Metadata.{Entry, Entries, IsInOrder, entry_value, is_key_servers}
+use Rattle.model.specs.Metadata.{Entries, IsInOrder, entry_value, is_key_servers}
 use Rattle.metadata.specs.Overwrites.{is_listed, entries_without, IsPutOver}
-use Rattle.metadata.specs.CachedTags.{Values, TagLists, KeyTags, AreTags, tags_at, tags_by, tags_written, displaced_tags, values_over, changed_tags, chosen_tags, is_row_named, puts_server, may_tag_some, TagsTakeBack}
-use Rattle.metadata.proofs.KeptInOrder.{none_kept_in_order}
+use Rattle.metadata.specs.CachedTags.{TagLists, KeyTags, AreTags, tags_at, tags_by, tags_written, displaced_tags, changed_tags, chosen_tags, may_tag_some, TagsTakeBack}
 use Rattle.metadata.proofs.EntriesLeft.{without_none}
-use Rattle.metadata.proofs.ServerTables.{or_none}
-use Rattle.metadata.proofs.CachedTags.{changed_are_tags, changed_after, displaced_take_back, displaced_some, put_back, removed_are_tags}
+use Rattle.metadata.proofs.CachedTags.{chosen_at, changed_after, displaced_take_back, displaced_some, put_back, removed_are_tags}
 
 -- without any entry, any tags will do
 pub no_rows : (entries : Entries) (lists : TagLists) → entries ≡ [] → AreTags lists (entry_value entries)
 no_rows entries lists none = λ key value own there.
     let two : None ≡ Some value = sym (ap (λ (rows : Entries). entry_value rows key) none) ∙ there in absurd (cc)
 
-nothing_named : (values : Values) (p : Entry → Bool) (t : Bool) (rest : List KeyTags) → (if t then chosen_tags values p [] else []) ++ rest ≡ rest
-nothing_named values p true rest = refl
-nothing_named values p false rest = refl
-
 -- the tags of a metadata that is made of entries
-pub made_tags : (entries : Entries) (written : TagLists) (rows : List KeyTags) → IsInOrder entries → rows ≡ chosen_tags (entry_value entries) is_key_servers entries → ((key : Key) → written key ≡ tags_written (tags_at []) rows key) → AreTags written (entry_value entries)
-made_tags entries written rows s is put =
-    let over : values_over entries [] ≡ entry_value entries = λ i key. or_none (entry_value entries key) i in
-    let changed : changed_tags entries [] ≡ rows = nothing_named (values_over entries []) (is_row_named entries) (puts_server entries) (chosen_tags (values_over entries []) is_key_servers entries) ∙ ap (λ (values : Values). chosen_tags values is_key_servers entries) over ∙ sym is in
-    let path : tags_written (tags_at []) rows ≡ written = λ i key. sym (put key) i in
-    subst (AreTags written) over
-    (subst (λ (found : TagLists). AreTags found (values_over entries [])) path
-    (subst (λ (list : List KeyTags). AreTags (tags_written (tags_at []) list) (values_over entries [])) changed
-    (changed_are_tags entries [] (tags_at []) s (none_kept_in_order [] refl).0 (no_rows [] (tags_at []) refl))))
+pub made_tags : (entries : Entries) (made : TagLists) (rows : List KeyTags) → rows ≡ chosen_tags (entry_value entries) is_key_servers entries → ((key : Key) → made key ≡ tags_at rows key) → AreTags made (entry_value entries)
+made_tags entries made rows is put = λ key value own there.
+    put key
+    ∙ ap (λ (list : List KeyTags). tags_at list key) is
+    ∙ chosen_at (entry_value entries) is_key_servers entries key value own there
 
 -- the tags after entries are put
 pub tags_put_over : (puts old new : Entries) (lists written : TagLists) (rows : List KeyTags) → IsInOrder puts → IsInOrder old → IsPutOver puts old new → rows ≡ changed_tags puts old → ((key : Key) → written key ≡ tags_written lists rows key)

@@ -1,8 +1,12 @@
 -- Tags that are sorted first, and then added, give what they give unsorted.
-use Rattle.std.proofs.Common.{◌≡◌, refl, sym, ap, ◌∙◌, ℕ, List, [], ◌∷◌, Ordering, Less, Equal, Greater, nat_cmp, is_eq, eqb-true}
+use Rattle.std.proofs.Common.{◌≡◌, refl, sym, ap, ◌∙◌, subst, ℕ, zero, suc, ◌+◌, ◌<◌, ◌≤◌, arith, List, [], ◌∷◌, get_or, insert, length, Ordering, Less, Equal, Greater, nat_cmp, is_eq, eqb-true}
 use Rattle.std.specs.BTreeSet.{insert_key}
+use Rattle.std.specs.List.{AllByRecursion}
+use Rattle.std.specs.List.Sorted.{IsNonDecreasingBy, IsPartitionPoint, IsSortedBy, IsStrictlySortedBy}
 use Rattle.std.specs.Cmp.{IsTotalOrder, on_total, then_total, nat_cmp_total, unsigned_ties}
-use Rattle.std.specs.Ordering.{ordering_reverse, ordering_then, match_ordering}
+use Rattle.std.specs.Ordering.{is_lt, ordering_index, ordering_reverse, ordering_then, match_ordering}
+use Rattle.std.proofs.lemmas.List.Sorted.{searchable_from_sorted}
+use Rattle.std.proofs.lemmas.Map.Keys.{Less-from_sorted}
 use Rattle.system_keys.specs.declared.tag.Tag.{Tag}
 use Rattle.model.specs.Metadata.{sorted_tags}
 use Rattle.system_keys.specs.ListedTags.{tag_cmp}
@@ -132,3 +136,76 @@ add_sorted tags more (x ∷ xs) = add_sorted tags (put more x) xs ∙ ap (λ (no
 -- sorted tags, added to others, give what they give unsorted
 pub resorted : (tags xs : List Tag) → added tags (sorted_tags xs) ≡ added tags xs
 resorted tags xs = add_sorted tags [] xs
+
+-- ---- where a tag goes among tags in order
+
+tied_back : (s t : Tag) → tag_cmp s t ≡ Equal → tag_cmp t s ≡ Equal
+tied_back s t h = tag_total.antisymm t s ∙ ap ordering_reverse h
+
+-- tags in order can be searched
+searchable : (tags : List Tag) (x : Tag) → IsStrictlySortedBy tag_cmp tags → IsNonDecreasingBy (λ (y : Tag). ordering_index (tag_cmp y x)) tags
+searchable tags x s =
+    let rises : IsSortedBy (λ (a b : Tag). is_lt (tag_cmp a b)) tags =
+    λ k d from within. ap is_lt (before (get_or tags k d) (get_or tags (k + 1) d) (Less-from_sorted tag_cmp tags k (k + 1) d s (omega arith) within)) in
+    searchable_from_sorted tag_total (λ (t : Tag). t) tags x rises
+
+-- a tag that is found is not put again
+is_found : (tags : List Tag) (i : ℕ) (x d : Tag) → IsStrictlySortedBy tag_cmp tags → i < length tags → tag_cmp (get_or tags i d) x ≡ Equal → put tags x ≡ tags
+unfolding IsStrictlySortedBy
+is_found [] i x d s within is = absurd (omega (arith, within))
+is_found (u ∷ us) zero x d s within is = first_put u us x Equal (tied_back u x is)
+is_found (u ∷ us) (suc i) x d s within is =
+    let same : get_or us i d ≡ x = tied_tags (get_or us i d) x is in
+    let less : tag_cmp u x ≡ Less = ap (tag_cmp u) (sym same) ∙ Less-from_sorted tag_cmp (u ∷ us) 0 (suc i) d s (omega arith) within in
+    first_put u us x Greater (before u x less) ∙ ap (λ (rest : List Tag). u ∷ rest) (is_found us i x d s.1 (omega (arith, within)) is)
+
+-- a tag goes between those below it and those above it
+is_placed : (tags : List Tag) (i : ℕ) (x : Tag) → i ≤ length tags → IsPartitionPoint (λ (y : Tag). tag_cmp y x ≡ Less) (λ (y : Tag). tag_cmp y x ≡ Greater) tags i → put tags x ≡ insert tags i x
+is_placed [] zero x within parts = refl
+is_placed [] (suc i) x within parts = absurd (omega (arith, within))
+is_placed (u ∷ us) zero x within parts = first_put u us x Less (turned u x (parts.1 0 u (omega arith) (omega arith)))
+is_placed (u ∷ us) (suc i) x within parts =
+    first_put u us x Greater (before u x (parts.0 0 u (omega arith) (omega arith)))
+    ∙ ap (λ (rest : List Tag). u ∷ rest)
+    (is_placed us i x (omega (arith, within)) (
+      (λ k d from below. parts.0 (suc k) d (omega arith) (omega (arith, below))),
+      (λ k d from below. parts.1 (suc k) d (omega (arith, from)) (omega (arith, below))),
+    ))
+
+-- the same of a view of them, as a search gives it
+pub found_there : (tags view : List Tag) (i : ℕ) (x : Tag) → view ≡ tags → IsStrictlySortedBy tag_cmp tags → i < length view → ((d : Tag) → tag_cmp (get_or view i d) x ≡ Equal) → put tags x ≡ tags
+found_there tags view i x is s within at = subst (λ (list : List Tag). put list x ≡ list) is (is_found view i x x (subst (IsStrictlySortedBy tag_cmp) (sym is) s) within (at x))
+
+pub put_there : (tags view : List Tag) (i : ℕ) (x : Tag) → view ≡ tags → IsStrictlySortedBy tag_cmp tags → i ≤ length view
+    → (IsNonDecreasingBy (λ (y : Tag). ordering_index (tag_cmp y x)) view → IsPartitionPoint (λ (y : Tag). tag_cmp y x ≡ Less) (λ (y : Tag). tag_cmp y x ≡ Greater) view i)
+    → insert tags i x ≡ put tags x
+put_there tags view i x is s within parts =
+    sym (subst (λ (list : List Tag). put list x ≡ insert list i x) is (is_placed view i x within (parts (searchable view x (subst (IsStrictlySortedBy tag_cmp) (sym is) s)))))
+
+pub none_sorted : IsStrictlySortedBy tag_cmp []
+unfolding IsStrictlySortedBy
+none_sorted = tt
+
+all_put : (P : Tag → Type 0) (tags : List Tag) (x : Tag) → AllByRecursion P tags → P x → AllByRecursion P (put tags x)
+all_put P [] x all one = (one, tt)
+all_put P (u ∷ us) x all one = by (tag_cmp x u) (all_put P us x all.1 one)
+  where
+    by : (r : Ordering) → AllByRecursion P (put us x) → AllByRecursion P (at_first r x u us)
+    by Less later = (one, all)
+    by Equal later = all
+    by Greater later = (all.0, later)
+
+all_above : (x u : Tag) (tags : List Tag) → tag_cmp x u ≡ Less → AllByRecursion (λ (t : Tag). tag_cmp u t ≡ Less) tags → AllByRecursion (λ (t : Tag). tag_cmp x t ≡ Less) tags
+all_above x u [] h all = tt
+all_above x u (t ∷ tags) h all = (tag_total.trans x u t h all.0, all_above x u tags h all.1)
+
+-- tags in order stay so
+pub put_sorted : (tags : List Tag) (x : Tag) → IsStrictlySortedBy tag_cmp tags → IsStrictlySortedBy tag_cmp (put tags x)
+unfolding IsStrictlySortedBy
+put_sorted [] x s = (tt, tt)
+put_sorted (u ∷ us) x s = by (tag_cmp x u) refl (put_sorted us x s.1)
+  where
+    by : (r : Ordering) → tag_cmp x u ≡ r → IsStrictlySortedBy tag_cmp (put us x) → IsStrictlySortedBy tag_cmp (at_first r x u us)
+    by Less h later = ((h, all_above x u us h s.0), s)
+    by Equal h later = s
+    by Greater h later = (all_put (λ (t : Tag). tag_cmp u t ≡ Less) us x s.0 (turned x u h), later)

@@ -1,9 +1,9 @@
 -- What the calls of the map to tags do to the tags at each key.
-use Rattle.std.proofs.Common.{◌≡◌, refl, sym, ap, ◌∙◌, Result, Ok, Err, OnOk, OnErr, ℕ, length, List, [], ◌∷◌, filter, Bool, true, false, cond, if◌then◌else◌, ◌||◌, Option, Some, None, Ordering, Less, Equal, Greater, nat_cmp}
+use Rattle.std.proofs.Common.{◌≡◌, refl, sym, ap, ◌∙◌, Result, Ok, Err, OnOk, OnErr, ℕ, length, List, [], ◌∷◌, ◌++◌, filter, Bool, true, false, cond, if◌then◌else◌, ◌||◌, Option, Some, None, Ordering, Less, Equal, Greater, nat_cmp}
 use Rattle.std.specs.Global.{Vec}
 use Rattle.std.specs.List.{AllByRecursion}
 use Rattle.std.specs.List.Sorted.{IsStrictlySortedBy}
-use Rattle.std.specs.Option.{is_some}
+use Rattle.std.specs.Option.{is_some, option_or}
 use Rattle.std.specs.Ordering.{match_ordering}
 use Rattle.std.specs.Map.{keys_of, lookup, remove_entry}
 use Rattle.std.specs.BTreeMap.{insert_entry, is_at}
@@ -183,3 +183,31 @@ putting_all_next old rows now next row left put so_far =
     unlike key false same out = refl
     unlike key true same out =
         let two : true ≡ false = sym (so_far.among key (ap (λ (s : Bool). s || is_listed (keys_of left) key) same)) ∙ out in absurd (cc)
+
+-- ---- rows that are put from the last to the first
+
+pub none_below : (found : Option (List Tag)) → option_or found None ≡ found
+none_below None = refl
+none_below (Some tags) = refl
+
+last_tags : (front : List KeyTags) (row : KeyTags) (key : Key) → tags_at (front ++ row ∷ []) key ≡ option_or (tags_at front key) (if is_same_key key row.0 then Some row.1 else None)
+last_tags [] row key = refl
+last_tags (r ∷ front) row key = by (is_same_key key r.0) (last_tags front row key)
+  where
+    by : (t : Bool) → tags_at (front ++ row ∷ []) key ≡ option_or (tags_at front key) (if is_same_key key row.0 then Some row.1 else None)
+        → cond t (Some r.1) (tags_at (front ++ row ∷ []) key) ≡ option_or (cond t (Some r.1) (tags_at front key)) (if is_same_key key row.0 then Some row.1 else None)
+    by true later = refl
+    by false later = later
+
+over_one : (found now : Option (List Tag)) (s : Bool) (tags : List Tag) → option_or found (if s then Some tags else now) ≡ option_or (option_or found (if s then Some tags else None)) now
+over_one (Some found) now s tags = refl
+over_one None now true tags = refl
+over_one None now false tags = refl
+
+-- the last row put, and then those before it
+pub last_put : (front : List KeyTags) (row : KeyTags) (now next : TagLists) (key : Key) → ((other : Key) → next other ≡ (if is_same_key other row.0 then Some row.1 else now other))
+    → option_or (tags_at front key) (next key) ≡ option_or (tags_at (front ++ row ∷ []) key) (now key)
+last_put front row now next key put =
+    ap (option_or (tags_at front key)) (put key)
+    ∙ over_one (tags_at front key) (now key) (is_same_key key row.0) row.1
+    ∙ ap (λ (found : Option (List Tag)). option_or found (now key)) (sym (last_tags front row key))

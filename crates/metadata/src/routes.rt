@@ -6,7 +6,7 @@ ghost use Rattle.metadata.specs.CachedTags.{AreTags, tags_at};
 ghost use Rattle.metadata.specs.OwnRoutes.{own_routes};
 
 use crate::entry_map::EntryMap;
-use crate::tag_map::{TagMap, copied_tags};
+use crate::tag_map::{TagMap, TagSteps, copied_tags};
 use model::Route;
 use std::alloc::Global;
 use system_keys::{Bytes, Items, KEY_SERVERS_PREFIX, OutOfMemory, Tag};
@@ -19,8 +19,9 @@ pub(crate) fn routes(entries: &EntryMap, tags: &TagMap) -> Result<Items<Route>, 
         ≡ map (route_of entries.now) (key_servers_entries entries.now)) }
 {
     let mut routes = Vec::new(entries.alloc());
+    let mut kept = TagSteps::new(tags);
     for (key, value) in entries.iter() {
-        add_route(entries, tags, key.as_slice(), value.as_slice(), &mut routes)?;
+        add_route(entries, &mut kept, key, value.as_slice(), &mut routes)?;
     }
     Ok(Items::from(routes))
 }
@@ -28,21 +29,22 @@ pub(crate) fn routes(entries: &EntryMap, tags: &TagMap) -> Result<Items<Route>, 
 /// Adds the route of an entry, if it is a keyServers entry. Fails only with `OutOfMemory`.
 fn add_route(
     entries: &EntryMap,
-    tags: &TagMap,
-    key: &[u8],
+    tags: &mut TagSteps<'_>,
+    key: &Vec<u8>,
     value: &[u8],
     routes: &mut Vec<Route>,
 ) -> Result<(), OutOfMemory>
-    requires are { AreTags (tags_at tags.now) (entry_value entries.now) }
-    requires there { entry_value entries.now key.now ≡ Some value.now }
-    ensures { OnOk result (routes.new.items
-        ≡ routes.old.items ++ own_routes entries.now ((key.now, value.now) ∷ [])) }
+    requires are { AreTags (tags_at tags.old) (entry_value entries.now) }
+    requires there { entry_value entries.now key.now.items ≡ Some value.now }
+    ensures kept { tags.new ≡ tags.old }
+    ensures routes { OnOk result (routes.new.items
+        ≡ routes.old.items ++ own_routes entries.now ((key.now.items, value.now) ∷ [])) }
 {
-    if !key.starts_with(KEY_SERVERS_PREFIX) {
+    if !key.as_slice().starts_with(KEY_SERVERS_PREFIX) {
         return Ok(());
     }
-    if let Some(tags) = tags.get(key) {
-        let behind = &key[KEY_SERVERS_PREFIX.len()..];
+    if let Some(tags) = tags.at(key) {
+        let behind = &key.as_slice()[KEY_SERVERS_PREFIX.len()..];
         routes.push(new_route(entries.alloc(), behind, tags)?)?;
     }
     Ok(())

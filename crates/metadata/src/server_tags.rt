@@ -15,8 +15,7 @@ ghost use Rattle.metadata.specs.ServerTables.{values_after};
 
 use crate::raw_ids::may_name_put;
 use crate::server_view::ServerView;
-use std::alloc::Global;
-use std::collections::BTreeSet;
+use crate::tag_list::TagList;
 use system_keys::{Items, Location, OutOfMemory, RowFault, ServerId, Tag, decode_location};
 
 /// The tags of a keyServers value after the entries are put over the others, strictly increasing:
@@ -25,9 +24,9 @@ use system_keys::{Items, Location, OutOfMemory, RowFault, ServerId, Tag, decode_
 pub(crate) fn value_tags(over: &ServerView<'_>, value: &[u8]) -> Result<Items<Tag>, OutOfMemory>
     ensures { IfOk result (λ found. found ≡ tags_by (values_after over.now) value.now) }
 {
-    let mut tags = BTreeSet::new(over.alloc());
+    let mut tags = TagList::new(over.alloc());
     add_value_tags(over, value, &mut tags)?;
-    listed(over.alloc(), &tags)
+    Ok(tags.into_items())
 }
 
 /// Adds the tags of the servers that a keyServers value names, its sources and its destinations
@@ -39,9 +38,9 @@ pub(crate) fn value_tags(over: &ServerView<'_>, value: &[u8]) -> Result<Items<Ta
 fn add_value_tags(
     over: &ServerView<'_>,
     value: &[u8],
-    tags: &mut BTreeSet<Tag>,
+    tags: &mut TagList,
 ) -> Result<(), OutOfMemory>
-    ensures ok { OnOk result (tags.new.keys ≡ fold (insert_key tag_cmp) tags.old.keys
+    ensures ok { OnOk result (tags.new ≡ fold (insert_key tag_cmp) tags.old
         (flat_map (tag_by (values_after over.now)) (servers_of value.now)
         ++ listed_tags value.now)) }
     ensures no_allocation { (fault : RowFault) → location_at value.now ≡ Err fault → IsOk result }
@@ -52,8 +51,8 @@ fn add_value_tags(
             add_server_tags(over, teams.destinations(), tags)
         }
         Ok(Location::Tags(teams)) => {
-            add_tags(teams.sources(), tags)?;
-            add_tags(teams.destinations(), tags)
+            tags.add_all(teams.sources())?;
+            tags.add_all(teams.destinations())
         }
         Err(RowFault::OutOfMemory) => Err(OutOfMemory),
         Err(_) => Ok(()),
@@ -65,9 +64,9 @@ fn add_value_tags(
 fn add_server_tags(
     over: &ServerView<'_>,
     servers: &[ServerId],
-    tags: &mut BTreeSet<Tag>,
+    tags: &mut TagList,
 ) -> Result<(), OutOfMemory>
-    ensures { OnOk result (tags.new.keys ≡ fold (insert_key tag_cmp) tags.old.keys
+    ensures { OnOk result (tags.new ≡ fold (insert_key tag_cmp) tags.old
         (flat_map (tag_by (values_after over.now)) servers.now)) }
 {
     for server in servers {
@@ -76,23 +75,12 @@ fn add_server_tags(
     Ok(())
 }
 
-fn add_tag(tags: &mut BTreeSet<Tag>, tag: Option<Tag>) -> Result<(), OutOfMemory>
-    ensures { OnOk result (tags.new.keys
-        ≡ fold (insert_key tag_cmp) tags.old.keys (option_to_list tag)) }
+fn add_tag(tags: &mut TagList, tag: Option<Tag>) -> Result<(), OutOfMemory>
+    ensures { OnOk result (tags.new
+        ≡ fold (insert_key tag_cmp) tags.old (option_to_list tag)) }
 {
     if let Some(tag) = tag {
-        tags.insert(tag)?;
-    }
-    Ok(())
-}
-
-/// Adds the tags. Fails only with `OutOfMemory`.
-pub(crate) fn add_tags(list: &[Tag], tags: &mut BTreeSet<Tag>) -> Result<(), OutOfMemory>
-    ensures { OnOk result (tags.new.keys
-        ≡ fold (insert_key tag_cmp) tags.old.keys list.now) }
-{
-    for tag in list {
-        tags.insert(*tag)?;
+        tags.add(tag)?;
     }
     Ok(())
 }
@@ -127,15 +115,4 @@ fn any_put(over: &ServerView<'_>, servers: &[ServerId]) -> bool
         }
     }
     false
-}
-
-/// The tags of a set, in their order. Fails only with `OutOfMemory`.
-pub(crate) fn listed(alloc: Global, tags: &BTreeSet<Tag>) -> Result<Items<Tag>, OutOfMemory>
-    ensures { IfOk result (λ list. list ≡ tags.now.keys) }
-{
-    let mut list = Vec::with_capacity(alloc, tags.len())?;
-    for tag in tags {
-        list.push(*tag)?;
-    }
-    Ok(Items::from(list))
 }

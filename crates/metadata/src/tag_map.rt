@@ -76,14 +76,14 @@ impl TagMap {
         }
     }
 
-    /// The map of the tags in these rows: at a key those of its last row. Fails only with
+    /// The map of the tags in these rows: at a key those of its first row. The rows are put from the
+    /// last to the first: keys that rise are then each compared with few others. Fails only with
     /// `OutOfMemory`.
-    pub(crate) fn of(alloc: Global, rows: Vec<TagRow>) -> Result<TagMap, OutOfMemory>
-        ensures { IfOk result (λ map. (key : Key)
-            → tags_at map key ≡ tags_written (tags_at []) rows.items key) }
+    pub(crate) fn of(alloc: Global, mut rows: Vec<TagRow>) -> Result<TagMap, OutOfMemory>
+        ensures { IfOk result (λ map. (key : Key) → tags_at map key ≡ tags_at rows.items key) }
     {
         let mut map = TagMap::new(alloc);
-        for row in rows {
+        while let Some(row) = rows.pop() {
             map.insert(row)?;
         }
         Ok(map)

@@ -14,8 +14,8 @@ ghost use Rattle.metadata.specs.Overwrites.{is_listed};
 
 use crate::entry_view::EntryView;
 use crate::key_set::KeySet;
-use crate::server_tags::{add_tags, listed};
 use crate::tag_map::{TagSteps, copied_tags};
+use std::alloc::Global;
 use std::collections::BTreeSet;
 use system_keys::{Change, Items, KeyRange, OutOfMemory, Tag};
 
@@ -111,4 +111,26 @@ fn add_unless_hidden(
         Some(list) => add_tags(list, tags),
         None => Ok(()),
     }
+}
+
+/// Adds the tags. Fails only with `OutOfMemory`.
+fn add_tags(list: &[Tag], tags: &mut BTreeSet<Tag>) -> Result<(), OutOfMemory>
+    ensures { OnOk result (tags.new.keys
+        ≡ fold (insert_key tag_cmp) tags.old.keys list.now) }
+{
+    for tag in list {
+        tags.insert(*tag)?;
+    }
+    Ok(())
+}
+
+/// The tags of a set, in their order. Fails only with `OutOfMemory`.
+fn listed(alloc: Global, tags: &BTreeSet<Tag>) -> Result<Items<Tag>, OutOfMemory>
+    ensures { IfOk result (λ list. list ≡ tags.now.keys) }
+{
+    let mut list = Vec::with_capacity(alloc, tags.len())?;
+    for tag in tags {
+        list.push(*tag)?;
+    }
+    Ok(Items::from(list))
 }

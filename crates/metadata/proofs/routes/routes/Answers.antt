@@ -1,7 +1,8 @@
 -- At the end the routes are the own routes of all entries, which are their routes, as the entries are in order.
-use Rattle.std.proofs.Common.{◌∙◌, ◌++◌, sym, ap, append-nil, Some, ℕ, List}
+use Rattle.std.proofs.Common.{◌∙◌, ◌++◌, sym, ap, subst, append-nil, Some, ℕ, List}
 use Rattle.std.specs.Global.{Vec}
 use Rattle.model.specs.Metadata.{Entries, entry_value}
+use Rattle.metadata.specs.CachedTags.{KeyTags, AreTags, tags_at}
 use Rattle.metadata.specs.MapEntries.{entry_from, entries_of}
 use Rattle.metadata.proofs.KeptTags.{all_rows, row_first, rows_rest}
 use Rattle.metadata.specs.OwnRoutes.{own_routes}
@@ -12,25 +13,33 @@ pub returns : goal.returns
 returns c =
     c.from.ensures
     ∙ sym (append-nil c.loop-key.routes.items)
-    ∙ (rw c.in-None.ensures.steps.0 at c.loop-key.invariant.0)
+    ∙ (rw c.in-None.ensures.steps.0 at c.loop-key.invariant.routes)
     ∙ routes_are c.args.entries.now c.iter-key-items.ensures.order
 
 pub loop-key-init : goal.loop-key-init
 loop-key-init c =
     let es = c.into_iter-key-iterator.ensures.into_iter_gives in
     let all = ap entries_of es ∙ c.iter-key-items.ensures.entries in
-    (ap (λ (rows : Entries). c.new-routes.result.items ++ own_routes c.args.entries.now rows) all ∙ ap (λ routes. routes ++ own_routes c.args.entries.now c.args.entries.now) c.new-routes.ensures.items, all_rows c.args.entries.now c.into_iter-key-iterator.result c.iter-key-items.ensures.order all)
+    record {
+      routes = ap (λ (rows : Entries). c.new-routes.result.items ++ own_routes c.args.entries.now rows) all ∙ ap (λ routes. routes ++ own_routes c.args.entries.now c.args.entries.now) c.new-routes.ensures.items;
+      rows = all_rows c.args.entries.now c.into_iter-key-iterator.result c.iter-key-items.ensures.order all;
+      kept = c.new-kept.ensures;
+    }
+
+pub add_route-requires-clause-are : goal.add_route-requires-clause-are
+add_route-requires-clause-are c = subst (λ (kept : List KeyTags). AreTags (tags_at kept) (entry_value c.args.entries.now)) (sym c.loop-key.invariant.kept) c.requires
 
 pub add_route-requires-clause-there : goal.add_route-requires-clause-there
 add_route-requires-clause-there c =
-    ap (entry_value c.args.entries.now) c.as_slice.ensures.value
-    ∙ row_first c.args.entries.now (c.in-Some.key.now, c.in-Some.value.now) c.next.new.self c.loop-key.key-iterator c.in-Some.ensures.steps c.loop-key.invariant.1
-    ∙ ap Some (sym c.as_slice-in-loop-key.ensures)
+    row_first c.args.entries.now (c.in-Some.key.now, c.in-Some.value.now) c.next.new.self c.loop-key.key-iterator c.in-Some.ensures.steps c.loop-key.invariant.rows
+    ∙ ap Some (sym c.as_slice.ensures)
 
 pub loop-key-preserved : goal.loop-key-preserved
-loop-key-preserved c = (
-  routes_next c.args.entries.now (entry_from (c.in-Some.key.now, c.in-Some.value.now)) (entries_of c.next.new.self) c.loop-key.routes.items c.add_route.new.routes.items _
-      (rw (c.as_slice.ensures.value, c.as_slice-in-loop-key.ensures) at c.in_ok-add_route.ensures)
-      (ap (λ (es : List (Vec ℕ × List ℕ)). c.loop-key.routes.items ++ own_routes c.args.entries.now (entries_of es)) (sym c.in-Some.ensures.steps) ∙ c.loop-key.invariant.0),
-  rows_rest c.args.entries.now (c.in-Some.key.now, c.in-Some.value.now) c.next.new.self c.loop-key.key-iterator c.in-Some.ensures.steps c.loop-key.invariant.1,
-)
+loop-key-preserved c = record {
+  routes =
+      routes_next c.args.entries.now (entry_from (c.in-Some.key.now, c.in-Some.value.now)) (entries_of c.next.new.self) c.loop-key.routes.items c.add_route.new.routes.items _
+      (rw c.as_slice.ensures at c.in_ok-add_route.ensures.routes)
+      (ap (λ (es : List (Vec ℕ × List ℕ)). c.loop-key.routes.items ++ own_routes c.args.entries.now (entries_of es)) (sym c.in-Some.ensures.steps) ∙ c.loop-key.invariant.routes);
+  rows = rows_rest c.args.entries.now (c.in-Some.key.now, c.in-Some.value.now) c.next.new.self c.loop-key.key-iterator c.in-Some.ensures.steps c.loop-key.invariant.rows;
+  kept = c.add_route.ensures.kept ∙ c.loop-key.invariant.kept;
+}

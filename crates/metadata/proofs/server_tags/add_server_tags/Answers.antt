@@ -8,5 +8,5 @@ use Rattle.metadata.proofs.server_tags.add_server_tags.Goals as goal
 pub loop-server-preserved : goal.loop-server-preserved
 loop-server-preserved c =
     let is : option_to_list c.tag.result ≡ tag_by (values_after c.args.over.now) (get_or c.args.servers.now c.loop-server.server-index c.server-item.result) = c.tag.ensures ∙ ap (tag_by (values_after c.args.over.now)) c.server-item.is in
-    step_at (tag_by (values_after c.args.over.now)) c.args.servers.now c.server-item.result c.loop-server.server-index c.loop-server.tags.keys c.add_tag.new.tags.keys _ (omega arith)
-    (c.in_ok-add_tag.ensures ∙ ap (added c.loop-server.tags.keys) is) c.loop-server.invariant
+    step_at (tag_by (values_after c.args.over.now)) c.args.servers.now c.server-item.result c.loop-server.server-index c.loop-server.tags c.add_tag.new.tags _ (omega arith)
+    (c.in_ok-add_tag.ensures ∙ ap (added c.loop-server.tags) is) c.loop-server.invariant

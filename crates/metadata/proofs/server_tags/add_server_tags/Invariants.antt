@@ -8,5 +8,5 @@ use Rattle.metadata.proofs.server_tags.add_server_tags.Given as goal
 
 abbrev pub invariant-loop-server : goal.invariant-loop-server
 invariant-loop-server l =
-    fold (insert_key tag_cmp) l.tags.keys (flat_map (tag_by (values_after l.over)) (drop l.server-index l.servers))
-    ≡ fold (insert_key tag_cmp) l.fn.tags.keys (flat_map (tag_by (values_after l.over)) l.servers)
+    fold (insert_key tag_cmp) l.tags (flat_map (tag_by (values_after l.over)) (drop l.server-index l.servers))
+    ≡ fold (insert_key tag_cmp) l.fn.tags (flat_map (tag_by (values_after l.over)) l.servers)

@@ -8,7 +8,7 @@ use Rattle.metadata.proofs.metadata.Metadata.of.Goals as goal
 
 pub invariant_of-result : goal.invariant_of-result
 invariant_of-result c = (
-  made_tags c.args.entries (tags_at c.in_ok-tags.tags) c.in_ok-rows.rows.items c.map-map.ensures.order
+  made_tags c.args.entries (tags_at c.in_ok-tags.tags) c.in_ok-rows.rows.items
       (c.in_ok-rows.ensures ∙ ap (λ (entries : Entries). chosen_tags (entry_value entries) is_key_servers entries) c.map-map.ensures.entries)
       c.in_ok-tags.ensures,
   c.new.ensures,

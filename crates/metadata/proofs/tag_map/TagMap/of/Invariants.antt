@@ -1,11 +1,12 @@
--- The tags that are left give, put over those so far, what all give.
-use Rattle.std.proofs.Common.{◌≡◌, [], length}
-use Rattle.std.specs.Vec.Iter.{into_iter_items, into_iter_len}
+-- The rows that are left, over those that are put, give at each key what all give; and they become fewer.
+use Rattle.std.proofs.Common.{◌≡◌, length}
+use Rattle.std.specs.Option.{option_or}
 use Rattle.system_keys.specs.Keys.{Key}
-use Rattle.metadata.specs.CachedTags.{tags_at, tags_written}
+use Rattle.metadata.specs.CachedTags.{tags_at}
 use Rattle.metadata.proofs.tag_map.TagMap.of.Given as goal
 
 abbrev pub invariant-loop-row : goal.invariant-loop-row
-invariant-loop-row l =
-    ((key : Key) → tags_written (tags_at l.map) (into_iter_items l.row-iterator) key ≡ tags_written (tags_at []) l.fn.rows.items key)
-    × (into_iter_len l.row-iterator ≡ length (into_iter_items l.row-iterator))
+invariant-loop-row l = (key : Key) → option_or (tags_at l.rows.items key) (tags_at l.map key) ≡ tags_at l.fn.rows.items key
+
+abbrev pub decreases-loop-row : goal.decreases-loop-row
+decreases-loop-row l = length l.rows.items
