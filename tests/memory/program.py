@@ -7,6 +7,7 @@ of a threads script are refused, threads_trials.py says.
 import concurrent.futures
 import errno
 import functools
+import json
 import os
 import resource
 import signal
@@ -156,6 +157,18 @@ def read_by_tokens(trial, example):
         by_tree = count_growths(trial, first_field_twice(script), words)
         fewer = FEWER_IN_THREADS if words == ["threads"] else by_tree // 10
         trial.expect(count + fewer < by_tree, "%s: is read through a tree: %d growths, and %d" % (name, count, by_tree))
+
+
+def carried_out_as_they_come(trial, example):
+    """Events take fewer growths if the numbers of the cluster stand before them: no list of them is made."""
+    name, words, script, _, status = example
+    if status == 0 and words == ["turns"]:
+        fields = json.loads(script)
+        events = fields.pop("events")
+        orders = {**fields, "events": events}, {"events": events, **fields}
+        as_they_come, listed = (count_growths(trial, json.dumps(it).encode(), words) for it in orders)
+        is_right = as_they_come < listed if events else as_they_come <= listed
+        trial.expect(is_right, "%s: events are listed: %d growths, and %d" % (name, as_they_come, listed))
 
 
 def refuse_reads(trial, example):
@@ -341,7 +354,9 @@ def try_pipes(trial, example):
     trial.expect(got == (DEVICE_FAILED, b""), "%s: ends wrong where nobody reads: %r" % (name, got))
 
 
-OF_EACH_EXAMPLE = (refuse_growths, read_by_tokens, refuse_reads, refuse_writes, shorten_calls, try_pipes, stop_and_go)
+OF_EACH_EXAMPLE = (
+    refuse_growths, read_by_tokens, carried_out_as_they_come, refuse_reads, refuse_writes, shorten_calls, try_pipes, stop_and_go,
+)
 OF_THE_PROGRAM = (try_endless_inputs, try_words)
 
 

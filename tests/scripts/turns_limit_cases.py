@@ -335,6 +335,16 @@ def many_rows():
     )
 
 
+def many_events():
+    """More events than any other script here has: all but the last four are refused."""
+    count = 25_000
+    yield case(
+        "%d events that are refused, and then a batch" % count,
+        turns([finish(0)] * count, sequence(0), offers(0), finish(0), proxies=1),
+        ["refused 42 OutOfTurn none"] * count, sequenced(1), offered_to_both(0), finished(0, 10), shown(0, 10),
+    )
+
+
 def many_tags():
     """A server whose tag changes with each batch, by two proxies in turn; each batch gets the tag that it sets."""
     count = 300
@@ -373,5 +383,5 @@ def spelled(number):
 
 CASES = (
     full_cluster, full_batches, many_ranges, many_states, under_the_lock, thousand_moves, moves_after_batches, greatest_dates, told_of_many,
-    begun_before_any_is_finished, many_rows, many_tags,
+    begun_before_any_is_finished, many_rows, many_events, many_tags,
 )

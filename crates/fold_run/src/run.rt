@@ -22,6 +22,11 @@ impl ScriptKind for FoldKind {
 
     ghost answer_to = { fold_text };
 
+    // The rows are folded together, so nothing is printed before the last.
+    fn stream(_alloc: Global, _bytes: &[u8]) -> Option<String> {
+        None
+    }
+
     fn print(alloc: Global, text: &mut String, script: FoldScript) -> Result<(), OutOfMemory> {
         print_folded(alloc, text, script)
     }

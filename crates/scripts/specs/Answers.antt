@@ -23,9 +23,13 @@ abbrev pub refused_answer : ScriptFault → Answer
 refused_answer fault =
     record { text = refusal_text (fault_number fault) (fault_name fault); status = ScriptRefused }
 
+-- the answer to a script without a fault, of which this is printed
+abbrev pub done : List ℕ → Answer
+done text = record { text = text; status = Done }
+
 -- the answer to a script: what is printed of it, or its first fault
 abbrev pub answer_of : {X : Type 0} → (X → List ℕ) → Result X ScriptFault → Answer
-answer_of printed (Ok script) = record { text = printed script; status = Done }
+answer_of printed (Ok script) = done (printed script)
 answer_of printed (Err fault) = refused_answer fault
 
 -- the output is this answer

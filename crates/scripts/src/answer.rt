@@ -1,7 +1,7 @@
 //! The output of a script of any kind.
 
-ghost use Rattle.std.specs.Prelude.{◌≡◌, ◌++◌, ℕ, List, IfOk, OnOk, Ok, string_bytes};
-ghost use Rattle.scripts.specs.Answers.{Answer, IsOutput, answer_of};
+ghost use Rattle.std.specs.Prelude.{◌≡◌, ◌++◌, ℕ, List, IfOk, IfSome, OnOk, Ok, string_bytes};
+ghost use Rattle.scripts.specs.Answers.{Answer, IsOutput, answer_of, done};
 ghost use Rattle.scripts.specs.ScriptFaults.{IsReadAs};
 ghost use Rattle.scripts.specs.Scripts.{read_as};
 ghost use Rattle.scripts.specs.Statuses.{IsAnswered};
@@ -27,6 +27,11 @@ pub trait ScriptKind {
 
     ghost answer_to: { List ℕ → Answer };
 
+    /// Prints what a script comes to as its tokens come, where the kind needs no whole script.
+    /// `None` decides nothing: the script is then read and printed.
+    fn stream(alloc: Global, bytes: &[u8]) -> Option<String>
+        ensures { IfSome result (λ text. answer_to bytes.now ≡ done (string_bytes text)) };
+
     /// Prints what a script comes to. Fails only with `OutOfMemory`.
     fn print(alloc: Global, text: &mut String, script: Self::Script) -> Result<(), OutOfMemory>
         ensures { OnOk result (string_bytes text.new
@@ -37,8 +42,22 @@ pub trait ScriptKind {
 }
 
 /// The output for a script of this kind: what is printed of it, or its first fault (this project's
-/// profile). The bytes are dropped when the script is read. Fails only with `OutOfMemory`.
+/// profile). Fails only with `OutOfMemory`.
 pub fn answer<K: ScriptKind>(alloc: Global, bytes: Vec<u8>) -> Result<Output, OutOfMemory>
+    ensures output { IfOk result (IsOutput (K.answer_to bytes.items)) }
+    ensures answered { IfOk result (λ output. IsAnswered output.status) }
+{
+    if let Some(text) = K::stream(alloc, &bytes) {
+        return Ok(Output {
+            text,
+            status: RunStatus::Done,
+        });
+    }
+    answer_whole::<K>(alloc, bytes)
+}
+
+/// The output for a script of this kind, which is read before anything of it is printed.
+fn answer_whole<K: ScriptKind>(alloc: Global, bytes: Vec<u8>) -> Result<Output, OutOfMemory>
     ensures output { IfOk result (IsOutput (K.answer_to bytes.items)) }
     ensures answered { IfOk result (λ output. IsAnswered output.status) }
 {

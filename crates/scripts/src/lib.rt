@@ -41,5 +41,6 @@ pub use script_fault::ScriptFault;
 pub use shaped::{Shaped, field, has_fields, pair};
 pub use status::RunStatus;
 pub use stream_objects::{Fields, take_into, take_object};
-pub use streams::{Streamed, read_tokens};
+pub use stream_tokens::begin_array;
+pub use streams::{MadeOfTokens, Streamed, make_of_tokens, read_tokens};
 pub use value_reading::read_value;

@@ -6,6 +6,7 @@ ghost use Rattle.scripts.specs.Lines.{quoted, quoted_or_none, tag_text, tags_tex
 ghost use Rattle.scripts.specs.Lines.{version_line, locked_line, metadata_version_line};
 ghost use Rattle.scripts.specs.Lines.{route_line, routing_text, tags_line, refused_line};
 
+use itoa::Buffer;
 use model::{Route, Routing};
 use std::alloc::Global;
 use std::fmt::Write;
@@ -165,6 +166,8 @@ fn push_spaced_tags(text: &mut String, tags: &[Tag]) -> Result<(), OutOfMemory>
 pub fn push_tag(text: &mut String, tag: &Tag) -> Result<(), OutOfMemory>
     ensures { OnOk result (string_bytes text.new ≡ string_bytes text.old ++ tag_text tag.now) }
 {
-    write!(text, "{}:{}", tag.locality, tag.id)?;
+    text.push_str(Buffer::new().format(tag.locality))?;
+    text.push_str(":")?;
+    text.push_str(Buffer::new().format(tag.id))?;
     Ok(())
 }

@@ -9,7 +9,8 @@ ghost use Rattle.serde_json.specs.Read.{number_of};
 use fast_float::Numeral;
 use json::{Reader as TokenReader, Token};
 
-pub(crate) fn begin_array(reader: &mut TokenReader<'_>) -> bool
+/// Takes the bracket that opens a list, if it comes next; and else takes what comes.
+pub fn begin_array(reader: &mut TokenReader<'_>) -> bool
     ensures { IsTrue result → reader.old ≡ tokens.begin_array ∷ reader.new }
 {
     matches!(reader.next(), Some(Token::BeginArray))

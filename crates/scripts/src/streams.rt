@@ -1,8 +1,10 @@
-//! Values that are read as the tokens of a text come, without a tree of JSON values.
+//! Values that are read, and what else is made, as the tokens of a text come, without a tree of JSON
+//! values.
 
 ghost use Rattle.std.specs.Prelude.{◌≡◌, IfSome, Some, option_and_then};
+ghost use Rattle.serde_json.specs.Data.{Data};
 ghost use Rattle.serde_json.specs.Read.{read};
-ghost use Rattle.scripts.specs.Streams.{Takes};
+ghost use Rattle.scripts.specs.Streams.{Takes, TakesData};
 ghost use Rattle.scripts.specs.Values.{value_of};
 
 use crate::shaped::Shaped;
@@ -22,6 +24,17 @@ pub trait Streamed: Shaped {
         ensures { IfSome result (λ found. Takes Self.shape depth reader.old found reader.new) };
 }
 
+/// What is made of the tokens of a JSON value.
+pub trait MadeOfTokens: Drop {
+    ghost is_made_of: { Self → Data → Type 0 };
+
+    /// Takes the tokens of one value, which may nest `depth` deep, and returns what is made of it.
+    /// Returns `None` as `Streamed` does.
+    fn make(alloc: Global, reader: &mut TokenReader<'_>, depth: usize) -> Option<Self>
+        ensures { IfSome result (λ made. (d : Data)
+            × TakesData depth reader.old d reader.new × is_made_of made d) };
+}
+
 /// Returns what the JSON value that the bytes are stands for (this project's profile).
 ///
 /// Returns `None` if the bytes are not a value of the shape, and in the other cases of
@@ -31,18 +44,45 @@ pub fn read_tokens<X: Streamed>(alloc: Global, bytes: &[u8]) -> Option<X>
     ensures { IfSome result
         (λ found. option_and_then X.shape (value_of bytes.now) ≡ Some found) }
 {
-    let text = simdutf8::basic::from_utf8(bytes).ok()?;
-    from_text(alloc, text)
+    let found: Shown<X> = make_of_tokens(alloc, bytes)?;
+    Some(found.value)
 }
 
-fn from_text<X: Streamed>(alloc: Global, text: &str) -> Option<X>
-    ensures { IfSome result (λ found. option_and_then X.shape (read text.now) ≡ Some found) }
+/// Returns what is made of the JSON value that the bytes are. Returns `None` if the bytes are no
+/// value, and in the cases of `MadeOfTokens::make`.
+#[tactic(auto, using(crate::proofs::ValueLemmas::value_of_text))]
+pub fn make_of_tokens<X: MadeOfTokens>(alloc: Global, bytes: &[u8]) -> Option<X>
+    ensures { IfSome result (λ made. (d : Data)
+        × (value_of bytes.now ≡ Some d) × X.is_made_of made d) }
+{
+    let text = simdutf8::basic::from_utf8(bytes).ok()?;
+    make_of_text(alloc, text)
+}
+
+fn make_of_text<X: MadeOfTokens>(alloc: Global, text: &str) -> Option<X>
+    ensures { IfSome result (λ made. (d : Data) × (read text.now ≡ Some d) × X.is_made_of made d) }
 {
     let mut scratch = Scratch::new(alloc);
     let mut reader = TokenReader::new(text, &mut scratch).ok()?;
-    let found = X::from_tokens(alloc, &mut reader, DEPTH_LIMIT)?;
+    let made = X::make(alloc, &mut reader, DEPTH_LIMIT)?;
     match reader.next() {
-        None => Some(found),
+        None => Some(made),
         Some(_) => None,
+    }
+}
+
+// A value of a shape, which is made of the value that it stands for.
+#[derive(Drop)]
+struct Shown<X: Drop> {
+    value: X,
+}
+
+impl<X: Streamed> MadeOfTokens for Shown<X> {
+    ghost is_made_of = { λ found d. X.shape d ≡ Some found.value };
+
+    #[tactic(auto, using(crate::proofs::StreamLemmas::taken_data))]
+    fn make(alloc: Global, reader: &mut TokenReader<'_>, depth: usize) -> Option<Shown<X>> {
+        let value = X::from_tokens(alloc, reader, depth)?;
+        Some(Shown { value })
     }
 }

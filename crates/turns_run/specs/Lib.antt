@@ -4,6 +4,8 @@
 pub mod Text
 -- the lines that are printed of an event
 pub mod Lines
+-- what events come to that are carried out as they are read
+pub mod Playing
 -- mutations in the order of their transactions
 pub mod OrderOfMutations
 -- the script that bytes are

@@ -9,6 +9,7 @@ ghost use Rattle.turns_run.specs.Lines.{completed_text, event_text, events_text,
 ghost use Rattle.turns_run.specs.Lines.{finished_text, refusal_line, refusal_value};
 
 use crate::lines::{print_move, print_offer, print_sequence};
+use crate::numbers::push_numbered;
 use crate::transactions::print_transactions;
 use cluster_lines::push_refused;
 use model::Finished;
@@ -38,7 +39,11 @@ pub(crate) fn print_events(
 }
 
 /// Carries out the event, and prints its lines.
-fn print_event(text: &mut String, event: &Event, world: &mut TurnWorld) -> Result<(), OutOfMemory>
+pub(crate) fn print_event(
+    text: &mut String,
+    event: &Event,
+    world: &mut TurnWorld,
+) -> Result<(), OutOfMemory>
     ensures text { let given = event_of event.now in let before = world.old in
         OnOk result (string_bytes text.new ≡ string_bytes text.old
         ++ event_text given (handle_event before.config before.world given).answer) }
@@ -94,7 +99,8 @@ fn push_finish(text: &mut String, proxy: usize, version: u64) -> Result<(), OutO
     ensures { OnOk result (string_bytes text.new
         ≡ string_bytes text.old ++ finish_text proxy version) }
 {
-    write!(text, "finish proxy {proxy} version {version}")?;
+    push_numbered(text, "finish proxy ", proxy as u64)?;
+    push_numbered(text, " version ", version)?;
     Ok(())
 }
 

@@ -8,6 +8,8 @@ mod checks;
 mod event_streams;
 mod events;
 mod lines;
+mod numbers;
+mod playing;
 mod proxies;
 mod reading;
 mod run;

@@ -1,14 +1,14 @@
 //! The lines of what was sequenced, moved and offered, with verdicts and unseen rows.
 
-ghost use Rattle.std.specs.Prelude.{◌≡◌, ◌++◌, OnOk, string_bytes, map, flat_map};
+ghost use Rattle.std.specs.Prelude.{◌≡◌, [], ◌∷◌, ◌++◌, OnOk, string_bytes, map, flat_map};
 ghost use Rattle.scripts.specs.Lines.{list_text, spaced};
 ghost use Rattle.cluster_lines.specs.Names.{verdict_name};
 ghost use Rattle.turns_run.specs.Lines.{move_line, offer_line, offered_text, sequence_line};
 ghost use Rattle.turns_run.specs.Lines.{sequence_text, unseen_version};
 
+use crate::numbers::push_numbered;
 use cluster_lines::verdict_name;
 use model::{Reply, UnseenRow, Verdict};
-use std::fmt::Write;
 use system_keys::OutOfMemory;
 
 /// Prints that a batch has the record at a row, and its version. Fails only with `OutOfMemory`.
@@ -26,7 +26,8 @@ fn push_sequence(text: &mut String, row: usize, version: u64) -> Result<(), OutO
     ensures { OnOk result (string_bytes text.new
         ≡ string_bytes text.old ++ sequence_text row version) }
 {
-    write!(text, "sequence row {row} version {version}")?;
+    push_numbered(text, "sequence row ", row as u64)?;
+    push_numbered(text, " version ", version)?;
     Ok(())
 }
 
@@ -34,7 +35,8 @@ fn push_sequence(text: &mut String, row: usize, version: u64) -> Result<(), OutO
 pub fn print_move(text: &mut String, date: u64) -> Result<(), OutOfMemory>
     ensures { OnOk result (string_bytes text.new ≡ string_bytes text.old ++ move_line date) }
 {
-    writeln!(text, "move date {date}")?;
+    push_numbered(text, "move date ", date)?;
+    text.push_str("\n")?;
     Ok(())
 }
 
@@ -45,7 +47,7 @@ pub fn print_offer(text: &mut String, word: &str, reply: &Reply) -> Result<(), O
         ≡ string_bytes text.old ++ offer_line word.now reply.now) }
 {
     push_offered(text, reply.row, reply.resolver)?;
-    write!(text, " {word} ")?;
+    push_word(text, word)?;
     push_verdicts(text, reply.verdicts.as_slice())?;
     text.push_str(" unseen ")?;
     push_unseen(text, reply.unseen.as_slice())?;
@@ -58,7 +60,18 @@ fn push_offered(text: &mut String, row: usize, resolver: usize) -> Result<(), Ou
     ensures { OnOk result (string_bytes text.new
         ≡ string_bytes text.old ++ offered_text row resolver) }
 {
-    write!(text, "offer row {row} resolver {resolver}")?;
+    push_numbered(text, "offer row ", row as u64)?;
+    push_numbered(text, " resolver ", resolver as u64)
+}
+
+/// Appends the word between spaces.
+fn push_word(text: &mut String, word: &str) -> Result<(), OutOfMemory>
+    ensures { OnOk result (string_bytes text.new
+        ≡ string_bytes text.old ++ spaced word.now ++ 32 ∷ []) }
+{
+    text.push_str(" ")?;
+    text.push_str(word)?;
+    text.push_str(" ")?;
     Ok(())
 }
 
@@ -98,7 +111,7 @@ fn push_unseen(text: &mut String, rows: &[UnseenRow]) -> Result<(), OutOfMemory>
 {
     match rows.split_first() {
         Some((first, rest)) => {
-            write!(text, "{}", first.version)?;
+            push_numbered(text, "", first.version)?;
             push_spaced_unseen(text, rest)
         }
         None => {
@@ -114,7 +127,7 @@ fn push_spaced_unseen(text: &mut String, rows: &[UnseenRow]) -> Result<(), OutOf
         ≡ string_bytes text.old ++ flat_map spaced (map unseen_version rows.now)) }
 {
     for row in rows {
-        write!(text, " {}", row.version)?;
+        push_numbered(text, " ", row.version)?;
     }
     Ok(())
 }

@@ -5,8 +5,8 @@ ghost use Rattle.turns_run.specs.Scripts.{script_of};
 ghost use Rattle.turns_run.specs.Text.{Plays, played_text, turns_text};
 
 use crate::script::{RawTurns, TurnsScript};
-use crate::text::print_played;
-use scripts::{RunStatus, ScriptKind, Sink, Source, run_script};
+use crate::text::{TurnsText, print_played};
+use scripts::{RunStatus, ScriptKind, Sink, Source, make_of_tokens, run_script};
 use std::alloc::Global;
 use system_keys::OutOfMemory;
 
@@ -21,6 +21,11 @@ impl ScriptKind for TurnsKind {
     ghost printed = { played_text };
 
     ghost answer_to = { turns_text };
+
+    fn stream(alloc: Global, bytes: &[u8]) -> Option<String> {
+        let made: TurnsText = make_of_tokens(alloc, bytes)?;
+        Some(made.text)
+    }
 
     fn print(alloc: Global, text: &mut String, script: TurnsScript) -> Result<(), OutOfMemory> {
         print_played(alloc, text, script)

@@ -1,9 +1,12 @@
 //! What is read of a turns script as its tokens come: its fields in any order.
 
-ghost use Rattle.std.specs.Prelude.{◌≡◌, ◌+◌, codes};
-ghost use Rattle.scripts.specs.Shapes.{bytes_shape, count_members, list_shape, number_shape};
-ghost use Rattle.scripts.specs.Streams.{Slot, one};
+ghost use Rattle.std.specs.Prelude.{◌≡◌, List, IfSome, Some, None};
+ghost use Rattle.model.specs.Configs.{IsConfig};
+ghost use Rattle.scripts.specs.Shapes.{list_shape};
+ghost use Rattle.scripts.specs.Streams.{Takes};
 ghost use Rattle.turns_run.specs.Shapes.{event_shape};
+ghost use Rattle.turns_run.specs.Streams.{HoldsFields};
+ghost use Rattle.turns_run.specs.declared.script.RawEvent.{RawEvent as TheRawEvent};
 
 use crate::script::{RawEvent, RawTurns};
 use json::Reader as TokenReader;
@@ -15,38 +18,99 @@ use system_keys::{Bytes, Items};
 impl Streamed for RawTurns {
     #[tactic(auto, using(cluster_scripts::proofs::ConfigLemmas::within_limits))]
     fn from_tokens(alloc: Global, reader: &mut TokenReader<'_>, depth: usize) -> Option<RawTurns> {
-        let fields: TurnsFields = take_object(alloc, reader, depth)?;
-        let (proxies, resolvers) = (fields.proxies?, fields.resolvers?);
-        let (window, step) = (fields.window?, fields.step?);
+        let fields: TurnsFields<Items<RawEvent>> = take_object(alloc, reader, depth)?;
         Some(RawTurns {
-            config: Config::new(proxies, resolvers, window, step).ok()?,
+            config: fields.config()?,
             events: fields.events?,
             ask: fields.ask?,
         })
     }
 }
 
-// The fields of a turns script, as they come.
+/// What is made of the events of a script as their tokens come.
+pub(crate) trait FromEvents: Drop {
+    ghost is_from: { Self → List TheRawEvent → Type 0 };
+
+    /// Takes the tokens of a list of events, for a cluster with these numbers if they came before it.
+    /// Returns `None` as `Streamed` does.
+    fn take(
+        alloc: Global,
+        reader: &mut TokenReader<'_>,
+        depth: usize,
+        config: Option<Config>,
+    ) -> Option<Self>
+        ensures { IfSome result (λ made. (raws : List TheRawEvent)
+            × Takes (list_shape event_shape) depth reader.old raws reader.new
+            × is_from made raws) };
+}
+
+impl FromEvents for Items<RawEvent> {
+    ghost is_from = { λ events raws. events ≡ raws };
+
+    fn take(
+        alloc: Global,
+        reader: &mut TokenReader<'_>,
+        depth: usize,
+        _config: Option<Config>,
+    ) -> Option<Items<RawEvent>> {
+        Items::from_tokens(alloc, reader, depth)
+    }
+}
+
+/// The fields of a turns script, as they come.
 #[derive(Drop)]
-struct TurnsFields {
+pub(crate) struct TurnsFields<E: Drop> {
     proxies: Option<usize>,
     resolvers: Option<usize>,
     window: Option<u64>,
     step: Option<u64>,
-    events: Option<Items<RawEvent>>,
-    ask: Option<Items<Bytes>>,
+    /// What is made of the events.
+    pub(crate) events: Option<E>,
+    /// The keys whose tags are asked.
+    pub(crate) ask: Option<Items<Bytes>>,
 }
 
-impl Fields for TurnsFields {
-    ghost holds = { λ f ms. Slot number_shape (codes "proxies") f.proxies ms
-        × Slot number_shape (codes "resolvers") f.resolvers ms
-        × Slot number_shape (codes "window") f.window ms
-        × Slot number_shape (codes "step") f.step ms
-        × Slot (list_shape event_shape) (codes "events") f.events ms
-        × Slot (list_shape bytes_shape) (codes "ask") f.ask ms
-        × (count_members ms ≡ one f.proxies + one f.resolvers + one f.window + one f.step + one f.events + one f.ask) };
+impl<E: FromEvents> TurnsFields<E> {
+    /// The numbers of the cluster, if all are there, and within their limits.
+    pub(crate) fn config(&self) -> Option<Config>
+        ensures { IfSome result (λ config. (self.now.proxies ≡ Some config.proxies)
+            × (self.now.resolvers ≡ Some config.resolvers)
+            × (self.now.window ≡ Some config.window)
+            × (self.now.step ≡ Some config.step)
+            × IsConfig config) }
+    {
+        let (proxies, resolvers) = (self.proxies?, self.resolvers?);
+        let (window, step) = (self.window?, self.step?);
+        let config = Config::new(proxies, resolvers, window, step).ok()?;
+        Some(config)
+    }
 
-    fn none() -> TurnsFields {
+    // Takes the events, if none were taken before.
+    fn take_events(
+        &mut self,
+        alloc: Global,
+        reader: &mut TokenReader<'_>,
+        depth: usize,
+    ) -> Option<()>
+        ensures { IfSome result (λ _. (raws : List TheRawEvent) × (made : E)
+            × Takes (list_shape event_shape) depth reader.old raws reader.new
+            × E.is_from made raws
+            × (self.old.events ≡ None)
+            × (self.new ≡ record self.old { events = Some made })) }
+    {
+        if self.events.is_some() {
+            return None;
+        }
+        let made = E::take(alloc, reader, depth, self.config())?;
+        self.events = Some(made);
+        Some(())
+    }
+}
+
+impl<E: FromEvents> Fields for TurnsFields<E> {
+    ghost holds = { λ f ms. HoldsFields E.is_from f ms };
+
+    fn none() -> TurnsFields<E> {
         TurnsFields {
             proxies: None,
             resolvers: None,
@@ -69,7 +133,7 @@ impl Fields for TurnsFields {
             "resolvers" => take_into(&mut self.resolvers, alloc, reader, depth),
             "window" => take_into(&mut self.window, alloc, reader, depth),
             "step" => take_into(&mut self.step, alloc, reader, depth),
-            "events" => take_into(&mut self.events, alloc, reader, depth),
+            "events" => self.take_events(alloc, reader, depth),
             "ask" => take_into(&mut self.ask, alloc, reader, depth),
             _ => None,
         }

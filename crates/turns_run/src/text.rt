@@ -1,13 +1,19 @@
 //! The whole text of a turns script: the lines of its events, and then those of its proxies.
 
-ghost use Rattle.std.specs.Prelude.{◌≡◌, ◌++◌, OnOk, string_bytes};
-ghost use Rattle.turns_run.specs.Text.{played_text};
+ghost use Rattle.std.specs.Prelude.{◌≡◌, ◌++◌, IfSome, OnOk, string_bytes};
+ghost use Rattle.turns_run.specs.Playing.{IsTextOf};
+ghost use Rattle.turns_run.specs.Text.{played_text, proxies_text};
 
 use crate::events::print_events;
+use crate::playing::Played;
 use crate::proxies::print_proxies;
 use crate::script::TurnsScript;
+use crate::streams::TurnsFields;
+use json::Reader as TokenReader;
+use model::Config;
+use scripts::{MadeOfTokens, take_object};
 use std::alloc::Global;
-use system_keys::OutOfMemory;
+use system_keys::{Bytes, OutOfMemory};
 use turn_world::TurnWorld;
 
 /// Prints what a turns script comes to (this project's profile): the lines of its events, carried
@@ -23,4 +29,40 @@ pub(crate) fn print_played(
     let mut world = TurnWorld::new(alloc, &script.config)?;
     print_events(text, script.events, &mut world)?;
     print_proxies(alloc, text, &script.config, &world, script.ask.as_slice())
+}
+
+/// What a turns script comes to, printed as its tokens come.
+#[derive(Drop)]
+pub(crate) struct TurnsText {
+    /// The lines of its events, and then those of its proxies.
+    pub(crate) text: String,
+}
+
+impl MadeOfTokens for TurnsText {
+    ghost is_made_of = { λ made d. IsTextOf d made };
+
+    // Where the numbers of the cluster come after the events, it decides nothing.
+    fn make(alloc: Global, reader: &mut TokenReader<'_>, depth: usize) -> Option<TurnsText> {
+        let fields: TurnsFields<Played> = take_object(alloc, reader, depth)?;
+        let config = fields.config()?;
+        let (played, ask) = (fields.events?, fields.ask?);
+        let text = end_text(alloc, &config, played, ask.as_slice())?;
+        Some(TurnsText { text })
+    }
+}
+
+/// The whole text, where a cluster with these numbers carried the events out.
+fn end_text(alloc: Global, config: &Config, played: Played, ask: &[Bytes]) -> Option<String>
+    ensures { IfSome result (λ text. (played.world.config ≡ config.now)
+        × (string_bytes text ≡ string_bytes played.text
+        ++ proxies_text config.now played.world.world ask.now)) }
+{
+    let Played { mut text, world } = played;
+    if *world.config() != *config {
+        return None;
+    }
+    match print_proxies(alloc, &mut text, config, &world, ask) {
+        Ok(()) => Some(text),
+        Err(_) => None,
+    }
 }

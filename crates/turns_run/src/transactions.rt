@@ -2,15 +2,16 @@
 //! private copies.
 
 ghost use Rattle.std.specs.Prelude.{◌≡◌, ◌++◌, IfOk, OnOk, string_bytes, flat_map, true};
+ghost use Rattle.scripts.specs.Lines.{line, quoted, spaced, tag_text};
 ghost use Rattle.turns_run.specs.Lines.{copy_line, mutation_line, mutation_text, mutations_of};
 ghost use Rattle.turns_run.specs.Lines.{outcome_numbers, private_text};
 ghost use Rattle.turns_run.specs.Lines.{outcome_text, transaction_line, transactions_text};
 ghost use Rattle.turns_run.specs.OrderOfMutations.{IsAfter, are_in_order};
 
+use crate::numbers::push_numbered;
 use cluster_lines::outcome_name;
 use model::{Outcome, PrivateCopy, Tagged};
 use scripts::{push_quoted, push_tag, push_tags};
-use std::fmt::Write;
 use system_keys::OutOfMemory;
 
 /// Prints the outcome of each transaction of a batch, and after it the tags and the private copy of
@@ -124,7 +125,8 @@ fn print_transaction(text: &mut String, number: usize, outcome: Outcome) -> Resu
     ensures { OnOk result (string_bytes text.new
         ≡ string_bytes text.old ++ transaction_line number outcome) }
 {
-    write!(text, "txn {number} ")?;
+    push_numbered(text, "txn ", number as u64)?;
+    text.push_str(" ")?;
     push_outcome(text, outcome)?;
     text.push_str("\n")?;
     Ok(())
@@ -144,7 +146,10 @@ fn push_outcome_numbers(text: &mut String, outcome: Outcome) -> Result<(), OutOf
         ≡ string_bytes text.old ++ outcome_numbers outcome) }
 {
     match outcome {
-        Outcome::Committed { version, number } => write!(text, " {version} {number}")?,
+        Outcome::Committed { version, number } => {
+            push_numbered(text, " ", version)?;
+            push_numbered(text, " ", number as u64)?;
+        }
         Outcome::Conflict => text.push_str(" 1020")?,
         Outcome::TooOld => text.push_str(" 1007")?,
         Outcome::Locked => text.push_str(" 1038")?,
@@ -166,11 +171,9 @@ fn print_tags(text: &mut String, mutation: &Tagged) -> Result<(), OutOfMemory>
     ensures { OnOk result (string_bytes text.new
         ≡ string_bytes text.old ++ mutation_line mutation.now) }
 {
-    write!(
-        text,
-        "mutation {} {} tags ",
-        mutation.number, mutation.place
-    )?;
+    push_numbered(text, "mutation ", mutation.number as u64)?;
+    push_numbered(text, " ", mutation.place as u64)?;
+    text.push_str(" tags ")?;
     push_tags(text, mutation.tags.as_slice())?;
     text.push_str("\n")?;
     Ok(())
@@ -197,8 +200,18 @@ fn print_copy(
     ensures { OnOk result (string_bytes text.new
         ≡ string_bytes text.old ++ copy_line number place copy.now) }
 {
+    push_numbered(text, "private ", number as u64)?;
+    push_numbered(text, " ", place as u64)?;
+    push_copy(text, copy)
+}
+
+/// Appends the key and the tag of a private copy, up to the end of its line.
+fn push_copy(text: &mut String, copy: &PrivateCopy) -> Result<(), OutOfMemory>
+    ensures { OnOk result (string_bytes text.new ≡ string_bytes text.old
+        ++ spaced (quoted copy.now.key) ++ line (spaced (tag_text copy.now.tag))) }
+{
     let alloc = *text.allocator();
-    write!(text, "private {number} {place} ")?;
+    text.push_str(" ")?;
     push_quoted(alloc, text, copy.key.as_slice())?;
     text.push_str(" ")?;
     push_tag(text, &copy.tag)?;

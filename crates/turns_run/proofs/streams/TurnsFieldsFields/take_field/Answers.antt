@@ -2,10 +2,11 @@ use Rattle.std.proofs.Common.{codes, refl, arith}
 use Rattle.scripts.specs.Shapes.{bytes_shape, list_shape, number_shape}
 use Rattle.turns_run.specs.Shapes.{event_shape}
 use Rattle.scripts.proofs.StreamObjectLemmas.{slot_put, slot_other, count_new, if_some_weaker}
+use Rattle.turns_run.proofs.StreamLemmas.{events_put}
 use Rattle.turns_run.proofs.streams.TurnsFieldsFields.take_field.Goals as goal
 
 pub returns-in-proxies : goal.returns-in-proxies
-returns-in-proxies c =
+returns-in-proxies g c =
     let f = c.args.self.now in
     let new = c.take_into.new.slot in
     let k = codes "proxies" in
@@ -13,19 +14,21 @@ returns-in-proxies c =
       read.0,
       read.1,
       λ ms held.
-          let more = count_new number_shape k read.0 f.proxies new ms read.2 held.0 in (
+          let more = count_new number_shape k read.0 f.proxies new ms read.2 held.2 in (
+            held.0,
+            held.1,
             slot_put number_shape k read.0 f.proxies new ms read.2,
-            slot_other number_shape (codes "resolvers") k f.resolvers read.0 ms refl held.1,
-            slot_other number_shape (codes "window") k f.window read.0 ms refl held.2,
-            slot_other number_shape (codes "step") k f.step read.0 ms refl held.3,
-            slot_other (list_shape event_shape) (codes "events") k f.events read.0 ms refl held.4,
-            slot_other (list_shape bytes_shape) (codes "ask") k f.ask read.0 ms refl held.5,
-            omega (arith, more.0, more.1, more.2, held.6),
+            slot_other number_shape (codes "resolvers") k f.resolvers read.0 ms refl held.3,
+            slot_other number_shape (codes "window") k f.window read.0 ms refl held.4,
+            slot_other number_shape (codes "step") k f.step read.0 ms refl held.5,
+            slot_other (list_shape event_shape) (codes "events") k held.0 read.0 ms refl held.6,
+            slot_other (list_shape bytes_shape) (codes "ask") k f.ask read.0 ms refl held.7,
+            omega (arith, more.0, more.1, more.2, held.8),
           ),
     )) c.take_into.ensures)
 
 pub returns-in-resolvers : goal.returns-in-resolvers
-returns-in-resolvers c =
+returns-in-resolvers g c =
     let f = c.args.self.now in
     let new = c.take_into-in-resolvers.new.slot in
     let k = codes "resolvers" in
@@ -33,19 +36,21 @@ returns-in-resolvers c =
       read.0,
       read.1,
       λ ms held.
-          let more = count_new number_shape k read.0 f.resolvers new ms read.2 held.1 in (
-            slot_other number_shape (codes "proxies") k f.proxies read.0 ms refl held.0,
+          let more = count_new number_shape k read.0 f.resolvers new ms read.2 held.3 in (
+            held.0,
+            held.1,
+            slot_other number_shape (codes "proxies") k f.proxies read.0 ms refl held.2,
             slot_put number_shape k read.0 f.resolvers new ms read.2,
-            slot_other number_shape (codes "window") k f.window read.0 ms refl held.2,
-            slot_other number_shape (codes "step") k f.step read.0 ms refl held.3,
-            slot_other (list_shape event_shape) (codes "events") k f.events read.0 ms refl held.4,
-            slot_other (list_shape bytes_shape) (codes "ask") k f.ask read.0 ms refl held.5,
-            omega (arith, more.0, more.1, more.2, held.6),
+            slot_other number_shape (codes "window") k f.window read.0 ms refl held.4,
+            slot_other number_shape (codes "step") k f.step read.0 ms refl held.5,
+            slot_other (list_shape event_shape) (codes "events") k held.0 read.0 ms refl held.6,
+            slot_other (list_shape bytes_shape) (codes "ask") k f.ask read.0 ms refl held.7,
+            omega (arith, more.0, more.1, more.2, held.8),
           ),
     )) c.take_into-in-resolvers.ensures)
 
 pub returns-in-window : goal.returns-in-window
-returns-in-window c =
+returns-in-window g c =
     let f = c.args.self.now in
     let new = c.take_into-in-window.new.slot in
     let k = codes "window" in
@@ -53,19 +58,21 @@ returns-in-window c =
       read.0,
       read.1,
       λ ms held.
-          let more = count_new number_shape k read.0 f.window new ms read.2 held.2 in (
-            slot_other number_shape (codes "proxies") k f.proxies read.0 ms refl held.0,
-            slot_other number_shape (codes "resolvers") k f.resolvers read.0 ms refl held.1,
+          let more = count_new number_shape k read.0 f.window new ms read.2 held.4 in (
+            held.0,
+            held.1,
+            slot_other number_shape (codes "proxies") k f.proxies read.0 ms refl held.2,
+            slot_other number_shape (codes "resolvers") k f.resolvers read.0 ms refl held.3,
             slot_put number_shape k read.0 f.window new ms read.2,
-            slot_other number_shape (codes "step") k f.step read.0 ms refl held.3,
-            slot_other (list_shape event_shape) (codes "events") k f.events read.0 ms refl held.4,
-            slot_other (list_shape bytes_shape) (codes "ask") k f.ask read.0 ms refl held.5,
-            omega (arith, more.0, more.1, more.2, held.6),
+            slot_other number_shape (codes "step") k f.step read.0 ms refl held.5,
+            slot_other (list_shape event_shape) (codes "events") k held.0 read.0 ms refl held.6,
+            slot_other (list_shape bytes_shape) (codes "ask") k f.ask read.0 ms refl held.7,
+            omega (arith, more.0, more.1, more.2, held.8),
           ),
     )) c.take_into-in-window.ensures)
 
 pub returns-in-step : goal.returns-in-step
-returns-in-step c =
+returns-in-step g c =
     let f = c.args.self.now in
     let new = c.take_into-in-step.new.slot in
     let k = codes "step" in
@@ -73,39 +80,21 @@ returns-in-step c =
       read.0,
       read.1,
       λ ms held.
-          let more = count_new number_shape k read.0 f.step new ms read.2 held.3 in (
-            slot_other number_shape (codes "proxies") k f.proxies read.0 ms refl held.0,
-            slot_other number_shape (codes "resolvers") k f.resolvers read.0 ms refl held.1,
-            slot_other number_shape (codes "window") k f.window read.0 ms refl held.2,
+          let more = count_new number_shape k read.0 f.step new ms read.2 held.5 in (
+            held.0,
+            held.1,
+            slot_other number_shape (codes "proxies") k f.proxies read.0 ms refl held.2,
+            slot_other number_shape (codes "resolvers") k f.resolvers read.0 ms refl held.3,
+            slot_other number_shape (codes "window") k f.window read.0 ms refl held.4,
             slot_put number_shape k read.0 f.step new ms read.2,
-            slot_other (list_shape event_shape) (codes "events") k f.events read.0 ms refl held.4,
-            slot_other (list_shape bytes_shape) (codes "ask") k f.ask read.0 ms refl held.5,
-            omega (arith, more.0, more.1, more.2, held.6),
+            slot_other (list_shape event_shape) (codes "events") k held.0 read.0 ms refl held.6,
+            slot_other (list_shape bytes_shape) (codes "ask") k f.ask read.0 ms refl held.7,
+            omega (arith, more.0, more.1, more.2, held.8),
           ),
     )) c.take_into-in-step.ensures)
 
-pub returns-in-events : goal.returns-in-events
-returns-in-events c =
-    let f = c.args.self.now in
-    let new = c.take_into-in-events.new.slot in
-    let k = codes "events" in
-    rw c.in-events.is (if_some_weaker c.take_into-in-events.result (λ _ read. (
-      read.0,
-      read.1,
-      λ ms held.
-          let more = count_new (list_shape event_shape) k read.0 f.events new ms read.2 held.4 in (
-            slot_other number_shape (codes "proxies") k f.proxies read.0 ms refl held.0,
-            slot_other number_shape (codes "resolvers") k f.resolvers read.0 ms refl held.1,
-            slot_other number_shape (codes "window") k f.window read.0 ms refl held.2,
-            slot_other number_shape (codes "step") k f.step read.0 ms refl held.3,
-            slot_put (list_shape event_shape) k read.0 f.events new ms read.2,
-            slot_other (list_shape bytes_shape) (codes "ask") k f.ask read.0 ms refl held.5,
-            omega (arith, more.0, more.1, more.2, held.6),
-          ),
-    )) c.take_into-in-events.ensures)
-
 pub returns-in-ask : goal.returns-in-ask
-returns-in-ask c =
+returns-in-ask g c =
     let f = c.args.self.now in
     let new = c.take_into-in-ask.new.slot in
     let k = codes "ask" in
@@ -113,13 +102,19 @@ returns-in-ask c =
       read.0,
       read.1,
       λ ms held.
-          let more = count_new (list_shape bytes_shape) k read.0 f.ask new ms read.2 held.5 in (
-            slot_other number_shape (codes "proxies") k f.proxies read.0 ms refl held.0,
-            slot_other number_shape (codes "resolvers") k f.resolvers read.0 ms refl held.1,
-            slot_other number_shape (codes "window") k f.window read.0 ms refl held.2,
-            slot_other number_shape (codes "step") k f.step read.0 ms refl held.3,
-            slot_other (list_shape event_shape) (codes "events") k f.events read.0 ms refl held.4,
+          let more = count_new (list_shape bytes_shape) k read.0 f.ask new ms read.2 held.7 in (
+            held.0,
+            held.1,
+            slot_other number_shape (codes "proxies") k f.proxies read.0 ms refl held.2,
+            slot_other number_shape (codes "resolvers") k f.resolvers read.0 ms refl held.3,
+            slot_other number_shape (codes "window") k f.window read.0 ms refl held.4,
+            slot_other number_shape (codes "step") k f.step read.0 ms refl held.5,
+            slot_other (list_shape event_shape) (codes "events") k held.0 read.0 ms refl held.6,
             slot_put (list_shape bytes_shape) k read.0 f.ask new ms read.2,
-            omega (arith, more.0, more.1, more.2, held.6),
+            omega (arith, more.0, more.1, more.2, held.8),
           ),
     )) c.take_into-in-ask.ensures)
+
+pub returns-in-events : goal.returns-in-events
+returns-in-events g c =
+    rw c.in-events.is (events_put g.E.FromEvents.is_from c.args.depth c.args.reader.now c.take_events.new.reader c.args.self.now c.take_events.new.self c.take_events.result c.take_events.ensures)

@@ -1,6 +1,6 @@
 use Rattle.std.specs.Prelude.{Ok}
 use Rattle.scripts.proofs.AnswerLemmas.{answer_of-fault, answer_of-read}
-use Rattle.scripts.proofs.answer.answer.Goals as goal
+use Rattle.scripts.proofs.answer.answer_whole.Goals as goal
 
 pub returns-in-Ok-clause-output : goal.returns-in-Ok-clause-output
 returns-in-Ok-clause-output g c =

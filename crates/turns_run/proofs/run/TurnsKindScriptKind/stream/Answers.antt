@@ -1,0 +1,8 @@
+use Rattle.std.specs.Prelude.{string_bytes}
+use Rattle.turns_run.proofs.PlayLemmas.{text_of_bytes}
+use Rattle.turns_run.proofs.run.TurnsKindScriptKind.stream.Goals as goal
+
+pub returns : goal.returns
+returns c =
+    let made = c.in_ok-made.ensures in
+    text_of_bytes c.args.bytes.now made.0 (string_bytes c.in_ok-made.made.text) made.1 made.2
