@@ -1,5 +1,8 @@
 -- The promise, from what the types of locked proxies and of their answers keep.
-use Rattle.std.proofs.Common.{◌≡◌, refl, sym, ap, ◌∙◌, subst, ℕ, zero, suc, ◌+◌, ◌*◌, ◌≤◌, ◌↔◌, inl, inr, List, [], ◌∷◌, ◌++◌, length, take, slice_get, Option, Some, Contains, arith}
+use Rattle.std.proofs.Common.{◌≡◌, refl, sym, ap, ◌∙◌, subst, ℕ, zero, suc, ◌+◌, ◌*◌, ◌<◌, ◌≤◌, ◌↔◌, ◌⊎◌, inl, inr, List, [], ◌∷◌, ◌++◌, length, take, Bool, true, false, nat_le, slice_get, Option, Some, Contains, arith}
+use Rattle.std.proofs.lemmas.Bool.{cases_order}
+use Rattle.std.proofs.lemmas.Bool.Decides.{leb_tells}
+use Rattle.std.proofs.lemmas.List.Sums.{count_by-le-length, length-filter}
 use Rattle.facts.specs.Stretches.{Agree}
 use Rattle.system_keys.specs.declared.change.Change.{Change}
 use Rattle.model.specs.Configs.{Config, IsConfig}
@@ -16,21 +19,23 @@ use Rattle.model.specs.PrivateCopies.{private_copy}
 use Rattle.model.specs.Records.{Record, IsHistory, last_version}
 use Rattle.model.specs.Serial.{Place, IsCommitted}
 use Rattle.model.specs.Transactions.{Transaction}
-use Rattle.model.specs.World.{IsTaggedBy, finished_after, tagged_all, tagged_from, tagged_one, up_to_version}
+use Rattle.model.specs.World.{IsTaggedBy, finished_after, tagged_all, tagged_from, tagged_one, rows_up_to, up_to_version}
 use Rattle.model.proofs.Agreement.Holders.{finished_outcomes, finished_tags}
 use Rattle.model.proofs.Agreement.Sources.{journal_push}
 use Rattle.model.proofs.History.Chain.{up_to_front_are, version_before}
+use Rattle.model.proofs.Journals.ReplyRows.{first_up_to}
 use Rattle.model.proofs.Members.{Has, Has-append_left, Has-append_right, Contains-from_Has}
 use Rattle.model.proofs.Serializability.ByKeys.{committed_is_told, told_numbers_are_its_own}
 use Rattle.model.proofs.Serializability.Histories.{history_is_serial}
 use Rattle.locked_cluster.specs.Answers.{NotedFinishedView, IsNotedFinished}
 use Rattle.locked_cluster.specs.Audits.{IsAudited, reached_records}
-use Rattle.locked_cluster.specs.Headline.{Headline, HasMutation, IsTrueAnswer, KeepsMetadata, MeetsAnswer, TellsCommitted}
+use Rattle.locked_cluster.specs.Headline.{AgreeAt, Headline, HasMutation, IsTrueAnswer, KeepsMetadata, MeetsAnswer, TellsCommitted, history_metadata, metadata_at}
 use Rattle.locked_cluster.specs.Proxies.{LockedProxyView, IsLockedProxy}
 use Rattle.locked_cluster.proofs.ProxyAudits.{answer_begins_with, answer_version, begins_with_answer, is_audited, is_confirmed, reached_are_known, row_is_known}
 use Rattle.locked_resolvers.proofs.Lists.{take_all, take_next}
-use Rattle.locked_cluster.proofs.ProxyMeets.{same_journal}
-use Rattle.locked_cluster.proofs.ProxyRows.{all_up_to, known_count, known_history, known_records}
+use Rattle.locked_cluster.proofs.ProxyMeets.{agree_back, known_begin, known_within, same_journal}
+use Rattle.locked_cluster.proofs.ProxyRoutings.{rows_then}
+use Rattle.locked_cluster.proofs.ProxyRows.{all_up_to, first_rows, known_count, known_history, known_records}
 
 -- ---- the mutations of committed transactions
 
@@ -224,7 +229,71 @@ meets_answer config v entries answer keeps noted agree is =
         ∙ all_up_to config v keeps
         ∙ sym (reached_are_known config v keeps)
 
+-- ---- two proxies
+
+-- of the records up to a version, those up to a lower one are those of all records
+up_to_lower : (low high : ℕ) (h : List Record) → low ≤ high → up_to_version low (up_to_version high h) ≡ up_to_version low h
+up_to_lower low high [] less = refl
+up_to_lower low high (rec ∷ h) less = by (leb_tells rec.version high) (leb_tells rec.version low) (up_to_lower low high h less)
+  where
+    by : ((nat_le rec.version high ≡ true) × (rec.version ≤ high)) ⊎ ((nat_le rec.version high ≡ false) × (high < rec.version))
+        → ((nat_le rec.version low ≡ true) × (rec.version ≤ low)) ⊎ ((nat_le rec.version low ≡ false) × (low < rec.version))
+        → up_to_version low (up_to_version high h) ≡ up_to_version low h
+        → up_to_version low (up_to_version high (rec ∷ h)) ≡ up_to_version low (rec ∷ h)
+    by (inl (in_high, x)) (inl (in_low, y)) rest = rw (in_high, in_low) (ap (λ (rs : List Record). rec ∷ rs) rest)
+    by (inl (in_high, x)) (inr (in_low, y)) rest = rw (in_high, in_low) rest
+    by (inr (in_high, x)) (inl (in_low, y)) rest = absurd (omega (arith, x, y, less))
+    by (inr (in_high, x)) (inr (in_low, y)) rest = rw (in_high, in_low) rest
+
+-- the records of the proxy that has come no further are those of the other up to its version
+reached_begin : (config : Config) (a b : LockedProxyView) → IsLockedProxy config a → IsLockedProxy config b → Agree 0 a.records 0 b.records → a.proxy.version ≤ b.proxy.version → reached_records a ≡ up_to_version a.proxy.version (reached_records b)
+reached_begin config a b keeps kept agree less =
+    reached_are_known config a keeps
+    ∙ known_begin config a b keeps kept agree less
+    ∙ sym (up_to_are config (known_records b) (length a.proxy.journal) a.proxy.version keeps.config_is.step.0 (known_history config b kept) (known_within config a b keeps kept less) keeps.version)
+    ∙ ap (up_to_version a.proxy.version) (sym (reached_are_known config b kept))
+
+-- and so up to each version that it has reached both have the same
+reached_same : (config : Config) (a b : LockedProxyView) (version : ℕ) → IsLockedProxy config a → IsLockedProxy config b → Agree 0 a.records 0 b.records → version ≤ a.proxy.version → a.proxy.version ≤ b.proxy.version → up_to_version version (reached_records a) ≡ up_to_version version (reached_records b)
+reached_same config a b version keeps kept agree reached less =
+    ap (up_to_version version) (reached_begin config a b keeps kept agree less) ∙ up_to_lower version a.proxy.version (reached_records b) reached
+
+same_up_to : (config : Config) (one other : LockedProxyView) (version : ℕ) → IsLockedProxy config one → IsLockedProxy config other → Agree 0 one.records 0 other.records → version ≤ one.proxy.version → version ≤ other.proxy.version → up_to_version version (reached_records one) ≡ up_to_version version (reached_records other)
+same_up_to config one other version keeps kept agree mine theirs = by (cases_order one.proxy.version other.proxy.version)
+  where
+    by : (one.proxy.version ≡ other.proxy.version) ⊎ ((one.proxy.version < other.proxy.version) ⊎ (other.proxy.version < one.proxy.version)) → up_to_version version (reached_records one) ≡ up_to_version version (reached_records other)
+    by (inl same) = reached_same config one other version keeps kept agree mine (omega (arith, same))
+    by (inr (inl less)) = reached_same config one other version keeps kept agree mine (omega (arith, less))
+    by (inr (inr more)) = sym (reached_same config other one version kept keeps (agree_back one.records other.records agree) theirs (omega (arith, more)))
+
 -- ---- the promise
+
+-- by the verdicts of a history, the journal of its records up to a version is that of these alone
+journal_up_to : (config : Config) (h : List Record) (version : ℕ) → IsHistory config h → journal config (history_verdicts config h) (up_to_version version h) ≡ journal config (history_verdicts config (up_to_version version h)) (up_to_version version h)
+journal_up_to config h version history =
+    subst (λ (then : List Record). journal config (history_verdicts config h) then ≡ journal config (history_verdicts config then) then) (first_up_to config h version history)
+    (first_rows config h (rows_up_to version h) history within)
+  where
+    test : Record → Bool
+    test rec = nat_le rec.version version
+
+    within : rows_up_to version h ≤ length h
+    within = let counted = length-filter test h in let fewer = count_by-le-length test h in omega (arith, counted, fewer)
+
+metadata_then : (config : Config) (v : LockedProxyView) (version : ℕ) → IsLockedProxy config v → metadata_at v version ≡ history_metadata config (up_to_version version (reached_records v))
+metadata_then config v version keeps =
+    ap metadata (rows_then config v version keeps ∙ journal_up_to config (known_records v) version (known_history config v keeps))
+    ∙ ap (λ (h : List Record). history_metadata config (up_to_version version h)) (sym (reached_are_known config v keeps))
+
+agree_then : (config : Config) (one other : LockedProxyView) (version : ℕ) → IsLockedProxy config one → IsLockedProxy config other → Agree 0 one.records 0 other.records → version ≤ one.proxy.version → version ≤ other.proxy.version → AgreeAt version one other
+agree_then config one other version keeps kept agree reached reached_too =
+    record {
+      records = same;
+      metadata = metadata_then config one version keeps ∙ ap (history_metadata config) same ∙ sym (metadata_then config other version kept);
+    }
+  where
+    same : up_to_version version (reached_records one) ≡ up_to_version version (reached_records other)
+    same = same_up_to config one other version keeps kept agree reached reached_too
 
 keeps_metadata : (config : Config) (v : LockedProxyView) (entries : Entries) → IsLockedProxy config v → entries ≡ metadata v.proxy.journal → KeepsMetadata config v entries
 keeps_metadata config v entries keeps is =
@@ -232,6 +301,7 @@ keeps_metadata config v entries keeps is =
       history = audited.history;
       last = audited.last;
       metadata_is = is ∙ ap metadata audited.journal_is;
+      metadata_at_is = λ version reached. metadata_then config v version keeps;
       serial = audited.serial;
     }
   where
@@ -244,6 +314,7 @@ headline_of config one other mine theirs answer keeps kept noted agree agree_one
       mine_is = keeps_metadata config one mine keeps mine_is;
       theirs_is = keeps_metadata config other theirs kept theirs_is;
       agree = λ same. mine_is ∙ ap metadata (same_journal config one other keeps kept agree same) ∙ sym theirs_is;
+      agree_at = λ version reached reached_too. agree_then config one other version keeps kept agree reached reached_too;
       answer_is = true_answer config answer noted keeps.config_is;
       mine_meets = meets_answer config one mine answer keeps noted agree_one (keeps_metadata config one mine keeps mine_is);
       theirs_meet = meets_answer config other theirs answer kept noted agree_other (keeps_metadata config other theirs kept theirs_is);

@@ -10,22 +10,35 @@ use Rattle.locked_cluster.specs.Proxies.{LockedProxyView, IsLockedProxy}
 use Rattle.locked_resolvers.proofs.Lists.{first_same, take_all}
 use Rattle.locked_cluster.proofs.ProxyRows.{fewer_rows, first_rows, journal_of, known_count, known_history, known_records}
 
--- the journal of the proxy that has come no further begins that of the other
+-- the journal of the proxy that has come no further has no more rows
+journal_within : (config : Config) (a b : LockedProxyView) → IsLockedProxy config a → IsLockedProxy config b → a.proxy.version ≤ b.proxy.version → length a.proxy.journal ≤ length b.proxy.journal
+journal_within config a b keeps kept less =
+    fewer_rows (length a.proxy.journal) (length b.proxy.journal) config.step keeps.config_is.step.0 (subst (λ (n : ℕ). n ≤ length b.proxy.journal * config.step) keeps.version (subst (λ (n : ℕ). a.proxy.version ≤ n) kept.version less))
+
+-- the records that it knows up to its version are the first of those that the other knows up to its own
+pub known_begin : (config : Config) (a b : LockedProxyView) → IsLockedProxy config a → IsLockedProxy config b → Agree 0 a.records 0 b.records → a.proxy.version ≤ b.proxy.version → known_records a ≡ take (length a.proxy.journal) (known_records b)
+known_begin config a b keeps kept agree less =
+    first_same (length a.proxy.journal) a.records b.records agree keeps.agreed.rows (let there = kept.agreed.rows in omega (arith, there, rows))
+    ∙ sym (take-take_le b.records (length a.proxy.journal) (length b.proxy.journal) rows)
+  where
+    rows : length a.proxy.journal ≤ length b.proxy.journal
+    rows = journal_within config a b keeps kept less
+
+-- and they are fewer, or as many
+pub known_within : (config : Config) (a b : LockedProxyView) → IsLockedProxy config a → IsLockedProxy config b → a.proxy.version ≤ b.proxy.version → length a.proxy.journal ≤ length (known_records b)
+known_within config a b keeps kept less =
+    let count = known_count config b kept in
+    let rows = journal_within config a b keeps kept less in
+    omega (arith, count, rows)
+
+-- its journal begins that of the other
 pub begins_other : (config : Config) (a b : LockedProxyView) → IsLockedProxy config a → IsLockedProxy config b → Agree 0 a.records 0 b.records → a.proxy.version ≤ b.proxy.version → a.proxy.journal ≡ take (length a.proxy.journal) b.proxy.journal
 begins_other config a b keeps kept agree less =
     journal_of config a keeps
-    ∙ ap (λ (h : List Record). journal config (history_verdicts config h) h) fewer
-    ∙ sym (first_rows config (known_records b) (length a.proxy.journal) (known_history config b kept) (let count = known_count config b kept in omega (arith, count, rows)))
+    ∙ ap (λ (h : List Record). journal config (history_verdicts config h) h) (known_begin config a b keeps kept agree less)
+    ∙ sym (first_rows config (known_records b) (length a.proxy.journal) (known_history config b kept) (known_within config a b keeps kept less))
     ∙ sym (journal_take config (history_verdicts config (known_records b)) (known_records b) (length a.proxy.journal))
     ∙ ap (take (length a.proxy.journal)) (sym (journal_of config b kept))
-  where
-    rows : length a.proxy.journal ≤ length b.proxy.journal
-    rows = fewer_rows (length a.proxy.journal) (length b.proxy.journal) config.step keeps.config_is.step.0 (subst (λ (n : ℕ). n ≤ length b.proxy.journal * config.step) keeps.version (subst (λ (n : ℕ). a.proxy.version ≤ n) kept.version less))
-
-    fewer : known_records a ≡ take (length a.proxy.journal) (known_records b)
-    fewer =
-        first_same (length a.proxy.journal) a.records b.records agree keeps.agreed.rows (let there = kept.agreed.rows in omega (arith, there, rows))
-        ∙ sym (take-take_le b.records (length a.proxy.journal) (length b.proxy.journal) rows)
 
 -- at one version it is the same
 pub same_journal : (config : Config) (a b : LockedProxyView) → IsLockedProxy config a → IsLockedProxy config b → Agree 0 a.records 0 b.records → a.proxy.version ≡ b.proxy.version → a.proxy.journal ≡ b.proxy.journal

@@ -18,7 +18,7 @@ unfolding routing
 version_of version entries = refl
 
 -- the rows of the journal up to a version are those of the known records up to it
-rows_then : (config : Config) (v : LockedProxyView) (version : ℕ) → IsLockedProxy config v → rows_up_to version v.proxy.journal ≡ journal config (history_verdicts config (known_records v)) (up_to_version version (known_records v))
+pub rows_then : (config : Config) (v : LockedProxyView) (version : ℕ) → IsLockedProxy config v → rows_up_to version v.proxy.journal ≡ journal config (history_verdicts config (known_records v)) (up_to_version version (known_records v))
 rows_then config v version keeps = ap (rows_up_to version) (journal_of config v keeps) ∙ rows_up_to_version config (history_verdicts config (known_records v)) (known_records v) version
 
 pub is_routing : (config : Config) (v : LockedProxyView) (version : ℕ) (found : Routing) → IsLockedProxy config v → version ≤ v.proxy.version → found ≡ routing version (metadata (rows_up_to version v.proxy.journal)) → IsNotedRouting config (record { routing = found; records = v.records; columns = v.columns })

@@ -12,23 +12,37 @@ use Rattle.model.specs.Journal.{history_verdicts, journal}
 use Rattle.model.specs.Metadata.{Entries, metadata}
 use Rattle.model.specs.Serial.{Place, IsCommitted, IsSerial}
 use Rattle.model.specs.World.{IsTaggedBy, finished_batch, up_to_version}
+use Rattle.proxy_state.specs.Beginning.{rows_up_to}
 use Rattle.locked_cluster.specs.Answers.{NotedFinishedView}
 use Rattle.locked_cluster.specs.Audits.{IsConfirmed, reached_records}
 use Rattle.locked_cluster.specs.Proxies.{LockedProxyView}
 
 -- ---- the metadata of a proxy
 
--- The records up to the proxy's version are a history that ends at this version. The metadata is the
--- fold, in the order of versions, of exactly the state transactions of these records that every
--- resolver committed and that the lock rule let pass (`journal` has the verdicts of all resolvers, and
--- `metadata` applies the rule). Of the transactions that these records commit, none read a range that
--- another wrote between its snapshot and itself.
+-- the metadata of a history: the fold of its journal
+abbrev pub history_metadata : Config → (history : List Record) → Entries
+history_metadata config history =
+    metadata (journal config (history_verdicts config history) history)
+
+-- what the proxy shows at a version that it has reached: the fold of its journal up to this version
+abbrev pub metadata_at : LockedProxyView → Version → Entries
+metadata_at v version = metadata (rows_up_to version v.proxy.journal)
+
+-- The records up to the proxy's version are a history that ends at this version. The metadata is
+-- the fold, in the order of versions, of exactly the state transactions of these records that every
+-- resolver committed and that the lock rule let pass (`journal` has the verdicts of all resolvers,
+-- and `metadata` applies the rule). At an earlier version the proxy shows this fold of the records
+-- up to that version. Of the transactions that these records commit, none read a range that another
+-- wrote between its snapshot and itself.
 pub record KeepsMetadata (config : Config) (v : LockedProxyView) (entries : Entries) : Type 0 where
   pub history : IsHistory config (reached_records v)
   pub last : last_version (reached_records v) ≡ v.proxy.version
   pub metadata_is :
       let verdict_by = history_verdicts config (reached_records v) in
       entries ≡ metadata (journal config verdict_by (reached_records v))
+  pub metadata_at_is :
+      (version : Version) → version ≤ v.proxy.version
+      → metadata_at v version ≡ history_metadata config (up_to_version version (reached_records v))
   pub serial : IsSerial config (reached_records v)
 
 -- ---- an answer
@@ -97,15 +111,26 @@ pub record MeetsAnswer
 
 -- ---- the promise
 
--- Of two proxies whose locks are held, their metadata, and an answer of any proxy of the cluster: each
--- keeps its metadata, and two proxies at one version have the same. The answer is true, and it and
--- each of the proxies are of one history.
+-- the proxies have the same records up to the version, and show the same metadata at it
+pub record AgreeAt (version : Version) (one other : LockedProxyView) : Type 0 where
+  pub records :
+      up_to_version version (reached_records one) ≡ up_to_version version (reached_records other)
+  pub metadata : metadata_at one version ≡ metadata_at other version
+
+-- Of two proxies whose locks are held, their metadata, and an answer of any proxy of the cluster:
+-- each keeps its metadata, and the two agree. The answer is true, and it and each of the proxies
+-- are of one history.
 pub record Headline
     (config : Config) (one other : LockedProxyView) (mine theirs : Entries)
     (answer : NotedFinishedView) : Type 0 where
   pub mine_is : KeepsMetadata config one mine
   pub theirs_is : KeepsMetadata config other theirs
+  -- two proxies at one version have the same metadata
   pub agree : one.proxy.version ≡ other.proxy.version → mine ≡ theirs
+  -- two proxies agree at every version that both have reached
+  pub agree_at :
+      (version : Version) → version ≤ one.proxy.version → version ≤ other.proxy.version
+      → AgreeAt version one other
   pub answer_is : IsTrueAnswer config answer
   pub mine_meets : MeetsAnswer config one mine answer
   pub theirs_meet : MeetsAnswer config other theirs answer

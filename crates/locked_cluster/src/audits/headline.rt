@@ -9,11 +9,12 @@ use proxy_state::Metadata;
 
 /// Returns the metadata of two proxies of one cluster. Its contract is the promise of this project.
 ///
-/// The metadata of a proxy is the fold, in the order of versions, of exactly the state transactions up
-/// to its version that every resolver committed and that the lock rule let pass. So two proxies at one
-/// version agree. Each mutation of the answer, of any proxy, has the tags, and the private copy if there
-/// is one, that this metadata gives it. And no committed transaction read a range written by one
-/// committed between its snapshot and itself.
+/// The metadata of a proxy is the fold, in the order of versions, of exactly the state transactions
+/// up to its version that every resolver committed and that the lock rule let pass. So two proxies
+/// agree at every version that both have reached. Each mutation of the answer, of any proxy, has
+/// the tags, and the private copy if there is one, of the metadata after the answer's record, which
+/// is that of a proxy at the answer's version. And no committed transaction read a range written by
+/// one committed between its snapshot and itself.
 ///
 /// Does not allocate, and does not wait.
 pub fn metadata_of_two<'a, N: Naming>(
