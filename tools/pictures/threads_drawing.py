@@ -174,14 +174,14 @@ def audits(lanes, found, y):
 
 
 def meetings(lanes, found, y):
-    """For each proxy a line through those that it meets, with what comes of each meeting in the lane of the other."""
+    """For each proxy a line through those that it meets, with what comes of each meeting in the lane of the other, after its number."""
     drawn, last = [], lanes.middle(lanes.threads.script.proxies - 1)
     for first in range(lanes.threads.script.proxies - 1):
         left, met = lanes.middle(first), [it for it in found if it[0] == first]
         line = element("path", d="M%s %s H%s" % (left, y + 8.5, last))
         drawn.append(element("g", line, element("circle", cx=left, cy=y + 8.5, r=4, class_="end"), class_="meetings"))
         for _, second, word, _ in met:
-            chip = word_chip(word, "met %s" % word, "meet %d %d %s" % (first, second, word))
+            chip = word_chip("%d %s" % (first, word), "met %s" % word, "meet %d %d %s" % (first, second, word))
             drawn.append(element("g", *draw_chips([[chip]], lanes.middle(second), y), class_="meeting"))
         lines = [line for *_, own in met for line in own[1:]]
         drawn += others(lines, left - 40, y + 32, lanes.width - left)

@@ -55,7 +55,8 @@ def key(threads):
         "An outcome has a letter: %s. The number before it is that of the transaction in its batch." % letters(),
         "There are no arrows, since a threads text does not say which requests and replies there were.",
         "An audit says whether each resolver has come to the version of the proxy. A meeting compares the versions of two "
-        "proxies: that of the proxy with the dot is the same as that of the other one, behind it or ahead of it.",
+        "proxies: that of the proxy with the dot, whose number comes first, is the same as that of the one in whose lane this "
+        "stands, behind it or ahead of it.",
     )
 
 

@@ -173,10 +173,10 @@ class Strip:
     def unseen(self, middle, edge, versions, version):
         """The unseen rows of a reply, which its proxy learns: their arrow and their versions. Returns where they end."""
         half = self.lanes.box / 2
-        chips = [word_chip(it, "unseen", "version %s, unseen by this proxy until now" % it, data_u=it) for it in versions]
+        chips = [word_chip(it, "unseen", "version %s, which this reply lists as unseen" % it, data_u=it) for it in versions]
         lines = lines_of_chips(chips, self.lanes.box - 6)
         height = height_of_chips(lines) + 6
-        self.add(element("g", title("rows that the proxy had not seen"), arrow(edge, middle + half, self.y + 52.5, "tells")))
+        self.add(element("g", title("the rows that this reply lists as unseen"), arrow(edge, middle + half, self.y + 52.5, "tells")))
         self.boxed(middle, 42, height, "learned", *draw_chips(lines, middle, self.y + 45))
         self.beside(middle + half + 5, 49, "unseen", "over")
         return 42 + height

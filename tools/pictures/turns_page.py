@@ -49,9 +49,14 @@ def words_of_differences(turns):
 def key():
     return legend(
         "A strip is an event. Its number counts the events of the script from 0.",
+        "A record that begins and a move have thick frames, a record that is finished a green one, and a request that comes again a "
+        "dashed one.",
         "An arrow with a full line is a request, one with a dashed line a reply. A thick blue arrow brings the proxy the rows "
-        "that it has not seen, by their versions: %s." % chip("10", "unseen"),
-        "A verdict or an outcome has a letter: %s. The number before it is that of the transaction in its batch." % letters(),
+        "that the reply lists as unseen, by their versions: %s." % chip("10", "unseen"),
+        "A verdict or an outcome has a letter: %s. The number before it is that of the transaction in its batch. A request that "
+        "asks for no verdict gets <i>none</i>." % letters(),
+        "Below a finished record stand its committed mutations: the number of the transaction, the place of the mutation in it, "
+        "and its tags.",
         "%s is an event that is refused; it changes nothing." % chip("!", "refusal"),
         pointing="Point at a strip, or tap it: the routing is shown at its version.",
     )
