@@ -36,6 +36,9 @@ DEVICE_SCRIPTS = {
     "threads": ("threads/two_proxies.json", "threads/move_to_nobody.json"),
 }
 
+# a long turns script has so many batches of so many ranges, and so much address space that it has room only if it keeps little
+KEPT_BATCHES, KEPT_RANGES, KEPT_SPACE = 2_000, 40, 13 * 2**20
+
 # for each mode how a right script begins that asks for keys, and how it ends
 ASKING = {
     "": (b'{"resolvers":1,"rows":[],"ask":[', b"]}"),
@@ -231,6 +234,31 @@ def want_space(trial, mode):
         trial.expect(fine, "%s, %d keys: ends wrong in a small address space: %.500r" % (mode, count, ended))
 
 
+def batches_of(field, window, are_late):
+    """A turns script of batches that each read or write keys of their own: finished after their offers, or all at the end."""
+    early, late = [], []
+    for row in range(KEPT_BATCHES):
+        keys = ["%08d" % it for it in range(row * KEPT_RANGES, (row + 1) * KEPT_RANGES)]
+        ranges = {"reads": [], "writes": [], field: [[it, it + "\\x00"] for it in keys]}
+        batch = [{"snapshot": 0, **ranges, "mutations": [], "lock_aware": False}]
+        early += {"sequence": {"proxy": 0, "batch": batch}}, {"offer": {"row": row, "resolver": 0}}
+        (late if are_late else early).append({"finish": {"proxy": 0}})
+    numbers = {"proxies": 1, "resolvers": 1, "window": window, "step": 1, "ask": []}
+    return json.dumps({**numbers, "events": early + late}).encode()
+
+
+def keep_little(trial):
+    """Requests of finished batches and writes before the window are dropped: without them a long script has room, and with them not."""
+    for field, window, are_late, status in (
+        ("reads", KEPT_BATCHES, False, 0), ("reads", KEPT_BATCHES, True, OUT_OF_MEMORY),
+        ("writes", 1, False, 0), ("writes", KEPT_BATCHES, False, OUT_OF_MEMORY),
+    ):
+        how = {"capture_output": True, "preexec_fn": functools.partial(limit_space, KEPT_SPACE), "timeout": LIMIT}
+        ended = subprocess.run([trial.program, "turns"], input=batches_of(field, window, are_late), **how)
+        fine = (ended.returncode, ended.stderr) == (status, b"") and bool(ended.stdout) == (status == 0)
+        trial.expect(fine, "%s, window %d, finished late %s: ends wrong: %.500r" % (field, window, are_late, ended))
+
+
 def run_endless(trial, source, space, words=()):
     """A run over an input without an end in this much address space: its status, what it wrote, and its peak of memory."""
     how = {"stdout": subprocess.PIPE, "stderr": subprocess.PIPE, "preexec_fn": functools.partial(limit_space, space)}
@@ -357,7 +385,7 @@ def try_pipes(trial, example):
 OF_EACH_EXAMPLE = (
     refuse_growths, read_by_tokens, carried_out_as_they_come, refuse_reads, refuse_writes, shorten_calls, try_pipes, stop_and_go,
 )
-OF_THE_PROGRAM = (try_endless_inputs, try_words)
+OF_THE_PROGRAM = (try_endless_inputs, try_words, keep_little)
 
 
 def tried(program, shim, mark, trial_and_arguments):
