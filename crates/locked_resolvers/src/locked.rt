@@ -6,7 +6,7 @@ ghost use Rattle.facts.specs.Unsets.{IfTaken};
 ghost use Rattle.model.specs.ResolverMemory.{course};
 ghost use Rattle.model.specs.ResolverMemory as way;
 ghost use Rattle.agreed_ledger.specs.Cells.{AreKnownAt, verdict_cells, with_rows};
-ghost use Rattle.state_memory.specs.Answers.{GainsRequest, RepliesAfterJudged};
+ghost use Rattle.state_memory.specs.Answers.{GainsRequest, IsRememberedCount, RepliesAfterJudged};
 ghost use Rattle.locked_resolvers.specs.Resolvers.{HasOffered};
 ghost use Rattle.locked_resolvers.specs.Resolvers.{IsLockedResolver, IsNewLockedResolver};
 ghost use Rattle.locked_resolvers.specs.Resolvers.{IsOfferRefusal, TellsTaken, after_refusal};
@@ -113,7 +113,8 @@ impl<N: Naming> LockedResolver<N> {
 
     /// How many versions it remembers, since some proxy has not reached them.
     pub fn remembered(&self) -> usize
-        ensures { result ≡ length self.now.memory.rows }
+        ensures rows { result ≡ length self.now.memory.rows }
+        ensures count { IsRememberedCount self.now.memory result }
     {
         self.memory.remembered()
     }

@@ -1,6 +1,7 @@
 //! The resolver that threads share.
 
 ghost use Rattle.std.specs.Prelude.{◌≡◌, ◌<◌, ◌≤◌, length, IfOk, IfErr, MatchResult};
+ghost use Rattle.state_memory.specs.Answers.{IsRememberedCount};
 ghost use Rattle.locked_resolvers.specs.Resolvers.{HasOffered, IsLockedResolver, IsOfferRefusal};
 ghost use Rattle.locked_resolvers.specs.Resolvers.{IsResolveRefusal, ShowsReply, TellsTaken};
 ghost use Rattle.locked_resolvers.specs.Resolvers.{after_refusal, closed_resolver};
@@ -205,7 +206,8 @@ impl<'a, N: Naming> ResolverGuard<'a, N> {
 
     /// How many versions it remembers, since some proxy has not reached them.
     pub fn remembered(&self) -> usize
-        ensures { result ≡ length self.now.memory.rows }
+        ensures rows { result ≡ length self.now.memory.rows }
+        ensures count { IsRememberedCount self.now.memory result }
     {
         self.guard.remembered()
     }
