@@ -58,7 +58,8 @@ impl<'a, 'l, N: Naming, M: Channels, G: Gate + Drop> ResolverWorker<'a, 'l, N, M
         gate: G,
     ) -> Result<ResolverWorker<'a, 'l, N, M, G>, (Refusal, FreshEnd<N, AskedRequest<N>, M>, G)>
         ensures { MatchResult result
-            (λ worker. worker ≡ new_worker shared.now N.cells.config.proxies)
+            (λ worker. (end ≡ shared.now)
+            × (worker ≡ new_worker shared.now N.cells.config.proxies))
             (λ refused. (end ≢ shared.now) × (refused.0 ≡ refusals.WrongResolver)
             × (refused.1 ≡ end) × (refused.2 ≡ gate)) }
     {
