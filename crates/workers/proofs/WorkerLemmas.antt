@@ -1,6 +1,7 @@
 -- What a worker serves of the messages that it took.
-use Rattle.std.proofs.Common.{◌≡◌, refl, sym, ap, ◌∙◌, subst, ℕ, zero, suc, ◌+◌, ◌<◌, ◌≤◌, ◌⊎◌, inl, inr, List, [], ◌∷◌, ◌++◌, length, slice_get, Some, true, true≢false, append-nil, append_assoc, ◌||◌, arith}
+use Rattle.std.proofs.Common.{◌≡◌, ◌≢◌, refl, sym, ap, ◌∙◌, subst, ℕ, zero, suc, ◌+◌, ◌<◌, ◌≤◌, ◌⊎◌, inl, inr, List, [], ◌∷◌, ◌++◌, length, slice_get, Some, true, true≢false, append-nil, append_assoc, ◌||◌, arith}
 use Rattle.std.specs.Prelude.{IsFalse, IsTrue}
+use Rattle.std.proofs.lemmas.Bool.{cases_eq}
 use Rattle.facts.specs.Stretches.{end_of}
 use Rattle.model.proofs.History.Growth.{push_cases}
 use Rattle.agreed_ledger.specs.Cells.{ColumnView}
@@ -9,7 +10,7 @@ use Rattle.inboxes.specs.declared.tag.Tag.{Tag}
 use Rattle.inboxes.specs.declared.tag.Kind.TheVariants as kinds
 use Rattle.inboxes.specs.Sending.{ends_in}
 use Rattle.workers.specs.Desks.{DeskView, IsEmptyIfClosed, IsSettled, KeepsServing, Serves, has_failed, new_desk}
-use Rattle.workers.specs.Workers.{EndedView, HasClose, HasTakenMore, IsAsked, IsEnded, IsRequestOf, IsWorkerOf, ServesAsked, StaysFailed, TakesOne, WorkerView}
+use Rattle.workers.specs.Workers.{EndedView, HasCause, HasClose, HasRequest, HasTakenMore, IsAsked, IsEnded, IsRequestOf, IsWorkerOf, ServesAsked, StaysFailed, TakesOne, WorkerView}
 use Rattle.workers.proofs.DeskLemmas.{closed_fails}
 
 -- ---- before any message
@@ -30,6 +31,12 @@ starts r proxies v taken desk left =
       settled = subst IsSettled (sym desk) (λ sound place q at. absurd (cc));
       closed = λ closes. absurd (none_closes (subst (λ (t : TakerView). HasClose t.got) taken closes));
       emptied = λ closed. ap (λ (d : DeskView). d.held) desk;
+      cause =
+          record {
+            held = inl (ap (λ (d : DeskView). d.held) desk);
+            wanted = λ wanted. absurd (true≢false (sym wanted ∙ ap (λ (d : DeskView). d.wanted) desk));
+            closed = λ closed. absurd (true≢false (sym closed ∙ ap (λ (d : DeskView). d.closed) desk));
+          };
       ends = let none : ends_in v.taken.got ≡ 0 = ap (λ (t : TakerView). ends_in t.got) taken in omega (arith, left, none);
     }
 
@@ -49,12 +56,68 @@ closes_before messages tag (place, found, at, is) = by (push_cases messages tag 
     by (inl last) = inl (ap (λ (t : Tag). t.kind) last.1 ∙ is)
     by (inr sooner) = inr (place, found, sooner.1, is)
 
+-- what was taken before was taken
+still_there : {X : Type 0} (xs : List X) (y x : X) (k : ℕ) → slice_get xs k ≡ Some x → slice_get (xs ++ y ∷ []) k ≡ Some x
+still_there [] y x k at = absurd (cc)
+still_there (z ∷ xs) y x zero at = at
+still_there (z ∷ xs) y x (suc k) at = still_there xs y x k at
+
+last_there : {X : Type 0} (xs : List X) (y : X) → slice_get (xs ++ y ∷ []) (length xs) ≡ Some y
+last_there [] y = refl
+last_there (z ∷ xs) y = last_there xs y
+
+request_still : (r : ℕ) (messages : List Tag) (tag : Tag) → HasRequest r messages → HasRequest r (messages ++ tag ∷ [])
+request_still r messages tag (row, (place, found, at, is)) = (row, (place, found, still_there messages tag found place at, is))
+
+close_still : (messages : List Tag) (tag : Tag) → HasClose messages → HasClose (messages ++ tag ∷ [])
+close_still messages tag (place, found, at, is) = (place, found, still_there messages tag found place at, is)
+
+-- a message more that changes nothing else
+pub cause_same : (r : ℕ) (messages : List Tag) (tag : Tag) (before after : DeskView) → HasCause r messages before → after ≡ before → HasCause r (messages ++ tag ∷ []) after
+cause_same r messages tag before after cause same =
+    subst (HasCause r (messages ++ tag ∷ [])) (sym same)
+    (record {
+      held = held cause.held;
+      wanted = λ wanted. request_still r messages tag (cause.wanted wanted);
+      closed = λ closed. either (cause.closed closed);
+    })
+  where
+    held : (before.held ≡ []) ⊎ HasRequest r messages → (before.held ≡ []) ⊎ HasRequest r (messages ++ tag ∷ [])
+    held (inl none) = inl none
+    held (inr has) = inr (request_still r messages tag has)
+
+    either : HasClose messages ⊎ HasRequest r messages → HasClose (messages ++ tag ∷ []) ⊎ HasRequest r (messages ++ tag ∷ [])
+    either (inl closes) = inl (close_still messages tag closes)
+    either (inr has) = inr (request_still r messages tag has)
+
+-- a request more, which changes nothing if it is to another resolver
+pub cause_request : (r to row : ℕ) (messages : List Tag) (tag : Tag) (before after : DeskView) → HasCause r messages before → tag.kind ≡ kinds.Request → tag.to ≡ to → tag.row ≡ row
+    → before.column.resolver ≡ r → (to ≢ before.column.resolver → after ≡ before) → HasCause r (messages ++ tag ∷ []) after
+cause_request r to row messages tag before after cause kind names of own other = by (cases_eq to before.column.resolver)
+  where
+    by : (to ≡ before.column.resolver) ⊎ (to ≡ before.column.resolver → ⊥) → HasCause r (messages ++ tag ∷ []) after
+    by (inr apart) = cause_same r messages tag before after cause (other apart)
+    by (inl same) =
+        let has : HasRequest r (messages ++ tag ∷ []) = (row, (length messages, tag, last_there messages tag, record { kind = kind; to = names ∙ same ∙ own; row_is = of })) in
+        record { held = inr has; wanted = λ wanted. has; closed = λ closed. inr has }
+
+-- a Close more
+pub cause_close : (r : ℕ) (messages : List Tag) (tag : Tag) (before after : DeskView) → HasCause r messages before → tag.kind ≡ kinds.Close → after.held ≡ []
+    → (before.held ≡ [] → after.wanted ≡ before.wanted) → HasCause r (messages ++ tag ∷ []) after
+cause_close r messages tag before after cause kind none wanted =
+    record { held = inl none; wanted = λ wants. by cause.held wants; closed = λ closed. inl (length messages, tag, last_there messages tag, kind) }
+  where
+    by : (before.held ≡ []) ⊎ HasRequest r messages → IsTrue after.wanted → HasRequest r (messages ++ tag ∷ [])
+    by (inl empty) wants = request_still r messages tag (cause.wanted (sym (wanted empty) ∙ wants))
+    by (inr has) wants = request_still r messages tag has
+
 pub worker_next : (r proxies : ℕ) (before after : WorkerView) (tag : Tag) → IsWorkerOf r proxies before → after.taken ≡ record before.taken { got = before.taken.got ++ tag ∷ [] }
     → KeepsServing before.desk after.desk → IsSettled after.desk → IsEmptyIfClosed after.desk
     → ((row : ℕ) → IsRequestOf r row tag → IsFalse (has_failed after.desk) → Serves after.desk row)
     → (tag.kind ≡ kinds.Close → IsTrue after.desk.closed)
-    → (after.proxies_left + ends_in (before.taken.got ++ tag ∷ []) ≡ before.proxies_left + ends_in before.taken.got) → IsWorkerOf r proxies after
-worker_next r proxies before after tag is taken keeps settled emptied served closed left =
+    → (after.proxies_left + ends_in (before.taken.got ++ tag ∷ []) ≡ before.proxies_left + ends_in before.taken.got)
+    → HasCause r (before.taken.got ++ tag ∷ []) after.desk → IsWorkerOf r proxies after
+worker_next r proxies before after tag is taken keeps settled emptied served closed left cause =
     record {
       taken = ap (λ (t : TakerView). t.resolver) taken ∙ is.taken;
       resolver = keeps.resolver ∙ is.resolver;
@@ -63,6 +126,7 @@ worker_next r proxies before after tag is taken keeps settled emptied served clo
       settled = settled;
       closed = λ closes. close_by (closes_before before.taken.got tag (subst (λ (t : TakerView). HasClose t.got) taken closes));
       emptied = emptied;
+      cause = subst (λ (t : TakerView). HasCause r t.got after.desk) (sym taken) cause;
       ends = ap (λ (t : TakerView). after.proxies_left + ends_in t.got) taken ∙ left ∙ is.ends;
     }
   where
@@ -86,6 +150,7 @@ worker_same r proxies before after is taken desk left =
       settled = subst IsSettled (sym desk) is.settled;
       closed = λ closes. ap (λ (d : DeskView). d.closed) desk ∙ is.closed (subst (λ (t : TakerView). HasClose t.got) taken closes);
       emptied = subst IsEmptyIfClosed (sym desk) is.emptied;
+      cause = subst (λ (d : DeskView). HasCause r after.taken.got d) (sym desk) (subst (λ (t : TakerView). HasCause r t.got before.desk) (sym taken) is.cause);
       ends = let same = ap (λ (t : TakerView). ends_in t.got) taken in let all = is.ends in omega (arith, left, same, all);
     }
 
@@ -160,17 +225,27 @@ not_all r proxies v is sound row above all = by (is.served sound next (all next 
     by (inr (place, q, at, of)) = let late = is.settled sound place q at in omega (arith, late, of)
 
 pub worker_ended : (r proxies : ℕ) (v : WorkerView) (ended : EndedView) → IsWorkerOf r proxies v → ended.taken ≡ v.taken → ended.column ≡ v.desk.column
-    → (IsFalse (ended.closed || ended.wanted) → IsFalse (has_failed v.desk)) → ended.closed ≡ v.desk.closed → ended.cut_off ≡ v.cut_off
+    → (IsFalse (ended.closed || ended.wanted) → IsFalse (has_failed v.desk)) → (v.desk.held ≡ [] → ended.wanted ≡ v.desk.wanted) → ended.closed ≡ v.desk.closed → ended.cut_off ≡ v.cut_off
     → (v.proxies_left ≡ 0) ⊎ IsTrue v.cut_off → IsEnded proxies ended
-worker_ended r proxies v ended is taken column failed closed cut why =
+worker_ended r proxies v ended is taken column failed wanted closed cut why =
     record {
       resolver = ap (λ (c : ColumnView). c.resolver) column ∙ is.resolver ∙ sym is.taken ∙ sym (ap (λ (t : TakerView). t.resolver) taken);
       first = ap (λ (c : ColumnView). c.rows.first) column ∙ is.first;
       served = λ sound row all. by sound row (λ asked within. own asked (all asked within)) (order row (end_of v.desk.column.rows));
+      closed_by = λ was.
+          subst (λ (t : TakerView). HasClose t.got ⊎ HasRequest t.resolver t.got) (sym taken)
+          (subst (λ (n : ℕ). HasClose v.taken.got ⊎ HasRequest n v.taken.got) (sym is.taken) (is.cause.closed (sym closed ∙ was)));
+      wanted_by = λ was.
+          subst (λ (t : TakerView). HasRequest t.resolver t.got) (sym taken)
+          (subst (λ (n : ℕ). HasRequest n v.taken.got) (sym is.taken) (asked is.cause.held was));
       told = λ closes. closed ∙ is.closed (subst (λ (t : TakerView). HasClose t.got) taken closes);
       ends = λ whole. all_ended (sym cut ∙ whole) why;
     }
   where
+    asked : (v.desk.held ≡ []) ⊎ HasRequest r v.taken.got → IsTrue ended.wanted → HasRequest r v.taken.got
+    asked (inl none) was = is.cause.wanted (sym (wanted none) ∙ was)
+    asked (inr has) was = has
+
     all_ended : IsFalse v.cut_off → (v.proxies_left ≡ 0) ⊎ IsTrue v.cut_off → ends_in ended.taken.got ≡ proxies
     all_ended whole (inl none) = let same = ap (λ (t : TakerView). ends_in t.got) taken in let all = is.ends in omega (arith, none, same, all)
     all_ended whole (inr cut_off) = absurd (true≢false (sym cut_off ∙ whole))

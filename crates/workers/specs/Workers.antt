@@ -32,6 +32,17 @@ abbrev pub HasClose : List Tag → Type 0
 HasClose messages =
     (place : ℕ) × (tag : Tag) × (slice_get messages place ≡ Some tag) × (tag.kind ≡ kinds.Close)
 
+-- one of the messages is a request to resolver r
+abbrev pub HasRequest : ResolverNumber → List Tag → Type 0
+HasRequest r messages = (row : RowNumber) × IsAsked r messages row
+
+-- What fails has a cause. The worker of resolver r holds a request back, or was refused memory, only
+-- if it took a request to resolver r. It is closed only if it took such a request or a Close.
+pub record HasCause (r : ResolverNumber) (messages : List Tag) (v : DeskView) : Type 0 where
+  pub held : (v.held ≡ []) ⊎ HasRequest r messages
+  pub wanted : IsTrue v.wanted → HasRequest r messages
+  pub closed : IsTrue v.closed → HasClose messages ⊎ HasRequest r messages
+
 -- A worker: what it took, what it keeps of it, how many proxies have not sent their End yet, and
 -- whether its inbox has no sender left.
 pub record WorkerView : Type 0 where
@@ -50,8 +61,8 @@ new_worker r proxies = record {
 }
 
 -- The worker of resolver r serves each row that was asked, and holds back no request whose turn has
--- come. It is closed if it took a Close, and then holds nothing back. It took an End for each of the
--- proxies but those that are left.
+-- come. It is closed if it took a Close, and then holds nothing back. If it has failed, it took a
+-- cause. It took an End for each of the proxies but those that are left.
 pub record IsWorkerOf (r : ResolverNumber) (proxies : ℕ) (v : WorkerView) : Type 0 where
   pub taken : v.taken.resolver ≡ r
   pub resolver : v.desk.column.resolver ≡ r
@@ -60,6 +71,7 @@ pub record IsWorkerOf (r : ResolverNumber) (proxies : ℕ) (v : WorkerView) : Ty
   pub settled : IsSettled v.desk
   pub closed : HasClose v.taken.got → IsTrue v.desk.closed
   pub emptied : IsEmptyIfClosed v.desk
+  pub cause : HasCause r v.taken.got v.desk
   pub ends : v.proxies_left + ends_in v.taken.got ≡ proxies
 
 -- what was taken before was taken, in order, and perhaps more
@@ -100,10 +112,14 @@ HasServed v =
     → row < end_of v.column.rows
 
 -- The column is that of the worker's resolver, from row 0, and no request was dropped whose turn came.
--- The worker was closed if it took a Close. It took so many Ends, unless it was cut off.
+-- The worker was closed if it took a Close. It was closed only if it took a Close or a request to
+-- its resolver, and refused memory only if it took such a request. It took so many Ends, unless it
+-- was cut off.
 pub record IsEnded (proxies : ℕ) (v : EndedView) : Type 0 where
   pub resolver : v.column.resolver ≡ v.taken.resolver
   pub first : v.column.rows.first ≡ 0
   pub served : HasServed v
   pub told : HasClose v.taken.got → IsTrue v.closed
+  pub closed_by : IsTrue v.closed → HasClose v.taken.got ⊎ HasRequest v.taken.resolver v.taken.got
+  pub wanted_by : IsTrue v.wanted → HasRequest v.taken.resolver v.taken.got
   pub ends : IsFalse v.cut_off → ends_in v.taken.got ≡ proxies

@@ -103,6 +103,7 @@ impl<N: Naming> Desk<N> {
         ensures held { self.new.held ≡ [] }
         ensures closed { self.new.closed ≡ true }
         ensures wanted { IsTrue self.old.wanted → IsTrue self.new.wanted }
+        ensures none_held { self.old.held ≡ [] → self.new.wanted ≡ self.old.wanted }
     {
         self.close_under(rt, &mut shared.lock(rt));
     }
@@ -115,6 +116,7 @@ impl<N: Naming> Desk<N> {
         ensures held { self.new.held ≡ [] }
         ensures closed { self.new.closed ≡ true }
         ensures wanted { IsTrue self.old.wanted → IsTrue self.new.wanted }
+        ensures none_held { self.old.held ≡ [] → self.new.wanted ≡ self.old.wanted }
     {
         guard.close();
         self.closed = true;

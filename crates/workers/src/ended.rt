@@ -17,7 +17,8 @@ use std::marker::Model;
 ///
 /// By its type, unless it was closed or was refused memory, its column has each row up to which it
 /// took a request of each row: it dropped no request whose turn came. If it took a Close, it was
-/// closed. It took as many Ends as there are proxies, unless it was cut off.
+/// closed. It was closed only if it took a Close or a request to its resolver, and refused memory only
+/// if it took such a request. It took as many Ends as there are proxies, unless it was cut off.
 #[derive(Drop)]
 pub struct EndedWorker<N: Naming, M: Channels, G: Gate + Drop> {
     taker: Taker<N, AskedRequest<N>, M>,

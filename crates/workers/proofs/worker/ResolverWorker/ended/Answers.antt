@@ -1,6 +1,7 @@
 -- What it served, it has judged.
-use Rattle.std.proofs.Common.{◌≡◌, refl, sym, ◌∙◌, subst, ◌||◌, ◌⊎◌}
+use Rattle.std.proofs.Common.{◌≡◌, refl, sym, ap, ◌∙◌, subst, ◌||◌, ◌⊎◌}
 use Rattle.std.specs.Prelude.{IsTrue}
+use Rattle.workers.specs.Desks.{DeskView}
 use Rattle.workers.specs.Workers.{EndedView, WorkerView}
 use Rattle.workers.proofs.WorkerLemmas.{worker_ended}
 use Rattle.workers.proofs.worker.ResolverWorker.ended.Goals as goal
@@ -14,4 +15,5 @@ of-requires g c =
     let ended : EndedView = record { taken = c.into_taker.result; column = parts.0; closed = parts.1; wanted = parts.2; cut_off = inside.cut_off } in
     let why = subst (λ (v : WorkerView). (v.proxies_left ≡ 0) ⊎ IsTrue v.cut_off) (sym c.self.view_is) c.requires in
     worker_ended inside.shared.now g.N.Naming.cells.config.proxies worker ended c.self.invariant c.into_taker.ensures (told.column ∙ c.let_go-2.ensures.column)
-    (λ sound. c.let_go-2.ensures.failed (sym (λ i. told.closed i || told.wanted i) ∙ sound)) (told.closed ∙ c.let_go-2.ensures.closed) refl why
+    (λ sound. c.let_go-2.ensures.failed (sym (λ i. told.closed i || told.wanted i) ∙ sound)) (λ none. told.wanted ∙ ap (λ (v : DeskView). v.wanted) (c.let_go-2.ensures.same none))
+    (told.closed ∙ c.let_go-2.ensures.closed) refl why

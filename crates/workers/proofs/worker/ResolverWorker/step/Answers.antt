@@ -8,7 +8,7 @@ use Rattle.inboxes.proofs.Sent.{no_end, one_end}
 use Rattle.workers.specs.Desks.{Serves}
 use Rattle.workers.specs.Workers.{WorkerView}
 use Rattle.workers.proofs.DeskLemmas.{keeps_same}
-use Rattle.workers.proofs.WorkerLemmas.{closed_keeps, closed_settled, worker_next, worker_same}
+use Rattle.workers.proofs.WorkerLemmas.{cause_close, cause_request, cause_same, closed_keeps, closed_settled, worker_next, worker_same}
 use Rattle.workers.proofs.worker.ResolverWorker.step.Goals as goal
 
 pub invariant_of-self-in-Request : goal.invariant_of-self-in-Request
@@ -27,6 +27,8 @@ invariant_of-self-in-Request g c =
     subst (Serves after.desk) of (c.take-in-Request.ensures.served own sound))
     (λ closes. let not : kinds.Request ≡ kinds.Close = ap (λ (t : Tag). t.kind) told ∙ closes in absurd (cc))
     (ap (λ (n : ℕ). before.proxies_left + n) (no_end before.taken.got message other))
+    (cause_request inside.shared.now held.plain.resolver held.plain.row before.taken.got message before.desk after.desk c.self.invariant.cause
+    (ap (λ (t : Tag). t.kind) (sym told)) (ap (λ (t : Tag). t.to) (sym told)) (ap (λ (t : Tag). t.row) (sym told)) c.self.invariant.resolver c.take-in-Request.ensures.other)
 
 pub invariant_of-self-in-Close : goal.invariant_of-self-in-Close
 invariant_of-self-in-Close g c =
@@ -41,6 +43,7 @@ invariant_of-self-in-Close g c =
     (λ row is sound. let not : kinds.Close ≡ kinds.Request = ap (λ (t : Tag). t.kind) told ∙ is.kind in absurd (cc))
     (λ closes. c.close.ensures.closed)
     (ap (λ (n : ℕ). before.proxies_left + n) (no_end before.taken.got message other))
+    (cause_close inside.shared.now before.taken.got message before.desk after.desk c.self.invariant.cause (ap (λ (t : Tag). t.kind) (sym told)) c.close.ensures.held c.close.ensures.none_held)
 
 pub invariant_of-self-in-End : goal.invariant_of-self-in-End
 invariant_of-self-in-End g c =
@@ -55,6 +58,7 @@ invariant_of-self-in-End g c =
     (λ row is sound. let not : kinds.End ≡ kinds.Request = ap (λ (t : Tag). t.kind) told ∙ is.kind in absurd (cc))
     (λ closes. let not : kinds.End ≡ kinds.Close = ap (λ (t : Tag). t.kind) told ∙ closes in absurd (cc))
     (let more = one_end before.taken.got message last in omega (arith, more, some, c.requires))
+    (cause_same inside.shared.now before.taken.got message inside.desk inside.desk c.self.invariant.cause refl)
 
 pub invariant_of-self : goal.invariant_of-self
 invariant_of-self g c =
