@@ -27,13 +27,14 @@ pub record AreRepliesInOrder
       → slice_get requests place ≡ Some q → slice_get replies place ≡ Some noted
       → IsReplyToRequest q.plain noted.reply
 
--- an allocation failed, or the resolver that the request names, as its lock kept it then, refused it
--- so
+-- An allocation failed; or a resolver of the number that the request names, in some state that its
+-- lock may keep, refuses the request so.
 abbrev pub IsAskRefusal : Config → RequestView → Refusal → Type 0
 IsAskRefusal config q refusal =
     (refusal ≡ refusals.OutOfMemory) ⊎ IsResolveRefusal config q.plain.resolver q.plain refusal
 
--- an allocation failed, or the resolver that one of the requests names refused it so
+-- An allocation failed; or a resolver of the number that one of the requests names, in some state
+-- that its lock may keep, refuses that request so.
 abbrev pub IsAskAllRefusal : Config → List RequestView → Refusal → Type 0
 IsAskAllRefusal config requests refusal =
     (refusal ≡ refusals.OutOfMemory)

@@ -46,8 +46,8 @@ of_offer (offered.GivenUp acknowledged) = refusals.GivenUp acknowledged
 of_offer (offered.Early version) = refusals.Early version
 of_offer offered.OutOfMemory = refusals.OutOfMemory
 
--- The refusal that says why a request that comes next was not judged: its cell is told as taken
--- exactly if it was.
+-- Why a request that comes next was not judged: `OutOfMemory` if an allocation failed, and
+-- `CellTaken` if the verdict cell of its row held verdicts before.
 abbrev pub of_unset : {K : Type 0} → Unset K → Refusal
 of_unset unset.OutOfMemory = refusals.OutOfMemory
 of_unset (unset.Taken note) = refusals.CellTaken

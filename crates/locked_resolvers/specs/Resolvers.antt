@@ -169,8 +169,8 @@ abbrev pub IsNotEarly : Refusal → Type 0
 IsNotEarly (refusals.Early version) = ⊥
 IsNotEarly refusal = Unit {0}
 
--- the refusal is one of an offer to the resolver of this number, as its lock kept it then, and not
--- that of an early request
+-- A resolver of this number, in some state that its lock may keep, refuses an offer of the request
+-- so, and not since the request is early.
 abbrev pub IsResolveRefusal : Config → ResolverNumber → Request → Refusal → Type 0
 IsResolveRefusal config r q refusal =
     IsNotEarly refusal

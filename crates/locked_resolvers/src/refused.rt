@@ -33,8 +33,8 @@ impl<N: Naming> Refused<N> {
         }
     }
 
-    /// The request came next, and its cell was not set. Want of memory is never told as a taken cell,
-    /// nor a taken cell as want of memory.
+    /// The request came next, and its cell was not set. If an allocation failed, the refusal is
+    /// `OutOfMemory`, never `CellTaken`; if the cell held verdicts before, it is `CellTaken`.
     pub(crate) fn unset(why: Unset<VerdictNote<N>>, request: Request<N>) -> Refused<N>
         ensures refusal { result.refusal ≡ of_unset why }
         ensures request { result.request ≡ request }

@@ -30,7 +30,8 @@ abbrev pub HasOthers : ProxyNumber → List RequestView → Type 0
 HasOthers p requests = (place : ℕ) × IsOtherAt p requests place
 
 -- One of the requests is of another proxy, and is refused as such. Or each is of the proxy, and an
--- allocation failed, or the resolver that one of them names refused it so.
+-- allocation failed; or a resolver of the number that one of them names, in some state that its
+-- lock may keep, refuses that request so.
 abbrev pub IsInboxRefusal : Config → ProxyNumber → List RequestView → Refusal → Type 0
 IsInboxRefusal config p requests refusal =
     (HasOthers p requests × (refusal ≡ refusals.NotMine))

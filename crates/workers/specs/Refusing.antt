@@ -11,7 +11,8 @@ use Rattle.locked_resolvers.specs.declared.refusal.Refusal.TheVariants as refusa
 use Rattle.workers.specs.declared.answer.Answer.{Answer}
 use Rattle.workers.specs.declared.answer.Answer.TheVariants as answers
 
--- the resolver of this number, as its lock kept it then, refused an offer of the request so
+-- a resolver of this number, in some state that its lock may keep, refuses an offer of the request
+-- so
 abbrev pub WasRefusedBy : Config → ResolverNumber → Request → Refusal → Type 0
 WasRefusedBy config r q refusal =
     (v : LockedResolverView)
