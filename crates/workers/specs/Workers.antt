@@ -36,8 +36,8 @@ HasClose messages =
 abbrev pub HasRequest : ResolverNumber → List Tag → Type 0
 HasRequest r messages = (row : RowNumber) × IsAsked r messages row
 
--- What fails has a cause. The worker of resolver r holds a request back, or was refused memory, only
--- if it took a request to resolver r. It is closed only if it took such a request or a Close.
+-- The worker of resolver r holds a request back, or was refused memory, only if it took a request
+-- to resolver r. It is closed only if it took such a request or a Close.
 pub record HasCause (r : ResolverNumber) (messages : List Tag) (v : DeskView) : Type 0 where
   pub held : (v.held ≡ []) ⊎ HasRequest r messages
   pub wanted : IsTrue v.wanted → HasRequest r messages
@@ -61,8 +61,9 @@ new_worker r proxies = record {
 }
 
 -- The worker of resolver r serves each row that was asked, and holds back no request whose turn has
--- come. It is closed if it took a Close, and then holds nothing back. If it has failed, it took a
--- cause. It took an End for each of the proxies but those that are left.
+-- come. It is closed if it took a Close, and then holds nothing back. It has failed only if it took
+-- a Close or a request to resolver r. It took an End for each of the proxies but those that are
+-- left.
 pub record IsWorkerOf (r : ResolverNumber) (proxies : ℕ) (v : WorkerView) : Type 0 where
   pub taken : v.taken.resolver ≡ r
   pub resolver : v.desk.column.resolver ≡ r
