@@ -2,7 +2,6 @@
 
 mod asking;
 mod committing;
-mod comparing;
 mod from_nothing;
 mod sequencing;
 mod stories;

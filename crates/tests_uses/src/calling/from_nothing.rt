@@ -22,17 +22,3 @@ fn two_proxies_of_a_cluster_from_nothing_show_their_metadata(rt: HostRuntime) ->
     assert!(rt; full == Some(Refused::ByLedger(no_row)));
     Ok(())
 }
-
-#[test]
-fn no_cluster_starts_without_rows_or_without_a_second_proxy(rt: HostRuntime) -> Result<(), Fail> {
-    let alloc = rt.alloc();
-    let pair = Config::new(2, 3, 1000, 10)?;
-    let (first, second) = (batch(alloc, FIRST)?, batch(alloc, SECOND)?);
-    let no_row = promise_from_nothing(&rt, alloc, 0, pair, first, second).err();
-    assert!(rt; no_row == Some(Refused::ByLedger(agreed_ledger::Refusal::BadConfig)));
-    let alone = Config::new(1, 3, 1000, 10)?;
-    let (first, second) = (batch(alloc, FIRST)?, batch(alloc, SECOND)?);
-    let no_second = promise_from_nothing(&rt, alloc, 2, alone, first, second).err();
-    assert!(rt; no_second == Some(Refused::ByCluster(locked_cluster::Refusal::NoSuchProxy)));
-    Ok(())
-}
