@@ -2,6 +2,7 @@
 
 mod asking;
 mod committing;
+mod comparing;
 mod from_nothing;
 mod sequencing;
 mod stories;

@@ -5,9 +5,8 @@ use Rattle.model.specs.Stamps.{Given}
 use Rattle.model.specs.Finishing.{ProxyView}
 use Rattle.agreed_ledger.specs.Cells.{Cells}
 use Rattle.locked_cluster.specs.Ready.{ReadyView}
-use Rattle.locked_cluster.specs.Answers.{NotedFinishedView}
 use Rattle.locked_cluster.specs.Commits.{HandsBack, HoldsBatch}
-use Rattle.locked_cluster.specs.Proxies.{LockedProxyView, FinishesReady, IsLockedProxy}
+use Rattle.locked_cluster.specs.Proxies.{LockedProxyView, IsLockedProxy}
 use Rattle.locked_cluster.specs.declared.commits.commit_fault.CommitFault.{CommitFault}
 use Rattle.locked_cluster.specs.declared.commits.commit_fault.CommitFault.TheVariants as faults
 use Rattle.uses.specs.Causes.{OneWasNotCommitted, WasNotCommitted, cause_of}

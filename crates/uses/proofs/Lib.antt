@@ -3,4 +3,5 @@ pub mod CommitRefusals
 pub mod FinishedTwo
 pub mod OneVersion
 pub mod RepliesInCells
+pub mod StartRefusals
 pub mod StoppedRuns

@@ -23,7 +23,7 @@ cause_of (faults.Beginning refusal ticket) = ByCluster refusal
 cause_of (faults.Resolving refusal begun) = ByCluster refusal
 cause_of (faults.Finishing refusal ready) = ByCluster refusal
 
--- the proxy of this number, as its lock kept it then, refused to finish the record so
+-- a proxy of this number, in some state that its lock may keep, refuses to finish the record so
 abbrev pub CouldNotFinish : Config → ProxyNumber → ReadyView → Refusal → Type 0
 CouldNotFinish config p ready refusal =
     (v : LockedProxyView) × IsLockedProxy config v

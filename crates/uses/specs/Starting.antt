@@ -1,13 +1,19 @@
 -- What two proxies of a cluster show, each right after it has committed a batch.
-use Rattle.std.specs.Prelude.{◌≡◌, List}
+use Rattle.std.specs.Prelude.{◌≡◌, ◌⊎◌, ℕ, ◌<◌, ◌≤◌, List, length}
 use Rattle.model.specs.Configs.{Config}
 use Rattle.model.specs.Stamps.{Given}
 use Rattle.model.specs.Metadata.{Entries}
 use Rattle.model.specs.declared.outcome.Finished.{Finished}
+use Rattle.agreed_ledger.specs.Cells.{Cells, ledger_limit}
+use Rattle.agreed_ledger.specs.declared.refusal.Refusal.TheVariants as ledgers
+use Rattle.locked_resolvers.specs.declared.refusal.Refusal.TheVariants as clusters
 use Rattle.locked_cluster.specs.Answers.{NotedFinishedView}
 use Rattle.locked_cluster.specs.Commits.{IsCommitted}
 use Rattle.locked_cluster.specs.Headline.{Headline}
 use Rattle.locked_cluster.specs.Proxies.{LockedProxyView}
+use Rattle.uses.specs.Causes.{WasNotCommitted}
+use Rattle.uses.specs.declared.refused.Refused.{Refused}
+use Rattle.uses.specs.declared.refused.Refused.TheVariants.{ByCluster, ByLedger}
 
 -- These are the metadata of two locked proxies, and the finished batches of two answers. The promise
 -- holds of the proxies with each of the answers.
@@ -32,3 +38,33 @@ pub record KeepsPromise
   pub next_committed : IsCommitted 1 next_batch next_answer other
   pub shows :
       ShowsPromise config one other answer next_answer mine theirs finished next_finished
+
+-- ---- refusals
+
+-- an allocation failed
+abbrev pub IsOutOfMemory : Refused → Type 0
+IsOutOfMemory refused =
+    (refused ≡ ByLedger ledgers.OutOfMemory) ⊎ (refused ≡ ByCluster clusters.OutOfMemory)
+
+-- the batch of proxy 0, or that of proxy 1, was not committed
+abbrev pub OneOfTwoWasNotCommitted : Cells → (batch next_batch : List Given) → Refused → Type 0
+OneOfTwoWasNotCommitted cells batch next_batch refused =
+    WasNotCommitted cells 0 batch refused ⊎ WasNotCommitted cells 1 next_batch refused
+
+-- Why a cluster that has its ledger showed nothing: an allocation failed, or the cluster has no second
+-- proxy, or one of the batches was not committed.
+abbrev pub WasNotShownBy : Cells → (batch next_batch : List Given) → Refused → Type 0
+WasNotShownBy cells batch next_batch refused =
+    IsOutOfMemory refused
+    ⊎ (((refused ≡ ByCluster clusters.NoSuchProxy) × (cells.config.proxies ≤ 1))
+    ⊎ OneOfTwoWasNotCommitted cells batch next_batch refused)
+
+-- Why nothing was shown: a ledger cannot have so many rows, or an allocation for it failed; or it was
+-- made, with so many rows and these numbers, and its cluster showed nothing.
+abbrev pub WasNotShown :
+    (rows : ℕ) → Config → (batch next_batch : List Given) → Refused → Type 0
+WasNotShown rows config batch next_batch refused =
+    ((refused ≡ ByLedger ledgers.BadConfig) × ((rows ≡ 0) ⊎ (ledger_limit < rows)))
+    ⊎ (IsOutOfMemory refused
+    ⊎ ((cells : Cells) × (cells.config ≡ config) × (length cells.records ≡ rows)
+    × WasNotShownBy cells batch next_batch refused))

@@ -42,8 +42,8 @@ move_after t range destination =
 
 -- ---- refusals
 
--- The sequencer is unchanged, and refused a batch of this proxy: with its first fault, or for want of
--- memory or a taken cell where there was none.
+-- The sequencer is unchanged, and refused a batch of this proxy: with its first fault, or, where there
+-- is none, with `OutOfMemory` or `CellTaken`.
 abbrev pub RefusesBatch :
     Cells → (before : SequencedView) → ProxyNumber → (after : SequencedView) → Refusal → Type 0
 RefusesBatch cells before p after refusal =

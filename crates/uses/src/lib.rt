@@ -4,6 +4,7 @@
 
 mod asking;
 mod committing;
+mod comparing;
 mod finishing;
 mod folding;
 mod refused;
@@ -14,6 +15,7 @@ mod starting;
 
 pub use asking::{ask_each, resolve_again};
 pub use committing::commit_or_go_on;
+pub use comparing::routings_of_two;
 pub use finishing::{commit_two, finish_two};
 pub use folding::tags_after;
 pub use refused::Refused;

@@ -1,9 +1,10 @@
 //! A cluster starts from nothing, two of its proxies commit, and the promise holds of their metadata.
 
-ghost use Rattle.std.specs.Prelude.{◌≡◌, ◌<◌, IfOk};
+ghost use Rattle.std.specs.Prelude.{◌≡◌, ◌<◌, IfErr, IfOk};
 ghost use Rattle.model.specs.Shares.{each_below};
 ghost use Rattle.locked_cluster.specs.Commits.{IsCommitted};
-ghost use Rattle.uses.specs.Starting.{KeepsPromise, ShowsPromise};
+ghost use Rattle.uses.specs.Causes.{WasNotCommitted};
+ghost use Rattle.uses.specs.Starting.{KeepsPromise, ShowsPromise, WasNotShown, WasNotShownBy};
 
 use crate::refused::Refused;
 use agreed_ledger::{BlankLedger, Ledger, Naming, Sequencer};
@@ -36,7 +37,8 @@ pub struct Shown {
 /// proxy, number 0, and one on its second, number 1. Both then show their metadata, of which the promise
 /// of this project holds.
 ///
-/// Fails if the cluster has no second proxy, and as the calls do that make its parts and commit.
+/// Fails with `BadConfig` if a ledger cannot have so many rows, otherwise with `NoSuchProxy` if the
+/// cluster has no second proxy, and otherwise as a commit of one of the batches, or with `OutOfMemory`.
 pub fn promise_from_nothing<R: Wait>(
     rt: &R,
     alloc: Global,
@@ -45,8 +47,9 @@ pub fn promise_from_nothing<R: Wait>(
     batch: Batch,
     next_batch: Batch,
 ) -> Result<Shown, Refused>
-    ensures { IfOk result (λ shown. KeepsPromise config batch next_batch
+    ensures promise { IfOk result (λ shown. KeepsPromise config batch next_batch
         shown.mine shown.theirs shown.finished shown.next_finished) }
+    ensures refused { IfErr result (WasNotShown rows config batch next_batch) }
 {
     let blank = Ledger::new(alloc, rows, config)?;
     in_cluster::<Brand, R>(rt, alloc, blank, batch, next_batch)
@@ -61,8 +64,9 @@ fn in_cluster<N: Naming, R: Wait>(
     next_batch: Batch,
 ) -> Result<Shown, Refused>
     requires { blank ≡ N.cells }
-    ensures { IfOk result (λ shown. KeepsPromise N.cells.config batch next_batch
+    ensures promise { IfOk result (λ shown. KeepsPromise N.cells.config batch next_batch
         shown.mine shown.theirs shown.finished shown.next_finished) }
+    ensures refused { IfErr result (WasNotShownBy N.cells batch next_batch) }
 {
     let ledger = blank.named::<N>();
     let sequencer = Sequencer::new(alloc, &ledger)?;
@@ -132,8 +136,9 @@ fn commit_on_both<N: Naming, R: Wait, A: Asking<N>>(
 ) -> Result<Shown, Refused>
     requires one { one.now ≡ 0 }
     requires other { other.now ≡ 1 }
-    ensures { IfOk result (λ shown. KeepsPromise N.cells.config batch next_batch
+    ensures promise { IfOk result (λ shown. KeepsPromise N.cells.config batch next_batch
         shown.mine shown.theirs shown.finished shown.next_finished) }
+    ensures refused { IfErr result (WasNotShownBy N.cells batch next_batch) }
 {
     let (answer, mine) = committed(rt, one, sequencer, asking, batch)?;
     let (next_answer, theirs) = committed(rt, other, sequencer, asking, next_batch)?;
@@ -148,7 +153,8 @@ fn committed<'a, N: Naming, R: Wait, A: Asking<N>>(
     asking: &A,
     batch: Batch,
 ) -> Result<(NotedFinished<N>, ProxyGuard<'a, N>), Refused>
-    ensures { IfOk result (λ made. IsCommitted proxy.now batch made.0 made.1) }
+    ensures committed { IfOk result (λ made. IsCommitted proxy.now batch made.0 made.1) }
+    ensures refused { IfErr result (WasNotCommitted N.cells proxy.now batch) }
 {
     match proxy.commit(rt, sequencer, asking, batch) {
         Ok(made) => Ok(made),

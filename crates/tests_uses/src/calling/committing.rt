@@ -4,7 +4,7 @@ use crate::calling::asking::SecondTime;
 use crate::calling::stories::{Story, tell};
 use crate::calling::values::{FIRST, Seen, TAG, WRITE, seen_by};
 use agreed_ledger::Naming;
-use locked_cluster::{Asking, Refusal};
+use locked_cluster::{Asking, NotedFinished, Refusal};
 use mutation::Batch;
 use std::alloc::Global;
 use std::process::Abort;
@@ -30,6 +30,20 @@ fn commit_both<N: Naming, A: Asking<N>, R: Wait>(
 }
 
 /// Commits the batch of the proxy.
+pub(crate) fn committed<N: Naming, A: Asking<N>, R: Wait>(
+    rt: &R,
+    cluster: &Cluster<'_, N>,
+    asking: &A,
+    proxy: usize,
+    batch: Batch,
+) -> Result<NotedFinished<N>, Refused> {
+    let Ok(proxy) = cluster.proxy(proxy) else {
+        return Err(Refused::ByCluster(Refusal::NoSuchProxy));
+    };
+    commit_or_go_on(rt, proxy, &cluster.sequencer, asking, batch)
+}
+
+/// Commits the batch of the proxy, and looks at its answer.
 fn commit<N: Naming, A: Asking<N>, R: Wait>(
     rt: &R,
     cluster: &Cluster<'_, N>,
@@ -37,10 +51,7 @@ fn commit<N: Naming, A: Asking<N>, R: Wait>(
     proxy: usize,
     batch: Batch,
 ) -> Result<Seen, Refused> {
-    let Ok(proxy) = cluster.proxy(proxy) else {
-        return Err(Refused::ByCluster(Refusal::NoSuchProxy));
-    };
-    let noted = commit_or_go_on(rt, proxy, &cluster.sequencer, asking, batch)?;
+    let noted = committed(rt, cluster, asking, proxy, batch)?;
     Ok(seen_by(&noted))
 }
 

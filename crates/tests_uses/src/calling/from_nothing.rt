@@ -1,7 +1,9 @@
-//! The test of a cluster that starts from nothing.
+//! The tests of a cluster that starts from nothing.
 
 use crate::calling::values::{FIRST, SECOND, has_rows, seen};
 use model::Config;
+use std::alloc::Global;
+use std::sync::Wait;
 use std::test::Fail;
 use testing::batch;
 use uses::{Refused, promise_from_nothing};
@@ -16,9 +18,31 @@ fn two_proxies_of_a_cluster_from_nothing_show_their_metadata(rt: HostRuntime) ->
     assert!(rt; has_rows(&shown.theirs) == [true, true]);
     assert!(rt; seen(&shown.finished) == (10, 2, true));
     assert!(rt; seen(&shown.next_finished) == (20, 2, true));
+    Ok(())
+}
+
+/// Why a cluster of so many rows and proxies shows nothing.
+fn refused<R: Wait>(
+    rt: &R,
+    alloc: Global,
+    rows: usize,
+    proxies: usize,
+) -> Result<Option<Refused>, Fail> {
+    let config = Config::new(proxies, 3, 1000, 10)?;
     let (first, second) = (batch(alloc, FIRST)?, batch(alloc, SECOND)?);
-    let full = promise_from_nothing(&rt, alloc, 1, config, first, second).err();
-    let no_row = agreed_ledger::Refusal::LedgerFull { rows: 1 };
-    assert!(rt; full == Some(Refused::ByLedger(no_row)));
+    Ok(promise_from_nothing(rt, alloc, rows, config, first, second).err())
+}
+
+#[test]
+fn a_cluster_without_room_or_without_a_second_proxy_shows_nothing(
+    rt: HostRuntime,
+) -> Result<(), Fail> {
+    let alloc = rt.alloc();
+    let full = agreed_ledger::Refusal::LedgerFull { rows: 1 };
+    assert!(rt; refused(&rt, alloc, 1, 2)? == Some(Refused::ByLedger(full)));
+    let no_row = agreed_ledger::Refusal::BadConfig;
+    assert!(rt; refused(&rt, alloc, 0, 2)? == Some(Refused::ByLedger(no_row)));
+    let alone = locked_cluster::Refusal::NoSuchProxy;
+    assert!(rt; refused(&rt, alloc, 2, 1)? == Some(Refused::ByCluster(alone)));
     Ok(())
 }

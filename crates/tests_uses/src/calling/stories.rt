@@ -4,6 +4,7 @@ ghost use Rattle.std.specs.Prelude.{◌≡◌};
 
 use crate::calling::asking::ask_in_each_way;
 use crate::calling::committing::commit_in_each_way;
+use crate::calling::comparing::compare_routings;
 use crate::calling::sequencing::sequence_in_each_way;
 use agreed_ledger::{BlankLedger, Naming};
 use std::alloc::Global;
@@ -20,6 +21,8 @@ pub(crate) enum Story {
     Sequencing,
     /// Batches are committed.
     Committing,
+    /// Routings are compared.
+    Comparing,
     /// Resolvers are asked.
     Asking,
 }
@@ -48,6 +51,7 @@ fn tell_over<N: Naming, R: Abort + Wait>(
     match story {
         Story::Sequencing => sequence_in_each_way(rt, alloc, &cluster),
         Story::Committing => commit_in_each_way(rt, alloc, &cluster),
+        Story::Comparing => compare_routings(rt, alloc, &cluster),
         Story::Asking => ask_in_each_way(rt, alloc, &cluster),
     }
 }

@@ -1,5 +1,5 @@
 -- The proxies are there, and are compared by their versions.
-use Rattle.std.proofs.Common.{◌≡◌, sym, ◌∙◌}
+use Rattle.std.proofs.Common.{sym, ◌∙◌}
 use Rattle.uses.proofs.OneVersion.{metadata_of}
 use Rattle.uses.proofs.running.at_one_version.Goals as goal
 

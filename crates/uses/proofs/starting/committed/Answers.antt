@@ -1,0 +1,12 @@
+-- The fault says why the batch was not committed.
+use Rattle.std.proofs.Common.{sym, subst}
+use Rattle.uses.specs.Causes.{WasNotCommitted}
+use Rattle.uses.specs.declared.refused.Refused.{Refused}
+use Rattle.uses.proofs.CommitRefusals.{not_committed}
+use Rattle.uses.proofs.starting.committed.Goals as goal
+
+pub returns-in-Err-clause-refused : goal.returns-in-Err-clause-refused
+returns-in-Err-clause-refused g c =
+    let cells = g.N.Naming.cells in
+    subst (λ (refused : Refused). WasNotCommitted cells c.args.proxy.now c.args.batch refused) (sym c.by.ensures)
+    (not_committed cells c.args.proxy.now c.args.batch c.in-Err.fault c.in-Err.ensures)

@@ -1,0 +1,23 @@
+-- The ledger was not made, or its cluster showed nothing.
+use Rattle.std.proofs.Common.{◌≡◌, inr, rules}
+use Rattle.std.specs.Prelude.{Err}
+use Rattle.std.proofs.lemmas.Result.{IfErr-weaker}
+use Rattle.uses.specs.Starting.{WasNotShownBy, WasNotShown}
+use Rattle.uses.specs.declared.refused.Refused.TheVariants.{ByLedger}
+use Rattle.uses.proofs.CommitRefusals.{if_err}
+use Rattle.uses.proofs.StartRefusals.{no_ledger}
+use Rattle.uses.proofs.starting.promise_from_nothing.Goals as goal
+
+pub returns-in_err-blank-clause-refused : goal.returns-in_err-blank-clause-refused
+returns-in_err-blank-clause-refused g c =
+    let refusal = c.in_err-blank.field-0.0 in
+    let is : c.from_residual.result ≡ Err (ByLedger refusal) = search rules in
+    if_err (WasNotShown c.args.rows c.args.config c.args.batch c.args.next_batch) c.from_residual.result (ByLedger refusal) is
+    (no_ledger c.args.rows c.args.config c.args.batch c.args.next_batch refusal c.in_err-blank.ensures.refused)
+
+pub returns-clause-refused : goal.returns-clause-refused
+returns-clause-refused g c =
+    let blank = c.in_ok-blank.blank in
+    let made = c.in_ok-blank.ensures.made in
+    IfErr-weaker c.in_cluster.result (WasNotShownBy blank c.args.batch c.args.next_batch) (WasNotShown c.args.rows c.args.config c.args.batch c.args.next_batch)
+    (λ refused nothing. inr (inr (blank, made.3, made.2, nothing))) c.in_cluster.ensures.refused
