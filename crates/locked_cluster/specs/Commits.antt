@@ -35,21 +35,21 @@ pub record IsCommitted
   pub number : v.proxy.number ≡ p
   pub shown : ShowsFinished noted v
 
--- The sequencer, as its lock kept it then, refused a batch of this proxy so: with its first fault, or
--- for want of memory or a taken cell where there was none.
+-- The sequencer, in some state that its lock may keep, refuses a batch of this proxy so: with its
+-- first fault, or, where there is none, for want of memory or a taken cell.
 abbrev pub WasSequenceRefused : Cells → ProxyNumber → LedgerRefusal → Type 0
 WasSequenceRefused cells p refusal =
     (s : SequencedView) × MovesFollow cells.config s.records s.moves
     × (refusal_fault refusal ≡ sequence_fault cells s p)
 
--- the proxy of this number, as its lock kept it then, refused to begin the ticket so
+-- the proxy of this number, in some state that its lock may keep, refuses to begin the ticket so
 abbrev pub WasBeginRefused : Config → ProxyNumber → TicketView → Refusal → Type 0
 WasBeginRefused config p ticket refusal =
     (v : LockedProxyView) × IsLockedProxy config v
     × (v.proxy.number ≡ p) × IsBeginRefusal v ticket refusal
 
--- the proxy of this number, as its lock kept it then, awaited no earlier record and refused to finish
--- this one so
+-- the proxy of this number, in some state that its lock may keep, awaits no earlier record and refuses
+-- to finish this one so
 abbrev pub WasFinishRefused : Config → ProxyNumber → ReadyView → Refusal → Type 0
 WasFinishRefused config p ready refusal =
     (v : LockedProxyView) × IsLockedProxy config v × (v.proxy.number ≡ p)

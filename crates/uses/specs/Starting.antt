@@ -51,20 +51,35 @@ abbrev pub OneOfTwoWasNotCommitted : Cells → (batch next_batch : List Given) �
 OneOfTwoWasNotCommitted cells batch next_batch refused =
     WasNotCommitted cells 0 batch refused ⊎ WasNotCommitted cells 1 next_batch refused
 
--- Why a cluster that has its ledger showed nothing: an allocation failed, or the cluster has no second
--- proxy, or one of the batches was not committed.
+-- why two proxies that are there showed nothing: an allocation failed, or one of the batches was not
+-- committed
+abbrev pub WasNotShownByTwo : Cells → (batch next_batch : List Given) → Refused → Type 0
+WasNotShownByTwo cells batch next_batch refused =
+    IsOutOfMemory refused ⊎ OneOfTwoWasNotCommitted cells batch next_batch refused
+
+-- Why a cluster that has its ledger showed nothing. If it has no second proxy: this, or a failed
+-- allocation. Otherwise its two proxies showed nothing.
 abbrev pub WasNotShownBy : Cells → (batch next_batch : List Given) → Refused → Type 0
 WasNotShownBy cells batch next_batch refused =
-    IsOutOfMemory refused
-    ⊎ (((refused ≡ ByCluster clusters.NoSuchProxy) × (cells.config.proxies ≤ 1))
-    ⊎ OneOfTwoWasNotCommitted cells batch next_batch refused)
+    (cells.config.proxies ≤ 1
+    → IsOutOfMemory refused ⊎ (refused ≡ ByCluster clusters.NoSuchProxy))
+    × (1 < cells.config.proxies → WasNotShownByTwo cells batch next_batch refused)
 
--- Why nothing was shown: a ledger cannot have so many rows, or an allocation for it failed; or it was
--- made, with so many rows and these numbers, and its cluster showed nothing.
+-- a ledger cannot have so many rows
+abbrev pub IsBadCount : (rows : ℕ) → Type 0
+IsBadCount rows = (rows ≡ 0) ⊎ (ledger_limit < rows)
+
+-- a ledger can have so many rows
+abbrev pub IsGoodCount : (rows : ℕ) → Type 0
+IsGoodCount rows = (1 ≤ rows) × (rows ≤ ledger_limit)
+
+-- Why nothing was shown. If a ledger cannot have so many rows: this. Otherwise an allocation failed, or
+-- a cluster of these numbers, whose ledger has so many rows, showed nothing.
 abbrev pub WasNotShown :
     (rows : ℕ) → Config → (batch next_batch : List Given) → Refused → Type 0
 WasNotShown rows config batch next_batch refused =
-    ((refused ≡ ByLedger ledgers.BadConfig) × ((rows ≡ 0) ⊎ (ledger_limit < rows)))
-    ⊎ (IsOutOfMemory refused
+    (IsBadCount rows → refused ≡ ByLedger ledgers.BadConfig)
+    × (IsGoodCount rows
+    → IsOutOfMemory refused
     ⊎ ((cells : Cells) × (cells.config ≡ config) × (length cells.records ≡ rows)
     × WasNotShownBy cells batch next_batch refused))

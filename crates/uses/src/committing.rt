@@ -83,6 +83,8 @@ fn begun<N: Naming, R: Wait>(
     ensures refused { (batch : List Given) → HoldsBatch proxy.now ticket.row ticket.records batch
         → IfErr result (WasNotCommitted N.cells proxy.now batch) }
 {
+    // (its contract says what the type keeps of the ticket)
+    let _row = ticket.row();
     match proxy.lock(rt).begin(ticket) {
         Ok(begun) => Ok(begun),
         Err((refusal, _ticket)) => Err(Refused::ByCluster(refusal)),
@@ -101,6 +103,8 @@ fn resolve<N: Naming, R: Wait, A: Asking<N>>(
     ensures refused { (batch : List Given) → HoldsBatch proxy.now begun.row begun.records batch
         → IfErr result (WasNotCommitted N.cells proxy.now batch) }
 {
+    // (its contract says what the type keeps of the requests)
+    let _row = begun.row();
     match proxy.resolve_all(rt, asking, begun) {
         Ok(ready) => finish(rt, proxy, ready),
         Err((refusal, _begun)) => Err(Refused::ByCluster(refusal)),
@@ -118,6 +122,8 @@ fn finish<N: Naming, R: Wait>(
     ensures refused { (batch : List Given) → HoldsBatch proxy.now ready.row ready.records batch
         → IfErr result (WasNotCommitted N.cells proxy.now batch) }
 {
+    // (its contract says what the type keeps of the replies)
+    let _row = ready.row();
     match proxy.lock(rt).finish(ready) {
         Ok(noted) => Ok(noted),
         Err((refusal, _ready)) => Err(Refused::ByCluster(refusal)),

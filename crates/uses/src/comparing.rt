@@ -8,8 +8,8 @@ use agreed_ledger::Naming;
 use model::Version;
 use shared_cluster::{NotedFinished, NotedRouting, ProxyGuard, Refusal, metadata_of_two};
 
-/// Returns the routings of two proxies at a version that both have reached. By the promise of this
-/// project, which speaks of an answer as well, they are the same.
+/// Returns the routings of two proxies at a version that both have reached, which are proved to be the
+/// same. `answer`, of any proxy, is wanted only since `metadata_of_two` takes one.
 ///
 /// Fails as [`ProxyGuard::routing_at`] does for one of the proxies.
 pub fn routings_of_two<N: Naming>(

@@ -35,6 +35,8 @@ pub fn commit_two<N: Naming, R: Wait, A: Asking<N>>(
     let (begun, next_begun) = begun_both(rt, proxy, sequencer, batch, next_batch)?;
     let first = ready(rt, proxy, asking, begun)?;
     let second = ready(rt, proxy, asking, next_begun)?;
+    // (their contracts say what the type keeps of the replies)
+    let (_row, _next_row) = (first.row(), second.row());
     let mut guard = proxy.lock(rt);
     finish_two(&mut guard, first, second)
 }
@@ -98,6 +100,8 @@ fn begun<N: Naming, R: Wait>(
     ensures refused { IfErr result (WasNotCommitted N.cells guard.old.proxy.number batch) }
 {
     let ticket = sequenced(rt, sequencer, guard.number(), batch)?;
+    // (its contract says what the type keeps of the ticket)
+    let _row = ticket.row();
     match guard.begin(ticket) {
         Ok(begun) => Ok(begun),
         Err((refusal, _ticket)) => Err(Refused::ByCluster(refusal)),
@@ -133,6 +137,8 @@ fn ready<N: Naming, R: Wait, A: Asking<N>>(
     ensures refused { (batch : List Given) → HoldsBatch proxy.now begun.row begun.records batch
         → IfErr result (WasNotCommitted N.cells proxy.now batch) }
 {
+    // (its contract says what the type keeps of the requests)
+    let _row = begun.row();
     match proxy.resolve_all(rt, asking, begun) {
         Ok(ready) => Ok(ready),
         Err((refusal, _begun)) => Err(Refused::ByCluster(refusal)),

@@ -18,17 +18,28 @@ pub enum Refused {
 }
 
 impl Refused {
-    ghost use Rattle.uses.specs.Causes.{cause_of};
+    ghost use Rattle.uses.specs.Causes.{KeepsReturned, cause_of};
 
-    /// Why the commit failed.
+    /// Why the commit failed. The contract says too what the type of the returned value keeps of it.
     pub(crate) fn by<N: Naming>(fault: &CommitFault<N>) -> Refused
-        ensures { result ≡ cause_of fault.now }
+        ensures cause { result ≡ cause_of fault.now }
+        ensures kept { KeepsReturned N.cells.config fault.now }
     {
+        // (the contract of each row says what the type keeps)
         match fault {
             CommitFault::Sequencing { refusal, .. } => Refused::ByLedger(*refusal),
-            CommitFault::Beginning { refusal, .. } => Refused::ByCluster(*refusal),
-            CommitFault::Resolving { refusal, .. } => Refused::ByCluster(*refusal),
-            CommitFault::Finishing { refusal, .. } => Refused::ByCluster(*refusal),
+            CommitFault::Beginning { refusal, ticket } => {
+                let _row = ticket.row();
+                Refused::ByCluster(*refusal)
+            }
+            CommitFault::Resolving { refusal, begun } => {
+                let _row = begun.row();
+                Refused::ByCluster(*refusal)
+            }
+            CommitFault::Finishing { refusal, ready } => {
+                let _row = ready.row();
+                Refused::ByCluster(*refusal)
+            }
         }
     }
 }

@@ -1,10 +1,11 @@
 //! A cluster starts from nothing, two of its proxies commit, and the promise holds of their metadata.
 
-ghost use Rattle.std.specs.Prelude.{◌≡◌, ◌<◌, IfErr, IfOk};
+ghost use Rattle.std.specs.Prelude.{◌≡◌, ◌<◌, IfErr, IfOk, OnOk};
 ghost use Rattle.model.specs.Shares.{each_below};
 ghost use Rattle.locked_cluster.specs.Commits.{IsCommitted};
 ghost use Rattle.uses.specs.Causes.{WasNotCommitted};
-ghost use Rattle.uses.specs.Starting.{KeepsPromise, ShowsPromise, WasNotShown, WasNotShownBy};
+ghost use Rattle.uses.specs.Starting.{IsGoodCount, KeepsPromise, ShowsPromise};
+ghost use Rattle.uses.specs.Starting.{WasNotShown, WasNotShownBy, WasNotShownByTwo};
 
 use crate::refused::Refused;
 use agreed_ledger::{BlankLedger, Ledger, Naming, Sequencer};
@@ -37,8 +38,9 @@ pub struct Shown {
 /// proxy, number 0, and one on its second, number 1. Both then show their metadata, of which the promise
 /// of this project holds.
 ///
-/// Fails with `BadConfig` if a ledger cannot have so many rows, otherwise with `NoSuchProxy` if the
-/// cluster has no second proxy, and otherwise as a commit of one of the batches, or with `OutOfMemory`.
+/// Fails with `BadConfig` exactly if a ledger cannot have so many rows. Otherwise fails with
+/// `OutOfMemory`, with `NoSuchProxy` only if the cluster has no second proxy, or with a refusal of the
+/// commit of one of the batches.
 pub fn promise_from_nothing<R: Wait>(
     rt: &R,
     alloc: Global,
@@ -49,6 +51,7 @@ pub fn promise_from_nothing<R: Wait>(
 ) -> Result<Shown, Refused>
     ensures promise { IfOk result (λ shown. KeepsPromise config batch next_batch
         shown.mine shown.theirs shown.finished shown.next_finished) }
+    ensures rows { OnOk result (IsGoodCount rows) }
     ensures refused { IfErr result (WasNotShown rows config batch next_batch) }
 {
     let blank = Ledger::new(alloc, rows, config)?;
@@ -138,7 +141,7 @@ fn commit_on_both<N: Naming, R: Wait, A: Asking<N>>(
     requires other { other.now ≡ 1 }
     ensures promise { IfOk result (λ shown. KeepsPromise N.cells.config batch next_batch
         shown.mine shown.theirs shown.finished shown.next_finished) }
-    ensures refused { IfErr result (WasNotShownBy N.cells batch next_batch) }
+    ensures refused { IfErr result (WasNotShownByTwo N.cells batch next_batch) }
 {
     let (answer, mine) = committed(rt, one, sequencer, asking, batch)?;
     let (next_answer, theirs) = committed(rt, other, sequencer, asking, next_batch)?;

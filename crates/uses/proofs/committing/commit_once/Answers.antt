@@ -8,5 +8,5 @@ use Rattle.uses.proofs.committing.commit_once.Goals as goal
 pub returns-in-Err-clause-refused : goal.returns-in-Err-clause-refused
 returns-in-Err-clause-refused g c =
     let cells = g.N.Naming.cells in
-    subst (λ (refused : Refused). WasNotCommitted cells c.args.proxy.now c.args.batch refused) (sym c.by.ensures)
-    (not_committed cells c.args.proxy.now c.args.batch c.in-Err.fault c.in-Err.ensures)
+    subst (λ (refused : Refused). WasNotCommitted cells c.args.proxy.now c.args.batch refused) (sym c.by.ensures.cause)
+    (not_committed cells c.args.proxy.now c.args.batch c.in-Err.fault c.by.ensures.kept c.in-Err.ensures)

@@ -17,4 +17,4 @@ returns-in_err-ticket-clause-refused g c =
 pub returns-in-Err-clause-refused : goal.returns-in-Err-clause-refused
 returns-in-Err-clause-refused g c =
     let ticket = c.in_ok-ticket.ticket in
-    inl (ticket, subst (λ (p : ℕ). HoldsBatch p ticket.row ticket.records c.args.batch) c.number.ensures.value c.in_ok-ticket.ensures.holds, (c.args.guard.now, c.number.ensures.kept, refl, c.in-Err.ensures.refused))
+    inl (ticket, c.row-row.ensures.kept, subst (λ (p : ℕ). HoldsBatch p ticket.row ticket.records c.args.batch) c.number.ensures.value c.in_ok-ticket.ensures.holds, (c.args.guard.now, c.number.ensures.kept, refl, c.in-Err.ensures.refused))

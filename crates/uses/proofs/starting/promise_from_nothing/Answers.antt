@@ -1,11 +1,11 @@
 -- The ledger was not made, or its cluster showed nothing.
-use Rattle.std.proofs.Common.{◌≡◌, inr, rules}
+use Rattle.std.proofs.Common.{◌≡◌, rules}
 use Rattle.std.specs.Prelude.{Err}
 use Rattle.std.proofs.lemmas.Result.{IfErr-weaker}
 use Rattle.uses.specs.Starting.{WasNotShownBy, WasNotShown}
 use Rattle.uses.specs.declared.refused.Refused.TheVariants.{ByLedger}
 use Rattle.uses.proofs.CommitRefusals.{if_err}
-use Rattle.uses.proofs.StartRefusals.{no_ledger}
+use Rattle.uses.proofs.StartRefusals.{no_cluster, no_ledger}
 use Rattle.uses.proofs.starting.promise_from_nothing.Goals as goal
 
 pub returns-in_err-blank-clause-refused : goal.returns-in_err-blank-clause-refused
@@ -20,4 +20,4 @@ returns-clause-refused g c =
     let blank = c.in_ok-blank.blank in
     let made = c.in_ok-blank.ensures.made in
     IfErr-weaker c.in_cluster.result (WasNotShownBy blank c.args.batch c.args.next_batch) (WasNotShown c.args.rows c.args.config c.args.batch c.args.next_batch)
-    (λ refused nothing. inr (inr (blank, made.3, made.2, nothing))) c.in_cluster.ensures.refused
+    (λ refused nothing. no_cluster c.args.rows c.args.config c.args.batch c.args.next_batch blank refused (made.0, made.1) made.3 made.2 nothing) c.in_cluster.ensures.refused
