@@ -2,9 +2,11 @@
 
 ghost use Rattle.std.specs.Prelude.{◌≡◌};
 ghost use Rattle.agreed_ledger.specs.declared.refusal.Refusal.TheVariants as ledgers;
+ghost use Rattle.uses.specs.Causes.{KeepsReturned};
 ghost use Rattle.uses.specs.declared.refused.Refused.TheVariants.{ByCluster, ByLedger};
 
 use agreed_ledger::Naming;
+use model::RowNumber;
 use shared_cluster::CommitFault;
 use system_keys::OutOfMemory;
 
@@ -25,22 +27,26 @@ impl Refused {
         ensures cause { result ≡ cause_of fault.now }
         ensures kept { KeepsReturned N.cells.config fault.now }
     {
-        // (the contract of each row says what the type keeps)
+        // (its contract says what the type keeps)
+        let _row = row_of(fault);
         match fault {
             CommitFault::Sequencing { refusal, .. } => Refused::ByLedger(*refusal),
-            CommitFault::Beginning { refusal, ticket } => {
-                let _row = ticket.row();
-                Refused::ByCluster(*refusal)
-            }
-            CommitFault::Resolving { refusal, begun } => {
-                let _row = begun.row();
-                Refused::ByCluster(*refusal)
-            }
-            CommitFault::Finishing { refusal, ready } => {
-                let _row = ready.row();
-                Refused::ByCluster(*refusal)
-            }
+            CommitFault::Beginning { refusal, .. } => Refused::ByCluster(*refusal),
+            CommitFault::Resolving { refusal, .. } => Refused::ByCluster(*refusal),
+            CommitFault::Finishing { refusal, .. } => Refused::ByCluster(*refusal),
         }
+    }
+}
+
+/// The row of the record that the failed commit returns, if the batch got one.
+fn row_of<N: Naming>(fault: &CommitFault<N>) -> Option<RowNumber>
+    ensures { KeepsReturned N.cells.config fault.now }
+{
+    match fault {
+        CommitFault::Sequencing { .. } => None,
+        CommitFault::Beginning { ticket, .. } => Some(ticket.row()),
+        CommitFault::Resolving { begun, .. } => Some(begun.row()),
+        CommitFault::Finishing { ready, .. } => Some(ready.row()),
     }
 }
 

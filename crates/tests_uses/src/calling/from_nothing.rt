@@ -40,9 +40,16 @@ fn a_cluster_without_room_or_without_a_second_proxy_shows_nothing(
     let alloc = rt.alloc();
     let full = agreed_ledger::Refusal::LedgerFull { rows: 1 };
     assert!(rt; refused(&rt, alloc, 1, 2)? == Some(Refused::ByLedger(full)));
-    let no_row = agreed_ledger::Refusal::BadConfig;
-    assert!(rt; refused(&rt, alloc, 0, 2)? == Some(Refused::ByLedger(no_row)));
     let alone = locked_cluster::Refusal::NoSuchProxy;
     assert!(rt; refused(&rt, alloc, 2, 1)? == Some(Refused::ByCluster(alone)));
+    Ok(())
+}
+
+#[test]
+fn a_ledger_cannot_have_no_row_or_too_many(rt: HostRuntime) -> Result<(), Fail> {
+    let alloc = rt.alloc();
+    let bad = Some(Refused::ByLedger(agreed_ledger::Refusal::BadConfig));
+    assert!(rt; refused(&rt, alloc, 0, 2)? == bad);
+    assert!(rt; refused(&rt, alloc, 4_097, 2)? == bad);
     Ok(())
 }
