@@ -97,3 +97,7 @@ all_replied config v replies is answered =
           row = to.row ∙ numbers.row;
           version = to.version ∙ numbers.version;
         }
+
+-- the proxy of a request is that of the record
+pub proxy_at : (config : Config) (v : BegunView) (place : ℕ) (q : RequestView) → (is : IsBegun config v) → slice_get v.requests place ≡ Some q → q.plain.proxy ≡ is.rec.proxy
+proxy_at config v place q is at = (for_at config v place q is at).proxy

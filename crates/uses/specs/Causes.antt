@@ -1,6 +1,6 @@
 -- Why a batch was not committed, whichever the phase.
-use Rattle.std.specs.Prelude.{◌≡◌, ◌⊎◌, ⊤, List}
-use Rattle.model.specs.Numbers.{ProxyNumber}
+use Rattle.std.specs.Prelude.{◌≡◌, ◌⊎◌, ⊤, List, Option, None, Some}
+use Rattle.model.specs.Numbers.{ProxyNumber, RowNumber}
 use Rattle.model.specs.Configs.{Config}
 use Rattle.model.specs.Stamps.{Given}
 use Rattle.agreed_ledger.specs.Cells.{Cells}
@@ -23,23 +23,24 @@ cause_of (faults.Beginning refusal ticket) = ByCluster refusal
 cause_of (faults.Resolving refusal begun) = ByCluster refusal
 cause_of (faults.Finishing refusal ready) = ByCluster refusal
 
--- a record of p with the batch, which p refuses so to begin, in some state that its lock may keep
+-- There is some record of p with the batch, and p, in some state that its type allows, refuses to
+-- begin it so.
 abbrev pub CouldNotBegin : Cells → ProxyNumber → (batch : List Given) → Refusal → Type 0
 CouldNotBegin cells p batch refusal =
     (ticket : TicketView) × IsTicket cells.config ticket
     × HoldsBatch p ticket.row ticket.records batch
     × WasBeginRefused cells.config p ticket refusal
 
--- a record of p with the batch that was begun: an allocation failed, or the resolver of one of its
--- requests refuses this request so, in some state that its lock may keep
+-- There are requests as p sends them for some record of p with the batch: a resolver that one of them
+-- names, in some state that its type allows, refuses this one so; or an allocation failed.
 abbrev pub CouldNotResolve : Cells → ProxyNumber → (batch : List Given) → Refusal → Type 0
 CouldNotResolve cells p batch refusal =
     (begun : BegunView) × IsBegun cells.config begun
     × HoldsBatch p begun.row begun.records batch
     × IsAskAllRefusal cells.config begun.requests refusal
 
--- A record of p with the batch that all resolvers replied to, which p refuses so to finish, in some
--- state that its lock may keep.
+-- There are replies as all resolvers give them to some record of p with the batch, and p, in some state
+-- that its type allows, refuses to finish this record so.
 abbrev pub CouldNotFinish : Cells → ProxyNumber → (batch : List Given) → Refusal → Type 0
 CouldNotFinish cells p batch refusal =
     (ready : ReadyView) × IsReady cells.config ready
@@ -47,21 +48,28 @@ CouldNotFinish cells p batch refusal =
     × ((v : LockedProxyView) × IsLockedProxy cells.config v
     × (v.proxy.number ≡ p) × IsFinishRefusal v ready refusal)
 
--- Why a batch of proxy p was not committed: the sequencer gives this refusal in some state that its
--- lock may keep; or the batch has a record of p, and in some such state p refuses so to begin it, or a
--- resolver to judge it, or p to finish it.
+-- Why a batch of proxy p was not committed. Either the sequencer, with some history, refuses a batch of
+-- p so. Or there is some record of p with the batch, and p refuses so to begin or to finish it, or a
+-- resolver refuses so to judge it, each in some state that its type allows; or an allocation failed.
 abbrev pub WasNotCommitted : Cells → ProxyNumber → (batch : List Given) → Refused → Type 0
 WasNotCommitted cells p batch (ByLedger refusal) = WasSequenceRefused cells p refusal
 WasNotCommitted cells p batch (ByCluster refusal) =
     CouldNotBegin cells p batch refusal
     ⊎ (CouldNotResolve cells p batch refusal ⊎ CouldNotFinish cells p batch refusal)
 
--- what its type keeps of what a failed commit returns
+-- what the type of the ticket, the requests or the replies in a fault says of them; of a batch, nothing
 abbrev pub KeepsReturned : {N : Type 0} → Config → CommitFault N → Type 0
 KeepsReturned config (faults.Sequencing refusal batch) = ⊤
 KeepsReturned config (faults.Beginning refusal ticket) = IsTicket config ticket
 KeepsReturned config (faults.Resolving refusal begun) = IsBegun config begun
 KeepsReturned config (faults.Finishing refusal ready) = IsReady config ready
+
+-- the row of the record in a fault, if the batch got one
+abbrev pub row_in : {N : Type 0} → CommitFault N → Option RowNumber
+row_in (faults.Sequencing refusal batch) = None
+row_in (faults.Beginning refusal ticket) = Some ticket.row
+row_in (faults.Resolving refusal begun) = Some begun.row
+row_in (faults.Finishing refusal ready) = Some ready.row
 
 -- one of two batches of proxy p was not committed, for this reason
 abbrev pub OneWasNotCommitted :

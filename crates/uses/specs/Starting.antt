@@ -51,14 +51,14 @@ abbrev pub OneOfTwoWasNotCommitted : Cells → (batch next_batch : List Given) �
 OneOfTwoWasNotCommitted cells batch next_batch refused =
     WasNotCommitted cells 0 batch refused ⊎ WasNotCommitted cells 1 next_batch refused
 
--- why two proxies that are there showed nothing: an allocation failed, or one of the batches was not
--- committed
+-- why the first two proxies, which are there, showed nothing: an allocation failed, or one of the
+-- batches was not committed
 abbrev pub WasNotShownByTwo : Cells → (batch next_batch : List Given) → Refused → Type 0
 WasNotShownByTwo cells batch next_batch refused =
     IsOutOfMemory refused ⊎ OneOfTwoWasNotCommitted cells batch next_batch refused
 
--- Why a cluster that has its ledger showed nothing. If it has no second proxy: this, or a failed
--- allocation. Otherwise its two proxies showed nothing.
+-- Why a cluster that has its ledger showed nothing. If it has no second proxy: `NoSuchProxy`, or an
+-- allocation failed. Otherwise: what kept its first two proxies from showing anything.
 abbrev pub WasNotShownBy : Cells → (batch next_batch : List Given) → Refused → Type 0
 WasNotShownBy cells batch next_batch refused =
     (cells.config.proxies ≤ 1
@@ -73,8 +73,8 @@ IsBadCount rows = (rows ≡ 0) ⊎ (ledger_limit < rows)
 abbrev pub IsGoodCount : (rows : ℕ) → Type 0
 IsGoodCount rows = (1 ≤ rows) × (rows ≤ ledger_limit)
 
--- Why nothing was shown. If a ledger cannot have so many rows: this. Otherwise an allocation failed, or
--- a cluster of these numbers, whose ledger has so many rows, showed nothing.
+-- Why nothing was shown. If a ledger cannot have so many rows: `BadConfig`. Otherwise: an allocation
+-- failed, or what kept a cluster of these numbers, with so many rows, from showing anything.
 abbrev pub WasNotShown :
     (rows : ℕ) → Config → (batch next_batch : List Given) → Refused → Type 0
 WasNotShown rows config batch next_batch refused =

@@ -15,7 +15,7 @@ use std::sync::Wait;
 /// Commits a batch, and goes on once from what a failed commit returns. In the row of the answer
 /// stands a record with the batch, whichever phase had failed.
 ///
-/// Fails as the phase does that fails again.
+/// Fails as the phase does that then fails.
 pub fn commit_or_go_on<N: Naming, R: Wait, A: Asking<N>>(
     rt: &R,
     proxy: &SharedProxy<'_, N>,

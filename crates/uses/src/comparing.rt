@@ -9,7 +9,7 @@ use model::Version;
 use shared_cluster::{NotedFinished, NotedRouting, ProxyGuard, Refusal, metadata_of_two};
 
 /// Returns the routings of two proxies at a version that both have reached, which are proved to be the
-/// same. `answer`, of any proxy, is wanted only since `metadata_of_two` takes one.
+/// same. `answer`, of any proxy, is needed only because `metadata_of_two` takes one.
 ///
 /// Fails as [`ProxyGuard::routing_at`] does for one of the proxies.
 pub fn routings_of_two<N: Naming>(

@@ -2,7 +2,7 @@
 
 ghost use Rattle.std.specs.Prelude.{◌≡◌};
 ghost use Rattle.agreed_ledger.specs.declared.refusal.Refusal.TheVariants as ledgers;
-ghost use Rattle.uses.specs.Causes.{KeepsReturned};
+ghost use Rattle.uses.specs.Causes.{KeepsReturned, row_in};
 ghost use Rattle.uses.specs.declared.refused.Refused.TheVariants.{ByCluster, ByLedger};
 
 use agreed_ledger::Naming;
@@ -22,12 +22,12 @@ pub enum Refused {
 impl Refused {
     ghost use Rattle.uses.specs.Causes.{KeepsReturned, cause_of};
 
-    /// Why the commit failed. The contract says too what the type of the returned value keeps of it.
+    /// Why the commit failed. The contract says too what the type of what the fault returns says of it.
     pub(crate) fn by<N: Naming>(fault: &CommitFault<N>) -> Refused
         ensures cause { result ≡ cause_of fault.now }
         ensures kept { KeepsReturned N.cells.config fault.now }
     {
-        // (its contract says what the type keeps)
+        // (its contract says what the types say of what the fault returns)
         let _row = row_of(fault);
         match fault {
             CommitFault::Sequencing { refusal, .. } => Refused::ByLedger(*refusal),
@@ -40,7 +40,8 @@ impl Refused {
 
 /// The row of the record that the failed commit returns, if the batch got one.
 fn row_of<N: Naming>(fault: &CommitFault<N>) -> Option<RowNumber>
-    ensures { KeepsReturned N.cells.config fault.now }
+    ensures value { result ≡ row_in fault.now }
+    ensures kept { KeepsReturned N.cells.config fault.now }
 {
     match fault {
         CommitFault::Sequencing { .. } => None,

@@ -1,11 +1,14 @@
 //! A cluster starts from nothing, two of its proxies commit, and the promise holds of their metadata.
 
-ghost use Rattle.std.specs.Prelude.{◌≡◌, ◌<◌, IfErr, IfOk, OnOk};
+ghost use Rattle.std.specs.Prelude.{◌≡◌, ◌<◌, ◌≤◌, IfErr, IfOk, OnOk};
 ghost use Rattle.model.specs.Shares.{each_below};
+ghost use Rattle.agreed_ledger.specs.declared.refusal.Refusal.TheVariants as ledgers;
+ghost use Rattle.locked_resolvers.specs.declared.refusal.Refusal.TheVariants as clusters;
 ghost use Rattle.locked_cluster.specs.Commits.{IsCommitted};
 ghost use Rattle.uses.specs.Causes.{WasNotCommitted};
-ghost use Rattle.uses.specs.Starting.{IsGoodCount, KeepsPromise, ShowsPromise};
-ghost use Rattle.uses.specs.Starting.{WasNotShown, WasNotShownBy, WasNotShownByTwo};
+ghost use Rattle.uses.specs.Starting.{IsBadCount, IsGoodCount, KeepsPromise, ShowsPromise};
+ghost use Rattle.uses.specs.Starting.{WasNotShown, WasNotShownBy};
+ghost use Rattle.uses.specs.declared.refused.Refused.TheVariants.{ByCluster, ByLedger};
 
 use crate::refused::Refused;
 use agreed_ledger::{BlankLedger, Ledger, Naming, Sequencer};
@@ -38,9 +41,9 @@ pub struct Shown {
 /// proxy, number 0, and one on its second, number 1. Both then show their metadata, of which the promise
 /// of this project holds.
 ///
-/// Fails with `BadConfig` exactly if a ledger cannot have so many rows. Otherwise fails with
-/// `OutOfMemory`, with `NoSuchProxy` only if the cluster has no second proxy, or with a refusal of the
-/// commit of one of the batches.
+/// Fails with `BadConfig` exactly if a ledger cannot have so many rows. Otherwise, if there is no second
+/// proxy, fails only with `NoSuchProxy` or `OutOfMemory`; and if there is one, only with `OutOfMemory`
+/// or with a refusal of the commit of one of the batches.
 pub fn promise_from_nothing<R: Wait>(
     rt: &R,
     alloc: Global,
@@ -53,6 +56,9 @@ pub fn promise_from_nothing<R: Wait>(
         shown.mine shown.theirs shown.finished shown.next_finished) }
     ensures rows { OnOk result (IsGoodCount rows) }
     ensures refused { IfErr result (WasNotShown rows config batch next_batch) }
+    ensures bad { IfErr result (λ refused. refused ≡ ByLedger ledgers.BadConfig → IsBadCount rows) }
+    ensures alone { IfErr result (λ refused.
+        refused ≡ ByCluster clusters.NoSuchProxy → config.proxies ≤ 1) }
 {
     let blank = Ledger::new(alloc, rows, config)?;
     in_cluster::<Brand, R>(rt, alloc, blank, batch, next_batch)
@@ -139,9 +145,10 @@ fn commit_on_both<N: Naming, R: Wait, A: Asking<N>>(
 ) -> Result<Shown, Refused>
     requires one { one.now ≡ 0 }
     requires other { other.now ≡ 1 }
+    requires there { 1 < N.cells.config.proxies }
     ensures promise { IfOk result (λ shown. KeepsPromise N.cells.config batch next_batch
         shown.mine shown.theirs shown.finished shown.next_finished) }
-    ensures refused { IfErr result (WasNotShownByTwo N.cells batch next_batch) }
+    ensures refused { IfErr result (WasNotShownBy N.cells batch next_batch) }
 {
     let (answer, mine) = committed(rt, one, sequencer, asking, batch)?;
     let (next_answer, theirs) = committed(rt, other, sequencer, asking, next_batch)?;

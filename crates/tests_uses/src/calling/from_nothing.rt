@@ -46,10 +46,17 @@ fn a_cluster_without_room_or_without_a_second_proxy_shows_nothing(
 }
 
 #[test]
-fn a_ledger_cannot_have_no_row_or_too_many(rt: HostRuntime) -> Result<(), Fail> {
+fn a_ledger_has_from_1_to_4096_rows(rt: HostRuntime) -> Result<(), Fail> {
     let alloc = rt.alloc();
     let bad = Some(Refused::ByLedger(agreed_ledger::Refusal::BadConfig));
     assert!(rt; refused(&rt, alloc, 0, 2)? == bad);
     assert!(rt; refused(&rt, alloc, 4_097, 2)? == bad);
+    Ok(())
+}
+
+#[test]
+fn a_wrong_count_of_rows_is_told_before_a_missing_proxy(rt: HostRuntime) -> Result<(), Fail> {
+    let bad = Some(Refused::ByLedger(agreed_ledger::Refusal::BadConfig));
+    assert!(rt; refused(&rt, rt.alloc(), 0, 1)? == bad);
     Ok(())
 }

@@ -1,12 +1,11 @@
 -- A part of the cluster was not made, or a batch was not committed.
 use Rattle.std.proofs.Common.{◌≡◌, inl, refl, arith, rules}
 use Rattle.std.specs.Prelude.{Err}
-use Rattle.std.proofs.lemmas.Result.{IfErr-weaker}
 use Rattle.agreed_ledger.specs.declared.refusal.Refusal.TheVariants as ledgers
-use Rattle.uses.specs.Starting.{WasNotShownBy, WasNotShownByTwo}
+use Rattle.uses.specs.Starting.{WasNotShownBy}
 use Rattle.uses.specs.declared.refused.Refused.TheVariants.{ByCluster, ByLedger}
 use Rattle.uses.proofs.CommitRefusals.{if_err}
-use Rattle.uses.proofs.StartRefusals.{by_two, no_memory, no_proxy}
+use Rattle.uses.proofs.StartRefusals.{no_memory, no_proxy}
 use Rattle.uses.proofs.starting.in_cluster.Goals as goal
 
 pub returns-in_err-sequencer-clause-refused : goal.returns-in_err-sequencer-clause-refused
@@ -30,9 +29,3 @@ returns-in_err-other-clause-refused g c =
     let refusal = c.in_err-other.field-0.0 in
     let is : c.from_residual-in_err-other.result ≡ Err (ByCluster refusal) = search rules in
     if_err (WasNotShownBy g.N.Naming.cells c.args.batch c.args.next_batch) c.from_residual-in_err-other.result (ByCluster refusal) is (no_proxy g.N.Naming.cells c.args.batch c.args.next_batch 1 refusal (omega arith) c.in_err-other.ensures)
-
-pub returns-clause-refused : goal.returns-clause-refused
-returns-clause-refused g c =
-    let cells = g.N.Naming.cells in
-    IfErr-weaker c.commit_on_both.result (WasNotShownByTwo cells c.args.batch c.args.next_batch) (WasNotShownBy cells c.args.batch c.args.next_batch)
-    (λ refused nothing. by_two cells c.args.batch c.args.next_batch refused c.in_ok-other.ensures.1 nothing) c.commit_on_both.ensures.refused
