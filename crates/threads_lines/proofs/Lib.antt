@@ -2,6 +2,7 @@ pub mod AnswerLemmas
 pub mod EndLemmas
 pub mod FaultLemmas
 pub mod GuardLemmas
+pub mod HistoryLemmas
 pub mod MeetingLemmas
 pub mod MoveLemmas
 pub mod PartLemmas

@@ -1,5 +1,5 @@
 -- What a batch may be answered, and the texts that are the lines of such answers. `rows` is how many
--- rows the ledger has. *Profile*: all of it.
+-- rows the ledger has, and `history` the records that the run knows. *Profile*: all of it.
 use Rattle.std.specs.Prelude.{◌≡◌, ◌+◌, ◌<◌, ◌≤◌, ℕ, List, [], length, slice_get, Some, Ok, Err}
 use Rattle.model.specs.Configs.{Config, version_limit}
 use Rattle.model.specs.Numbers.{ProxyNumber}
@@ -9,6 +9,7 @@ use Rattle.agreed_ledger.specs.declared.refusal.Refusal.{Refusal}
 use Rattle.agreed_ledger.specs.declared.refusal.Refusal.TheVariants as refusals
 use Rattle.locked_cluster.specs.Answers.{NotedFinishedView, IsNotedFinished}
 use Rattle.locked_cluster.specs.Commits.{HoldsBatch}
+use Rattle.threads_lines.specs.Histories.{IsStartOf}
 use Rattle.threads_lines.specs.Lines.{Answer, batch_line, closing_line}
 use Rattle.threads_lines.specs.Parts.{IsInParts}
 use Rattle.threads_lines.specs.declared.committer.Committed.{Committed}
@@ -44,35 +45,38 @@ abbrev pub IsCommitOf :
 IsCommitOf config rows p batch (committed.Finished noted) = FinishesBatch config p batch noted
 IsCommitOf config rows p batch (committed.NoRecord refusal) = IsEnd config rows refusal
 
--- The batch of proxy p may be answered so: it is finished by the definition, or there is no record
--- for it.
-abbrev pub AnswersBatch : Config → (rows : ℕ) → ProxyNumber → List Given → Answer → Type 0
-AnswersBatch config rows p batch (Ok finished) =
-    (noted : NotedFinishedView) × FinishesBatch config p batch noted × (finished ≡ noted.finished)
-AnswersBatch config rows p batch (Err refusal) = IsEnd config rows refusal
+-- The batch of proxy p may be answered so: it is finished by the definition, after records with which
+-- the history begins; or there is no record for it.
+abbrev pub AnswersBatch :
+    Config → (rows : ℕ) → (history : List Record) → ProxyNumber → List Given → Answer → Type 0
+AnswersBatch config rows history p batch (Ok finished) =
+    (noted : NotedFinishedView) × FinishesBatch config p batch noted
+    × IsStartOf noted.records history × (finished ≡ noted.finished)
+AnswersBatch config rows history p batch (Err refusal) = IsEnd config rows refusal
 
 -- ---- their lines
 
 -- the line of an answer to the batch of proxy p
 abbrev pub IsLineOf :
-    Config → (rows : ℕ) → ProxyNumber → (line : Answer → List ℕ) → List Given
-    → (text : List ℕ) → Type 0
-IsLineOf config rows p line batch text =
-    (answer : Answer) × AnswersBatch config rows p batch answer × (text ≡ line answer)
+    Config → (rows : ℕ) → (history : List Record) → ProxyNumber → (line : Answer → List ℕ)
+    → List Given → (text : List ℕ) → Type 0
+IsLineOf config rows history p line batch text =
+    (answer : Answer) × AnswersBatch config rows history p batch answer × (text ≡ line answer)
 
 -- the line of an answer to the batch at this place among those of proxy p
 abbrev pub IsBatchLine :
-    Config → (rows : ℕ) → ProxyNumber → List (List Given) → (place : ℕ)
-    → (text : List ℕ) → Type 0
-IsBatchLine config rows p batches place text =
+    Config → (rows : ℕ) → (history : List Record) → ProxyNumber → List (List Given)
+    → (place : ℕ) → (text : List ℕ) → Type 0
+IsBatchLine config rows history p batches place text =
     (batch : List Given) × (slice_get batches place ≡ Some batch)
-    × IsLineOf config rows p (batch_line p place) batch text
+    × IsLineOf config rows history p (batch_line p place) batch text
 
 -- the lines of answers to these batches of proxy p, in order
 abbrev pub AreBatchLines :
-    Config → (rows : ℕ) → ProxyNumber → List (List Given) → (text : List ℕ) → Type 0
-AreBatchLines config rows p batches text =
-    IsInParts (IsBatchLine config rows p batches) (length batches) text
+    Config → (rows : ℕ) → (history : List Record) → ProxyNumber → List (List Given)
+    → (text : List ℕ) → Type 0
+AreBatchLines config rows history p batches text =
+    IsInParts (IsBatchLine config rows history p batches) (length batches) text
 
 -- the lines of answers to the batches that proxy p commits; `AreLines` says which they are
 abbrev pub AreLinesOfProxy :
@@ -83,5 +87,7 @@ AreLinesOfProxy AreLines work p text =
     × AreLines p batches text
 
 -- the line of an answer to the empty batch by which proxy p closes
-abbrev pub IsClosingLine : Config → (rows : ℕ) → ProxyNumber → (text : List ℕ) → Type 0
-IsClosingLine config rows p text = IsLineOf config rows p (closing_line p) [] text
+abbrev pub IsClosingLine :
+    Config → (rows : ℕ) → (history : List Record) → ProxyNumber → (text : List ℕ) → Type 0
+IsClosingLine config rows history p text =
+    IsLineOf config rows history p (closing_line p) [] text

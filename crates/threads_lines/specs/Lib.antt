@@ -1,5 +1,7 @@
 -- The definitions, in reading order.
 
+-- the history that a run knows
+pub mod Histories
 -- what a batch may be answered, and the texts of such answers
 pub mod Answers
 -- threads that are started and joined

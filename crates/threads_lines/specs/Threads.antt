@@ -29,16 +29,16 @@ AreLinesOfThread AreLines threads number batches place text =
     (thread : _) × (slice_get threads place ≡ Some thread)
     × AreLines (number thread) (batches thread) text
 
--- each thread returned what it promises, if it returned a text
+-- each thread returned what it promises, if it did not fail; `Keeps` says what is promised for these
+-- batches of this proxy
 abbrev pub KeepPromises :
-    {X Y : Type 0} → (AreLines : ProxyNumber → List (List Given) → (text : List ℕ) → Type 0)
+    {X Y : Type 0} → (Keeps : ProxyNumber → List (List Given) → Y → Type 0)
     → (threads : List X) → (number : X → ProxyNumber)
-    → (batches : X → List (List Given)) → (returned : List (Result Y RunFault))
-    → (bytes : Y → List ℕ) → Type 0
-KeepPromises AreLines threads number batches returned bytes =
+    → (batches : X → List (List Given)) → (returned : List (Result Y RunFault)) → Type 0
+KeepPromises Keeps threads number batches returned =
     (place : ℕ) (thread : _) (one : _) → slice_get threads place ≡ Some thread
     → slice_get returned place ≡ Some one
-    → IfOk one (λ text. AreLines (number thread) (batches thread) (bytes text))
+    → IfOk one (Keeps (number thread) (batches thread))
 
 -- the lines that all threads promise, in order
 abbrev pub AreLinesOfThreads :

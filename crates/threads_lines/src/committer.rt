@@ -3,6 +3,7 @@
 
 ghost use Rattle.std.specs.Prelude.{◌≡◌, [], length, IfOk, OnOk, string_bytes};
 ghost use Rattle.threads_lines.specs.Answers.{AreBatchLines, IsClosingLine, IsCommitOf, IsLineOf};
+ghost use Rattle.threads_lines.specs.Histories.{IsStartOf};
 ghost use Rattle.threads_lines.specs.Lines.{batch_line};
 ghost use Rattle.threads_lines.specs.Parts.{GrowsBy};
 
@@ -10,6 +11,7 @@ use crate::faults::{RunFault, printed_refusal};
 use crate::lines::{
     print_closing_version, print_finished_batch, print_refused_batch, print_refused_closing,
 };
+use crate::run_history::RunHistory;
 use agreed_ledger::{Naming, Refusal, Sequencer};
 use locked_cluster::{Asking, NotedFinished, SharedProxy};
 use model::ProxyNumber;
@@ -31,6 +33,15 @@ pub struct Committer<'a, 'l, N: Naming, A: Asking<N>> {
     ghost own: { proxy.now ≡ number },
 }
 
+/// The lines of answers, and a history with which the records of each finished batch begin.
+#[derive(Drop)]
+pub struct AnsweredLines<N: Naming> {
+    /// The lines.
+    pub text: String,
+    /// The history.
+    pub history: RunHistory<N>,
+}
+
 /// What a commit came to that does not end the run.
 #[derive(Drop)]
 enum Committed<N: Naming> {
@@ -43,29 +54,37 @@ enum Committed<N: Naming> {
 impl<'a, 'l, N: Naming, A: Asking<N>> Committer<'a, 'l, N, A> {
     /// Commits the batches in order, and returns the lines of their answers. If it fails, other
     /// proxies may wait for this one until its resolvers are closed.
-    pub fn run<R: Wait>(&self, rt: &R, alloc: Global, batches: &[Batch]) -> Result<String, RunFault>
-        ensures { IfOk result (λ text.
-            AreBatchLines N.cells.config (length N.cells.records) self.now.number
-            batches.now (string_bytes text)) }
+    pub fn run<R: Wait>(
+        &self,
+        rt: &R,
+        alloc: Global,
+        batches: &[Batch],
+    ) -> Result<AnsweredLines<N>, RunFault>
+        ensures { IfOk result (λ answered.
+            AreBatchLines N.cells.config (length N.cells.records) answered.history
+            self.now.number batches.now (string_bytes answered.text)) }
     {
         let mut text = String::new(alloc);
-        self.print_batches(rt, &mut text, batches)?;
-        Ok(text)
+        let mut history = RunHistory::new(alloc);
+        self.print_batches(rt, &mut text, &mut history, batches)?;
+        Ok(AnsweredLines { text, history })
     }
 
     fn print_batches<R: Wait>(
         &self,
         rt: &R,
         text: &mut String,
+        history: &mut RunHistory<N>,
         batches: &[Batch],
     ) -> Result<(), RunFault>
         ensures { OnOk result
             (GrowsBy
-            (AreBatchLines N.cells.config (length N.cells.records) self.now.number batches.now)
+            (AreBatchLines N.cells.config (length N.cells.records) history.new
+            self.now.number batches.now)
             (string_bytes text.old) (string_bytes text.new)) }
     {
         for (place, batch) in batches.iter().enumerate() {
-            self.print_batch(rt, text, place, batch)?;
+            self.print_batch(rt, text, history, place, batch)?;
         }
         Ok(())
     }
@@ -75,21 +94,21 @@ impl<'a, 'l, N: Naming, A: Asking<N>> Committer<'a, 'l, N, A> {
         &self,
         rt: &R,
         text: &mut String,
+        history: &mut RunHistory<N>,
         place: usize,
         batch: &Batch,
     ) -> Result<(), RunFault>
-        ensures { OnOk result
-            (GrowsBy (IsLineOf N.cells.config (length N.cells.records) self.now.number
-            (batch_line self.now.number place) batch.now)
+        ensures kept { IsStartOf history.old history.new }
+        ensures line { OnOk result
+            (GrowsBy (IsLineOf N.cells.config (length N.cells.records) history.new
+            self.now.number (batch_line self.now.number place) batch.now)
             (string_bytes text.old) (string_bytes text.new)) }
     {
         match self.commit(rt, batch)? {
-            Committed::Finished(noted) => print_finished_batch(
-                text,
-                self.number,
-                place,
-                noted.value(),
-            )?,
+            Committed::Finished(noted) => {
+                history.learn(noted.records())?;
+                print_finished_batch(text, self.number, place, noted.value())?;
+            }
             Committed::NoRecord(refusal) => print_refused_batch(
                 text,
                 self.number,
@@ -105,15 +124,21 @@ impl<'a, 'l, N: Naming, A: Asking<N>> Committer<'a, 'l, N, A> {
         &self,
         rt: &R,
         text: &mut String,
+        history: &mut RunHistory<N>,
         empty: &Batch,
     ) -> Result<(), RunFault>
         requires { empty.now ≡ [] }
-        ensures { OnOk result
-            (GrowsBy (IsClosingLine N.cells.config (length N.cells.records) self.now.number)
+        ensures kept { IsStartOf history.old history.new }
+        ensures line { OnOk result
+            (GrowsBy (IsClosingLine N.cells.config (length N.cells.records) history.new
+            self.now.number)
             (string_bytes text.old) (string_bytes text.new)) }
     {
         match self.commit(rt, empty)? {
-            Committed::Finished(noted) => print_closing_version(text, self.number, noted.value())?,
+            Committed::Finished(noted) => {
+                history.learn(noted.records())?;
+                print_closing_version(text, self.number, noted.value())?;
+            }
             Committed::NoRecord(refusal) => print_refused_closing(text, self.number, &refusal)?,
         }
         Ok(())

@@ -14,12 +14,14 @@ mod guards;
 mod lines;
 mod meetings;
 mod moves;
+mod run_history;
 mod serving;
 mod threads;
 
 pub use cluster::Cluster;
-pub use committer::Committer;
+pub use committer::{AnsweredLines, Committer};
 pub use faults::{RunFault, status_of};
 pub use meetings::{print_audits, print_meetings};
+pub use run_history::RunHistory;
 pub use serving::{RunOutcome, ServesInbox, commit_over_workers};
 pub use threads::CommitsBatches;

@@ -3,10 +3,14 @@
 
 ghost use Rattle.std.specs.Prelude.{◌≡◌, ◌≤◌, [], length, All, IfOk, string_bytes};
 ghost use Rattle.std.specs.Vec.{vec_capacity};
+ghost use Rattle.threads_lines.specs.Answers.{AreBatchLines, IsClosingLine};
+ghost use Rattle.threads_lines.specs.Parts.{IsInParts};
 ghost use Rattle.threads_lines.specs.Threads.{AreAnswerLines};
 
+use crate::committer::AnsweredLines;
 use crate::faults::RunFault;
 use crate::threads::{CommitsBatches, commit_in_threads};
+use agreed_ledger::Naming;
 use mutation::Batch;
 use std::alloc::Global;
 use std::sync::Wait;
@@ -27,9 +31,9 @@ pub trait ServesInbox<E, L> {
 
 /// What proxies and those who served them came to.
 #[derive(Drop)]
-pub struct RunOutcome<L: Drop> {
+pub struct RunOutcome<N: Naming, L: Drop> {
     /// The lines of the answers, or why there are none, as far as the proxies know.
-    pub lines: Result<String, RunFault>,
+    pub lines: Result<AnsweredLines<N>, RunFault>,
     /// What each thread that served left.
     pub workers: Vec<L>,
 }
@@ -41,10 +45,11 @@ pub struct RunOutcome<L: Drop> {
 /// Fails with `OutOfMemory` if the thread of an end could not be started, or an allocation failed
 /// before. Then no proxy commits anything.
 pub fn commit_over_workers<
+    N: Naming + Send,
     E: Send + Drop,
     L: Send + Drop,
     S: ServesInbox<E, L> + Sync,
-    C: CommitsBatches + Sync + Drop,
+    C: CommitsBatches<N> + Sync + Drop,
     R: Threads + Wait + Sync,
 >(
     rt: &R,
@@ -53,23 +58,29 @@ pub fn commit_over_workers<
     ends: Vec<E>,
     committing: C,
     work: &[Items<Batch>],
-) -> Result<RunOutcome<L>, OutOfMemory>
+) -> Result<RunOutcome<N, L>, OutOfMemory>
     requires ends { All (S.can_serve serving.now) ends.items }
     requires work { length work.now ≤ C.proxies committing }
-    ensures lines { IfOk result (λ outcome. IfOk outcome.lines (λ text. AreAnswerLines C.are_lines
-        (C.are_closings (C.proxies committing)) work.now (string_bytes text))) }
+    ensures lines { let rows = length N.cells.records in
+        IfOk result (λ outcome. IfOk outcome.lines (λ answered. AreAnswerLines
+        (AreBatchLines N.cells.config rows answered.history)
+        (IsInParts (IsClosingLine N.cells.config rows answered.history) (C.proxies committing))
+        work.now (string_bytes answered.text))) }
     ensures workers { IfOk result (λ outcome.
         length outcome.workers.items ≡ length ends.items) }
 {
     thread::scope(
         thread::scope_env(),
         rt,
-        |scope| -> Result<RunOutcome<L>, OutOfMemory>
+        |scope| -> Result<RunOutcome<N, L>, OutOfMemory>
             requires ends { All (S.can_serve serving.now) ends.items }
             requires work { length work.now ≤ C.proxies committing }
-            ensures lines { IfOk result (λ outcome. IfOk outcome.lines (λ text.
-                AreAnswerLines C.are_lines (C.are_closings (C.proxies committing))
-                work.entry.now (string_bytes text))) }
+            ensures lines { let rows = length N.cells.records in
+                IfOk result (λ outcome. IfOk outcome.lines (λ answered. AreAnswerLines
+                (AreBatchLines N.cells.config rows answered.history)
+                (IsInParts (IsClosingLine N.cells.config rows answered.history)
+                (C.proxies committing))
+                work.entry.now (string_bytes answered.text))) }
             ensures workers { IfOk result (λ outcome.
                 length outcome.workers.items ≡ length ends.items) }
         { commit_beside_workers(scope, rt, alloc, serving, ends, committing, work) },
@@ -81,10 +92,11 @@ pub fn commit_over_workers<
 fn commit_beside_workers<
     's,
     X,
+    N: Naming + Send + 's,
     E: Send + Drop + 's,
     L: Send + Drop + 's,
     S: ServesInbox<E, L> + Sync,
-    C: CommitsBatches + Sync + Drop,
+    C: CommitsBatches<N> + Sync + Drop,
     R: Threads + Wait + Sync,
 >(
     scope: &'s Scope<'s, X>,
@@ -94,11 +106,14 @@ fn commit_beside_workers<
     ends: Vec<E>,
     committing: C,
     work: &'s [Items<Batch>],
-) -> Result<RunOutcome<L>, OutOfMemory>
+) -> Result<RunOutcome<N, L>, OutOfMemory>
     requires ends { All (S.can_serve serving.now) ends.items }
     requires work { length work.now ≤ C.proxies committing }
-    ensures lines { IfOk result (λ outcome. IfOk outcome.lines (λ text. AreAnswerLines C.are_lines
-        (C.are_closings (C.proxies committing)) work.now (string_bytes text))) }
+    ensures lines { let rows = length N.cells.records in
+        IfOk result (λ outcome. IfOk outcome.lines (λ answered. AreAnswerLines
+        (AreBatchLines N.cells.config rows answered.history)
+        (IsInParts (IsClosingLine N.cells.config rows answered.history) (C.proxies committing))
+        work.now (string_bytes answered.text))) }
     ensures workers { IfOk result (λ outcome.
         length outcome.workers.items ≡ length ends.items) }
 {
@@ -111,7 +126,7 @@ fn commit_beside_workers<
             return Err(OutOfMemory);
         }
     };
-    let lines = answer_lines(rt, alloc, &committing, work);
+    let lines = answer_lines::<N, C, R>(rt, alloc, &committing, work);
     committing.end(rt);
     Ok(RunOutcome {
         lines,
@@ -200,17 +215,24 @@ fn join_workers<L: Drop, R: Threads>(
 }
 
 /// The lines of the answers to all batches, and to the closings after them.
-fn answer_lines<C: CommitsBatches + Sync + Drop, R: Threads + Wait + Sync>(
+fn answer_lines<N: Naming + Send, C: CommitsBatches<N> + Sync + Drop, R: Threads + Wait + Sync>(
     rt: &R,
     alloc: Global,
     committing: &C,
     work: &[Items<Batch>],
-) -> Result<String, RunFault>
+) -> Result<AnsweredLines<N>, RunFault>
     requires { length work.now ≤ C.proxies committing.now }
-    ensures { IfOk result (λ text. AreAnswerLines C.are_lines
-        (C.are_closings (C.proxies committing.now)) work.now (string_bytes text)) }
+    ensures { let rows = length N.cells.records in
+        IfOk result (λ answered. AreAnswerLines
+        (AreBatchLines N.cells.config rows answered.history)
+        (IsInParts (IsClosingLine N.cells.config rows answered.history)
+        (C.proxies committing.now))
+        work.now (string_bytes answered.text)) }
 {
-    let mut text = commit_in_threads(rt, alloc, committing, work)?;
-    committing.print_closings(rt, alloc, &mut text)?;
-    Ok(text)
+    let AnsweredLines {
+        mut text,
+        mut history,
+    } = commit_in_threads(rt, alloc, committing, work)?;
+    committing.print_closings(rt, alloc, &mut text, &mut history)?;
+    Ok(AnsweredLines { text, history })
 }

@@ -1,19 +1,21 @@
 //! The threads of a run, one for each proxy: what each commits (a trait), how they are started and
 //! joined, and their lines in order.
 
-ghost use Rattle.std.specs.Prelude.{◌≡◌, ◌++◌, ◌≤◌, ◌<◌, [], length, ℕ, List, IfOk, OnOk};
+ghost use Rattle.std.specs.Prelude.{◌≡◌, ◌++◌, ◌≤◌, ◌<◌, [], length, ℕ, IfOk, OnOk};
 ghost use Rattle.std.specs.Prelude.{Err, MatchResult, string_bytes};
-ghost use Rattle.model.specs.Numbers.{ProxyNumber};
-ghost use Rattle.model.specs.Stamps.{Given};
-ghost use Rattle.threads_lines.specs.Answers.{AreLinesOfProxy};
+ghost use Rattle.threads_lines.specs.Answers.{AreBatchLines, AreLinesOfProxy, IsClosingLine};
 ghost use Rattle.std.specs.Vec.{vec_capacity};
 ghost use Rattle.system_keys.specs.AsSpecified.{IsAsSpecifiedIfAllocated};
 ghost use Rattle.threads_lines.specs.Faults.{join_results, run_fault, texts_of};
+ghost use Rattle.threads_lines.specs.Histories.{AreOfThreads, IsStartOf};
 ghost use Rattle.threads_lines.specs.Parts.{GrowsBy, IsInParts};
 ghost use Rattle.threads_lines.specs.Threads.{AreInOrder, KeepPromises};
 ghost use Rattle.threads_lines.specs.declared.faults.RunFault.TheVariants as faults;
 
+use crate::committer::AnsweredLines;
 use crate::faults::RunFault;
+use crate::run_history::RunHistory;
+use agreed_ledger::Naming;
 use model::ProxyNumber;
 use mutation::Batch;
 use std::alloc::Global;
@@ -24,11 +26,7 @@ use std::thread::{Promise, PromisedHandle, Scope, Threads};
 use system_keys::{Items, OutOfMemory};
 
 /// What the threads of a run share: each commits the batches of one proxy by it.
-pub trait CommitsBatches {
-    ghost are_lines: { ProxyNumber → List (List Given) → (text : List ℕ) → Type 0 };
-
-    ghost are_closings: { (proxies : ℕ) → (text : List ℕ) → Type 0 };
-
+pub trait CommitsBatches<N: Naming> {
     ghost proxies: { Self → ℕ };
 
     /// Commits the batches of the proxy in order, and returns the lines of their answers. If it
@@ -39,9 +37,11 @@ pub trait CommitsBatches {
         alloc: Global,
         number: ProxyNumber,
         batches: &[Batch],
-    ) -> Result<String, RunFault>
+    ) -> Result<AnsweredLines<N>, RunFault>
         requires { number < proxies self.now }
-        ensures { IfOk result (λ text. are_lines number batches.now (string_bytes text)) };
+        ensures { IfOk result (λ answered.
+            AreBatchLines N.cells.config (length N.cells.records) answered.history
+            number batches.now (string_bytes answered.text)) };
 
     /// Lets each proxy in order commit one empty batch, by which it closes, and prints the answers.
     fn print_closings<R: Wait>(
@@ -49,8 +49,12 @@ pub trait CommitsBatches {
         rt: &R,
         alloc: Global,
         text: &mut String,
+        history: &mut RunHistory<N>,
     ) -> Result<(), RunFault>
-        ensures { OnOk result (GrowsBy (are_closings (proxies self.now))
+        ensures kept { IsStartOf history.old history.new }
+        ensures closings { OnOk result (GrowsBy
+            (IsInParts (IsClosingLine N.cells.config (length N.cells.records) history.new)
+            (proxies self.now))
             (string_bytes text.old) (string_bytes text.new)) };
 
     /// Lets all threads that wait for an answer end.
@@ -63,76 +67,92 @@ pub trait CommitsBatches {
 /// What a thread promises of what it returns: the lines of answers to these batches of the proxy, or
 /// why there are none.
 #[derive(Drop)]
-struct LinesOf<'a, C: CommitsBatches> {
+struct LinesOf<'a, N: Naming> {
     number: ProxyNumber,
     batches: &'a [Batch],
-    by: PhantomData<C>,
+    of: PhantomData<N>,
 }
 
-impl<'a, C: CommitsBatches> Promise<Result<String, RunFault>> for LinesOf<'a, C> {
-    ghost use Rattle.std.specs.Prelude.{IfOk, string_bytes};
+impl<'a, N: Naming> Promise<Result<AnsweredLines<N>, RunFault>> for LinesOf<'a, N> {
+    ghost use Rattle.std.specs.Prelude.{length, IfOk, string_bytes};
+    ghost use Rattle.threads_lines.specs.Answers.{AreBatchLines};
 
-    ghost kept_by = { λ promise returned. IfOk returned (λ text.
-        C.are_lines promise.number promise.batches.now (string_bytes text)) };
+    ghost kept_by = { λ promise returned. IfOk returned (λ answered.
+        AreBatchLines N.cells.config (length N.cells.records) answered.history
+        promise.number promise.batches.now (string_bytes answered.text)) };
 }
 
 /// A thread that commits the batches of a proxy.
-type Handle<'a, C> = PromisedHandle<Result<String, RunFault>, LinesOf<'a, C>>;
+type Handle<'a, N> = PromisedHandle<Result<AnsweredLines<N>, RunFault>, LinesOf<'a, N>>;
 
 /// Commits the batches of each proxy in a thread of its own, and waits for all threads to end.
 /// Returns the lines of the answers, in the order of the proxies.
 ///
 /// Fails with `OutOfMemory` if a thread could not be started, or was refused memory.
-pub(crate) fn commit_in_threads<C: CommitsBatches + Sync, R: Threads + Wait + Sync>(
-    rt: &R,
-    alloc: Global,
-    shared: &C,
-    work: &[Items<Batch>],
-) -> Result<String, RunFault>
+pub(crate) fn commit_in_threads<
+    N: Naming + Send,
+    C: CommitsBatches<N> + Sync,
+    R: Threads + Wait + Sync,
+>(rt: &R, alloc: Global, shared: &C, work: &[Items<Batch>]) -> Result<AnsweredLines<N>, RunFault>
     requires { length work.now ≤ C.proxies shared.now }
-    ensures { IfOk result (λ text. IsInParts (AreLinesOfProxy C.are_lines work.now)
-        (length work.now) (string_bytes text)) }
+    ensures { IfOk result (λ answered. IsInParts (AreLinesOfProxy
+        (AreBatchLines N.cells.config (length N.cells.records) answered.history) work.now)
+        (length work.now) (string_bytes answered.text)) }
 {
     thread::scope(
         thread::scope_env(),
         rt,
-        |scope| -> Result<String, RunFault>
+        |scope| -> Result<AnsweredLines<N>, RunFault>
             requires { length work.now ≤ C.proxies shared.now }
-            ensures { IfOk result (λ text.
-                IsInParts (AreLinesOfProxy C.are_lines work.entry.now)
-                (length work.entry.now) (string_bytes text)) }
+            ensures { IfOk result (λ answered. IsInParts (AreLinesOfProxy
+                (AreBatchLines N.cells.config (length N.cells.records) answered.history)
+                work.entry.now)
+                (length work.entry.now) (string_bytes answered.text)) }
         { commit_in_scope(scope, rt, alloc, shared, work) },
     )
 }
 
 /// Starts the threads, and waits for them to end.
-fn commit_in_scope<'s, E, C: CommitsBatches + Sync, R: Threads + Wait + Sync>(
+fn commit_in_scope<
+    's,
+    E,
+    N: Naming + Send + 's,
+    C: CommitsBatches<N> + Sync,
+    R: Threads + Wait + Sync,
+>(
     scope: &'s Scope<'s, E>,
     rt: &'s R,
     alloc: Global,
     shared: &'s C,
     work: &'s [Items<Batch>],
-) -> Result<String, RunFault>
+) -> Result<AnsweredLines<N>, RunFault>
     requires { length work.now ≤ C.proxies shared.now }
-    ensures { IfOk result (λ text. IsInParts (AreLinesOfProxy C.are_lines work.now)
-        (length work.now) (string_bytes text)) }
+    ensures { IfOk result (λ answered. IsInParts (AreLinesOfProxy
+        (AreBatchLines N.cells.config (length N.cells.records) answered.history) work.now)
+        (length work.now) (string_bytes answered.text)) }
 {
     let Ok(room) = Vec::with_capacity(alloc, work.len()) else {
         return Err(RunFault::OutOfMemory);
     };
-    let handles = start_proxy_threads(scope, rt, alloc, shared, work)?;
-    join_texts(alloc, join_proxy_threads(rt, handles, room))
+    let handles = start_proxy_threads::<E, N, C, R>(scope, rt, alloc, shared, work)?;
+    join_answers(alloc, join_proxy_threads(rt, handles, room))
 }
 
 /// Starts a thread for each proxy. If one cannot be started, closes what the threads wait for, waits
 /// for those that were started, and fails with `OutOfMemory`.
-fn start_proxy_threads<'s, E, C: CommitsBatches + Sync, R: Threads + Wait + Sync>(
+fn start_proxy_threads<
+    's,
+    E,
+    N: Naming + Send + 's,
+    C: CommitsBatches<N> + Sync,
+    R: Threads + Wait + Sync,
+>(
     scope: &'s Scope<'s, E>,
     rt: &'s R,
     alloc: Global,
     shared: &'s C,
     work: &'s [Items<Batch>],
-) -> Result<Vec<Handle<'s, C>>, OutOfMemory>
+) -> Result<Vec<Handle<'s, N>>, OutOfMemory>
     requires { length work.now ≤ C.proxies shared.now }
     ensures count { IfOk result (λ handles. length handles.items ≡ length work.now) }
     ensures ordered { IfOk result (λ handles. AreInOrder handles.items
@@ -152,14 +172,20 @@ fn start_proxy_threads<'s, E, C: CommitsBatches + Sync, R: Threads + Wait + Sync
 }
 
 /// Starts the thread of a proxy. Fails if it cannot be started.
-fn start_proxy_thread<'s, E, C: CommitsBatches + Sync, R: Threads + Wait + Sync>(
+fn start_proxy_thread<
+    's,
+    E,
+    N: Naming + Send + 's,
+    C: CommitsBatches<N> + Sync,
+    R: Threads + Wait + Sync,
+>(
     scope: &'s Scope<'s, E>,
     rt: &'s R,
     alloc: Global,
     shared: &'s C,
     number: ProxyNumber,
     batches: &'s [Batch],
-) -> Result<Handle<'s, C>, OutOfMemory>
+) -> Result<Handle<'s, N>, OutOfMemory>
     requires { number < C.proxies shared.now }
     ensures number { IfOk result (λ handle. handle.promise.number ≡ number) }
     ensures batches { IfOk result (λ handle. handle.promise.batches.now ≡ batches.now) }
@@ -167,12 +193,13 @@ fn start_proxy_thread<'s, E, C: CommitsBatches + Sync, R: Threads + Wait + Sync>
     let promise = LinesOf {
         number,
         batches,
-        by: PhantomData,
+        of: PhantomData,
     };
-    let run = move || -> Result<String, RunFault>
+    let run = move || -> Result<AnsweredLines<N>, RunFault>
         requires { number < C.proxies shared.now }
-        ensures { IfOk result (λ text. C.are_lines number batches.entry.now
-            (string_bytes text)) }
+        ensures { IfOk result (λ answered.
+            AreBatchLines N.cells.config (length N.cells.records) answered.history
+            number batches.entry.now (string_bytes answered.text)) }
     { shared.commit_batches(rt, alloc, number, batches) };
     let Ok(handle) = scope.spawn_with(promise, run) else {
         return Err(OutOfMemory);
@@ -181,7 +208,7 @@ fn start_proxy_thread<'s, E, C: CommitsBatches + Sync, R: Threads + Wait + Sync>
 }
 
 /// Waits for the threads to end.
-fn await_proxy_threads<C: CommitsBatches, R: Threads>(rt: &R, handles: Vec<Handle<'_, C>>) {
+fn await_proxy_threads<N: Naming, R: Threads>(rt: &R, handles: Vec<Handle<'_, N>>) {
     for handle in handles {
         let _returned = handle.join(rt);
     }
@@ -189,17 +216,19 @@ fn await_proxy_threads<C: CommitsBatches, R: Threads>(rt: &R, handles: Vec<Handl
 
 /// Waits for the threads to end, and returns what each returned, in order. `returned` is the room for
 /// it.
-fn join_proxy_threads<C: CommitsBatches, R: Threads>(
+fn join_proxy_threads<N: Naming, R: Threads>(
     rt: &R,
-    handles: Vec<Handle<'_, C>>,
-    mut returned: Vec<Result<String, RunFault>>,
-) -> Vec<Result<String, RunFault>>
+    handles: Vec<Handle<'_, N>>,
+    mut returned: Vec<Result<AnsweredLines<N>, RunFault>>,
+) -> Vec<Result<AnsweredLines<N>, RunFault>>
     requires empty { returned.items ≡ [] }
     requires room { length handles.items ≤ vec_capacity returned }
     ensures count { length result.items ≡ length handles.entry.items }
-    ensures kept { KeepPromises C.are_lines handles.entry.items
-        (λ thread. thread.promise.number) (λ thread. thread.promise.batches.now) result.items
-        (λ text. string_bytes text) }
+    ensures kept { KeepPromises (λ p batches answered.
+        AreBatchLines N.cells.config (length N.cells.records) answered.history p batches
+        (string_bytes answered.text))
+        handles.entry.items (λ thread. thread.promise.number)
+        (λ thread. thread.promise.batches.now) result.items }
 {
     for handle in handles {
         returned.push_reserved(handle.join(rt));
@@ -207,36 +236,48 @@ fn join_proxy_threads<C: CommitsBatches, R: Threads>(
     returned
 }
 
-/// Returns the texts, one after the other. If some of the results are faults, fails with the gravest
-/// of them; or with `OutOfMemory`.
-fn join_texts(alloc: Global, results: Vec<Result<String, RunFault>>) -> Result<String, RunFault>
-    ensures { IsAsSpecifiedIfAllocated run_fault (λ text. string_bytes text)
-        result (texts_of (λ text. string_bytes text) results.items) }
+/// Returns the lines of all results, one after the other. If some of the results are faults, fails with
+/// the gravest of them; or with `OutOfMemory`.
+fn join_answers<N: Naming>(
+    alloc: Global,
+    results: Vec<Result<AnsweredLines<N>, RunFault>>,
+) -> Result<AnsweredLines<N>, RunFault>
+    ensures text { IsAsSpecifiedIfAllocated run_fault (λ answered. string_bytes answered.text)
+        result (texts_of (λ answered. string_bytes answered.text) results.items) }
+    ensures history { IfOk result (λ answered.
+        AreOfThreads (λ one. one.history) results.items answered.history) }
 {
     let mut text = String::new(alloc);
+    let mut history = RunHistory::new(alloc);
     let mut outcome = Ok(());
     for one in results {
-        outcome = join_results(outcome, append_returned_lines(&mut text, one));
+        outcome = join_results(outcome, append_returned(&mut text, &mut history, one));
     }
     match outcome {
-        Ok(()) => Ok(text),
+        Ok(()) => Ok(AnsweredLines { text, history }),
         Err(fault) => Err(fault),
     }
 }
 
-/// Appends what a thread returned, or fails as it did. Otherwise fails only with `OutOfMemory`.
-fn append_returned_lines(
+/// Appends the lines that a thread returned, and learns its history, or fails as the thread did.
+/// Otherwise fails only with `OutOfMemory`.
+fn append_returned<N: Naming>(
     text: &mut String,
-    returned: Result<String, RunFault>,
+    history: &mut RunHistory<N>,
+    returned: Result<AnsweredLines<N>, RunFault>,
 ) -> Result<(), RunFault>
-    ensures { MatchResult returned
-        (λ lines. MatchResult result
-        (λ _. string_bytes text.new ≡ string_bytes text.old ++ string_bytes lines)
+    ensures text { MatchResult returned
+        (λ answered. MatchResult result
+        (λ _. string_bytes text.new ≡ string_bytes text.old ++ string_bytes answered.text)
         (λ fault. fault ≡ faults.OutOfMemory))
         (λ fault. result ≡ Err fault) }
+    ensures kept { IsStartOf history.old history.new }
+    ensures history { OnOk result (IfOk returned (λ answered.
+        IsStartOf answered.history history.new)) }
 {
-    let lines = returned?;
-    let Ok(()) = text.push_str(lines.as_str()) else {
+    let answered = returned?;
+    history.learn(answered.history.records())?;
+    let Ok(()) = text.push_str(answered.text.as_str()) else {
         return Err(RunFault::OutOfMemory);
     };
     Ok(())

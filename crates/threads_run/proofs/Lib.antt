@@ -1,3 +1,4 @@
 pub mod EndsBelow
 pub mod RunLemmas
 pub mod SidesInPlace
+pub mod TextLemmas

@@ -3,11 +3,13 @@ use Rattle.std.specs.Prelude.{◌≡◌, ℕ, List, ◌++◌, length, slice_get,
 use Rattle.system_keys.specs.Keys.{Key}
 use Rattle.model.specs.Metadata.{metadata}
 use Rattle.model.specs.Numbers.{ProxyNumber}
+use Rattle.model.specs.Records.{Record, IsHistory}
 use Rattle.cluster_lines.specs.MetadataLines.{metadata_text, proxy_line}
 use Rattle.locked_cluster.specs.Proxies.{LockedProxyView}
 use Rattle.locked_resolvers.specs.Resolvers.{LockedResolverView}
 use Rattle.threads_lines.specs.Answers.{AreBatchLines, AreLinesOfProxy, IsClosingLine}
 use Rattle.threads_lines.specs.Guards.{AreLockedProxies, AreLockedResolvers}
+use Rattle.threads_lines.specs.Histories.{AreOfProxies, AreOfResolvers}
 use Rattle.threads_lines.specs.Meetings.{AreAuditsOf, AreMeetingsOf}
 use Rattle.threads_lines.specs.Parts.{IsInParts}
 use Rattle.threads_scripts.specs.declared.script.ThreadsScript.{ThreadsScript}
@@ -33,8 +35,10 @@ AreProxyTexts ask proxies text =
 -- The text of the script: the lines of answers to its batches, those of answers to one empty batch of
 -- each proxy, those of each proxy, of each two proxies that meet, and of the audit of each proxy. All
 -- lines of proxies, meetings and audits are of the same state of the proxies and the resolvers, as
--- their locks keep it.
+-- their locks keep it. The records of each finished batch, and those that each proxy and each resolver
+-- then knows, are a start of one history.
 pub record IsThreadsText (script : ThreadsScript) (text : List ℕ) : Type 0 where
+  pub history : List Record
   pub batches : List ℕ
   pub closings : List ℕ
   pub routings : List ℕ
@@ -42,11 +46,14 @@ pub record IsThreadsText (script : ThreadsScript) (text : List ℕ) : Type 0 whe
   pub audits : List ℕ
   pub proxies : List LockedProxyView
   pub resolvers : List LockedResolverView
+  pub is_history : IsHistory script.config history
   pub answered :
-      IsInParts (AreLinesOfProxy (AreBatchLines script.config script.rows) script.work)
+      IsInParts (AreLinesOfProxy (AreBatchLines script.config script.rows history) script.work)
       (length script.work) batches
   pub closed :
-      IsInParts (IsClosingLine script.config script.rows) script.config.proxies closings
+      IsInParts (IsClosingLine script.config script.rows history) script.config.proxies closings
+  pub of_proxies : AreOfProxies proxies history
+  pub of_resolvers : AreOfResolvers resolvers history
   pub all_proxies : AreLockedProxies script.config proxies
   pub all_resolvers : AreLockedResolvers script.config resolvers
   pub shown : AreProxyTexts script.ask proxies routings

@@ -2,7 +2,6 @@
 
 ghost use Rattle.std.specs.Prelude.{◌≡◌, ◌<◌, [], length, OnOk, string_bytes};
 ghost use Rattle.std.specs.List.{list_any};
-ghost use Rattle.threads_lines.specs.Answers.{AreBatchLines, IsClosingLine};
 ghost use Rattle.threads_run.specs.Beside.{lines_beside, was_cut_off, was_refused_memory};
 ghost use Rattle.threads_lines.specs.Parts.{GrowsBy, IsInParts};
 ghost use Rattle.threads_lines.specs.Threads.{AreInPlace};
@@ -14,7 +13,10 @@ use model::{ProxyNumber, ResolverNumber};
 use mutation::Batch;
 use std::alloc::Global;
 use std::sync::Wait;
-use threads_lines::{Cluster, CommitsBatches, Committer, RunFault, RunOutcome, ServesInbox};
+use threads_lines::{
+    AnsweredLines, Cluster, CommitsBatches, Committer, RunFault, RunHistory, RunOutcome,
+    ServesInbox,
+};
 use workers::{AskedRequest, EndedWorker, Open, ProxyInboxes, ResolverWorker};
 
 /// The resolvers of the cluster, which workers ask for the proxies.
@@ -60,8 +62,8 @@ impl<'a, 'l, N: Naming, M: Channels> ServesInbox<FreshEnd<N, AskedRequest<N>, M>
 /// lines are right whatever the workers were refused; but a run in which a worker was cut off fails,
 /// since some proxy did not send its last message to it.
 pub(crate) fn lines_of<N: Naming, M: Channels>(
-    outcome: RunOutcome<Ended<N, M>>,
-) -> Result<String, RunFault>
+    outcome: RunOutcome<N, Ended<N, M>>,
+) -> Result<AnsweredLines<N>, RunFault>
     ensures { result ≡ lines_beside outcome.lines outcome.workers.items }
 {
     let RunOutcome { lines, workers } = outcome;
@@ -69,7 +71,7 @@ pub(crate) fn lines_of<N: Naming, M: Channels>(
     let cut_off = were_cut_off(workers.as_slice());
     match lines {
         Ok(_lines) if cut_off => Err(RunFault::Refused.beside(refused_memory)),
-        Ok(text) => Ok(text),
+        Ok(answered) => Ok(answered),
         Err(fault) => Err(fault.beside(refused_memory)),
     }
 }
@@ -113,12 +115,7 @@ impl<'a, 'l, N: Naming, M: Channels> Running<'a, 'l, N, M> {
     }
 }
 
-impl<'a, 'l, N: Naming, M: Channels> CommitsBatches for Running<'a, 'l, N, M> {
-    ghost are_lines = { AreBatchLines N.cells.config (length N.cells.records) };
-
-    ghost are_closings = { λ proxies.
-        IsInParts (IsClosingLine N.cells.config (length N.cells.records)) proxies };
-
+impl<'a, 'l, N: Naming, M: Channels> CommitsBatches<N> for Running<'a, 'l, N, M> {
     ghost proxies = { λ running. length running.cluster.now.proxies.items };
 
     fn commit_batches<R: Wait>(
@@ -127,7 +124,7 @@ impl<'a, 'l, N: Naming, M: Channels> CommitsBatches for Running<'a, 'l, N, M> {
         alloc: Global,
         number: ProxyNumber,
         batches: &[Batch],
-    ) -> Result<String, RunFault> {
+    ) -> Result<AnsweredLines<N>, RunFault> {
         let lines = self.committer(number).run(rt, alloc, batches);
         if lines.is_err() {
             // (so that no other proxy waits for this one)
@@ -141,10 +138,12 @@ impl<'a, 'l, N: Naming, M: Channels> CommitsBatches for Running<'a, 'l, N, M> {
         rt: &R,
         alloc: Global,
         text: &mut String,
+        history: &mut RunHistory<N>,
     ) -> Result<(), RunFault> {
         let empty = empty_batch(alloc);
         for number in 0..self.cluster.proxies.len() {
-            self.committer(number).print_closing(rt, text, &empty)?;
+            self.committer(number)
+                .print_closing(rt, text, history, &empty)?;
         }
         Ok(())
     }

@@ -20,7 +20,9 @@ use std::marker::Brand;
 use std::sync::Wait;
 use std::thread::Threads;
 use system_keys::{Bytes, Items, OutOfMemory};
-use threads_lines::{Cluster, RunFault, commit_over_workers, print_audits, print_meetings};
+use threads_lines::{
+    AnsweredLines, Cluster, RunFault, commit_over_workers, print_audits, print_meetings,
+};
 use threads_scripts::ThreadsScript;
 use workers::{AskedRequest, ProxyInboxes};
 
@@ -74,9 +76,16 @@ fn threads_text_in<N: Naming + Send + Sync, R: Threads + Wait + Sync>(
     cluster.move_ranges(rt, script.moves.as_slice())?;
     let inboxes = BlankInboxes::new(alloc, &ledger)?;
     let work = script.work.as_slice();
-    let mut text = answers_over::<N, Brand, R>(rt, alloc, &ledger, &cluster, inboxes, work)?;
+    let AnsweredLines {
+        mut text,
+        mut history,
+    } = answers_over::<N, Brand, R>(rt, alloc, &ledger, &cluster, inboxes, work)?;
     let proxies = cluster.lock_proxies(rt, alloc)?;
     let resolvers = cluster.lock_resolvers(rt, alloc)?;
+    history.learn_from_proxies(proxies.as_slice())?;
+    history.learn_from_resolvers(resolvers.as_slice())?;
+    // (its contract says that it is a history)
+    let _records = history.records();
     print_proxies(alloc, &mut text, proxies.as_slice(), script.ask.as_slice())?;
     print_meetings(&mut text, proxies.as_slice())?;
     print_audits(&mut text, proxies.as_slice(), resolvers.as_slice())?;
@@ -91,15 +100,16 @@ fn answers_over<N: Naming + Send + Sync, M: Channels + Send + Sync, R: Threads +
     cluster: &Cluster<'_, N>,
     blank: BlankInboxes<N, AskedRequest<N>>,
     work: &[Items<Batch>],
-) -> Result<String, RunFault>
+) -> Result<AnsweredLines<N>, RunFault>
     requires places { blank ≡ M.places }
     requires proxies { length cluster.now.proxies.items ≡ N.cells.config.proxies }
     requires resolvers { length cluster.now.resolvers.items ≡ N.cells.config.resolvers }
     requires work { length work.now ≡ N.cells.config.proxies }
     ensures { let rows = length N.cells.records in
-        let closings = IsInParts (IsClosingLine N.cells.config rows) N.cells.config.proxies in
-        IfOk result (λ text. AreAnswerLines (AreBatchLines N.cells.config rows) closings
-        work.now (string_bytes text)) }
+        IfOk result (λ answered. AreAnswerLines
+        (AreBatchLines N.cells.config rows answered.history)
+        (IsInParts (IsClosingLine N.cells.config rows answered.history) N.cells.config.proxies)
+        work.now (string_bytes answered.text)) }
 {
     let room = InboxRoom::<N, AskedRequest<N>, M>::new(alloc, ledger)?;
     let (senders, ends) = blank.named::<M>(room);

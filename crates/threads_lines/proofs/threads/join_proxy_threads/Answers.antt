@@ -1,15 +1,17 @@
 -- One more thread is joined.
-use Rattle.std.proofs.Common.{◌≡◌, ◌∙◌, ◌+◌, [], ◌∷◌, ◌++◌, ℕ, List, sym, ap, subst, length, length-append, drop, arith, String, Global}
-use Rattle.std.specs.Prelude.{Result, string_bytes}
+use Rattle.std.proofs.Common.{◌≡◌, ◌∙◌, ◌+◌, [], ◌∷◌, ℕ, List, sym, ap, subst, length, length-append, drop, arith}
+use Rattle.std.specs.Prelude.{string_bytes}
 use Rattle.std.specs.Vec.Iter.{into_iter_items}
+use Rattle.model.specs.Stamps.{Given}
+use Rattle.threads_lines.specs.Answers.{AreBatchLines}
 use Rattle.threads_lines.specs.Threads.{KeepPromises}
-use Rattle.threads_lines.specs.declared.faults.RunFault.{RunFault}
+use Rattle.threads_lines.specs.declared.committer.AnsweredLines.{AnsweredLines}
 use Rattle.threads_lines.proofs.ThreadLemmas.{drop_next, one_more_joined}
 use Rattle.threads_lines.proofs.threads.join_proxy_threads.Goals as goal
 
 pub loop-handle-preserved : goal.loop-handle-preserved
 loop-handle-preserved g c =
-    let AreLines = g.C.CommitsBatches.are_lines in
+    let Keeps = λ (p : ℕ) (batches : List (List Given)) (answered : AnsweredLines g.row.N.Denot). AreBatchLines g.N.Naming.cells.config (length g.N.Naming.cells.records) answered.history p batches (string_bytes answered.text) in
     let l = c.loop-handle in
     let k = length l.returned.items in
     let threads = c.args.handles.items in
@@ -24,6 +26,6 @@ loop-handle-preserved g c =
       all = omega (arith, size, more, l.invariant.all);
       count = omega (arith, size, l.invariant.count, c.in-Some.ensures.steps.1);
       room = omega (arith, l.invariant.room, c.push_reserved.ensures.capacity);
-      kept = subst (λ (rs : List (Result (String Global) RunFault)). KeepPromises AreLines threads (λ t. t.promise.number) (λ t. t.promise.batches.now) rs (λ text. string_bytes text)) (sym grown)
-          (one_more_joined AreLines threads (λ t. t.promise.number) (λ t. t.promise.batches.now) l.returned.items (λ text. string_bytes text) thread c.join.result at c.join.ensures l.invariant.kept);
+      kept = subst (λ rs. KeepPromises Keeps threads (λ t. t.promise.number) (λ t. t.promise.batches.now) rs) (sym grown)
+          (one_more_joined Keeps threads (λ t. t.promise.number) (λ t. t.promise.batches.now) l.returned.items thread c.join.result at c.join.ensures l.invariant.kept);
     }

@@ -3,6 +3,7 @@ use Rattle.std.proofs.Common.{◌≡◌, ◌+◌, ◌≤◌, length, drop}
 use Rattle.std.specs.Prelude.{string_bytes}
 use Rattle.std.specs.Vec.{vec_capacity}
 use Rattle.std.specs.Vec.Iter.{into_iter_items, into_iter_len}
+use Rattle.threads_lines.specs.Answers.{AreBatchLines}
 use Rattle.threads_lines.specs.Threads.{KeepPromises}
 use Rattle.threads_lines.proofs.threads.join_proxy_threads.Given as goal
 
@@ -12,5 +13,5 @@ invariant-loop-handle g l = record {
   all : length l.returned.items + length (into_iter_items l.handle-iterator) ≡ length l.fn.handles.items;
   count : into_iter_len l.handle-iterator ≡ length (into_iter_items l.handle-iterator);
   room : length l.fn.handles.items ≤ vec_capacity l.returned;
-  kept : KeepPromises g.C.CommitsBatches.are_lines l.fn.handles.items (λ thread. thread.promise.number) (λ thread. thread.promise.batches.now) l.returned.items (λ text. string_bytes text);
+  kept : KeepPromises (λ p batches answered. AreBatchLines g.N.Naming.cells.config (length g.N.Naming.cells.records) answered.history p batches (string_bytes answered.text)) l.fn.handles.items (λ thread. thread.promise.number) (λ thread. thread.promise.batches.now) l.returned.items;
 }

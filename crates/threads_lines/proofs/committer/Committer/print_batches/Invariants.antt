@@ -5,4 +5,4 @@ use Rattle.threads_lines.specs.Parts.{GrowsBy, IsInParts}
 use Rattle.threads_lines.proofs.committer.Committer.print_batches.Given as goal
 
 abbrev pub invariant-loop-place : goal.invariant-loop-place
-invariant-loop-place g l = GrowsBy (IsInParts (IsBatchLine g.N.Naming.cells.config (length g.N.Naming.cells.records) l.self.number l.batches) l.place) (string_bytes l.fn.text) (string_bytes l.text)
+invariant-loop-place g l = GrowsBy (IsInParts (IsBatchLine g.N.Naming.cells.config (length g.N.Naming.cells.records) l.history l.self.number l.batches) l.place) (string_bytes l.fn.text) (string_bytes l.text)

@@ -1,0 +1,10 @@
+-- Those that were looked at are learned.
+use Rattle.std.proofs.Common.{take}
+use Rattle.threads_lines.specs.Histories.{AreOfResolvers, IsStartOf}
+use Rattle.threads_lines.proofs.run_history.RunHistory.learn_from_resolvers.Given as goal
+
+abbrev pub invariant-loop-resolver : goal.invariant-loop-resolver
+invariant-loop-resolver g l = record {
+  kept : IsStartOf l.fn.self l.self;
+  learned : AreOfResolvers (take l.resolver-index l.resolvers) l.self;
+}
