@@ -59,32 +59,38 @@ again_never : (kept : Option Reply) (version acknowledged last : ℕ) → answer
 again_never (Some reply) version acknowledged last same = cc
 again_never None version acknowledged last same = by (nat_le version acknowledged) same
   where
-    by : (t : Bool) → (if t then Err (GivenUp acknowledged) else Err (OutsideChain last)) ≡ Err NoSuchProxy → ⊥
+    told : Bool → OfferResult
+    told t = if t then Err (GivenUp acknowledged) else Err (OutsideChain last)
+
+    by : (t : Bool) → told t ≡ Err NoSuchProxy → ⊥
     by true is = cc
     by false is = cc
 
 in_order_never : (window : ℕ) (judged : List Request) (last : ℕ) (q : Request) → answer_in_order window judged last q ≡ Err NoSuchProxy → ⊥
 in_order_never window judged last q same = passed (nat_le q.version last) same
   where
-    acknowledged : ℕ
-    acknowledged = acknowledged_requests q.proxy judged
-
     again : OfferResult
-    again = answer_again (reply_at q.version (kept_replies window judged q.proxy)) q.version acknowledged last
+    again = answer_again (reply_at q.version (kept_replies window judged q.proxy)) q.version (acknowledged_requests q.proxy judged) last
 
-    later : OfferResult
-    later = if nat_lt last q.previous then Err (Early last) else if nat_lt q.previous last then Err (OutsideChain last) else Ok (Judged (request_reply window judged q))
+    told_late : Bool → OfferResult
+    told_late t = if t then Err (OutsideChain last) else Ok (Judged (request_reply window judged q))
 
-    late : (t : Bool) → (if t then Err (OutsideChain last) else Ok (Judged (request_reply window judged q))) ≡ Err NoSuchProxy → ⊥
+    told_early : Bool → OfferResult
+    told_early t = if t then Err (Early last) else told_late (nat_lt q.previous last)
+
+    told : Bool → OfferResult
+    told t = if t then again else told_early (nat_lt last q.previous)
+
+    late : (t : Bool) → told_late t ≡ Err NoSuchProxy → ⊥
     late true is = cc
     late false is = cc
 
-    early : (t : Bool) → (if t then Err (Early last) else if nat_lt q.previous last then Err (OutsideChain last) else Ok (Judged (request_reply window judged q))) ≡ Err NoSuchProxy → ⊥
+    early : (t : Bool) → told_early t ≡ Err NoSuchProxy → ⊥
     early true is = cc
     early false is = late (nat_lt q.previous last) is
 
-    passed : (t : Bool) → (if t then again else later) ≡ Err NoSuchProxy → ⊥
-    passed true is = again_never (reply_at q.version (kept_replies window judged q.proxy)) q.version acknowledged last is
+    passed : (t : Bool) → told t ≡ Err NoSuchProxy → ⊥
+    passed true is = again_never (reply_at q.version (kept_replies window judged q.proxy)) q.version (acknowledged_requests q.proxy judged) last is
     passed false is = early (nat_lt last q.previous) is
 
 -- only a request of a proxy that is not there is answered so
@@ -95,18 +101,24 @@ missing_proxy number proxies window judged q answered = own (nat_eq q.resolver n
     last : ℕ
     last = last_request_version judged
 
-    rest : OfferResult
-    rest = if not (is_in_order q) then Err (OutsideChain last) else answer_in_order window judged last q
+    told_order : Bool → OfferResult
+    told_order t = if not t then Err (OutsideChain last) else answer_in_order window judged last q
 
-    ordered : (t : Bool) → (if not t then Err (OutsideChain last) else answer_in_order window judged last q) ≡ Err NoSuchProxy → ⊥
+    told_proxy : Bool → OfferResult
+    told_proxy t = if t then Err NoSuchProxy else told_order (is_in_order q)
+
+    told : Bool → OfferResult
+    told t = if not t then Err WrongResolver else told_proxy (nat_le proxies q.proxy)
+
+    ordered : (t : Bool) → told_order t ≡ Err NoSuchProxy → ⊥
     ordered true is = in_order_never window judged last q is
     ordered false is = cc
 
-    known : (t : Bool) → nat_le proxies q.proxy ≡ t → (if t then Err NoSuchProxy else rest) ≡ Err NoSuchProxy → proxies ≤ q.proxy
+    known : (t : Bool) → nat_le proxies q.proxy ≡ t → told_proxy t ≡ Err NoSuchProxy → proxies ≤ q.proxy
     known true past is = leb-true proxies q.proxy past
     known false there is = absurd (ordered (is_in_order q) is)
 
-    own : (t : Bool) → (if not t then Err WrongResolver else if nat_le proxies q.proxy then Err NoSuchProxy else rest) ≡ Err NoSuchProxy → proxies ≤ q.proxy
+    own : (t : Bool) → told t ≡ Err NoSuchProxy → proxies ≤ q.proxy
     own true is = known (nat_le proxies q.proxy) refl is
     own false is = absurd (cc)
 
@@ -114,10 +126,10 @@ never_asked : (cells : Cells) (p : ℕ) (begun : BegunView) (batch : List Given)
 never_asked cells p begun batch there kept holds (inl same) = cc
 never_asked cells p begun batch there kept holds (inr asked) =
     let q = asked.1 in
-    let refuses = asked.3 in
-    let v = refuses.1 in
-    let keeps = refuses.2 in
-    let fault = refuses.4 in
+    let refuses = asked.3.1 in
+    let v = refuses.0 in
+    let keeps = refuses.1 in
+    let fault = refuses.3 in
     let stands = keeps.stands in
     let missing = missing_proxy v.memory.number (length v.memory.proxies) v.memory.written.window _ q.plain (fault.1 _ stands.requests) in
     let of = proxy_at cells.config begun asked.0 q kept asked.2 in

@@ -30,7 +30,7 @@ returns-clause-refused g c =
     let holds = holds_still p begun.row first.row begun.records first.records c.args.batch c.in_ok-first.ensures.row c.in_ok-first.ensures.records c.in_ok-begun.ensures.first in
     let next_holds = holds_still p next_begun.row second.row next_begun.records second.records c.args.next_batch c.in_ok-second.ensures.row c.in_ok-second.ensures.records c.in_ok-begun.ensures.second in
     IfErr-weaker c.finish_two.result (RefusesOneFinish cells.config guard.result first second c.finish_two.new.guard) (OneWasNotCommitted cells p c.args.batch c.args.next_batch)
-    (λ refused refuses. one_finish_refused cells p c.args.batch c.args.next_batch guard.result first second c.finish_two.new.guard refused guard.ensures.kept guard.ensures.number c.row.ensures.kept c.row-2.ensures.kept holds next_holds refuses)
+    (λ refused refuses. one_finish_refused cells p c.args.batch c.args.next_batch guard.result first second c.finish_two.new.guard refused guard.ensures.kept guard.ensures.number c.row-row.ensures.kept c.row-next_row.ensures.kept holds next_holds refuses)
     c.finish_two.ensures.refused
 
 pub returns-in_err-first-clause-refused : goal.returns-in_err-first-clause-refused
