@@ -1,26 +1,24 @@
 -- Which refusals a start never has.
-use Rattle.std.proofs.Common.{◌≡◌, refl, sym, ap, ◌∙◌, subst, ℕ, ◌+◌, ◌<◌, ◌≤◌, ◌⊎◌, inl, inr, List, length, slice_get, Option, Some, None, Bool, true, false, arith}
+use Rattle.std.proofs.Common.{◌≡◌, refl, sym, ap, ◌∙◌, subst, ℕ, ◌+◌, ◌<◌, ◌≤◌, ◌⊎◌, inl, inr, List, length, Option, Some, None, Bool, true, false, arith}
 use Rattle.std.specs.Prelude.{if◌then◌else◌, not, nat_eq, nat_le, nat_lt, Ok, Err}
 use Rattle.std.proofs.lemmas.Bool.{cases_order, leb-true}
 use Rattle.std.proofs.lemmas.Option.{same_Some}
 use Rattle.model.specs.Acknowledged.{acknowledged_requests}
 use Rattle.model.specs.Configs.{Config, version_limit}
 use Rattle.model.specs.Offers.{OfferResult, answer_again, answer_in_order, answer_to, is_in_order, kept_replies, reply_at}
-use Rattle.model.specs.Offers.{Again, Early, GivenUp, Judged, NoSuchProxy, OutsideChain, WrongResolver}
+use Rattle.model.specs.Offers.{Early, GivenUp, Judged, NoSuchProxy, OutsideChain, WrongResolver}
 use Rattle.model.specs.Records.{Record, last_version}
 use Rattle.model.specs.Requests.{Request, last_request_version, request_reply}
 use Rattle.model.specs.Stamps.{Given}
 use Rattle.model.specs.declared.reply.Reply.{Reply}
 use Rattle.agreed_ledger.specs.Cells.{Cells, ledger_limit}
-use Rattle.agreed_ledger.specs.declared.refusal.Refusal.{Refusal as LedgerRefusal}
 use Rattle.agreed_ledger.specs.declared.refusal.Refusal.TheVariants as ledgers
 use Rattle.locked_resolvers.specs.Asking.{IsAskAllRefusal}
-use Rattle.locked_resolvers.specs.declared.refusal.Refusal.{Refusal}
 use Rattle.locked_resolvers.specs.declared.refusal.Refusal.TheVariants as refusals
 use Rattle.locked_cluster.specs.Begun.{BegunView, IsBegun}
 use Rattle.locked_cluster.specs.Commits.{HoldsBatch, WasSequenceRefused}
-use Rattle.uses.specs.Causes.{CouldNotBegin, CouldNotFinish, CouldNotResolve, WasNotCommitted}
-use Rattle.uses.specs.Starting.{IsBadCount, IsGoodCount, IsOutOfMemory, OneOfTwoWasNotCommitted, WasNotShown, WasNotShownBy, WasNotShownByTwo}
+use Rattle.uses.specs.Causes.{WasNotCommitted}
+use Rattle.uses.specs.Starting.{IsBadCount, IsGoodCount, IsOutOfMemory, WasNotShown, WasNotShownBy, WasNotShownByTwo}
 use Rattle.uses.specs.declared.refused.Refused.{Refused}
 use Rattle.uses.specs.declared.refused.Refused.TheVariants.{ByCluster, ByLedger}
 use Rattle.uses.proofs.AskedAll.{proxy_at}

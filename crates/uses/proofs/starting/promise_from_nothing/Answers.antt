@@ -1,11 +1,10 @@
 -- The ledger was not made, or its cluster showed nothing.
 use Rattle.std.proofs.Common.{◌≡◌, ◌≤◌, rules}
-use Rattle.std.specs.Prelude.{Err, IfErr}
+use Rattle.std.specs.Prelude.{Err}
 use Rattle.std.proofs.lemmas.Result.{IfErr-weaker}
 use Rattle.agreed_ledger.specs.declared.refusal.Refusal.TheVariants as ledgers
 use Rattle.locked_resolvers.specs.declared.refusal.Refusal.TheVariants as clusters
 use Rattle.uses.specs.Starting.{IsBadCount, WasNotShownBy, WasNotShown}
-use Rattle.uses.specs.declared.refused.Refused.{Refused}
 use Rattle.uses.specs.declared.refused.Refused.TheVariants.{ByCluster, ByLedger}
 use Rattle.uses.proofs.CommitRefusals.{if_err}
 use Rattle.uses.proofs.RefusedStarts.{only_alone, only_bad}
