@@ -45,8 +45,8 @@ abbrev pub IsCommitOf :
 IsCommitOf config rows p batch (committed.Finished noted) = FinishesBatch config p batch noted
 IsCommitOf config rows p batch (committed.NoRecord refusal) = IsEnd config rows refusal
 
--- The batch of proxy p may be answered so: it is finished by the definition, after records with which
--- the history begins; or there is no record for it.
+-- The batch of proxy p may be answered so: it is finished by the definition for the last of some
+-- records with which the history begins; or there is no record for it.
 abbrev pub AnswersBatch :
     Config → (rows : ℕ) → (history : List Record) → ProxyNumber → List Given → Answer → Type 0
 AnswersBatch config rows history p batch (Ok finished) =

@@ -1,4 +1,4 @@
--- The history that a run knows, of which all that it was shown is a start (this project's profile).
+-- The history that a run knows, and what is a start of it (this project's profile).
 use Rattle.std.specs.Prelude.{◌≡◌, ℕ, List, length, slice_get, take, Some, Result, IfOk}
 use Rattle.model.specs.Records.{Record}
 use Rattle.locked_cluster.specs.Proxies.{LockedProxyView}
@@ -22,7 +22,8 @@ AreOfResolvers resolvers history =
     (place : ℕ) (w : LockedResolverView) → slice_get resolvers place ≡ Some w
     → IsStartOf w.records history
 
--- the history that each thread knows is a start of this one; `known` says which one it knows
+-- the history that each thread knows that did not fail is a start of this one; `known` says which one it
+-- knows
 abbrev pub AreOfThreads :
     {X : Type 0} → (known : X → List Record) → (returned : List (Result X RunFault))
     → (history : List Record) → Type 0

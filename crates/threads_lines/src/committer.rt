@@ -33,7 +33,7 @@ pub struct Committer<'a, 'l, N: Naming, A: Asking<N>> {
     ghost own: { proxy.now ≡ number },
 }
 
-/// The lines of answers, and a history with which the records of each finished batch begin.
+/// The lines of answers, and a history that begins with the records up to each finished batch.
 #[derive(Drop)]
 pub struct AnsweredLines<N: Naming> {
     /// The lines.
@@ -52,7 +52,8 @@ enum Committed<N: Naming> {
 }
 
 impl<'a, 'l, N: Naming, A: Asking<N>> Committer<'a, 'l, N, A> {
-    /// Commits the batches in order, and returns the lines of their answers. If it fails, other
+    /// Commits the batches in order, and returns the lines of their answers with what they tell of the
+    /// history. If it fails, other
     /// proxies may wait for this one until its resolvers are closed.
     pub fn run<R: Wait>(
         &self,
@@ -89,7 +90,7 @@ impl<'a, 'l, N: Naming, A: Asking<N>> Committer<'a, 'l, N, A> {
         Ok(())
     }
 
-    /// Commits a batch, and prints its answer.
+    /// Commits a batch, prints its answer, and learns the records up to it.
     fn print_batch<R: Wait>(
         &self,
         rt: &R,
@@ -119,7 +120,8 @@ impl<'a, 'l, N: Naming, A: Asking<N>> Committer<'a, 'l, N, A> {
         Ok(())
     }
 
-    /// Commits an empty batch, by which the proxy closes, and prints its answer.
+    /// Commits an empty batch, by which the proxy closes, prints its answer, and learns the
+    /// records up to it.
     pub fn print_closing<R: Wait>(
         &self,
         rt: &R,

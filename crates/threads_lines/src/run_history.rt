@@ -1,4 +1,5 @@
-//! The history that a run knows: the records of its answers, and those that its locks show.
+//! The history that a run knows: the records up to its answers, and those that the locks of its cluster
+//! show.
 
 ghost use Rattle.std.specs.Prelude.{◌≡◌, [], OnOk};
 ghost use Rattle.model.specs.Records.{IsHistory};
@@ -10,8 +11,8 @@ use std::alloc::Global;
 use std::marker::Model;
 use system_keys::OutOfMemory;
 
-/// The records that a run knows, from row 0 on. They are a history, and all that the run was shown is
-/// a start of it.
+/// Records of a ledger from row 0 on; by this type a history. What it learns is a start of it from then
+/// on.
 #[derive(Drop)]
 pub struct RunHistory<N: Naming> {
     records: Records<N>,

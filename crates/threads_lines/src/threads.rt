@@ -236,7 +236,8 @@ fn join_proxy_threads<N: Naming, R: Threads>(
     returned
 }
 
-/// Returns the lines of all results, one after the other. If some of the results are faults, fails with
+/// Returns the lines of all results, one after the other, and one history that begins with that of each.
+/// If some of the results are faults, fails with
 /// the gravest of them; or with `OutOfMemory`.
 fn join_answers<N: Naming>(
     alloc: Global,

@@ -1,5 +1,5 @@
 -- The text of a script, from its parts.
-use Rattle.std.proofs.Common.{◌≡◌, ◌∙◌, ◌++◌, ℕ, List, length, ap, sym, subst}
+use Rattle.std.proofs.Common.{◌≡◌, ◌∙◌, ◌++◌, ◌+◌, ◌<◌, ◌≤◌, ℕ, zero, suc, List, length, ap, sym, subst, arith}
 use Rattle.model.specs.Configs.{Config}
 use Rattle.model.specs.Records.{Record, IsHistory}
 use Rattle.model.specs.Stamps.{Given}
@@ -33,17 +33,21 @@ answers_after_more config rows history more work text grown lines =
       text_is = lines.text_is;
     }
 
--- the history is a longer one of the answers' and that of the locked proxies, which that of the locked
--- resolvers begins with
+-- as many rows as a ledger has, or none
+pub fits_rows : (count rows : ℕ) → (0 < count → 0 + count ≤ rows) → count ≤ rows
+fits_rows zero rows within = omega arith
+fits_rows (suc count) rows within = let all = within (omega arith) in omega (arith, all)
+
+-- `more` is known once the proxies are locked, and `history` once the resolvers are
 pub threads_text : (script : ThreadsScript) (config : Config) (rows : ℕ) (answered more history : List Record) (proxies : List LockedProxyView) (resolvers : List LockedResolverView) (lines shown met text : List ℕ)
     → script.config ≡ config → script.rows ≡ rows
-    → IsStartOf answered more → IsStartOf more history → IsHistory config history
+    → IsStartOf answered more → IsStartOf more history → IsHistory config history → length history ≤ rows
     → AreAnswerLines (AreBatchLines config rows answered) (IsInParts (IsClosingLine config rows answered) config.proxies) script.work lines
     → AreOfProxies proxies more → AreOfResolvers resolvers history
     → AreLockedProxies config proxies → AreLockedResolvers config resolvers
     → GrowsBy (AreProxyTexts script.ask proxies) lines shown → GrowsBy (AreMeetingsOf proxies) shown met → GrowsBy (AreAuditsOf config proxies resolvers) met text
     → IsThreadsText script text
-threads_text script config rows answered more history proxies resolvers lines shown met text same_config same_rows first second is of_answers of_proxies of_resolvers all_proxies all_resolvers with_proxies with_meetings with_audits =
+threads_text script config rows answered more history proxies resolvers lines shown met text same_config same_rows first second is fits of_answers of_proxies of_resolvers all_proxies all_resolvers with_proxies with_meetings with_audits =
     let (routings, routes, routings_last) = with_proxies in
     let (meetings, meets, meetings_last) = with_meetings in
     let (audits, are_audits, audits_last) = with_audits in
@@ -58,6 +62,7 @@ threads_text script config rows answered more history proxies resolvers lines sh
       proxies = proxies;
       resolvers = resolvers;
       is_history = subst (λ (c : Config). IsHistory c history) (sym same_config) is;
+      fits = subst (λ (r : ℕ). length history ≤ r) (sym same_rows) fits;
       answered = subst (λ (c : Config). IsInParts (AreLinesOfProxy (AreBatchLines c script.rows history) script.work) (length script.work) all.batches) (sym same_config)
           (subst (λ (r : ℕ). IsInParts (AreLinesOfProxy (AreBatchLines config r history) script.work) (length script.work) all.batches) (sym same_rows) all.answered);
       closed = subst (λ (c : Config). IsInParts (IsClosingLine c script.rows history) c.proxies all.closings) (sym same_config)

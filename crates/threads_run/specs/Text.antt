@@ -1,5 +1,5 @@
 -- The text of a threads script: which answers it is of, and their lines (this project's profile).
-use Rattle.std.specs.Prelude.{◌≡◌, ℕ, List, ◌++◌, length, slice_get, Some}
+use Rattle.std.specs.Prelude.{◌≡◌, ◌≤◌, ℕ, List, ◌++◌, length, slice_get, Some}
 use Rattle.system_keys.specs.Keys.{Key}
 use Rattle.model.specs.Metadata.{metadata}
 use Rattle.model.specs.Numbers.{ProxyNumber}
@@ -35,8 +35,9 @@ AreProxyTexts ask proxies text =
 -- The text of the script: the lines of answers to its batches, those of answers to one empty batch of
 -- each proxy, those of each proxy, of each two proxies that meet, and of the audit of each proxy. All
 -- lines of proxies, meetings and audits are of the same state of the proxies and the resolvers, as
--- their locks keep it. The records of each finished batch, and those that each proxy and each resolver
--- then knows, are a start of one history.
+-- their locks keep it. The records up to each finished batch, and those that each shown proxy and
+-- resolver has, are a start of one history, which fits the ledger. That of a refused batch may be another,
+-- and the state may be one before the answers.
 pub record IsThreadsText (script : ThreadsScript) (text : List ℕ) : Type 0 where
   pub history : List Record
   pub batches : List ℕ
@@ -47,6 +48,7 @@ pub record IsThreadsText (script : ThreadsScript) (text : List ℕ) : Type 0 whe
   pub proxies : List LockedProxyView
   pub resolvers : List LockedResolverView
   pub is_history : IsHistory script.config history
+  pub fits : length history ≤ script.rows
   pub answered :
       IsInParts (AreLinesOfProxy (AreBatchLines script.config script.rows history) script.work)
       (length script.work) batches

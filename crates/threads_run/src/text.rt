@@ -84,8 +84,8 @@ fn threads_text_in<N: Naming + Send + Sync, R: Threads + Wait + Sync>(
     let resolvers = cluster.lock_resolvers(rt, alloc)?;
     history.learn_from_proxies(proxies.as_slice())?;
     history.learn_from_resolvers(resolvers.as_slice())?;
-    // (its contract says that it is a history)
-    let _records = history.records();
+    // (their contracts say that it is a history, which fits the ledger)
+    let _end = history.records().end();
     print_proxies(alloc, &mut text, proxies.as_slice(), script.ask.as_slice())?;
     print_meetings(&mut text, proxies.as_slice())?;
     print_audits(&mut text, proxies.as_slice(), resolvers.as_slice())?;
