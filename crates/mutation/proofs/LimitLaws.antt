@@ -53,6 +53,10 @@ faultless_next f fault_of xs i h =
     let same : drop 1 (drop i xs) ≡ drop (i + 1) xs = drop-drop 1 i xs ∙ ap (λ (n : ℕ). drop n xs) (omega arith) in
     subst (λ (ys : List _). first_fault fault_of (map f ys) ≡ None) same (faultless_tail f fault_of (drop i xs) h)
 
+-- the same where the elements that are left are a list of their own
+pub faultless_rest : {X Y : Type 0} (f : X → Y) (fault_of : Y → Option Refusal) (left : List X) (x : X) (rest : List X) → left ≡ x ∷ rest → first_fault fault_of (map f left) ≡ None → first_fault fault_of (map f rest) ≡ None
+faultless_rest f fault_of left x rest is h = faultless_tail f fault_of (x ∷ rest) (subst (λ (xs : List _). first_fault fault_of (map f xs) ≡ None) is h)
+
 -- ---- ranges
 
 range_tests : (long outside empty : Bool) → option_map refusals.Key (if long then Some KeyTooLong else if outside then Some KeyOutside else if empty then Some EmptyRange else None) ≡ None → (long ≡ false) × (outside ≡ false) × (empty ≡ false)
@@ -150,6 +154,11 @@ stamp_taken key value h =
     (and_from (nat_le 4 (length value)) (nat_le (offset_of value + 10) (length (text_of value)))
     (le-leb 4 (length value) (omega (arith, h.room)))
     (le-leb (offset_of value + 10) (length (text_of value)) (omega (arith, h.room, length-text_of value))))
+
+-- a SetStamped without a fault has a place for its stamp
+pub place_of_stamp : (key : Key) (value : List ℕ) → fault_of_mutation (SetStamped key value) ≡ None → has_place value ≡ true
+place_of_stamp key value h =
+    (stamp_tests (is_formed (kind_of key)) (has_place value) (or_none (fault_of_set key value) (fault_of_stamp key value) h).1).1
 
 -- ---- transactions
 

@@ -7,3 +7,8 @@ made_next given make xs i x kept now made within is made_is now_is told =
     let next : suc i ≡ i + 1 = omega arith in
     let front : drop i xs ≡ x ∷ drop (i + 1) xs = drop-cons xs i x within ∙ ap₂ (λ (y : _) (left : List _). y ∷ left) (sym is) (ap (λ (n : ℕ). drop n xs) next) in
     rw (now_is, made_is) (append_assoc kept (make (given x) ∷ []) _ ∙ ap (λ (left : List _). kept ++ map make (map given left)) (sym front) ∙ told)
+
+-- the same where the mutations that are left are a list of their own
+pub made_one : {X Y Z : Type 0} (given : X → Y) (make : Y → Z) (left rest : List X) (x : X) (kept now : List Z) (made : Z) (all : List Z) → left ≡ x ∷ rest → made ≡ make (given x) → now ≡ kept ++ made ∷ [] → kept ++ map make (map given left) ≡ all → now ++ map make (map given rest) ≡ all
+made_one given make left rest x kept now made all is made_is now_is told =
+    rw (now_is, made_is) (append_assoc kept (make (given x) ∷ []) _ ∙ ap (λ (xs : List _). kept ++ map make (map given xs)) (sym is) ∙ told)

@@ -3,7 +3,7 @@
 ghost use Rattle.std.specs.Prelude.{◌≡◌, None, IfOk};
 
 use crate::ranges::Ranges;
-use crate::stamped::{Stamped, stamped_changes};
+use crate::stamped::{Stamped, into_changes, stamped_changes};
 use model::{TransactionNumber, Version};
 use std::alloc::Global;
 use std::marker::Model;
@@ -173,6 +173,21 @@ impl Admitted {
             stamped_changes(alloc, version, number, self.mutations.as_slice())?,
             self.lock_aware,
         ))
+    }
+
+    /// Returns the transaction of the caller with its stamps in, as [`Admitted::stamped`] does. Its
+    /// ranges, keys and values become those of the result: only a value with a stamp is made anew.
+    /// Fails only with `OutOfMemory`.
+    pub fn into_stamped(
+        self,
+        alloc: Global,
+        version: Version,
+        number: TransactionNumber,
+    ) -> Result<Stamped, OutOfMemory>
+        ensures { IfOk result (λ transaction. transaction ≡ stamped version number self) }
+    {
+        let changes = into_changes(alloc, version, number, self.mutations)?;
+        Ok(Stamped::of_parts(self.snapshot, self.ranges, changes, self.lock_aware))
     }
 
     /// Returns a copy, which shares the ranges. Fails only with `OutOfMemory`.

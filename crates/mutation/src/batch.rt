@@ -55,6 +55,14 @@ impl Batch {
         self.transactions.as_slice()
     }
 
+    /// The transactions, in the order of their numbers. Does not allocate.
+    pub fn into_transactions(self) -> Items<Admitted>
+        ensures value { result ≡ self }
+        ensures kept { length self ≤ batch_limit }
+    {
+        self.transactions
+    }
+
     /// Returns a deep copy. Fails only with `OutOfMemory`.
     pub fn copy(&self) -> Result<Batch, OutOfMemory>
         ensures { IfOk result (λ copy. copy ≡ self.now) }

@@ -193,3 +193,45 @@ fn stamped_change(
         },
     })
 }
+
+/// The changes of some admitted mutations of transaction `number` in the batch of `version`, which
+/// have their keys and values.
+pub(crate) fn into_changes(
+    alloc: Global,
+    version: Version,
+    number: TransactionNumber,
+    mutations: Items<AdmittedMutation>,
+) -> Result<Vec<Change>, OutOfMemory>
+    requires { first_fault fault_of_mutation (map from_admitted mutations) ≡ None }
+    ensures { IfOk result (λ changes. changes.items
+        ≡ map (stamped_mutation version number) (map from_admitted mutations)) }
+{
+    let given = Vec::from(mutations);
+    let mut changes = Vec::with_capacity(alloc, given.len())?;
+    for mutation in given {
+        changes.push(into_change(alloc, version, number, mutation)?)?;
+    }
+    Ok(changes)
+}
+
+/// The change of an admitted mutation of transaction `number` in the batch of `version`, which has
+/// its key and its value or its range; only a value with a stamp is made anew.
+fn into_change(
+    alloc: Global,
+    version: Version,
+    number: TransactionNumber,
+    mutation: AdmittedMutation,
+) -> Result<Change, OutOfMemory>
+    requires { fault_of_mutation (from_admitted mutation) ≡ None }
+    ensures { IfOk result (λ change.
+        change ≡ stamped_mutation version number (from_admitted mutation)) }
+{
+    Ok(match mutation {
+        AdmittedMutation::Set { key, value } => Change::Set { key, value },
+        AdmittedMutation::Clear { range } => Change::clear(range),
+        AdmittedMutation::SetStamped { key, value } => Change::Set {
+            key,
+            value: Bytes::from(stamped_value(alloc, version, number, value.as_slice())?),
+        },
+    })
+}
