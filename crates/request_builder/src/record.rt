@@ -74,8 +74,79 @@ impl Record {
           batch = stamped_from version 0 batch.now;
         }) }
     {
-        let moves = moves.copy()?;
         let stamped = stamped_batch(alloc, version, batch.transactions())?;
+        Record::of_stamped(
+            alloc,
+            row,
+            previous,
+            version,
+            own_previous,
+            proxy,
+            moves,
+            stamped,
+        )
+    }
+
+    /// Returns the record of the caller's batch as [`Record::new`] does. The keys and values of the
+    /// batch become those of the record: only a value with a stamp is made anew. Fails only with
+    /// `OutOfMemory`.
+    pub fn of_batch(
+        alloc: Global,
+        row: RowNumber,
+        previous: Version,
+        version: Version,
+        own_previous: Version,
+        proxy: ProxyNumber,
+        moves: &Moves,
+        batch: Batch,
+    ) -> Result<Record, OutOfMemory>
+        requires { previous < version }
+        ensures { IfOk result (λ made. made ≡ record {
+          row = row;
+          previous = previous;
+          version = version;
+          own_previous = own_previous;
+          proxy = proxy;
+          moves = moves.now;
+          batch = stamped_from version 0 batch;
+        }) }
+    {
+        let stamped = into_stamped_batch(alloc, version, batch.into_transactions())?;
+        Record::of_stamped(
+            alloc,
+            row,
+            previous,
+            version,
+            own_previous,
+            proxy,
+            moves,
+            stamped,
+        )
+    }
+
+    /// Returns the record of a batch that has its stamps in.
+    fn of_stamped(
+        alloc: Global,
+        row: RowNumber,
+        previous: Version,
+        version: Version,
+        own_previous: Version,
+        proxy: ProxyNumber,
+        moves: &Moves,
+        stamped: Vec<Stamped>,
+    ) -> Result<Record, OutOfMemory>
+        requires { previous < version }
+        ensures { IfOk result (λ made. made ≡ record {
+          row = row;
+          previous = previous;
+          version = version;
+          own_previous = own_previous;
+          proxy = proxy;
+          moves = moves.now;
+          batch = stamped.items;
+        }) }
+    {
+        let moves = moves.copy()?;
         let batch = Arc::new(alloc, Items::from(stamped))?;
         Ok(Record {
             row,
@@ -158,6 +229,23 @@ fn stamped_batch(
     let mut stamped = Vec::with_capacity(alloc, transactions.len())?;
     for (number, transaction) in transactions.iter().enumerate() {
         stamped.push(transaction.stamped(alloc, version, number)?)?;
+    }
+    Ok(stamped)
+}
+
+/// The transactions of the caller's batch of `version`, numbered from 0, with their stamps in.
+fn into_stamped_batch(
+    alloc: Global,
+    version: Version,
+    transactions: Items<Admitted>,
+) -> Result<Vec<Stamped>, OutOfMemory>
+    ensures { IfOk result (λ stamped. stamped.items ≡ stamped_from version 0 transactions) }
+{
+    let given = Vec::from(transactions);
+    let mut stamped = Vec::with_capacity(alloc, given.len())?;
+    for transaction in given {
+        let number = stamped.len();
+        stamped.push(transaction.into_stamped(alloc, version, number)?)?;
     }
     Ok(stamped)
 }
