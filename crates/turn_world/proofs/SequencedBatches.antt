@@ -18,6 +18,7 @@ use Rattle.model.proofs.Worlds.InStep.{sequence_is, may_begin, begun_in_step}
 use Rattle.proxy_state.specs.Beginning.{begin_fault}
 use Rattle.turn_world.specs.Kept.{IsKept, world_of, requests_of}
 use Rattle.turn_world.specs.Parts.{MayBeginAt, IsBegunAt}
+use Rattle.turn_world.specs.Steps.{MaySequence}
 use Rattle.turn_world.specs.declared.kept_record.KeptRecord.{KeptRecord}
 
 pub no_proxy : (config : Config) (w : World) (now : TurnCluster) (p : ℕ) (batch : List Given) → (record { config = config; world = w }) ≡ now → config.proxies ≤ p → answer_to_event now (Sequence p batch) ≡ Err NoSuchProxy
@@ -43,6 +44,16 @@ answered config w now p batch view there limit =
 
 pub not_refused : (config : Config) (w : World) (now : TurnCluster) (p : ℕ) (batch : List Given) → (record { config = config; world = w }) ≡ now → p < config.proxies → last_version w.history + config.step < version_limit → IsOk (answer_to_event now (Sequence p batch))
 not_refused config w now p batch view there limit = subst IsOk (sym (answered config w now p batch view there limit)) refl
+
+-- the same of a cluster that may sequence a batch of the proxy, as it is seen and as it is kept
+pub not_refused_now : (now : TurnCluster) (p : ℕ) (batch : List Given) → MaySequence now p → IsOk (answer_to_event now (Sequence p batch))
+not_refused_now now p batch may = not_refused now.config now.world now p batch refl may.there may.limit
+
+pub may_now : (config : Config) (w : World) (now : TurnCluster) (p : ℕ) → (record { config = config; world = w }) ≡ now → p < config.proxies → last_version w.history + config.step < version_limit → MaySequence now p
+may_now config w now p view there limit = subst (λ (t : TurnCluster). MaySequence t p) view (record { there = there; limit = limit })
+
+pub may_here : (config : Config) (w : World) (now : TurnCluster) (p : ℕ) → (record { config = config; world = w }) ≡ now → MaySequence now p → MaySequence (record { config = config; world = w }) p
+may_here config w now p view may = subst (λ (t : TurnCluster). MaySequence t p) (sym view) may
 
 pub record_is : (config : Config) (w : World) (now : TurnCluster) (p : ℕ) (batch : List Given) (rec : Record) → (record { config = config; world = w }) ≡ now → rec ≡ next_record now.config now.world p batch → rec ≡ next_record config w p batch
 record_is config w now p batch rec view is = is ∙ ap (λ (t : TurnCluster). next_record t.config t.world p batch) (sym view)

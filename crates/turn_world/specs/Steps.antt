@@ -1,8 +1,11 @@
 -- What an event returns in a cluster, what a run of events does, and the refusals of a resolver that an
 -- event can pass on.
-use Rattle.std.specs.Prelude.{◌≡◌, ◌<◌, ℕ, List, map, take, length, slice_get, Option, Some, None}
+use Rattle.std.specs.Prelude.{◌≡◌, ◌+◌, ◌<◌, ℕ, List, map, take, length, slice_get, Option, Some, None}
 use Rattle.std.specs.Prelude.{Result, Ok, Err, IsOk}
 use Rattle.system_keys.specs.AsSpecified.{IsAsSpecified}
+use Rattle.model.specs.Configs.{version_limit}
+use Rattle.model.specs.Numbers.{ProxyNumber}
+use Rattle.model.specs.Records.{last_version}
 use Rattle.model.specs.World as world
 use Rattle.model.specs.World.{answers, world_after}
 use Rattle.model.specs.Turns.{TurnCluster, answer_to_event}
@@ -19,6 +22,11 @@ use Rattle.turn_world.specs.Events.{answer_of, fault_of}
 abbrev pub AnswersEvent : TurnCluster → world.Event → Result Answer Refusal → Type 0
 AnswersEvent before event result =
     IsAsSpecified fault_of answer_of result (answer_to_event before event)
+
+-- a batch of the proxy may get a record: the proxy is there, and a version is left
+pub record MaySequence (now : TurnCluster) (p : ProxyNumber) : Type 0 where
+  pub there : p < now.config.proxies
+  pub limit : last_version now.world.history + now.config.step < version_limit
 
 -- ---- a run of events
 

@@ -2,16 +2,17 @@
 
 ghost use Rattle.std.specs.Prelude.{◌≡◌, [], ◌∷◌, ◌++◌, ◌+◌, ◌<◌, ◌≤◌, map, vec_len};
 ghost use Rattle.std.specs.Vec.{vec_capacity};
-ghost use Rattle.std.specs.Prelude.{Result, IsOk, IfOk, OnOk, OnErr, MatchOption, MatchResult};
-ghost use Rattle.model.specs.Configs.{IsConfig, version_limit};
-ghost use Rattle.model.specs.Records.{last_version};
+ghost use Rattle.std.specs.Prelude.{List, Result, Err, IsOk, IfOk, OnOk, OnErr};
+ghost use Rattle.std.specs.Prelude.{MatchOption, MatchResult};
+ghost use Rattle.model.specs.Configs.{IsConfig};
+ghost use Rattle.model.specs.Stamps.{Given};
 ghost use Rattle.model.specs.World.{Sequence, MoveRange, Offer as OfferOf, Finish};
 ghost use Rattle.model.specs.World.{initial_world};
 ghost use Rattle.model.specs.World.{IsSound, next_record};
 ghost use Rattle.model.specs.Serial.{IsSerial};
 ghost use Rattle.model.specs.Turns.{after_event, answer_to_event, IsResolverOf, IsProxyOf};
 ghost use Rattle.turn_world.specs.Events.{event_of};
-ghost use Rattle.turn_world.specs.Steps.{AnswersEvent, HasCarriedOut, HasStopped};
+ghost use Rattle.turn_world.specs.Steps.{AnswersEvent, MaySequence, HasCarriedOut, HasStopped};
 ghost use Rattle.turn_world.specs.declared.answer.Answer.{Answer as TheAnswer};
 ghost use Rattle.turn_world.specs.declared.refusal.Refusal.{Refusal as TheRefusal};
 
@@ -127,6 +128,19 @@ impl TurnWorld {
         result
     }
 
+    /// Carries out one event of the caller as [`TurnWorld::step`] does. The keys and values of a batch
+    /// become those of its record: only a value with a stamp is made anew.
+    pub fn step_owned(&mut self, event: Event) -> Result<Answer, Refusal>
+        ensures answer { AnswersEvent self.old (event_of event) result }
+        ensures ok { OnOk result (self.new ≡ after_event self.old (event_of event)) }
+        ensures err { OnErr result (self.new ≡ self.old) }
+        ensures serial { IsSerial self.new.config self.new.world.history }
+    {
+        let result = self.carry_out_owned(event);
+        let _ = &self.config;
+        result
+    }
+
     /// Carries out the events in order, and returns their results. A refused event changes nothing,
     /// and the run goes on with the next one. It stops early only if an allocation fails: before the
     /// first event, or before one that is not refused. Then the cluster is as the events before left
@@ -220,11 +234,48 @@ impl TurnWorld {
         }
     }
 
+    /// Carries out one event of the caller by its own call.
+    fn carry_out_owned(&mut self, event: Event) -> Result<Answer, Refusal>
+        ensures answer { AnswersEvent self.old (event_of event) result }
+        ensures ok { OnOk result (self.new ≡ after_event self.old (event_of event)) }
+        ensures err { OnErr result (self.new ≡ self.old) }
+    {
+        match event {
+            Event::Sequence { proxy, batch } => self.sequence_owned(proxy, batch),
+            Event::Move { range, dest } => self.move_range(&range, dest),
+            Event::Offer { row, resolver } => self.offer(row, resolver),
+            Event::Finish { proxy } => self.finish(proxy),
+        }
+    }
+
     /// A batch of the proxy gets the next record, and the proxy begins it.
     fn sequence(&mut self, proxy: ProxyNumber, batch: &Batch) -> Result<Answer, Refusal>
         ensures answer { AnswersEvent self.old (Sequence proxy batch.now) result }
         ensures ok { OnOk result (self.new ≡ after_event self.old (Sequence proxy batch.now)) }
         ensures err { OnErr result (self.new ≡ self.old) }
+    {
+        self.check_sequence(proxy)?;
+        let rec = self.next_record(proxy, batch)?;
+        self.begin_next(proxy, &rec)
+    }
+
+    /// A batch of the caller gets the next record, and its proxy begins it.
+    fn sequence_owned(&mut self, proxy: ProxyNumber, batch: Batch) -> Result<Answer, Refusal>
+        ensures answer { AnswersEvent self.old (Sequence proxy batch) result }
+        ensures ok { OnOk result (self.new ≡ after_event self.old (Sequence proxy batch)) }
+        ensures err { OnErr result (self.new ≡ self.old) }
+    {
+        self.check_sequence(proxy)?;
+        let rec = self.next_record_owned(proxy, batch)?;
+        self.begin_next(proxy, &rec)
+    }
+
+    /// Whether a batch of the proxy may get a record, or why it is refused.
+    fn check_sequence(&self, proxy: ProxyNumber) -> Result<(), Refusal>
+        ensures { MatchResult result
+            (λ _. MaySequence self.now proxy)
+            (λ refusal. (batch : List Given)
+            → AnswersEvent self.now (Sequence proxy batch) (Err refusal)) }
     {
         if self.config.proxies() <= proxy {
             return Err(Refusal::NoSuchProxy);
@@ -232,31 +283,12 @@ impl TurnWorld {
         if VERSION_LIMIT - self.last <= self.config.step() {
             return Err(Refusal::VersionsEnd);
         }
-        let rec = self.next_record(proxy, batch)?;
-        let Ok(()) = self.rows.reserve(1) else {
-            return Err(Refusal::OutOfMemory);
-        };
-        let row = self.rows.len();
-        let version = rec.version();
-        let received = self.proxies[proxy].version();
-        let requests = begin_at(&mut self.proxies, proxy, &rec, &self.moves)?;
-        let kept = SentRequests {
-            requests: Vec::from(requests),
-        };
-        self.rows.push_reserved(KeptRecord {
-            rec: PastRecord::of(&rec),
-            received,
-            sent: PastRequests::of(&kept),
-            kept,
-        });
-        self.last = version;
-        Ok(Answer::Sequenced { row, version })
+        Ok(())
     }
 
     /// The record that the next batch gets.
     fn next_record(&self, proxy: ProxyNumber, batch: &Batch) -> Result<Record, OutOfMemory>
-        requires there { proxy < self.now.config.proxies }
-        requires limit { last_version self.now.world.history + self.now.config.step < version_limit }
+        requires { MaySequence self.now proxy }
         ensures { IfOk result (λ rec.
             rec ≡ next_record self.now.config self.now.world proxy batch.now) }
     {
@@ -271,6 +303,58 @@ impl TurnWorld {
             self.moves.list(),
             batch,
         )
+    }
+
+    /// The record that the next batch gets, of a batch of the caller.
+    fn next_record_owned(&self, proxy: ProxyNumber, batch: Batch) -> Result<Record, OutOfMemory>
+        requires { MaySequence self.now proxy }
+        ensures { IfOk result (λ rec.
+            rec ≡ next_record self.now.config self.now.world proxy batch) }
+    {
+        let alloc: Global = *self.rows.allocator();
+        Record::of_batch(
+            alloc,
+            self.rows.len(),
+            self.last,
+            self.last + self.config.step(),
+            self.proxies[proxy].last_begun(),
+            proxy,
+            self.moves.list(),
+            batch,
+        )
+    }
+
+    /// The proxy begins the next record.
+    fn begin_next(&mut self, proxy: ProxyNumber, rec: &Record) -> Result<Answer, Refusal>
+        requires may { MaySequence self.old proxy }
+        requires next { (batch : List Given)
+            × (rec.now ≡ next_record self.old.config self.old.world proxy batch) }
+        ensures answer { (batch : List Given)
+            → rec.now ≡ next_record self.old.config self.old.world proxy batch
+            → AnswersEvent self.old (Sequence proxy batch) result }
+        ensures ok { OnOk result ((batch : List Given)
+            → rec.now ≡ next_record self.old.config self.old.world proxy batch
+            → self.new ≡ after_event self.old (Sequence proxy batch)) }
+        ensures err { OnErr result (self.new ≡ self.old) }
+    {
+        let Ok(()) = self.rows.reserve(1) else {
+            return Err(Refusal::OutOfMemory);
+        };
+        let row = self.rows.len();
+        let version = rec.version();
+        let received = self.proxies[proxy].version();
+        let requests = begin_at(&mut self.proxies, proxy, rec, &self.moves)?;
+        let kept = SentRequests {
+            requests: Vec::from(requests),
+        };
+        self.rows.push_reserved(KeptRecord {
+            rec: PastRecord::of(rec),
+            received,
+            sent: PastRequests::of(&kept),
+            kept,
+        });
+        self.last = version;
+        Ok(Answer::Sequenced { row, version })
     }
 
     /// The range moves to the resolver.
