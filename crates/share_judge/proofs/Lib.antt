@@ -1,5 +1,6 @@
 pub mod Apart
 pub mod Counted
+pub mod Free
 pub mod JudgedParts
 pub mod KeptWrites
 pub mod Listed

@@ -1,5 +1,5 @@
 -- What each call of the map gives, in terms of starts.
-use Rattle.std.proofs.Common.{◌≡◌, refl, sym, ap, ap₂, subst, ◌∙◌, ℕ, List, [], ◌∷◌, ◌++◌, filter, Bool, true, false, cond, not, ◌&&◌, nat_eq, Some, None, Result, Ok, Err, IfOk, Ordering, nat_cmp, zero, suc, ◌+◌, ◌<◌, ◌≤◌, length, drop, get_or, add-one, arith}
+use Rattle.std.proofs.Common.{◌≡◌, refl, sym, ap, ap₂, subst, ◌∙◌, ℕ, List, [], ◌∷◌, ◌++◌, filter, Bool, true, false, cond, not, ◌&&◌, nat_eq, Some, None, Result, Ok, Err, IfOk, nat_cmp, zero, suc, ◌+◌, ◌<◌, ◌≤◌, length, drop, get_or, add-one, arith}
 use Rattle.std.proofs.Math.Seq.{drop-cons}
 use Rattle.std.specs.Map.{lookup, remove_entry, set_value}
 use Rattle.std.specs.Map.Calls.{RetainsPairs}
@@ -7,14 +7,11 @@ use Rattle.std.specs.BTreeMap.{insert_entry, is_at}
 use Rattle.std.specs.declared.ops.Bound.TheVariants.{Included, Excluded, Unbounded}
 use Rattle.std.specs.BTreeMap.Range.{entries_between}
 use Rattle.std.specs.Cmp.Lexicographic.{slice_cmp}
-use Rattle.system_keys.specs.Keys.{Key, Range, holds, is_key_below, is_key_up_to}
-use Rattle.system_keys.specs.Limits.{range_fault}
+use Rattle.system_keys.specs.Keys.{Key, holds, is_key_below, is_key_up_to}
 use Rattle.system_keys.proofs.KeyOrder.{up_to_is}
-use Rattle.system_keys.proofs.KeyLaws.{begins_below}
-use Rattle.std.specs.Ordering.{match_ordering}
 use Rattle.model.specs.WriteHistories.{unless_forgotten}
 use Rattle.share_judge.specs.Steps.{Start, last_from, last_before, last_of_all, settled, AreRising, HasStart, TellTheSame, is_same_key, is_listed, marked}
-use Rattle.share_judge.proofs.Starts.{key_cmp, last_is, before_is, starts_below, last_of_back, after}
+use Rattle.share_judge.proofs.Starts.{key_cmp, last_is, before_is, starts_below, last_of_back}
 use Rattle.share_judge.proofs.Settled.{edge_same, edge_there, still_there, taken_out}
 use Rattle.share_judge.proofs.Overwritten.{value_set, marked_twice, none_marked}
 
@@ -92,14 +89,6 @@ none_to_mark (e ∷ es) key version none = by (is_same_key key e.0) none (none_t
         → (e.0, cond t version e.1) ∷ marked (is_same_key key) version es ≡ (e ∷ es)
     by true none rest = absurd (cc)
     by false none rest = ap (λ (ss : List Start). e ∷ ss) (rest none)
-
--- ---- the two starts of a range
-
-pub range_starts : (begin end : Key) (range : Range) (version : ℕ) (none one two : List Start) → none ≡ [] → one ≡ insert_entry key_cmp none begin version → two ≡ insert_entry key_cmp one end 0 → begin ≡ range.begin → end ≡ range.end → range_fault range.begin range.end ≡ None → two ≡ (range.begin, version) ∷ (range.end, 0) ∷ []
-range_starts begin end range version none one two is_none is_one is_two low high fault =
-    is_two
-    ∙ ap₂ (λ (ss : List Start) (k : Key). insert_entry (slice_cmp nat_cmp) ss k 0) (is_one ∙ ap (λ (es : List Start). insert_entry key_cmp es begin version) is_none ∙ ap (λ (k : Key). (k, version) ∷ []) low) high
-    ∙ ap (λ (r : Ordering). match_ordering r ((range.end, 0) ∷ (range.begin, version) ∷ []) ((range.begin, 0) ∷ []) ((range.begin, version) ∷ (range.end, 0) ∷ [])) (after range.begin range.end (begins_below range.begin range.end fault))
 
 -- ---- all starts marked
 

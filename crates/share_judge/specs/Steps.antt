@@ -1,5 +1,5 @@
 -- Steps over all keys: each start gives its version to the keys from it on, up to the next start.
-use Rattle.std.specs.Prelude.{◌≡◌, ℕ, ◌+◌, ◌<◌, List, [], ◌∷◌, ◌++◌, map, filter, Bool, true}
+use Rattle.std.specs.Prelude.{◌≡◌, ℕ, ◌+◌, ◌<◌, List, [], ◌∷◌, ◌++◌, map, filter, Bool, true, false}
 use Rattle.std.specs.Prelude.{not, ◌&&◌, nat_eq, nat_lt, cond, IsTrue, ◌⊎◌, Option, None, Some}
 use Rattle.std.specs.Prelude.{◌||◌}
 use Rattle.std.specs.List.{list_any}
@@ -68,6 +68,17 @@ AreRising (s ∷ starts) = IsBefore s.0 starts × AreRising starts
 abbrev pub HasStart : (starts : List Start) (key : Key) → Type 0
 HasStart [] key = ⊥
 HasStart (s ∷ starts) key = (key ≡ s.0) ⊎ HasStart starts key
+
+-- the key has the version, and if this is said, there is a start at it
+abbrev pub IsEdge : (starts : List Start) (key : Key) (version : Version) (is_start : Bool) → Type 0
+IsEdge starts key version is_start =
+    (version ≡ last_from 0 starts key) × (IsTrue is_start → HasStart starts key)
+
+-- no start lies between the two keys
+abbrev pub IsFree : (begin end : Key) (starts : List Start) → Type 0
+IsFree begin end [] = Unit {0}
+IsFree begin end (s ∷ starts) =
+    (is_key_below s.0 end ≡ true → is_key_below begin s.0 ≡ false) × IsFree begin end starts
 
 -- if there is a start at the key, it has the version
 abbrev pub HasVersion : (starts : List Start) (key : Key) (version : Version) → Type 0

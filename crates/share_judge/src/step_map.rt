@@ -1,22 +1,47 @@
 //! The version of every key, kept as steps.
 
 ghost use Rattle.std.specs.Prelude.{◌≡◌, ◌<◌, ◌+◌, ◌++◌, ◌∷◌, [], IfOk, OnOk, IsTrue};
-ghost use Rattle.std.specs.Prelude.{true, ◌||◌, nat_lt, nat_eq, not, None, Some, option_map, IfSome};
+ghost use Rattle.std.specs.Prelude.{true, false, ◌||◌, nat_lt, nat_eq, not, None, Some};
+ghost use Rattle.std.specs.Prelude.{option_map, IfSome};
 ghost use Rattle.system_keys.specs.Keys.{Key, Range, holds, is_key_below};
 ghost use Rattle.model.specs.WriteHistories.{unless_forgotten};
 ghost use Rattle.share_judge.specs.Steps.{last_from, last_before, last_of_all, settled, AreRising};
-ghost use Rattle.share_judge.specs.Steps.{HasStart, HasVersion, TellTheSame, AreOver, TakeOver, marked};
-ghost use Rattle.share_judge.specs.Steps.{is_listed, is_same_key, IsEnd, is_in_some, is_written_in};
-ghost use Rattle.share_judge.specs.Steps.{is_reached, is_written, keys_between, is_counted, changes_from};
+ghost use Rattle.share_judge.specs.Steps.{HasStart, HasVersion, IsEdge, IsFree, TellTheSame, AreOver};
+ghost use Rattle.share_judge.specs.Steps.{TakeOver, marked, is_listed, is_same_key, IsEnd};
+ghost use Rattle.share_judge.specs.Steps.{is_in_some, is_written_in, is_reached, is_written};
+ghost use Rattle.share_judge.specs.Steps.{keys_between, is_counted, changes_from};
 
 use crate::step_key::StepKey;
 use model::Version;
 use std::alloc::{AllocError, Global};
+use std::cmp::Ordering;
 use std::collections::BTreeMap;
 use std::collections::btree_map::Iter;
 use std::marker::Model;
 use std::ops::Bound;
 use system_keys::{KEY_SPACE_END, KeyRange, OutOfMemory};
+
+/// What a map has at a key.
+#[derive(Clone, Copy)]
+struct Edge {
+    version: Version,
+    /// There is a start at the key.
+    is_start: bool,
+}
+
+/// There is no version, and no start.
+const NO_EDGE: Edge = Edge {
+    version: 0,
+    is_start: false,
+};
+
+/// What a map has at the ends of a range.
+#[derive(Clone, Copy)]
+struct Edges {
+    /// At the begin, if no start lies between the begin and the end.
+    begin: Option<Edge>,
+    end: Edge,
+}
 
 /// A version for every key, or none, which is 0. Contracts see the list of its starts, in the order
 /// of their keys: each gives its version to the keys from it on, up to the next one. Keys before
@@ -47,19 +72,6 @@ impl StepMap {
             alloc,
             versions: BTreeMap::new(alloc),
         }
-    }
-
-    /// The keys of the range have the version, and no others.
-    fn of_range(alloc: Global, range: &KeyRange, version: Version) -> Result<StepMap, OutOfMemory>
-        ensures { IfOk result
-            (λ map. map ≡ (range.now.begin, version) ∷ (range.now.end, 0) ∷ []) }
-    {
-        let begin = StepKey::new(alloc, range.begin())?;
-        let end = StepKey::new(alloc, range.end())?;
-        let mut versions = BTreeMap::new(alloc);
-        versions.insert(begin, version)?;
-        versions.insert(end, 0)?;
-        Ok(StepMap { alloc, versions })
     }
 
     /// The allocator of the map.
@@ -130,15 +142,91 @@ impl StepMap {
         ensures over { OnOk result (AreOver (holds range.now) version self.old self.new) }
         ensures rising { AreRising self.new }
     {
-        if self.versions.is_empty() {
-            let over = StepMap::of_range(self.alloc, range, version)?;
-            *self = over;
-            return Ok(());
-        }
         let begin = StepKey::new(self.alloc, range.begin())?;
         let end = StepKey::new(self.alloc, range.end())?;
+        let edges = self.edges(&begin, &end);
+        if edges.begin.is_some() {
+            return self.overwrite_free(begin, end, edges.end, version);
+        }
         let keys = self.make_room_between(&begin, &end)?;
         self.fill(&keys, version);
+        Ok(())
+    }
+
+    /// What there is at the two keys. Does not allocate.
+    fn edges(&self, begin: &StepKey, end: &StepKey) -> Edges
+        requires { is_key_below begin.now end.now ≡ true }
+        ensures begin { IfSome result.begin
+            (λ edge. IsEdge self.now begin.now edge.version edge.is_start) }
+        ensures is_free { IfSome result.begin (λ edge. IsFree begin.now end.now self.now) }
+        ensures end { IsEdge self.now end.now result.end.version result.end.is_start }
+    {
+        let mut left = self.versions.range(..=end);
+        let Some((last, version)) = left.next_back() else {
+            return Edges {
+                begin: Some(NO_EDGE),
+                end: NO_EDGE,
+            };
+        };
+        if last < end {
+            return Edges {
+                begin: edge_up_to(last, *version, begin),
+                end: Edge {
+                    version: *version,
+                    is_start: false,
+                },
+            };
+        }
+        let end = Edge {
+            version: *version,
+            is_start: true,
+        };
+        match left.next_back() {
+            Some((key, version)) => Edges {
+                begin: edge_up_to(key, *version, begin),
+                end,
+            },
+            None => Edges {
+                begin: Some(NO_EDGE),
+                end,
+            },
+        }
+    }
+
+    /// Gives the keys from `begin` up to `end` the version, where no start lies between.
+    fn overwrite_free(
+        &mut self,
+        begin: StepKey,
+        end: StepKey,
+        at_end: Edge,
+        version: Version,
+    ) -> Result<(), OutOfMemory>
+        requires below { is_key_below begin end ≡ true }
+        requires at_end { IsEdge self.old end at_end.version at_end.is_start }
+        requires is_free { IsFree begin end self.old }
+        requires rising { AreRising self.old }
+        ensures over { let range : Range = record { begin = begin; end = end } in
+            OnOk result (AreOver (holds range) version self.old self.new) }
+        ensures rising { AreRising self.new }
+    {
+        self.put_missing(end, at_end)?;
+        self.versions.insert(begin, version)?;
+        Ok(())
+    }
+
+    /// Puts a start at the key, unless there is one. No key has another version.
+    fn put_missing(&mut self, key: StepKey, edge: Edge) -> Result<(), OutOfMemory>
+        requires { IsEdge self.old key edge.version edge.is_start }
+        ensures same { TellTheSame self.old self.new }
+        ensures rising { AreRising self.old → AreRising self.new }
+        ensures there { OnOk result (HasStart self.new key) }
+        ensures others { (other : Key) → HasStart self.old other → HasStart self.new other }
+        ensures is_free { (begin : Key) → IsFree begin key self.old → IsFree begin key self.new }
+    {
+        if edge.is_start {
+            return Ok(());
+        }
+        self.versions.insert(key, edge.version)?;
         Ok(())
     }
 
@@ -375,6 +463,26 @@ impl Clone for StepMap {
             alloc: self.alloc,
             versions: self.versions.clone()?,
         })
+    }
+}
+
+/// What there is at `begin`, if the last start up to it is at `key` and has this version; or none if
+/// that start lies above `begin`.
+fn edge_up_to(key: &StepKey, version: Version, begin: &StepKey) -> Option<Edge>
+    ensures up_to { IfSome result (λ edge. is_key_below begin.now key.now ≡ false) }
+    ensures version { IfSome result (λ edge. edge.version ≡ version) }
+    ensures is_start { IfSome result (λ edge. IsTrue edge.is_start → key.now ≡ begin.now) }
+{
+    match key.cmp(begin) {
+        Ordering::Less => Some(Edge {
+            version,
+            is_start: false,
+        }),
+        Ordering::Equal => Some(Edge {
+            version,
+            is_start: true,
+        }),
+        Ordering::Greater => None,
     }
 }
 

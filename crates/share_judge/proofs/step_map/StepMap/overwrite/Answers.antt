@@ -1,10 +1,23 @@
--- Room is made between the two ends of the range, and then filled.
+-- The range is written at its ends if no start lies inside; else room is made between the two, and then filled.
 use Rattle.std.proofs.Common.{◌∷◌, [], ◌∙◌, ap₂, subst, List}
 use Rattle.system_keys.specs.Keys.{Key, is_key_below}
 use Rattle.system_keys.proofs.KeyLaws.{begins_below}
 use Rattle.share_judge.specs.Steps.{AreRising, TellTheSame, is_listed, is_written, marked}
 use Rattle.share_judge.proofs.Overwritten.{filled, over_keys}
 use Rattle.share_judge.proofs.step_map.StepMap.overwrite.Goals as goal
+
+pub edges-edges-requires : goal.edges-edges-requires
+edges-edges-requires c =
+    ap₂ is_key_below (c.in_ok-begin.ensures ∙ c.begin.ensures.value) (c.in_ok-end.ensures ∙ c.end.ensures.value)
+    ∙ begins_below c.args.range.now.begin c.args.range.now.end c.begin.ensures.kept
+
+pub overwrite_free-requires-clause-below : goal.overwrite_free-requires-clause-below
+overwrite_free-requires-clause-below c =
+    ap₂ is_key_below (c.in_ok-begin.ensures ∙ c.begin.ensures.value) (c.in_ok-end.ensures ∙ c.end.ensures.value)
+    ∙ begins_below c.args.range.now.begin c.args.range.now.end c.begin.ensures.kept
+
+pub overwrite_free-requires-clause-rising : goal.overwrite_free-requires-clause-rising
+overwrite_free-requires-clause-rising c = subst AreRising c.self.view_is c.self.invariant
 
 pub make_room_between-requires : goal.make_room_between-requires
 make_room_between-requires c =
