@@ -9,7 +9,10 @@ use Rattle.model.specs.WriteHistories.{unless_forgotten}
 use Rattle.share_judge.specs.Answers.{HaveOneLast, AreSteps, IsCount}
 use Rattle.share_judge.specs.Steps.{Start, last_from, IsBefore, AreRising, HasStart, is_counted, changes_from}
 use Rattle.share_judge.proofs.Starts.{before_has, before_trans, up_to_before, none_before}
-use Rattle.share_judge.proofs.Listed.{least_key}
+
+least_key : (key : Key) → is_key_below key [] ≡ false
+least_key [] = refl
+least_key (byte ∷ key) = refl
 
 -- steps from a key on, and how many begin after it
 record Divided (f : Key → ℕ) (begin : Key) (count : ℕ) : Type 0 where

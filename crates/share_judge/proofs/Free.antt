@@ -1,13 +1,15 @@
 -- Ranges with no start inside: how they are found, and what is written over them.
-use Rattle.std.proofs.Common.{◌≡◌, refl, sym, ap, ◌∙◌, subst, ℕ, inl, inr, List, [], ◌∷◌, ◌++◌, Bool, true, false, cond, not, ◌&&◌, IsTrue, Option, Some, None, IfSome, Ordering, Less, Equal, Greater}
+use Rattle.std.proofs.Common.{◌≡◌, refl, sym, ap, ap₂, ◌∙◌, subst, ℕ, ◌⊎◌, filter, inl, inr, List, [], ◌∷◌, ◌++◌, Bool, true, false, cond, not, ◌&&◌, ◌||◌, append_assoc, IsTrue, Option, Some, None, IfSome, Ordering, Less, Equal, Greater}
 use Rattle.std.proofs.lemmas.Bool.{both_ways}
+use Rattle.std.proofs.lemmas.List.Folds.{list_any-append}
+use Rattle.std.specs.Map.{keys_of}
 use Rattle.std.specs.Ordering.{match_ordering}
 use Rattle.std.specs.BTreeMap.{insert_entry}
 use Rattle.std.specs.BTreeMap.Range.{entries_between}
 use Rattle.std.specs.declared.ops.Bound.TheVariants.{Included, Unbounded}
 use Rattle.system_keys.specs.Keys.{Key, holds, is_key_below}
 use Rattle.system_keys.proofs.KeyOrder.{not_below_itself, below_trans, below_up_to, up_to_trans, not_below_back, equal_unless_below}
-use Rattle.share_judge.specs.Steps.{Start, last_from, last_of_all, IsBefore, AreRising, HasStart, IsEdge, IsFree, TellTheSame, AreOver}
+use Rattle.share_judge.specs.Steps.{Start, last_from, last_of_all, IsBefore, AreRising, HasStart, IsEdge, IsFree, TellTheSame, AreOver, is_same_key, is_listed, keys_between, ListsMore}
 use Rattle.share_judge.proofs.Starts.{key_cmp, less, greater, equal, before_has, before_trans, none_before, starts_up_to}
 use Rattle.share_judge.proofs.Settled.{same_last, same_past}
 use Rattle.share_judge.proofs.WalkBack.{last_above, last_after, last_decides, front_rising}
@@ -168,22 +170,107 @@ pub if_some : {X : Type 0} {P Q R S : X → Type 0} (o : Option X) → ((x : X) 
 if_some None to p q r = tt
 if_some (Some x) to p q r = to x p q r
 
--- ---- a start put at the end
+-- ---- starts put at the ends
 
-end_not_below : (begin end : Key) → is_key_below end end ≡ true → is_key_below begin end ≡ false
-end_not_below begin end below = absurd (both_ways (is_key_below end end) (not_below_itself end) below)
+free_from : (begin end : Key) (ss : List Start) → ((key : Key) → HasStart ss key → is_key_below key end ≡ true → is_key_below begin key ≡ false) → IsFree begin end ss
+free_from begin end [] each = tt
+free_from begin end (s ∷ ss) each = (each s.0 (inl refl), free_from begin end ss (λ key has. each key (inr has)))
 
-free_put : (begin end : Key) (ss : List Start) (version : ℕ) → IsFree begin end ss → IsFree begin end (insert_entry key_cmp ss end version)
-free_put begin end [] version free = (end_not_below begin end, tt)
-free_put begin end (s ∷ ss) version free = by (key_cmp end s.0) (free_put begin end ss version free.1)
+free_has : (begin end : Key) (ss : List Start) (key : Key) → IsFree begin end ss → HasStart ss key → is_key_below key end ≡ true → is_key_below begin key ≡ false
+free_has begin end [] key free has below = absurd has
+free_has begin end (s ∷ ss) key free (inl is) below = ap (is_key_below begin) is ∙ free.0 (ap (λ (k : Key). is_key_below k end) (sym is) ∙ below)
+free_has begin end (s ∷ ss) key free (inr has) below = free_has begin end ss key free.1 has below
+
+pub ends_free : (es new : List Start) (begin end : Key) → IsFree begin end es → ((key : Key) → HasStart new key → HasStart es key ⊎ ((key ≡ begin) ⊎ (key ≡ end))) → IsFree begin end new
+ends_free es new begin end free no_more = free_from begin end new (λ key has. by key (no_more key has))
   where
-    by : (r : Ordering) → IsFree begin end (insert_entry key_cmp ss end version) → IsFree begin end (match_ordering r ((end, version) ∷ s ∷ ss) ((s.0, version) ∷ ss) (s ∷ insert_entry key_cmp ss end version))
-    by Less rest = (end_not_below begin end, free)
-    by Equal rest = free
-    by Greater rest = (free.0, rest)
+    by : (key : Key) → HasStart es key ⊎ ((key ≡ begin) ⊎ (key ≡ end)) → is_key_below key end ≡ true → is_key_below begin key ≡ false
+    by key (inl old) below = free_has begin end es key free old below
+    by key (inr (inl is)) below = ap (is_key_below begin) is ∙ not_below_itself begin
+    by key (inr (inr is)) below = absurd (both_ways (is_key_below key end) (ap (λ (k : Key). is_key_below k end) is ∙ not_below_itself end) below)
 
-pub still_free : (es new : List Start) (begin end : Key) (version : ℕ) → new ≡ insert_entry key_cmp es end version → IsFree begin end es → IsFree begin end new
-still_free es new begin end version is free = subst (IsFree begin end) (sym is) (free_put begin end es version free)
+pub end_free : (es new : List Start) (begin end : Key) → IsFree begin end es → ((key : Key) → HasStart new key → HasStart es key ⊎ (key ≡ end)) → IsFree begin end new
+end_free es new begin end free no_more = ends_free es new begin end free (λ key has. by key (no_more key has))
+  where
+    by : (key : Key) → HasStart es key ⊎ (key ≡ end) → HasStart es key ⊎ ((key ≡ begin) ⊎ (key ≡ end))
+    by key (inl old) = inl old
+    by key (inr is) = inr (inr is)
+
+-- what is known of a key stays so while another one gets a start
+pub edge_stays : (es new : List Start) (key : Key) (version : ℕ) (is_start : Bool) → AreRising es → AreRising new → TellTheSame es new → ((other : Key) → HasStart es other → HasStart new other) → IsEdge es key version is_start → IsEdge new key version is_start
+edge_stays es new key version is_start rising rising_new same others edge =
+    (edge.0 ∙ sym (same_last es new rising rising_new same key), λ there. others key (edge.1 there))
+
+-- both keys got a start, one after the other
+pub both_put : (es mid new : List Start) (begin end : Key) → ((key : Key) → HasStart mid key → HasStart es key ⊎ (key ≡ end)) → ((key : Key) → HasStart new key → HasStart mid key ⊎ (key ≡ begin)) → (key : Key) → HasStart new key → HasStart es key ⊎ ((key ≡ begin) ⊎ (key ≡ end))
+both_put es mid new begin end first second key has = by (second key has)
+  where
+    of : HasStart es key ⊎ (key ≡ end) → HasStart es key ⊎ ((key ≡ begin) ⊎ (key ≡ end))
+    of (inl old) = inl old
+    of (inr is) = inr (inr is)
+
+    by : HasStart mid key ⊎ (key ≡ begin) → HasStart es key ⊎ ((key ≡ begin) ⊎ (key ≡ end))
+    by (inl old) = of (first key old)
+    by (inr is) = inr (inl is)
+
+-- ---- the only start of a range
+
+none_between : (begin end : Key) (ss : List Start) → AreRising ss → IsBefore begin ss → IsFree begin end ss → filter (λ (s : Start). holds (record { begin = begin; end = end }) s.0) ss ≡ []
+none_between begin end [] rising all free = refl
+none_between begin end (s ∷ ss) rising all free = by (is_key_below s.0 begin) (is_key_below s.0 end) refl (none_between begin end ss rising.1 all.1 free.1)
+  where
+    rest : List Start
+    rest = filter (λ (x : Start). holds (record { begin = begin; end = end }) x.0) ss
+
+    by : (a b : Bool) → is_key_below s.0 end ≡ b → rest ≡ [] → cond (not a && b) (s ∷ rest) rest ≡ []
+    by true b below none = none
+    by false true below none = absurd (both_ways (is_key_below begin s.0) (free.0 below) all.0)
+    by false false below none = none
+
+only_start : (begin end : Key) (ss : List Start) → is_key_below begin end ≡ true → AreRising ss → HasStart ss begin → IsFree begin end ss → keys_between (Some begin) end ss ≡ begin ∷ []
+only_start begin end [] forward rising has free = absurd has
+only_start begin end (s ∷ ss) forward rising (inl is) free =
+    ap₂ (λ (a b : Bool). keys_of (cond (not a && b) (s ∷ rest) rest)) (ap (λ (k : Key). is_key_below k begin) (sym is) ∙ not_below_itself begin) (ap (λ (k : Key). is_key_below k end) (sym is) ∙ forward)
+    ∙ ap₂ (λ (k : Key) (more : List Start). k ∷ keys_of more) (sym is) (none_between begin end ss rising.1 (subst (λ (k : Key). IsBefore k ss) (sym is) rising.0) free.1)
+  where
+    rest : List Start
+    rest = filter (λ (x : Start). holds (record { begin = begin; end = end }) x.0) ss
+only_start begin end (s ∷ ss) forward rising (inr has) free =
+    ap (λ (a : Bool). keys_of (cond (not a && is_key_below s.0 end) (s ∷ rest) rest)) (before_has s.0 begin ss rising.0 has)
+    ∙ only_start begin end ss forward rising.1 has free.1
+  where
+    rest : List Start
+    rest = filter (λ (x : Start). holds (record { begin = begin; end = end }) x.0) ss
+
+pub lists_begin : (begin end : Key) (ss : List Start) (old new : List Key) → is_key_below begin end ≡ true → AreRising ss → HasStart ss begin → IsFree begin end ss → ((key : Key) → is_listed new key ≡ (is_listed old key || is_same_key begin key)) → ListsMore (Some begin) end ss old new
+lists_begin begin end ss old new forward rising has free pushed key =
+    pushed key
+    ∙ ap (λ (b : Bool). is_listed old key || b) (sym (or_false (is_same_key begin key)) ∙ ap (λ (keys : List Key). is_listed keys key) (sym (only_start begin end ss forward rising has free)))
+  where
+    or_false : (b : Bool) → (b || false) ≡ b
+    or_false true = refl
+    or_false false = refl
+
+-- ---- lists of begins, and of the starts of other ranges
+
+pub begin_pushed : (begins inside : List Key) (key other : Key) → is_listed ((begins ++ key ∷ []) ++ inside) other ≡ (is_listed (begins ++ inside) other || is_same_key key other)
+begin_pushed begins inside key other =
+    list_any-append (λ (k : Key). is_same_key k other) (begins ++ key ∷ []) inside
+    ∙ ap (λ (b : Bool). b || is_listed inside other) (list_any-append (λ (k : Key). is_same_key k other) begins (key ∷ []))
+    ∙ turned (is_listed begins other) (is_same_key key other) (is_listed inside other)
+    ∙ ap (λ (b : Bool). b || is_same_key key other) (sym (list_any-append (λ (k : Key). is_same_key k other) begins inside))
+  where
+    turned : (a b c : Bool) → ((a || (b || false)) || c) ≡ ((a || c) || b)
+    turned true b c = refl
+    turned false true true = refl
+    turned false true false = refl
+    turned false false true = refl
+    turned false false false = refl
+
+pub inside_pushed : (begins inside more : List Key) (other : Key) → is_listed (begins ++ (inside ++ more)) other ≡ (is_listed (begins ++ inside) other || is_listed more other)
+inside_pushed begins inside more other =
+    ap (λ (keys : List Key). is_listed keys other) (sym (append_assoc begins inside more))
+    ∙ list_any-append (λ (k : Key). is_same_key k other) (begins ++ inside) more
 
 -- ---- the range written
 

@@ -10,6 +10,7 @@ pub mod Overwritten
 pub mod Reached
 pub mod Repeated
 pub mod RoomBetween
+pub mod RoomForMap
 pub mod RoomForShare
 pub mod Settled
 pub mod Starts

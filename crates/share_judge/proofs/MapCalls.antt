@@ -1,5 +1,5 @@
 -- What each call of the map gives, in terms of starts.
-use Rattle.std.proofs.Common.{◌≡◌, refl, sym, ap, ap₂, subst, ◌∙◌, ℕ, List, [], ◌∷◌, ◌++◌, filter, Bool, true, false, cond, not, ◌&&◌, nat_eq, Some, None, Result, Ok, Err, IfOk, nat_cmp, zero, suc, ◌+◌, ◌<◌, ◌≤◌, length, drop, get_or, add-one, arith}
+use Rattle.std.proofs.Common.{◌≡◌, refl, sym, ap, ap₂, subst, ◌∙◌, ◌⊎◌, ℕ, List, [], ◌∷◌, ◌++◌, filter, Bool, true, false, cond, not, ◌&&◌, nat_eq, Some, None, Result, Ok, Err, IfOk, nat_cmp, zero, suc, ◌+◌, ◌<◌, ◌≤◌, length, drop, get_or, add-one, arith}
 use Rattle.std.proofs.Math.Seq.{drop-cons}
 use Rattle.std.specs.Map.{lookup, remove_entry, set_value}
 use Rattle.std.specs.Map.Calls.{RetainsPairs}
@@ -12,7 +12,7 @@ use Rattle.system_keys.proofs.KeyOrder.{up_to_is}
 use Rattle.model.specs.WriteHistories.{unless_forgotten}
 use Rattle.share_judge.specs.Steps.{Start, last_from, last_before, last_of_all, settled, AreRising, HasStart, TellTheSame, is_same_key, is_listed, marked}
 use Rattle.share_judge.proofs.Starts.{key_cmp, last_is, before_is, starts_below, last_of_back}
-use Rattle.share_judge.proofs.Settled.{edge_same, edge_there, still_there, taken_out}
+use Rattle.share_judge.proofs.Settled.{edge_same, edge_there, still_there, no_other, taken_out}
 use Rattle.share_judge.proofs.Overwritten.{value_set, marked_twice, none_marked}
 
 -- ---- an edge put in
@@ -30,6 +30,9 @@ put_there es new copy key version at entries =
 pub put_others : (es new : List Start) (copy : Key) (version : ℕ) → new ≡ insert_entry key_cmp es copy version → (other : Key) → HasStart es other → HasStart new other
 put_others es new copy version entries other has =
     subst (λ (ss : List Start). HasStart ss other) (sym entries) (still_there es copy version other has)
+
+pub put_no_more : (es new : List Start) (copy : Key) (version : ℕ) → new ≡ insert_entry key_cmp es copy version → (other : Key) → HasStart new other → HasStart es other ⊎ (other ≡ copy)
+put_no_more es new copy version entries other has = no_other es copy version other (subst (λ (ss : List Start). HasStart ss other) entries has)
 
 -- ---- what stands at a key, and before it
 

@@ -1,6 +1,7 @@
 -- A start whose version is known, and is that of the step before, is taken out.
-use Rattle.std.proofs.Common.{◌≡◌, refl, sym, ap, subst, ◌∙◌, ◌⊎◌, inl, inr, ℕ, zero, suc, ◌<◌, List, [], ◌∷◌, length, get_or, Bool, true, false, cond, ◌||◌, nat_cmp, arith}
-use Rattle.std.proofs.lemmas.Bool.{or_left}
+use Rattle.std.proofs.Common.{◌≡◌, refl, sym, ap, ap₂, subst, ◌∙◌, ◌⊎◌, inl, inr, ℕ, zero, suc, ◌<◌, List, [], ◌∷◌, ◌++◌, length, get_or, Bool, true, false, cond, ◌||◌, nat_cmp, arith}
+use Rattle.std.proofs.lemmas.Bool.{or_left, or_right}
+use Rattle.std.proofs.lemmas.List.Folds.{list_any-append}
 use Rattle.std.specs.Map.{remove_entry}
 use Rattle.std.specs.BTreeMap.{is_at}
 use Rattle.std.specs.Cmp.Lexicographic.{slice_cmp}
@@ -9,6 +10,7 @@ use Rattle.system_keys.proofs.KeyOrder.{not_below_itself, not_below_back, below_
 use Rattle.share_judge.specs.Steps.{Start, last_from, last_before, IsBefore, AreRising, HasStart, HasVersion, TellTheSame, is_same_key, is_listed, marked}
 use Rattle.share_judge.proofs.Starts.{none_before, before_has, same_itself}
 use Rattle.share_judge.proofs.MapCalls.{removed_same}
+use Rattle.share_judge.proofs.Overwritten.{marked_twice}
 
 -- ---- the version at a marked start
 
@@ -34,6 +36,18 @@ listed_at (k ∷ keys) (suc i) key there is = by (is_same_key k key) (listed_at 
     by : (t : Bool) → is_listed keys key ≡ true → (t || is_listed keys key) ≡ true
     by true rest = refl
     by false rest = rest
+
+-- two lists, one after the other
+pub marked_both : (begins inside ones others : List Key) (version : ℕ) (ss mid new : List Start) → ones ≡ begins → others ≡ inside → mid ≡ marked (is_listed ones) version ss → new ≡ marked (is_listed others) version mid → new ≡ marked (is_listed (begins ++ inside)) version ss
+marked_both begins inside ones others version ss mid new first second one two =
+    let same : (key : Key) → (is_listed begins key || is_listed inside key) ≡ is_listed (begins ++ inside) key = λ key. sym (list_any-append (λ (k : Key). is_same_key k key) begins inside) in
+    two
+    ∙ ap₂ (λ (keys : List Key) (starts : List Start). marked (is_listed keys) version starts) second (one ∙ ap (λ (keys : List Key). marked (is_listed keys) version ss) first)
+    ∙ marked_twice (is_listed inside) (is_listed begins) version ss
+    ∙ ap (λ (test : Key → Bool). marked test version ss) (λ i key. same key i)
+
+pub listed_inside : (begins inside : List Key) (key : Key) → is_listed inside key ≡ true → is_listed (begins ++ inside) key ≡ true
+listed_inside begins inside key listed = list_any-append (λ (k : Key). is_same_key k key) begins inside ∙ or_right (is_listed begins key) (is_listed inside key) listed
 
 -- ---- one start taken out
 

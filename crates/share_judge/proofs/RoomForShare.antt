@@ -1,9 +1,8 @@
 -- Room that is made for a map and for ranges.
-use Rattle.std.proofs.Common.{◌≡◌, refl, sym, ap, ap₂, subst, ◌∙◌, ℕ, ◌<◌, ◌≤◌, inl, inr, zero, suc, ◌+◌, List, [], ◌∷◌, ◌++◌, length, drop, get_or, Bool, true, false, ◌||◌, ◌⊎◌, Some, add-one, arith}
+use Rattle.std.proofs.Common.{◌≡◌, refl, sym, ap, ap₂, subst, ◌∙◌, ℕ, ◌<◌, ◌≤◌, inl, inr, zero, suc, ◌+◌, List, [], ◌∷◌, length, drop, get_or, Bool, true, false, ◌||◌, ◌⊎◌, Some, add-one, arith}
 use Rattle.std.proofs.Math.Seq.{drop-cons}
-use Rattle.std.proofs.lemmas.List.Folds.{list_any-append}
 use Rattle.system_keys.specs.Keys.{Key, Range, holds}
-use Rattle.share_judge.specs.Steps.{Start, last_of_all, AreRising, HasStart, TakeOver, is_same_key, is_listed, is_written, is_in_some, is_written_in, IsEnd, keys_between}
+use Rattle.share_judge.specs.Steps.{Start, last_of_all, AreRising, HasStart, TakeOver, is_listed, is_written, is_in_some, is_written_in, IsEnd, keys_between, ListsMore}
 use Rattle.share_judge.proofs.Listed.{listed_there}
 use Rattle.share_judge.proofs.Overwritten.{IsDecided, decided_by, decided_either, decided_none, takes_over, range_written}
 
@@ -76,9 +75,9 @@ or_turned false true false = refl
 or_turned false false true = refl
 or_turned false false false = refl
 
-pub one_listed : (ranges : List Range) (i : ℕ) (range : Range) (begin end : Key) (ss : List Start) (before keys more : List Key) → i < length ranges → range ≡ get_or ranges i range → begin ≡ range.begin → end ≡ range.end → more ≡ keys ++ keys_between (Some begin) end ss
+pub one_listed : (ranges : List Range) (i : ℕ) (range : Range) (begin end : Key) (ss : List Start) (before keys more : List Key) → i < length ranges → range ≡ get_or ranges i range → begin ≡ range.begin → end ≡ range.end → ListsMore (Some begin) end ss keys more
     → AreListed ranges (drop i ranges) ss before keys → AreListed ranges (drop (i + 1) ranges) ss before more
-one_listed ranges i range begin end ss before keys more there is low high more_is listed key has =
+one_listed ranges i range begin end ss before keys more there is low high lists listed key has =
     ap (λ (b : Bool). is_in_some (drop (i + 1) ranges) key || b) now_listed
     ∙ or_turned (is_in_some (drop (i + 1) ranges) key) (is_listed keys key) (holds range key)
     ∙ ap (λ (rs : List Range). is_in_some rs key || is_listed keys key) (sym (range_left ranges i range there is))
@@ -86,9 +85,10 @@ one_listed ranges i range begin end ss before keys more there is low high more_i
   where
     now_listed : is_listed more key ≡ (is_listed keys key || holds range key)
     now_listed =
-        ap (λ (ks : List Key). is_listed ks key) (more_is ∙ ap₂ (λ (b e : Key). keys ++ keys_between (Some b) e ss) low high)
-        ∙ list_any-append (λ (k : Key). is_same_key k key) keys (keys_between (Some range.begin) range.end ss)
-        ∙ ap (λ (b : Bool). is_listed keys key || b) (listed_there (holds (record { begin = range.begin; end = range.end })) ss key has)
+        lists key
+        ∙ ap (λ (b : Bool). is_listed keys key || b)
+        (ap₂ (λ (b e : Key). is_listed (keys_between (Some b) e ss) key) low high
+        ∙ listed_there (holds (record { begin = range.begin; end = range.end })) ss key has)
 
 pub all_ranges_listed : (ranges : List Range) (i : ℕ) (ss : List Start) (before keys : List Key) → length ranges ≤ i → AreListed ranges (drop i ranges) ss before keys → (key : Key) → HasStart ss key → is_listed keys key ≡ (is_in_some ranges key || is_listed before key)
 all_ranges_listed ranges i ss before keys past listed key has =

@@ -1,5 +1,5 @@
 -- What tells the same: an edge put in, a repeated start taken out, and starts that are settled.
-use Rattle.std.proofs.Common.{◌≡◌, refl, sym, ap, ◌∙◌, ℕ, inl, inr, List, [], ◌∷◌, Bool, true, false, cond, nat_eq, nat_le, Ordering, Less, Equal, Greater, arith}
+use Rattle.std.proofs.Common.{◌≡◌, refl, sym, ap, ◌∙◌, ℕ, ◌⊎◌, inl, inr, List, [], ◌∷◌, Bool, true, false, cond, nat_eq, nat_le, Ordering, Less, Equal, Greater, arith}
 use Rattle.std.proofs.lemmas.Bool.{eqb-true, eq-eqb, leb-true}
 use Rattle.std.specs.Ordering.{match_ordering}
 use Rattle.std.specs.Map.{remove_entry}
@@ -64,6 +64,24 @@ still_there (s ∷ ss) key version other has = by (key_cmp key s.0) has (still_t
     by Equal (inr there) rest = inr there
     by Greater (inl e) rest = inl e
     by Greater (inr there) rest = inr (rest there)
+
+pub no_other : (ss : List Start) (key : Key) (version : ℕ) (other : Key) → HasStart (insert_entry key_cmp ss key version) other → HasStart ss other ⊎ (other ≡ key)
+no_other [] key version other (inl is) = inr is
+no_other [] key version other (inr none) = absurd none
+no_other (s ∷ ss) key version other has = by (key_cmp key s.0) has (no_other ss key version other)
+  where
+    by : (r : Ordering) → HasStart (match_ordering r ((key, version) ∷ s ∷ ss) ((s.0, version) ∷ ss) (s ∷ insert_entry key_cmp ss key version)) other
+        → (HasStart (insert_entry key_cmp ss key version) other → HasStart ss other ⊎ (other ≡ key)) → HasStart (s ∷ ss) other ⊎ (other ≡ key)
+    by Less (inl is) rest = inr is
+    by Less (inr has) rest = inl has
+    by Equal (inl is) rest = inl (inl is)
+    by Equal (inr has) rest = inl (inr has)
+    by Greater (inl is) rest = inl (inl is)
+    by Greater (inr has) rest = later (rest has)
+      where
+        later : HasStart ss other ⊎ (other ≡ key) → HasStart (s ∷ ss) other ⊎ (other ≡ key)
+        later (inl old) = inl (inr old)
+        later (inr is) = inr is
 
 -- ---- a repeated start taken out
 

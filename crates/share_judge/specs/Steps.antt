@@ -1,5 +1,5 @@
 -- Steps over all keys: each start gives its version to the keys from it on, up to the next start.
-use Rattle.std.specs.Prelude.{◌≡◌, ℕ, ◌+◌, ◌<◌, List, [], ◌∷◌, ◌++◌, map, filter, Bool, true, false}
+use Rattle.std.specs.Prelude.{◌≡◌, ℕ, ◌+◌, ◌<◌, List, [], ◌∷◌, map, filter, Bool, true, false}
 use Rattle.std.specs.Prelude.{not, ◌&&◌, nat_eq, nat_lt, cond, IsTrue, ◌⊎◌, Option, None, Some}
 use Rattle.std.specs.Prelude.{◌||◌}
 use Rattle.std.specs.List.{list_any}
@@ -88,6 +88,13 @@ HasVersion starts key version = HasStart starts key → last_from 0 starts key �
 abbrev pub TellTheSame : (old new : List Start) → Type 0
 TellTheSame old new = (dropped : Version) → settled dropped 0 new ≡ settled dropped 0 old
 
+-- there are the same starts, and maybe one at the key, and no key has another version
+pub record GainsStart (key : Key) (old new : List Start) : Type 0 where
+  pub same : TellTheSame old new
+  pub rising : AreRising old → AreRising new
+  pub others : (other : Key) → HasStart old other → HasStart new other
+  pub no_more : (other : Key) → HasStart new other → HasStart old other ⊎ (other ≡ key)
+
 -- the two keys are the same
 abbrev pub is_same_key : (key other : Key) → Bool
 is_same_key key other = is_eq (slice_cmp nat_cmp key other)
@@ -142,16 +149,17 @@ keys_between None end starts = []
 keys_between (Some begin) end starts =
     keys_of (filter (λ (s : Start). holds (record { begin = begin; end = end }) s.0) starts)
 
--- the keys of the starts in the ranges of `over`, the first of which begins at `begin` if that is
--- given
-abbrev pub keys_in : (begin : Option Key) (over starts : List Start) → List Key
-keys_in begin [] starts = []
-keys_in begin (o ∷ over) starts = keys_between begin o.0 starts ++ keys_in (begin_at o) over starts
+-- the key is the begin, if there is one
+abbrev pub IsBegin : (begin : Option Key) (key : Key) → Type 0
+IsBegin None key = ⊥
+IsBegin (Some begin) key = key ≡ begin
 
--- the begin, if there is one, is below each start
-abbrev pub IsBeginBefore : (begin : Option Key) (starts : List Start) → Type 0
-IsBeginBefore None starts = Unit {0}
-IsBeginBefore (Some begin) starts = IsBefore begin starts
+-- the keys of the starts from `begin` up to `end` are listed, with those that were
+abbrev pub ListsMore :
+    (begin : Option Key) (end : Key) (starts : List Start) (old new : List Key) → Type 0
+ListsMore begin end starts old new =
+    (key : Key)
+    → is_listed new key ≡ (is_listed old key || is_listed (keys_between begin end starts) key)
 
 -- ---- what is reached
 

@@ -10,7 +10,7 @@ ghost use Rattle.share_judge.specs.Judged.{is_read_overwritten, verdict_by_steps
 ghost use Rattle.share_judge.specs.Judged.{committed_writes, are_apart, IsJudged, IsPlanned};
 
 use crate::step_key::StepKey;
-use crate::step_map::{StepMap, precedes};
+use crate::step_map::{Room, StepMap, precedes};
 use crate::verdicts::{Verdicts, copy_verdicts};
 use model::{Part, Verdict, Version};
 use system_keys::{Items, KeyRange, OutOfMemory};
@@ -27,45 +27,45 @@ pub(crate) struct Judging {
 }
 
 /// Judges the parts of a share, and makes room for their writes among the `kept` ones, of which none
-/// is changed. Returns the verdicts, and the keys of the starts that the writes overwrite.
+/// is changed. Returns the verdicts, and the starts that the writes overwrite.
 pub(crate) fn judge_with_room(
     kept: &mut StepMap,
     judging: Judging,
     parts: &[Part],
-) -> Result<(Vec<Verdict>, Vec<StepKey>), OutOfMemory>
+) -> Result<(Vec<Verdict>, Room), OutOfMemory>
     requires rising { AreRising kept.old }
     requires past { last_of_all 0 kept.old ≡ 0 }
     requires below { (key : Key) → last_from 0 kept.old key < judging.version }
     ensures same { TellTheSame kept.old kept.new }
     ensures rising { AreRising kept.new }
     ensures planned { IfOk result (λ made. IsPlanned judging.window judging.dropped judging.version
-        kept.old kept.new parts.now made.0.items made.1.items) }
+        kept.old kept.new parts.now made.0.items made.1) }
 {
     let (verdicts, own, last_writes) = judge_parts(kept, judging, parts)?;
-    let keys = kept.make_room(&own, last_writes)?;
-    Ok((verdicts, keys))
+    let room = kept.make_room(&own, last_writes)?;
+    Ok((verdicts, room))
 }
 
 /// Judges the parts of a share as [`judge_with_room`] does. Returns the verdicts, a copy of them, and
-/// the keys of the starts that the writes overwrite.
+/// the starts that the writes overwrite.
 pub(crate) fn judge_with_copy(
     kept: &mut StepMap,
     judging: Judging,
     parts: &[Part],
-) -> Result<(Verdicts, Verdicts, Vec<StepKey>), OutOfMemory>
+) -> Result<(Verdicts, Verdicts, Room), OutOfMemory>
     requires rising { AreRising kept.old }
     requires past { last_of_all 0 kept.old ≡ 0 }
     requires below { (key : Key) → last_from 0 kept.old key < judging.version }
     ensures same { TellTheSame kept.old kept.new }
     ensures rising { AreRising kept.new }
     ensures planned { IfOk result (λ made. IsPlanned judging.window judging.dropped judging.version
-        kept.old kept.new parts.now made.0 made.2.items) }
+        kept.old kept.new parts.now made.0 made.2) }
     ensures copy { IfOk result (λ made. made.1 ≡ made.0) }
 {
-    let (verdicts, keys) = judge_with_room(kept, judging, parts)?;
+    let (verdicts, room) = judge_with_room(kept, judging, parts)?;
     let verdicts = Items::from(verdicts);
     let copy = copy_verdicts(&verdicts)?;
-    Ok((verdicts, copy, keys))
+    Ok((verdicts, copy, room))
 }
 
 /// Judges the parts of a share, one after another, and returns their verdicts and the writes of

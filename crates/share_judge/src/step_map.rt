@@ -2,14 +2,15 @@
 
 ghost use Rattle.std.specs.Prelude.{◌≡◌, ◌<◌, ◌+◌, ◌++◌, ◌∷◌, [], IfOk, OnOk, IsTrue};
 ghost use Rattle.std.specs.Prelude.{true, false, ◌||◌, nat_lt, nat_eq, not, None, Some};
-ghost use Rattle.std.specs.Prelude.{option_map, IfSome};
+ghost use Rattle.std.specs.Prelude.{option_map, IfSome, ◌⊎◌};
 ghost use Rattle.system_keys.specs.Keys.{Key, Range, holds, is_key_below};
 ghost use Rattle.model.specs.WriteHistories.{unless_forgotten};
 ghost use Rattle.share_judge.specs.Steps.{last_from, last_before, last_of_all, settled, AreRising};
-ghost use Rattle.share_judge.specs.Steps.{HasStart, HasVersion, IsEdge, IsFree, TellTheSame, AreOver};
-ghost use Rattle.share_judge.specs.Steps.{TakeOver, marked, is_listed, is_same_key, IsEnd};
-ghost use Rattle.share_judge.specs.Steps.{is_in_some, is_written_in, is_reached, is_written};
-ghost use Rattle.share_judge.specs.Steps.{keys_between, is_counted, changes_from};
+ghost use Rattle.share_judge.specs.Steps.{HasStart, HasVersion, IsEdge, IsFree, TellTheSame};
+ghost use Rattle.share_judge.specs.Steps.{GainsStart, AreOver, TakeOver, marked, is_listed};
+ghost use Rattle.share_judge.specs.Steps.{is_same_key, IsEnd, is_in_some, is_written_in};
+ghost use Rattle.share_judge.specs.Steps.{is_reached, is_written, begin_at, IsBegin, keys_between};
+ghost use Rattle.share_judge.specs.Steps.{ListsMore, is_counted, changes_from};
 
 use crate::step_key::StepKey;
 use model::Version;
@@ -41,6 +42,45 @@ struct Edges {
     /// At the begin, if no start lies between the begin and the end.
     begin: Option<Edge>,
     end: Edge,
+}
+
+/// Starts that get one version. Contracts see the list of their keys.
+#[derive(Debug, Drop)]
+pub(crate) struct Room {
+    /// The only starts of their ranges.
+    begins: Vec<StepKey>,
+    /// The starts of other ranges.
+    inside: Vec<StepKey>,
+}
+
+impl Model for Room {
+    ghost use Rattle.std.specs.Prelude.{List, ◌++◌};
+    ghost use Rattle.system_keys.specs.Keys.{Key};
+
+    ghost Value = { List Key };
+
+    ghost view = { λ room. room.begins.items ++ room.inside.items };
+}
+
+impl Room {
+    /// No start. Does not allocate.
+    pub(crate) fn new(alloc: Global) -> Room
+        ensures { result ≡ [] }
+    {
+        Room {
+            begins: Vec::new(alloc),
+            inside: Vec::new(alloc),
+        }
+    }
+
+    /// One more, which is the only one of its range.
+    fn push_begin(&mut self, key: StepKey) -> Result<(), OutOfMemory>
+        ensures { OnOk result ((other : Key)
+            → is_listed self.new other ≡ (is_listed self.old other || is_same_key key other)) }
+    {
+        self.begins.push(key)?;
+        Ok(())
+    }
 }
 
 /// A version for every key, or none, which is 0. Contracts see the list of its starts, in the order
@@ -148,8 +188,8 @@ impl StepMap {
         if edges.begin.is_some() {
             return self.overwrite_free(begin, end, edges.end, version);
         }
-        let keys = self.make_room_between(&begin, &end)?;
-        self.fill(&keys, version);
+        let room = self.make_room_between(&begin, &end)?;
+        self.fill(&room, version);
         Ok(())
     }
 
@@ -160,6 +200,7 @@ impl StepMap {
             (λ edge. IsEdge self.now begin.now edge.version edge.is_start) }
         ensures is_free { IfSome result.begin (λ edge. IsFree begin.now end.now self.now) }
         ensures end { IsEdge self.now end.now result.end.version result.end.is_start }
+        ensures rising { AreRising self.now }
     {
         let mut left = self.versions.range(..=end);
         let Some((last, version)) = left.next_back() else {
@@ -214,14 +255,11 @@ impl StepMap {
         Ok(())
     }
 
-    /// Puts a start at the key, unless there is one. No key has another version.
+    /// Puts a start at the key, unless there is one.
     fn put_missing(&mut self, key: StepKey, edge: Edge) -> Result<(), OutOfMemory>
         requires { IsEdge self.old key edge.version edge.is_start }
-        ensures same { TellTheSame self.old self.new }
-        ensures rising { AreRising self.old → AreRising self.new }
+        ensures gains { GainsStart key self.old self.new }
         ensures there { OnOk result (HasStart self.new key) }
-        ensures others { (other : Key) → HasStart self.old other → HasStart self.new other }
-        ensures is_free { (begin : Key) → IsFree begin key self.old → IsFree begin key self.new }
     {
         if edge.is_start {
             return Ok(());
@@ -230,57 +268,90 @@ impl StepMap {
         Ok(())
     }
 
-    /// Puts a start at both keys, and lists the keys of the starts from `begin` up to `end`. No key has
-    /// another version, also if it fails, which is only with `OutOfMemory`.
-    fn make_room_between(
-        &mut self,
-        begin: &StepKey,
-        end: &StepKey,
-    ) -> Result<Vec<StepKey>, OutOfMemory>
-        requires { is_key_below begin.now end.now ≡ true }
-        ensures same { TellTheSame self.old self.new }
-        ensures rising { AreRising self.old → AreRising self.new }
-        ensures over { let over = (begin.now, 1) ∷ (end.now, 0) ∷ [] in
-            IfOk result (λ keys. TakeOver (is_written over) self.new keys.items) }
+    /// Puts a start at the key, unless there is one. Copies the key only then.
+    fn put_copy(&mut self, key: &StepKey, edge: Edge) -> Result<(), OutOfMemory>
+        requires { IsEdge self.old key.now edge.version edge.is_start }
+        ensures gains { GainsStart key.now self.old self.new }
+        ensures there { OnOk result (HasStart self.new key.now) }
     {
-        self.put_edge(begin.copy()?)?;
-        self.put_edge(end.copy()?)?;
-        let mut keys = Vec::new(self.alloc);
-        self.list_between(Some(begin), end, &mut keys)?;
-        Ok(keys)
+        if edge.is_start {
+            return Ok(());
+        }
+        self.put_missing(key.copy()?, edge)
     }
 
-    /// Puts a start at each start of the other map and at the ends of the ranges, and lists the keys of
-    /// the starts at which the other map has a version, or that lie in a range. No key has another
+    /// Puts a start at the key, with the version that the key has.
+    fn put_edge(&mut self, key: StepKey) -> Result<(), OutOfMemory>
+        ensures gains { GainsStart key self.old self.new }
+        ensures there { OnOk result (HasStart self.new key) }
+    {
+        let version = self.at(&key);
+        self.put_missing(
+            key,
+            Edge {
+                version,
+                is_start: false,
+            },
+        )
+    }
+
+    /// Puts a start at both keys, unless there is one. Returns whether none lies between. No key
+    /// has another version, also if it fails, which is only with `OutOfMemory`.
+    fn put_edges(&mut self, begin: &StepKey, end: &StepKey) -> Result<bool, OutOfMemory>
+        requires { is_key_below begin.now end.now ≡ true }
+        ensures same { TellTheSame self.old self.new }
+        ensures rising { AreRising self.new }
+        ensures begin { OnOk result (HasStart self.new begin.now) }
+        ensures end { OnOk result (HasStart self.new end.now) }
+        ensures others { (other : Key) → HasStart self.old other → HasStart self.new other }
+        ensures no_more { (other : Key) → HasStart self.new other
+            → HasStart self.old other ⊎ ((other ≡ begin.now) ⊎ (other ≡ end.now)) }
+        ensures is_free { IfOk result
+            (λ is_free. IsTrue is_free → IsFree begin.now end.now self.new) }
+    {
+        let edges = self.edges(begin, end);
+        self.put_copy(end, edges.end)?;
+        let Some(edge) = edges.begin else {
+            self.put_edge(begin.copy()?)?;
+            return Ok(false);
+        };
+        self.put_copy(begin, edge)?;
+        Ok(true)
+    }
+
+    /// Puts a start at both keys, and lists the starts from `begin` up to `end`. No key has another
+    /// version, also if it fails, which is only with `OutOfMemory`.
+    fn make_room_between(&mut self, begin: &StepKey, end: &StepKey) -> Result<Room, OutOfMemory>
+        requires { is_key_below begin.now end.now ≡ true }
+        ensures same { TellTheSame self.old self.new }
+        ensures rising { AreRising self.new }
+        ensures over { let over = (begin.now, 1) ∷ (end.now, 0) ∷ [] in
+            IfOk result (λ room. TakeOver (is_written over) self.new room) }
+    {
+        let is_free = self.put_edges(begin, end)?;
+        let mut room = Room::new(self.alloc);
+        self.list_range(begin, end, is_free, &mut room)?;
+        Ok(room)
+    }
+
+    /// Puts a start at each start of the other map and at the ends of the ranges, and lists the
+    /// starts at which the other map has a version, or that lie in a range. No key has another
     /// version, also if it fails, which is only with `OutOfMemory`.
     pub(crate) fn make_room(
         &mut self,
         over: &StepMap,
         ranges: &[KeyRange],
-    ) -> Result<Vec<StepKey>, OutOfMemory>
+    ) -> Result<Room, OutOfMemory>
         requires { last_of_all 0 over.now ≡ 0 }
         ensures same { TellTheSame self.old self.new }
         ensures rising { AreRising self.old → AreRising self.new }
         ensures over { IfOk result
-            (λ keys. TakeOver (is_written_in over.now ranges.now) self.new keys.items) }
+            (λ room. TakeOver (is_written_in over.now ranges.now) self.new room) }
     {
-        self.put_edges(over)?;
         self.put_ends(ranges)?;
-        let mut keys = self.list_written(over)?;
-        self.list_inside(ranges, &mut keys)?;
-        Ok(keys)
-    }
-
-    /// Puts a start at each start of the other map. No key has another version, also if it fails.
-    fn put_edges(&mut self, over: &StepMap) -> Result<(), OutOfMemory>
-        ensures same { TellTheSame self.old self.new }
-        ensures rising { AreRising self.old → AreRising self.new }
-        ensures there { OnOk result ((key : Key) → HasStart over.now key → HasStart self.new key) }
-    {
-        for (key, _) in over.iter() {
-            self.put_edge(key.copy()?)?;
-        }
-        Ok(())
+        let mut room = self.make_room_over(over)?;
+        self.list_inside(ranges, &mut room)?;
+        Ok(room)
     }
 
     /// Puts a start at both ends of each range. No key has another version, also if it fails.
@@ -291,68 +362,126 @@ impl StepMap {
         ensures others { (other : Key) → HasStart self.old other → HasStart self.new other }
     {
         for range in ranges {
-            self.put_edge(StepKey::new(self.alloc, range.begin())?)?;
-            self.put_edge(StepKey::new(self.alloc, range.end())?)?;
-        }
-        Ok(())
-    }
-
-    /// Puts a start at the key, with the version that the key has.
-    fn put_edge(&mut self, key: StepKey) -> Result<(), OutOfMemory>
-        ensures same { TellTheSame self.old self.new }
-        ensures rising { AreRising self.new }
-        ensures there { OnOk result (HasStart self.new key) }
-        ensures others { (other : Key) → HasStart self.old other → HasStart self.new other }
-    {
-        let version = self.at(&key);
-        self.versions.insert(key, version)?;
-        Ok(())
-    }
-
-    /// Lists the keys of the starts at which the other map has a version.
-    fn list_written(&self, over: &StepMap) -> Result<Vec<StepKey>, OutOfMemory>
-        requires { last_of_all 0 over.now ≡ 0 }
-        ensures listed { IfOk result (λ keys. (key : Key) → HasStart self.now key
-            → is_listed keys.items key ≡ is_written over.now key) }
-        ensures rising { AreRising self.now }
-    {
-        let mut keys = Vec::new(self.alloc);
-        let mut begin: Option<&StepKey> = None;
-        for (key, version) in over.iter() {
-            self.list_between(begin, key, &mut keys)?;
-            begin = if *version == 0 { None } else { Some(key) };
-        }
-        Ok(keys)
-    }
-
-    /// Lists the keys of the starts in the ranges, after those that are listed.
-    fn list_inside(&self, ranges: &[KeyRange], keys: &mut Vec<StepKey>) -> Result<(), OutOfMemory>
-        ensures { OnOk result ((key : Key) → HasStart self.now key → is_listed keys.new.items key
-            ≡ (is_in_some ranges.now key || is_listed keys.old.items key)) }
-    {
-        for range in ranges {
             let begin = StepKey::new(self.alloc, range.begin())?;
             let end = StepKey::new(self.alloc, range.end())?;
-            self.list_between(Some(&begin), &end, keys)?;
+            self.put_edges(&begin, &end)?;
         }
         Ok(())
     }
 
-    /// Lists the keys of the starts from `begin` up to `end`, or of none if there is no begin.
+    /// Puts a start at each start of the other map, and lists the starts at which that one has a
+    /// version. No key has another version, also if it fails.
+    fn make_room_over(&mut self, over: &StepMap) -> Result<Room, OutOfMemory>
+        requires { last_of_all 0 over.now ≡ 0 }
+        ensures same { TellTheSame self.old self.new }
+        ensures rising { AreRising self.old → AreRising self.new }
+        ensures there { OnOk result ((key : Key) → HasStart over.now key → HasStart self.new key) }
+        ensures others { (other : Key) → HasStart self.old other → HasStart self.new other }
+        ensures listed { IfOk result (λ room. (key : Key) → HasStart self.new key
+            → is_listed room key ≡ is_written over.now key) }
+    {
+        let mut room = Room::new(self.alloc);
+        let mut begin: Option<&StepKey> = None;
+        for (key, version) in over.iter() {
+            self.make_room_up_to(begin, key, *version, &mut room)?;
+            begin = if *version == 0 { None } else { Some(key) };
+        }
+        Ok(room)
+    }
+
+    /// Puts a start at both keys, and lists the starts from `begin` up to `end`. Without a begin
+    /// it lists none, and an `end` with a version is left to the range that begins there.
+    fn make_room_up_to(
+        &mut self,
+        begin: Option<&StepKey>,
+        end: &StepKey,
+        version: Version,
+        room: &mut Room,
+    ) -> Result<(), OutOfMemory>
+        requires { IfSome begin (λ key. is_key_below key.now end.now ≡ true) }
+        ensures same { TellTheSame self.old self.new }
+        ensures rising { AreRising self.old → AreRising self.new }
+        ensures others { (other : Key) → HasStart self.old other → HasStart self.new other }
+        ensures no_more { let begin = option_map (λ key. key.now) begin.entry in
+            (other : Key) → HasStart self.new other
+            → HasStart self.old other ⊎ (IsBegin begin other ⊎ (other ≡ end.now)) }
+        ensures begin { let begin = option_map (λ key. key.now) begin.entry in
+            OnOk result ((key : Key) → IsBegin begin key → HasStart self.new key) }
+        ensures end { OnOk result
+            (HasStart self.new end.now ⊎ IsBegin (begin_at (end.now, version)) end.now) }
+        ensures lists { let begin = option_map (λ key. key.now) begin.entry in
+            OnOk result (ListsMore begin end.now self.new room.old room.new) }
+    {
+        match begin {
+            Some(begin) => {
+                let is_free = self.put_edges(begin, end)?;
+                self.list_range(begin, end, is_free, room)
+            }
+            None if version == 0 => self.put_edge(end.copy()?),
+            None => Ok(()),
+        }
+    }
+
+    /// Lists the starts in the ranges.
+    fn list_inside(&self, ranges: &[KeyRange], room: &mut Room) -> Result<(), OutOfMemory>
+        ensures listed { OnOk result ((key : Key) → HasStart self.now key → is_listed room.new key
+            ≡ (is_in_some ranges.now key || is_listed room.old key)) }
+        ensures rising { AreRising self.now }
+    {
+        let alloc = self.alloc;
+        for range in ranges {
+            let begin = StepKey::new(alloc, range.begin())?;
+            let end = StepKey::new(alloc, range.end())?;
+            let is_free = self.is_only_start(&begin, &end);
+            self.list_range(&begin, &end, is_free, room)?;
+        }
+        Ok(())
+    }
+
+    /// Whether there is a start at `begin`, and none between it and `end`. Does not allocate.
+    fn is_only_start(&self, begin: &StepKey, end: &StepKey) -> bool
+        requires { is_key_below begin.now end.now ≡ true }
+        ensures there { IsTrue result → HasStart self.now begin.now }
+        ensures is_free { IsTrue result → IsFree begin.now end.now self.now }
+    {
+        match self.edges(begin, end).begin {
+            Some(edge) => edge.is_start,
+            None => false,
+        }
+    }
+
+    /// Lists the starts from `begin` up to `end`, of which there is one if `is_free` is true.
+    fn list_range(
+        &self,
+        begin: &StepKey,
+        end: &StepKey,
+        is_free: bool,
+        room: &mut Room,
+    ) -> Result<(), OutOfMemory>
+        requires below { is_key_below begin.now end.now ≡ true }
+        requires rising { AreRising self.now }
+        requires there { IsTrue is_free → HasStart self.now begin.now }
+        requires is_free { IsTrue is_free → IsFree begin.now end.now self.now }
+        ensures { OnOk result (ListsMore (Some begin.now) end.now self.now room.old room.new) }
+    {
+        if is_free {
+            room.push_begin(begin.copy()?)?;
+            return Ok(());
+        }
+        self.list_between(begin, end, &mut room.inside)
+    }
+
+    /// Lists the keys of the starts from `begin` up to `end`.
     fn list_between(
         &self,
-        begin: Option<&StepKey>,
+        begin: &StepKey,
         end: &StepKey,
         keys: &mut Vec<StepKey>,
     ) -> Result<(), OutOfMemory>
-        requires { IfSome begin (λ key. is_key_below key.now end.now ≡ true) }
-        ensures { let begin = option_map (λ key. key.now) begin.entry in
-            OnOk result (keys.new.items
-            ≡ keys.old.items ++ keys_between begin end.now self.now) }
+        requires { is_key_below begin.now end.now ≡ true }
+        ensures { OnOk result (keys.new.items
+            ≡ keys.old.items ++ keys_between (Some begin.now) end.now self.now) }
     {
-        let Some(begin) = begin else {
-            return Ok(());
-        };
         for (key, _) in self
             .versions
             .range((Bound::Included(begin), Bound::Excluded(end)))
@@ -362,14 +491,15 @@ impl StepMap {
         Ok(())
     }
 
-    /// Gives the starts at the keys the version, and takes out those at which it then does not
-    /// change. Does not allocate.
-    pub(crate) fn fill(&mut self, keys: &[StepKey], version: Version)
-        ensures same { TellTheSame (marked (is_listed keys.now) version self.old) self.new }
+    /// Gives the starts that are listed the version, and takes out those at which it then does not
+    /// change, but for begins of ranges without another start. Does not allocate.
+    pub(crate) fn fill(&mut self, room: &Room, version: Version)
+        ensures same { TellTheSame (marked (is_listed room.now) version self.old) self.new }
         ensures rising { AreRising self.old → AreRising self.new }
     {
-        self.mark(keys, version);
-        self.take_out_repeated(keys, version);
+        self.mark(&room.begins, version);
+        self.mark(&room.inside, version);
+        self.take_out_repeated(&room.inside, version);
     }
 
     /// Gives the starts at the keys the version.
@@ -466,8 +596,8 @@ impl Clone for StepMap {
     }
 }
 
-/// What there is at `begin`, if the last start up to it is at `key` and has this version; or none if
-/// that start lies above `begin`.
+/// What there is at `begin` if the last start up to the end of its range is at `key`, with this
+/// version; or none if that start lies above `begin`.
 fn edge_up_to(key: &StepKey, version: Version, begin: &StepKey) -> Option<Edge>
     ensures up_to { IfSome result (λ edge. is_key_below begin.now key.now ≡ false) }
     ensures version { IfSome result (λ edge. edge.version ≡ version) }

@@ -95,8 +95,8 @@ impl WriteHistory {
             dropped: self.dropped,
             version,
         };
-        let (verdicts, keys) = judge_with_room(&mut self.steps, judging, share.parts())?;
-        self.steps.fill(&keys, version);
+        let (verdicts, room) = judge_with_room(&mut self.steps, judging, share.parts())?;
+        self.steps.fill(&room, version);
         self.last = version;
         Ok(Items::from(verdicts))
     }
@@ -135,13 +135,13 @@ impl WriteHistory {
             dropped: self.dropped,
             version,
         };
-        let Ok((verdicts, copy, keys)) = judge_with_copy(&mut self.steps, judging, share.parts())
+        let Ok((verdicts, copy, room)) = judge_with_copy(&mut self.steps, judging, share.parts())
         else {
             return Err(NotJudged::OutOfMemory(keep));
         };
         match keep(copy) {
             Ok(kept) => {
-                self.steps.fill(&keys, version);
+                self.steps.fill(&room, version);
                 self.last = version;
                 Ok((verdicts, kept))
             }

@@ -8,9 +8,8 @@ use Rattle.share_judge.proofs.step_map.StepMap.list_between.Goals as goal
 
 pub loop-key-init : goal.loop-key-init
 loop-key-init c =
-    rw c.in-Some.is
-    (ap (λ (more : List Key). c.args.keys.now.items ++ more)
+    ap (λ (more : List Key). c.args.keys.now.items ++ more)
     (ap keys_of
     (c.into_iter-key-iterator.ensures.into_iter_gives ∙ c.range-key-items.ensures.between tt
-    ∙ between_held c.self.inside.versions.entries c.in-Some.begin.now c.args.end.now)
-    ∙ ap (keys_between (Some c.in-Some.begin.now) c.args.end.now) c.self.view_is))
+    ∙ between_held c.self.inside.versions.entries c.args.begin.now c.args.end.now)
+    ∙ ap (keys_between (Some c.args.begin.now) c.args.end.now) c.self.view_is)

@@ -4,4 +4,4 @@ use Rattle.share_judge.proofs.RoomForShare.{AreListed}
 use Rattle.share_judge.proofs.step_map.StepMap.list_inside.Given as goal
 
 abbrev pub invariant-loop-range : goal.invariant-loop-range
-invariant-loop-range l = AreListed l.ranges (drop l.range-index l.ranges) l.self l.fn.keys.items l.keys.items
+invariant-loop-range l = AreListed l.ranges (drop l.range-index l.ranges) l.self l.fn.room l.room

@@ -4,5 +4,5 @@ use Rattle.share_judge.proofs.step_map.StepMap.make_room.Goals as goal
 
 pub returns-clause-over : goal.returns-clause-over
 returns-clause-over c =
-    room_taken c.args.over.now c.args.ranges.now c.put_ends.new.self c.in_ok-keys.keys.items c.list_inside.new.keys.items c.list_written.ensures.rising c.requires
-    (λ k has. c.put_ends.ensures.others k (c.in_ok-put_edges.ensures.there k has)) c.in_ok-put_ends.ensures.there c.in_ok-keys.ensures.listed c.in_ok-list_inside.ensures
+    room_taken c.args.over.now c.args.ranges.now c.make_room_over.new.self c.in_ok-room.room c.list_inside.new.room c.list_inside.ensures.rising c.requires
+    c.in_ok-room.ensures.there (λ k is. c.make_room_over.ensures.others k (c.in_ok-put_ends.ensures.there k is)) c.in_ok-room.ensures.listed c.in_ok-list_inside.ensures.listed
