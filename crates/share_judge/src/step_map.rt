@@ -73,6 +73,16 @@ impl Room {
         }
     }
 
+    /// No start, with room for so many of ranges with only one.
+    fn with_capacity(alloc: Global, capacity: usize) -> Result<Room, OutOfMemory>
+        ensures { IfOk result (λ room. room ≡ []) }
+    {
+        Ok(Room {
+            begins: Vec::with_capacity(alloc, capacity)?,
+            inside: Vec::new(alloc),
+        })
+    }
+
     /// One more, which is the only one of its range.
     fn push_begin(&mut self, key: StepKey) -> Result<(), OutOfMemory>
         ensures { OnOk result ((other : Key)
@@ -380,7 +390,7 @@ impl StepMap {
         ensures listed { IfOk result (λ room. (key : Key) → HasStart self.new key
             → is_listed room key ≡ is_written over.now key) }
     {
-        let mut room = Room::new(self.alloc);
+        let mut room = Room::with_capacity(self.alloc, over.len() / 2)?;
         let mut begin: Option<&StepKey> = None;
         for (key, version) in over.iter() {
             self.make_room_up_to(begin, key, *version, &mut room)?;
