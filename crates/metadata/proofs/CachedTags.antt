@@ -12,7 +12,7 @@ use Rattle.system_keys.specs.Families.{is_kept}
 use Rattle.model.proofs.Members.{Contains-from_Has}
 use Rattle.model.proofs.Metadata.Entries.{filter_in_order}
 use Rattle.metadata.specs.Overwrites.{is_same_key, is_listed, has_entry, entries_without, IsPutOver, IsOverwritten}
-use Rattle.metadata.specs.CachedTags.{Values, TagLists, KeyTags, tag_by, tags_by, AreTags, tags_at, tags_written, displaced_tags, values_over, names_server, names_put, is_row_named, row_tags, chosen_tags, puts_server, changed_tags, may_tag, may_tag_some, TagsTakeBack, IsBlanked}
+use Rattle.metadata.specs.CachedTags.{Values, TagLists, KeyTags, tag_by, tags_by, AreTags, IsRowKey, tags_at, tags_written, displaced_tags, values_over, names_server, names_put, is_row_named, row_tags, chosen_tags, puts_server, changed_tags, may_tag, may_tag_some, TagsTakeBack, IsBlanked}
 use Rattle.metadata.proofs.KeyValues.{same_key, same_itself, same_entries, none_behind, first_behind, rest_in_order}
 use Rattle.metadata.proofs.EntriesLeft.{value_without, value_kept}
 
@@ -149,17 +149,13 @@ changed_are_tags puts entries lists s t are = λ key value own there.
 
 -- ---- and taken back
 
--- the keys of rows that pass a test are those of entries
-record IsRow (key : Key) (rows : Entries) : Type 0 where
-  own : is_in key_servers_family key ≡ true
-  there : has_entry rows key ≡ true
-
-chosen_rows : (values : Values) (p : Entry → Bool) (rows : Entries) (key : Key) → ((row : Entry) → p row ≡ true → is_key_servers row ≡ true) → is_listed (keys_of (chosen_tags values p rows)) key ≡ true → IsRow key rows
+-- the keys of rows that pass a test are those of keyServers rows
+pub chosen_rows : (values : Values) (p : Entry → Bool) (rows : Entries) (key : Key) → ((row : Entry) → p row ≡ true → is_key_servers row ≡ true) → is_listed (keys_of (chosen_tags values p rows)) key ≡ true → IsRowKey (entry_value rows) key
 chosen_rows values p [] key only listed = absurd (cc)
 chosen_rows values p (row ∷ rows) key only listed = by (p row) refl (is_same_key key row.0) refl listed (chosen_rows values p rows key only)
   where
     by : (t : Bool) → p row ≡ t → (e : Bool) → is_same_key key row.0 ≡ e → is_listed (keys_of (map (row_tags values) (cond t (row ∷ filter p rows) (filter p rows)))) key ≡ true
-        → (is_listed (keys_of (chosen_tags values p rows)) key ≡ true → IsRow key rows) → IsRow key (row ∷ rows)
+        → (is_listed (keys_of (chosen_tags values p rows)) key ≡ true → IsRowKey (entry_value rows) key) → IsRowKey (entry_value (row ∷ rows)) key
     by true h true same l rest = record { own = ap (is_in key_servers_family) (same_key key row.0 same) ∙ only row h; there = ap (λ (s : Bool). is_some (cond s (Some row.1) (entry_value rows key))) same }
     by true h false other l rest =
         let row_is = rest (ap (λ (s : Bool). s || is_listed (keys_of (chosen_tags values p rows)) key) (sym other) ∙ l) in
@@ -179,7 +175,7 @@ or_right : (a b : Bool) → b ≡ true → (a || b) ≡ true
 or_right true b h = refl
 or_right false b h = h
 
-some_over : (put was : Option (List ℕ)) → is_some was ≡ true → is_some (option_or put was) ≡ true
+pub some_over : (put was : Option (List ℕ)) → is_some was ≡ true → is_some (option_or put was) ≡ true
 some_over None was h = h
 some_over (Some value) was h = refl
 
@@ -192,33 +188,29 @@ and_left true b h = refl
 and_left false b h = absurd (cc)
 
 -- a key whose tags change is that of a row after the entries are put
-record IsChanged (puts entries : Entries) (key : Key) : Type 0 where
-  own : is_in key_servers_family key ≡ true
-  there : is_some (values_over puts entries key) ≡ true
-
-changed_rows : (puts entries : Entries) (key : Key) → is_listed (keys_of (changed_tags puts entries)) key ≡ true → IsChanged puts entries key
+pub changed_rows : (puts entries : Entries) (key : Key) → is_listed (keys_of (changed_tags puts entries)) key ≡ true → IsRowKey (values_over puts entries) key
 changed_rows puts entries key listed = by (puts_server puts) (sym (keys_both _ (chosen_tags values is_key_servers puts) key) ∙ listed)
   where
     values : Values
     values = values_over puts entries
 
-    of_puts : IsRow key puts → IsChanged puts entries key
+    of_puts : IsRowKey (entry_value puts) key → IsRowKey (values_over puts entries) key
     of_puts row = record { own = row.own; there = some_put (entry_value puts key) (entry_value entries key) row.there }
 
-    of_entries : IsRow key entries → IsChanged puts entries key
+    of_entries : IsRowKey (entry_value entries) key → IsRowKey (values_over puts entries) key
     of_entries row = record { own = row.own; there = some_over (entry_value puts key) (entry_value entries key) row.there }
 
-    put : is_listed (keys_of (chosen_tags values is_key_servers puts)) key ≡ true → IsChanged puts entries key
+    put : is_listed (keys_of (chosen_tags values is_key_servers puts)) key ≡ true → IsRowKey (values_over puts entries) key
     put there = of_puts (chosen_rows values is_key_servers puts key (λ row h. h) there)
 
-    named : is_listed (keys_of (chosen_tags values (is_row_named puts) entries)) key ≡ true → IsChanged puts entries key
+    named : is_listed (keys_of (chosen_tags values (is_row_named puts) entries)) key ≡ true → IsRowKey (values_over puts entries) key
     named there = of_entries (chosen_rows values (is_row_named puts) entries key (λ row h. and_left (is_key_servers row) (names_put puts row.1) h) there)
 
-    either_of : (a : Bool) → is_listed (keys_of (chosen_tags values (is_row_named puts) entries)) key ≡ a → (a || is_listed (keys_of (chosen_tags values is_key_servers puts)) key) ≡ true → IsChanged puts entries key
+    either_of : (a : Bool) → is_listed (keys_of (chosen_tags values (is_row_named puts) entries)) key ≡ a → (a || is_listed (keys_of (chosen_tags values is_key_servers puts)) key) ≡ true → IsRowKey (values_over puts entries) key
     either_of true is h = named is
     either_of false is h = put h
 
-    by : (g : Bool) → (is_listed (keys_of (if g then chosen_tags values (is_row_named puts) entries else [])) key || is_listed (keys_of (chosen_tags values is_key_servers puts)) key) ≡ true → IsChanged puts entries key
+    by : (g : Bool) → (is_listed (keys_of (if g then chosen_tags values (is_row_named puts) entries else [])) key || is_listed (keys_of (chosen_tags values is_key_servers puts)) key) ≡ true → IsRowKey (values_over puts entries) key
     by true h = either_of (is_listed (keys_of (chosen_tags values (is_row_named puts) entries)) key) refl h
     by false h = put h
 
@@ -246,7 +238,7 @@ displaced_some lists (row ∷ rows) key listed = by (lists row.0) refl (is_same_
     by (Some tags) h true same l later = ap (λ (k : Key). is_some (lists k)) (same_key key row.0 same) ∙ ap is_some h
     by (Some tags) h false same l later = later (ap (λ (s : Bool). s || is_listed (keys_of (displaced_tags lists rows)) key) (sym same) ∙ l)
 
-unwritten : (lists : TagLists) (rows : List KeyTags) (key : Key) → is_listed (keys_of rows) key ≡ false → tags_written lists rows key ≡ lists key
+pub unwritten : (lists : TagLists) (rows : List KeyTags) (key : Key) → is_listed (keys_of rows) key ≡ false → tags_written lists rows key ≡ lists key
 unwritten lists [] key out = refl
 unwritten lists (row ∷ rows) key out =
     let apart = either (is_same_key key row.0) (is_listed (keys_of rows) key) out in
@@ -287,11 +279,11 @@ put_back old now (row ∷ rows) key = by (old row.0) refl (is_same_key key row.0
         ∙ same_there (is_listed (keys_of rows) key) (old key) (now key) tags there
 
 -- a value that is there
-record IsValue (found : Option (List ℕ)) : Type 0 where
-  value : List ℕ
-  is : found ≡ Some value
+pub record IsValue (found : Option (List ℕ)) : Type 0 where
+  pub value : List ℕ
+  pub is : found ≡ Some value
 
-value_there : (found : Option (List ℕ)) → is_some found ≡ true → IsValue found
+pub value_there : (found : Option (List ℕ)) → is_some found ≡ true → IsValue found
 value_there None h = absurd (cc)
 value_there (Some value) h = record { value = value; is = refl }
 
@@ -309,7 +301,7 @@ displaced_take_back puts old new lists s t over are =
     rows : List KeyTags
     rows = changed_tags puts old
 
-    found : (now : TagLists) → AreTags now (entry_value new) → (key : Key) → IsChanged puts old key → is_some (now key) ≡ true
+    found : (now : TagLists) → AreTags now (entry_value new) → (key : Key) → IsRowKey (values_over puts old) key → is_some (now key) ≡ true
     found now tags key row =
         let there = value_there (entry_value new key) (ap is_some (over key) ∙ row.there) in
         some_tags (now key) (tags_by (entry_value new) there.value) (tags key there.value row.own there.is)

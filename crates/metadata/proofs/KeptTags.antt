@@ -21,7 +21,7 @@ use Rattle.metadata.proofs.SortedTags.{resorted}
 
 -- ---- the rows of the metadata
 
-value_of : (rows : Entries) (row : Entry) → IsInOrder rows → Has rows row → entry_value rows row.0 ≡ Some row.1
+pub value_of : (rows : Entries) (row : Entry) → IsInOrder rows → Has rows row → entry_value rows row.0 ≡ Some row.1
 value_of [] row s has = absurd has
 value_of (r ∷ rows) row s (inl same) = subst (λ (e : Entry). entry_value (r ∷ rows) e.0 ≡ Some e.1) same (first_value r rows)
 value_of (r ∷ rows) row s (inr there) = by (is_same_key row.0 r.0) refl (value_of rows row (rest_in_order r rows s) there)

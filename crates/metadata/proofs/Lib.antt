@@ -3,6 +3,7 @@ pub mod BlankedKeys
 pub mod CachedTags
 pub mod ChosenTags
 pub mod EntriesLeft
+pub mod ExactTags
 pub mod HeldKeys
 pub mod HiddenRuns
 pub mod KeptInOrder

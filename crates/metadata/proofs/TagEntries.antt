@@ -1,22 +1,25 @@
 -- What the calls of the map to tags do to the tags at each key.
-use Rattle.std.proofs.Common.{◌≡◌, refl, sym, ap, ◌∙◌, Result, Ok, Err, OnOk, OnErr, ℕ, length, List, [], ◌∷◌, ◌++◌, filter, Bool, true, false, cond, if◌then◌else◌, ◌||◌, Option, Some, None, Ordering, Less, Equal, Greater, nat_cmp}
+use Rattle.std.proofs.Common.{◌≡◌, refl, sym, ap, ◌∙◌, Result, Ok, Err, OnOk, OnErr, ℕ, zero, suc, ◌-◌, ◌<◌, slice_get, arith, length, List, [], ◌∷◌, ◌++◌, filter, Bool, true, false, not, cond, if◌then◌else◌, ◌||◌, Option, Some, None, option_map, Ordering, Less, Equal, Greater, nat_cmp}
 use Rattle.std.specs.Global.{Vec}
-use Rattle.std.specs.List.{AllByRecursion}
+use Rattle.std.specs.List.{AllByRecursion, last_or}
 use Rattle.std.specs.List.Sorted.{IsStrictlySortedBy}
 use Rattle.std.specs.Option.{is_some, option_or}
 use Rattle.std.specs.Ordering.{match_ordering}
 use Rattle.std.specs.Map.{keys_of, lookup, remove_entry}
 use Rattle.std.specs.BTreeMap.{insert_entry, is_at}
+use Rattle.std.specs.BTreeMap.Range.{entries_between}
+use Rattle.std.specs.declared.ops.Bound.TheVariants.{Included, Unbounded}
 use Rattle.std.specs.Cmp.Lexicographic.{slice_cmp}
 use Rattle.std.proofs.lemmas.Cmp.{tied_itself, nat_list_cmp_total}
-use Rattle.std.proofs.lemmas.Map.Lookups.{exact_bytes}
 use Rattle.system_keys.specs.declared.tag.Tag.{Tag}
-use Rattle.system_keys.specs.Keys.{Key}
+use Rattle.system_keys.specs.Keys.{Key, is_key_below}
+use Rattle.system_keys.specs.Families.{key_servers_family}
+use Rattle.system_keys.proofs.KeyOrder.{up_to_is}
 use Rattle.metadata.specs.MapEntries.{bytes_of_keys}
 use Rattle.metadata.specs.Overwrites.{is_same_key, is_listed}
-use Rattle.metadata.specs.CachedTags.{TagLists, KeyTags, tags_at, tags_written}
-use Rattle.metadata.specs.TagEntries.{rows_of, AreThere}
-use Rattle.metadata.proofs.KeyValues.{key_cmp, same_key, same_itself}
+use Rattle.metadata.specs.CachedTags.{TagLists, KeyTags, tags_at, tags_written, is_row_up_to, serving_tags}
+use Rattle.metadata.specs.TagEntries.{row_from, rows_of, AreThere}
+use Rattle.metadata.proofs.KeyValues.{key_cmp, same_key, same_itself, AreRising, Behind, value_put, value_removed}
 use Rattle.metadata.proofs.MapEntries.{vec_cmp}
 
 -- ---- one key
@@ -53,43 +56,43 @@ some_there lists p (e ∷ es) there = by (p e) (some_there lists p es there.1)
     by true rest = (there.0, rest)
     by false rest = rest
 
-pub tags_put : (es : List (Vec ℕ × List Tag)) (key : Vec ℕ) (tags : List Tag) (other : Key) → tags_at (rows_of (insert_entry vec_cmp es key tags)) other ≡ (if is_same_key other key.items then Some tags else tags_at (rows_of es) other)
-tags_put [] key tags other = refl
-tags_put (e ∷ es) key tags other = by (vec_cmp key e.0) refl (tags_put es key tags other)
+pub put_row : (es : List (Vec ℕ × List Tag)) (key : Vec ℕ) (tags : List Tag) → rows_of (insert_entry vec_cmp es key tags) ≡ insert_entry key_cmp (rows_of es) key.items tags
+put_row [] key tags = refl
+put_row (e ∷ es) key tags = by (vec_cmp key e.0) (put_row es key tags)
   where
-    by : (r : Ordering) → vec_cmp key e.0 ≡ r → tags_at (rows_of (insert_entry vec_cmp es key tags)) other ≡ (if is_same_key other key.items then Some tags else tags_at (rows_of es) other)
-        → tags_at (rows_of (match_ordering r ((key, tags) ∷ e ∷ es) ((e.0, tags) ∷ es) (e ∷ insert_entry vec_cmp es key tags))) other ≡ (if is_same_key other key.items then Some tags else tags_at (rows_of (e ∷ es)) other)
-    by Less is rest = refl
-    by Equal is rest =
-        let same : key.items ≡ e.0.items = exact_bytes key.items e.0.items is in
-        rw same (twice (is_same_key other e.0.items))
-      where
-        twice : (t : Bool) → cond t (Some tags) (tags_at (rows_of es) other) ≡ (if t then Some tags else cond t (Some e.1) (tags_at (rows_of es) other))
-        twice true = refl
-        twice false = refl
-    by Greater is rest = rw rest (apart (is_same_key other e.0.items) refl (is_same_key other key.items) refl)
-      where
-        apart : (t : Bool) → is_same_key other e.0.items ≡ t → (s : Bool) → is_same_key other key.items ≡ s
-            → cond t (Some e.1) (if s then Some tags else tags_at (rows_of es) other) ≡ (if s then Some tags else cond t (Some e.1) (tags_at (rows_of es) other))
-        apart true h true k =
-            let same : key.items ≡ e.0.items = sym (same_key other key.items k) ∙ same_key other e.0.items h in
-            let tied : key_cmp key.items e.0.items ≡ Equal = ap (key_cmp key.items) (sym same) ∙ tied_itself nat_list_cmp_total key.items in
-            let none : Greater ≡ Equal = sym is ∙ tied in absurd (cc)
-        apart true h false k = refl
-        apart false h true k = refl
-        apart false h false k = refl
+    by : (r : Ordering) → rows_of (insert_entry vec_cmp es key tags) ≡ insert_entry key_cmp (rows_of es) key.items tags
+        → rows_of (match_ordering r ((key, tags) ∷ e ∷ es) ((e.0, tags) ∷ es) (e ∷ insert_entry vec_cmp es key tags))
+        ≡ match_ordering r ((key.items, tags) ∷ row_from e ∷ rows_of es) ((e.0.items, tags) ∷ rows_of es) (row_from e ∷ insert_entry key_cmp (rows_of es) key.items tags)
+    by Less rest = refl
+    by Equal rest = refl
+    by Greater rest = ap (λ (rows : List KeyTags). row_from e ∷ rows) rest
 
--- a removal leaves the other keys alone
-pub tags_left : (key other : Key) (es : List (Vec ℕ × List Tag)) → is_same_key other key ≡ false → tags_at (rows_of (remove_entry (is_at (λ (k : Vec ℕ). slice_cmp nat_cmp key k.items)) es)) other ≡ tags_at (rows_of es) other
-tags_left key other [] apart = refl
-tags_left key other (e ∷ es) apart = by (is_same_key key e.0.items) refl (tags_left key other es apart)
+pub tags_put : (es : List (Vec ℕ × List Tag)) (key : Vec ℕ) (tags : List Tag) (other : Key) → tags_at (rows_of (insert_entry vec_cmp es key tags)) other ≡ (if is_same_key other key.items then Some tags else tags_at (rows_of es) other)
+tags_put es key tags other = ap (λ (rows : List KeyTags). tags_at rows other) (put_row es key tags) ∙ value_put (rows_of es) key.items other tags
+
+removed_row : (key : Key) (es : List (Vec ℕ × List Tag)) → rows_of (remove_entry (is_at (λ (k : Vec ℕ). slice_cmp nat_cmp key k.items)) es) ≡ remove_entry (is_same_key key) (rows_of es)
+removed_row key [] = refl
+removed_row key (e ∷ es) = by (is_same_key key e.0.items) (removed_row key es)
   where
-    by : (t : Bool) → is_same_key key e.0.items ≡ t → tags_at (rows_of (remove_entry (is_at (λ (k : Vec ℕ). slice_cmp nat_cmp key k.items)) es)) other ≡ tags_at (rows_of es) other
-        → tags_at (rows_of (cond t es (e ∷ remove_entry (is_at (λ (k : Vec ℕ). slice_cmp nat_cmp key k.items)) es))) other ≡ tags_at (rows_of (e ∷ es)) other
-    by true same rest =
-        let differs : is_same_key other e.0.items ≡ false = ap (is_same_key other) (sym (same_key key e.0.items same)) ∙ apart in
-        rw differs refl
-    by false h rest = ap (λ (found : Option (List Tag)). cond (is_same_key other e.0.items) (Some e.1) found) rest
+    by : (t : Bool) → rows_of (remove_entry (is_at (λ (k : Vec ℕ). slice_cmp nat_cmp key k.items)) es) ≡ remove_entry (is_same_key key) (rows_of es)
+        → rows_of (cond t es (e ∷ remove_entry (is_at (λ (k : Vec ℕ). slice_cmp nat_cmp key k.items)) es)) ≡ cond t (rows_of es) (row_from e ∷ remove_entry (is_same_key key) (rows_of es))
+    by true rest = refl
+    by false rest = ap (λ (rows : List KeyTags). row_from e ∷ rows) rest
+
+behind_row : (key : Vec ℕ) (es : List (Vec ℕ × List Tag)) → AllByRecursion (λ (other : Vec ℕ). vec_cmp key other ≡ Less) (keys_of es) → Behind key.items (rows_of es)
+behind_row key [] all = tt
+behind_row key (e ∷ es) all = (all.0, behind_row key es all.1)
+
+-- the rows of a map in order are in order
+pub rows_rise : (es : List (Vec ℕ × List Tag)) → IsStrictlySortedBy vec_cmp (keys_of es) → AreRising (rows_of es)
+unfolding IsStrictlySortedBy
+rows_rise [] s = tt
+rows_rise (e ∷ es) s = (behind_row e.0 es s.0, rows_rise es s.1)
+
+-- a removal takes the tags of its key, and no others
+pub tags_removed : (key other : Key) (es : List (Vec ℕ × List Tag)) → IsStrictlySortedBy vec_cmp (keys_of es)
+    → tags_at (rows_of (remove_entry (is_at (λ (k : Vec ℕ). slice_cmp nat_cmp key k.items)) es)) other ≡ (if is_same_key other key then None else tags_at (rows_of es) other)
+tags_removed key other es s = ap (λ (rows : List KeyTags). tags_at rows other) (removed_row key es) ∙ value_removed (rows_of es) key other (rows_rise es s)
 
 -- an insertion at a key that is there succeeds
 pub tags_filled : {X Y : Type 0} (r : Result X Y) (es new : List (Vec ℕ × List Tag)) (key : Vec ℕ) (tags : List Tag) → OnOk r (new ≡ insert_entry vec_cmp es key tags) → OnErr r (lookup (is_at (vec_cmp key)) es ≡ None) → is_some (tags_at (rows_of es) key.items) ≡ true
@@ -128,19 +131,23 @@ putting_next old rows now next row left put so_far =
 
 -- ---- keys that are removed
 
--- the keys that are left are among the keys, and no other key has changed
+-- what is left to be removed, and what is kept so far, is what there is without all of the keys
 abbrev pub AreRemoving : (keys : List Key) (left : List (Vec ℕ)) (old now : TagLists) → Type 0
-AreRemoving keys left old now = (key : Key) → is_listed keys key ≡ false → (is_listed (bytes_of_keys left) key ≡ false) × (now key ≡ old key)
+AreRemoving keys left old now = (key : Key) → (if is_listed (bytes_of_keys left) key then None else now key) ≡ (if is_listed keys key then None else old key)
 
-either : (a b : Bool) → (a || b) ≡ false → (a ≡ false) × (b ≡ false)
-either true b h = absurd (cc)
-either false b h = (refl, h)
+pub removing_first : (keys : List Key) (left : List (Vec ℕ)) (old : TagLists) → bytes_of_keys left ≡ keys → AreRemoving keys left old old
+removing_first keys left old is = λ key. ap (λ (list : List Key). if is_listed list key then None else old key) is
 
-pub removing_next : (keys : List Key) (k : Vec ℕ) (left : List (Vec ℕ)) (old before after : TagLists) → ((key : Key) → is_same_key key k.items ≡ false → after key ≡ before key) → AreRemoving keys (k ∷ left) old before → AreRemoving keys left old after
-removing_next keys k left old before after one so_far = λ key out.
-    let was = so_far key out in
-    let apart = either (is_same_key key k.items) (is_listed (bytes_of_keys left) key) was.0 in
-    (apart.1, one key apart.0 ∙ was.1)
+one_more : (s l : Bool) (found : Option (List Tag)) → (if l then None else (if s then None else found)) ≡ (if s || l then None else found)
+one_more true true found = refl
+one_more true false found = refl
+one_more false l found = refl
+
+pub removing_next : (keys : List Key) (k : Vec ℕ) (left : List (Vec ℕ)) (old before after : TagLists) → ((key : Key) → after key ≡ (if is_same_key key k.items then None else before key)) → AreRemoving keys (k ∷ left) old before → AreRemoving keys left old after
+removing_next keys k left old before after one so_far = λ key.
+    ap (λ (found : Option (List Tag)). if is_listed (bytes_of_keys left) key then None else found) (one key)
+    ∙ one_more (is_same_key key k.items) (is_listed (bytes_of_keys left) key) (before key)
+    ∙ so_far key
 
 -- ---- the first and the last of those that are put
 
@@ -211,3 +218,50 @@ last_put front row now next key put =
     ap (option_or (tags_at front key)) (put key)
     ∙ over_one (tags_at front key) (now key) (is_same_key key row.0) row.1
     ∙ ap (λ (found : Option (List Tag)). option_or found (now key)) (sym (last_tags front row key))
+
+-- ---- the tags that serve a key
+
+pub filtered_rows : (p : KeyTags → Bool) (es : List (Vec ℕ × List Tag)) → rows_of (filter (λ (e : Vec ℕ × List Tag). p (row_from e)) es) ≡ filter p (rows_of es)
+filtered_rows p [] = refl
+filtered_rows p (e ∷ es) = by (p (row_from e)) (filtered_rows p es)
+  where
+    by : (t : Bool) → rows_of (filter (λ (e : Vec ℕ × List Tag). p (row_from e)) es) ≡ filter p (rows_of es)
+        → rows_of (cond t (e ∷ filter (λ (e : Vec ℕ × List Tag). p (row_from e)) es) (filter (λ (e : Vec ℕ × List Tag). p (row_from e)) es)) ≡ cond t (row_from e ∷ filter p (rows_of es)) (filter p (rows_of es))
+    by true rest = ap (λ (rows : List KeyTags). row_from e ∷ rows) rest
+    by false rest = rest
+
+-- the rows up to a key
+up_to_rows : (es : List (Vec ℕ × List Tag)) (greatest : Vec ℕ) (key : Key) → greatest.items ≡ key → rows_of (entries_between vec_cmp Unbounded (Included greatest) es) ≡ filter (is_row_up_to key) (rows_of es)
+up_to_rows es greatest key is =
+    filtered_rows (λ (row : KeyTags). not (is_key_below greatest.items row.0)) es
+    ∙ ap (λ (p : KeyTags → Bool). filter p (rows_of es)) (λ i (row : KeyTags). (ap (λ (k : Key). not (is_key_below k row.0)) is ∙ sym (up_to_is row.0 key)) i)
+
+both_rows : (es fs : List (Vec ℕ × List Tag)) → rows_of (es ++ fs) ≡ rows_of es ++ rows_of fs
+both_rows [] fs = refl
+both_rows (e ∷ es) fs = ap (λ (rows : List KeyTags). row_from e ∷ rows) (both_rows es fs)
+
+last_of : {A : Type 0} (before : Option A) (xs : List A) (x : A) → last_or before (xs ++ x ∷ []) ≡ Some x
+last_of before [] x = refl
+last_of before (y ∷ xs) x = last_of (Some y) xs x
+
+-- the last of the entries up to a key
+pub last_serving : (es front : List (Vec ℕ × List Tag)) (e : Vec ℕ × List Tag) (greatest : Vec ℕ) (key : Key) → greatest.items ≡ key_servers_family.prefix ++ key → entries_between vec_cmp Unbounded (Included greatest) es ≡ front ++ e ∷ []
+    → Some e.1 ≡ serving_tags (rows_of es) key
+last_serving es front e greatest key is found =
+    ap (option_map (λ (row : KeyTags). row.1))
+    (sym (last_of None (rows_of front) (row_from e))
+    ∙ ap (last_or None) (sym (both_rows front (e ∷ [])) ∙ ap rows_of (sym found) ∙ up_to_rows es greatest (key_servers_family.prefix ++ key) is))
+
+pub none_serving : (es : List (Vec ℕ × List Tag)) (greatest : Vec ℕ) (key : Key) → greatest.items ≡ key_servers_family.prefix ++ key → entries_between vec_cmp Unbounded (Included greatest) es ≡ [] → None ≡ serving_tags (rows_of es) key
+none_serving es greatest key is found =
+    ap (λ (rows : List KeyTags). option_map (λ (row : KeyTags). row.1) (last_or None rows)) (ap rows_of (sym found) ∙ up_to_rows es greatest (key_servers_family.prefix ++ key) is)
+
+-- ---- the row at a place
+
+pub first_place : (row : KeyTags) (rows : List KeyTags) (place : ℕ) → place ≡ 0 → slice_get (row ∷ rows) place ≡ Some row
+first_place row rows place first = ap (slice_get (row ∷ rows)) first
+
+pub next_place : (row : KeyTags) (rows : List KeyTags) (place : ℕ) → 0 < place → slice_get rows (place - 1) ≡ slice_get (row ∷ rows) place
+next_place row rows zero more = absurd (omega arith)
+next_place row rows (suc n) more =
+    let less : suc n - 1 ≡ n = omega arith in ap (slice_get rows) less

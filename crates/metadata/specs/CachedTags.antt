@@ -1,13 +1,16 @@
 -- The tags that are kept beside the entries, one list for each keyServers row, and what brings them
 -- up to date.
 use Rattle.std.specs.Prelude.{◌≡◌, ℕ, List, [], ◌∷◌, ◌++◌, map, Bool, true, ◌&&◌, Option}
-use Rattle.std.specs.Prelude.{Some, if◌then◌else◌, filter, flat_map, option_map, option_to_list}
+use Rattle.std.specs.Prelude.{None, Some, if◌then◌else◌, filter, flat_map, option_map, option_to_list}
 use Rattle.std.specs.Prelude.{nat_eq}
 use Rattle.std.specs.Option.{is_some, option_or}
 use Rattle.std.specs.Map.{keys_of, lookup}
-use Rattle.std.specs.List.{list_any, starts_with}
+use Rattle.std.specs.Ordering.{nat_cmp}
+use Rattle.std.specs.Cmp.Lexicographic.{slice_cmp}
+use Rattle.std.specs.List.Sorted.{IsStrictlySortedBy}
+use Rattle.std.specs.List.{last_or, list_any, starts_with}
 use Rattle.system_keys.specs.declared.tag.Tag.{Tag}
-use Rattle.system_keys.specs.Keys.{Key}
+use Rattle.system_keys.specs.Keys.{Key, is_key_up_to}
 use Rattle.system_keys.specs.Families.{key_servers_family, server_tag_family, is_in, is_kept}
 use Rattle.system_keys.specs.Rows.{Id}
 use Rattle.model.specs.Metadata.{Entry, Entries, entry_value, is_filled, is_key_servers}
@@ -46,6 +49,29 @@ AreTags lists values =
     (key : Key) (value : List ℕ)
     → is_in key_servers_family key ≡ true → values key ≡ Some value
     → lists key ≡ Some (tags_by values value)
+
+-- the key is that of a keyServers row
+pub record IsRowKey (values : Values) (key : Key) : Type 0 where
+  pub own : is_in key_servers_family key ≡ true
+  pub there : is_some (values key) ≡ true
+
+-- only keyServers rows have tags kept
+abbrev pub HaveRows : TagLists → Values → Type 0
+HaveRows lists values = (key : Key) → is_some (lists key) ≡ true → IsRowKey values key
+
+-- the keys of the rows are strictly increasing
+abbrev pub RowsRise : List KeyTags → Type 0
+RowsRise rows = IsStrictlySortedBy (slice_cmp nat_cmp) (keys_of rows)
+
+-- the row is at or before the key
+abbrev pub is_row_up_to : Key → KeyTags → Bool
+is_row_up_to key row = is_key_up_to row.0 key
+
+-- the tags of the last row whose key, behind the prefix of keyServers keys, is at or before a key
+abbrev pub serving_tags : List KeyTags → Key → Option (List Tag)
+serving_tags rows key =
+    option_map (λ (row : KeyTags). row.1)
+    (last_or None (filter (is_row_up_to (key_servers_family.prefix ++ key)) rows))
 
 -- the tags at each key after these are put there, one after another
 abbrev pub tags_written : TagLists → List KeyTags → TagLists

@@ -318,13 +318,17 @@ impl EntryMap {
         Ok(())
     }
 
-    /// Takes back entries that were put. Does not allocate.
-    pub(crate) fn take_back(&mut self, undo: Undo)
+    /// Takes back entries that were put, and returns the keys at which there was none. Does not
+    /// allocate.
+    pub(crate) fn take_back(&mut self, undo: Undo) -> Vec<Vec<u8>>
         ensures old { (old : Entries) → IsInOrder old → TakesBack undo.0 undo.1 old self.old
             → self.new ≡ old }
+        ensures missing { bytes_of_keys result.items ≡ undo.0 }
     {
-        self.remove_listed(&undo.missing, &EntryMap::new(self.alloc));
-        self.write(undo.displaced);
+        let Undo { missing, displaced } = undo;
+        self.remove_listed(&missing, &EntryMap::new(self.alloc));
+        self.write(displaced);
+        missing
     }
 
     /// The set without the keys at which the map has an entry. Takes a look-up in the set for each entry.
@@ -502,7 +506,7 @@ impl Model for Undo {
 }
 
 /// The key of the keyServers entry at a key. Fails only with `OutOfMemory`.
-fn key_servers_key(alloc: Global, key: &[u8]) -> Result<Vec<u8>, OutOfMemory>
+pub(crate) fn key_servers_key(alloc: Global, key: &[u8]) -> Result<Vec<u8>, OutOfMemory>
     ensures { IfOk result (λ whole. whole.items ≡ key_servers_family.prefix ++ key.now) }
 {
     let mut whole = Vec::with_capacity(alloc, KEY_SERVERS_PREFIX.len() + key.len())?;

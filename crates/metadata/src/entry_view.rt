@@ -2,9 +2,9 @@
 
 ghost use Rattle.std.specs.Prelude.{◌≡◌, IfOk, option_map};
 ghost use Rattle.std.specs.Option.{option_to_list};
-ghost use Rattle.model.specs.Metadata.{entry_value, serving_entry, key_servers_entries};
-ghost use Rattle.model.specs.Metadata.{server_tags};
-ghost use Rattle.metadata.specs.CachedTags.{AreTags, tags_at, tags_by};
+ghost use Rattle.model.specs.Metadata.{IsInOrder, entry_value, serving_entry};
+ghost use Rattle.model.specs.Metadata.{key_servers_entries, server_tags};
+ghost use Rattle.metadata.specs.CachedTags.{AreTags, HaveRows, tags_at, tags_by};
 ghost use Rattle.metadata.specs.HiddenRuns.{AreHiddenRuns};
 ghost use Rattle.metadata.specs.Overwrites.{entries_without};
 ghost use Rattle.metadata.specs.ServerTables.{GiveTags};
@@ -32,8 +32,8 @@ pub struct EntryView<'a> {
 }
 
 impl<'a> Model for EntryView<'a> {
-    ghost use Rattle.model.specs.Metadata.{Entries, entry_value};
-    ghost use Rattle.metadata.specs.CachedTags.{AreTags, tags_at};
+    ghost use Rattle.model.specs.Metadata.{Entries, IsInOrder, entry_value};
+    ghost use Rattle.metadata.specs.CachedTags.{AreTags, HaveRows, tags_at};
     ghost use Rattle.metadata.specs.HiddenRuns.{AreHiddenRuns};
     ghost use Rattle.metadata.specs.Overwrites.{entries_without};
     ghost use Rattle.metadata.specs.ServerTables.{GiveTags};
@@ -42,7 +42,7 @@ impl<'a> Model for EntryView<'a> {
 
     ghost view = { λ v. entries_without v.hidden.now v.entries.now };
 
-    ghost invariant = { λ v. AreTags (tags_at v.tags.now) (entry_value (entries_without v.hidden.now v.entries.now)) × AreHiddenRuns v.hidden.now v.entries.now v.runs.now × GiveTags v.servers.now.tags (entries_without v.hidden.now v.entries.now) };
+    ghost invariant = { λ v. AreTags (tags_at v.tags.now) (entry_value (entries_without v.hidden.now v.entries.now)) × AreHiddenRuns v.hidden.now v.entries.now v.runs.now × GiveTags v.servers.now.tags (entries_without v.hidden.now v.entries.now) × HaveRows (tags_at v.tags.now) (entry_value v.entries.now) × IsInOrder v.entries.now };
 }
 
 impl<'a> EntryView<'a> {
@@ -59,6 +59,8 @@ impl<'a> EntryView<'a> {
             (entry_value (entries_without hidden.now entries.now)) }
         requires runs { AreHiddenRuns hidden.now entries.now runs.now }
         requires servers { GiveTags servers.now.tags (entries_without hidden.now entries.now) }
+        requires rows { HaveRows (tags_at tags.now) (entry_value entries.now) }
+        requires order { IsInOrder entries.now }
         ensures { result ≡ entries_without hidden.now entries.now }
     {
         EntryView {
@@ -84,9 +86,21 @@ impl<'a> EntryView<'a> {
     }
 
     /// The tags kept for the keyServers entry that serves a key: the greatest one at or before it
-    /// (release 7.1). Takes a step for each run of hidden entries between that one and the key, and for
-    /// each hidden entry there that is in no run. Fails only with `OutOfMemory`.
+    /// (release 7.1). If entries are hidden, takes a step for each run of these between that one and the
+    /// key, and for each hidden entry there that is in no run. Fails only with `OutOfMemory`.
     pub(crate) fn serving_tags(&self, key: &[u8]) -> Result<Option<&'a [Tag]>, OutOfMemory>
+        ensures { IfOk result (λ tags. option_map (λ tags. tags.now) tags
+            ≡ option_map (λ entry. tags_by (entry_value self.now) entry.1)
+            (serving_entry (key_servers_entries self.now) key.now)) }
+    {
+        if self.hidden.is_empty() {
+            return self.tags.serving(key);
+        }
+        self.shown_tags(key)
+    }
+
+    /// The tags kept for the keyServers entry that serves a key, found among the entries.
+    fn shown_tags(&self, key: &[u8]) -> Result<Option<&'a [Tag]>, OutOfMemory>
         ensures { IfOk result (λ tags. option_map (λ tags. tags.now) tags
             ≡ option_map (λ entry. tags_by (entry_value self.now) entry.1)
             (serving_entry (key_servers_entries self.now) key.now)) }

@@ -13,6 +13,7 @@ ghost use Rattle.model.specs.Transactions.{locked_key};
 ghost use Rattle.metadata.specs.Overwrites.{IsOverwritten, IsPutOver, MayTakeBack, TakesBack};
 ghost use Rattle.metadata.specs.Overwrites.{entries_without, has_entry, is_listed, is_same_key};
 ghost use Rattle.metadata.specs.CachedTags.{IsBlanked, names_server};
+ghost use Rattle.metadata.specs.MapEntries.{bytes_of_keys};
 ghost use Rattle.metadata.specs.Started.{after_rows};
 
 use crate::applying::{cleared_keys, is_applied};
@@ -216,13 +217,15 @@ impl KeptEntries {
         Ok(undo)
     }
 
-    /// Takes back entries that were put. Does not allocate.
-    pub(crate) fn take_back(&mut self, undo: Undo)
+    /// Takes back entries that were put, and returns the keys at which there was none. Does not
+    /// allocate.
+    pub(crate) fn take_back(&mut self, undo: Undo) -> Vec<Vec<u8>>
         requires { MayTakeBack undo.0 undo.1 self.old }
-        ensures { (old : Entries) → IsInOrder old → TakesBack undo.0 undo.1 old self.old
+        ensures old { (old : Entries) → IsInOrder old → TakesBack undo.0 undo.1 old self.old
             → self.new ≡ old }
+        ensures missing { bytes_of_keys result.items ≡ undo.0 }
     {
-        self.entries.take_back(undo);
+        self.entries.take_back(undo)
     }
 
     /// Removes the entries at the keys of the set. Does not allocate.

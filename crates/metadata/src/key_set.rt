@@ -47,6 +47,13 @@ impl KeySet {
         self.keys.contains(key)
     }
 
+    /// Whether there are no keys. Does not allocate.
+    pub(crate) fn is_empty(&self) -> bool
+        ensures { result ≡ true → self.now ≡ [] }
+    {
+        self.keys.is_empty()
+    }
+
     /// How many keys there are. Does not allocate.
     pub(crate) fn len(&self) -> usize
         ensures { result ≡ length self.now }

@@ -35,14 +35,14 @@ use crate::tagging::{tags_of, tags_of_key};
 use model::{JournalRow, PrivateCopy, Routing, Version};
 use std::alloc::Global;
 use std::marker::Model;
-use system_keys::{Bytes, Change, Items, KEY_SERVERS_PREFIX, KeyRange, OutOfMemory, Tag, is_kept};
+use system_keys::{Bytes, Change, Items, KeyRange, OutOfMemory, Tag, is_kept};
 
 /// The kept entries in the order of their keys: which storage servers have which keys, their tags,
 /// the lock, and the version of the metadata (release 7.1); and the tags of each keyServers entry.
 #[derive(Drop)]
 pub struct Metadata {
     entries: KeptEntries,
-    /// The tags of each keyServers entry at its key, and at other keys any.
+    /// The tags of each keyServers entry at its key, and no others.
     tags: TagMap,
     /// The tag of each server that has a serverTag entry.
     servers: ServerTable,
@@ -55,14 +55,14 @@ pub struct Metadata {
 impl Model for Metadata {
     ghost use Rattle.std.specs.Prelude.{◌≡◌, []};
     ghost use Rattle.model.specs.Metadata.{Entries, entry_value};
-    ghost use Rattle.metadata.specs.CachedTags.{AreTags, tags_at};
+    ghost use Rattle.metadata.specs.CachedTags.{AreTags, HaveRows, tags_at};
     ghost use Rattle.metadata.specs.ServerTables.{AreServers};
 
     ghost Value = { Entries };
 
     ghost view = { λ m. m.entries };
 
-    ghost invariant = { λ m. AreTags (tags_at m.tags) (entry_value m.entries) × (m.none ≡ []) × AreServers m.servers.tags (entry_value m.entries) × (m.no_runs ≡ []) };
+    ghost invariant = { λ m. AreTags (tags_at m.tags) (entry_value m.entries) × (m.none ≡ []) × AreServers m.servers.tags (entry_value m.entries) × (m.no_runs ≡ []) × HaveRows (tags_at m.tags) (entry_value m.entries) };
 }
 
 impl Metadata {
@@ -246,20 +246,18 @@ impl Metadata {
     {
         let servers = puts.map().server_keys()?;
         let changed = self.changed_by(&puts, &servers)?;
-        let tags = self.tags.displaced_by(&changed)?;
+        let displaced = self.tags.displaced_by(&changed)?;
         self.servers.reserve(&servers)?;
+        let undo = self.entries.put_over(puts)?;
         let Ok(()) = self.tags.put_each(changed) else {
-            self.tags.write(tags);
-            return Err(OutOfMemory);
-        };
-        let Ok(undo) = self.entries.put_over(puts) else {
-            self.tags.write(tags);
+            let added = self.entries.take_back(undo);
+            self.tags.take_back(added, displaced);
             return Err(OutOfMemory);
         };
         self.servers.refresh(&servers, self.entries.map());
         Ok(Put {
             undo,
-            tags,
+            tags: displaced,
             servers,
         })
     }
@@ -328,8 +326,8 @@ impl Metadata {
             tags,
             servers,
         } = started.put;
-        self.entries.take_back(undo);
-        self.tags.write(tags);
+        let missing = self.entries.take_back(undo);
+        self.tags.take_back(missing, tags);
         self.servers.refresh(&servers, self.entries.map());
     }
 
@@ -452,16 +450,9 @@ impl Metadata {
             ≡ option_map (λ entry. tags_of_key self.now entry.0)
             (slice_get (key_servers_entries self.now) place) }
     {
-        let mut before = place;
-        for (key, _) in self.entries.map().iter() {
-            if key.as_slice().starts_with(KEY_SERVERS_PREFIX) {
-                if before == 0 {
-                    return self.tags.get(key.as_slice());
-                }
-                before -= 1;
-            }
-        }
-        None
+        // (gives the proof that the entries are in order)
+        let _entries = self.entries.map();
+        self.tags.at_place(place)
     }
 
     /// Returns a deep copy. Fails only with `OutOfMemory`.

@@ -1,14 +1,17 @@
 //! The tags that are kept for the keyServers entries.
 
 ghost use Rattle.std.specs.Prelude.{◌≡◌, ◌++◌, [], true, false, None, Some, IfOk, IfSome, OnOk, OnErr};
-ghost use Rattle.std.specs.Prelude.{if◌then◌else◌, option_map};
+ghost use Rattle.std.specs.Prelude.{if◌then◌else◌, option_map, slice_get};
 ghost use Rattle.std.specs.Option.{is_some};
 ghost use Rattle.std.specs.Map.{keys_of};
 ghost use Rattle.system_keys.specs.Keys.{Key};
 ghost use Rattle.metadata.specs.CachedTags.{displaced_tags, tags_at, tags_there, tags_written};
+ghost use Rattle.metadata.specs.CachedTags.{RowsRise, serving_tags};
+ghost use Rattle.metadata.specs.MapEntries.{bytes_of_keys};
 ghost use Rattle.metadata.specs.Overwrites.{is_same_key, is_listed};
 ghost use Rattle.metadata.specs.TagEntries.{AreThere};
 
+use crate::entry_map::key_servers_key;
 use crate::key_set::KeySet;
 use std::alloc::Global;
 use std::collections::BTreeMap;
@@ -48,7 +51,7 @@ impl TagRow {
     }
 }
 
-/// A map from keys to tags. Contracts see the list of keys with their tags.
+/// A map from keys to tags. Contracts see the list of keys with their tags, in the order of the keys.
 #[derive(Drop)]
 pub(crate) struct TagMap {
     alloc: Global,
@@ -95,6 +98,38 @@ impl TagMap {
     {
         let tags = self.lists.get(key)?;
         Some(tags.as_slice())
+    }
+
+    /// The tags of the last row whose key, behind the prefix of keyServers keys, is at or before this
+    /// one. Fails only with `OutOfMemory`.
+    pub(crate) fn serving(&self, key: &[u8]) -> Result<Option<&[Tag]>, OutOfMemory>
+        ensures found { IfOk result (λ found. option_map (λ tags. tags.now) found
+            ≡ serving_tags self.now key.now) }
+        ensures rise { OnOk result (RowsRise self.now) }
+    {
+        let greatest = key_servers_key(self.alloc, key)?;
+        let bounds = (Bound::Unbounded, Bound::Included(&greatest));
+        match self.lists.range(bounds).next_back() {
+            Some((_, tags)) => Ok(Some(tags.as_slice())),
+            None => Ok(None),
+        }
+    }
+
+    /// The tags at this place in the order of keys, counted from 0. Does not allocate; takes a step
+    /// for each place before.
+    pub(crate) fn at_place(&self, place: usize) -> Option<&[Tag]>
+        ensures found { option_map (λ tags. tags.now) result
+            ≡ option_map (λ row. row.1) (slice_get self.now place) }
+        ensures rise { RowsRise self.now }
+    {
+        let mut before = place;
+        for (_, tags) in self.lists.iter() {
+            if before == 0 {
+                return Some(tags.as_slice());
+            }
+            before -= 1;
+        }
+        None
     }
 
     /// The keys behind this one, in order, each with its tags. Does not allocate.
@@ -173,10 +208,33 @@ impl TagMap {
         }
     }
 
+    /// Takes back tags that were put: those that were displaced are put again, and those at the keys
+    /// that had none are removed. Does not allocate.
+    pub(crate) fn take_back(&mut self, missing: Vec<Vec<u8>>, displaced: Vec<TagRow>)
+        ensures { ((key : Key) → is_listed (keys_of displaced.items) key ≡ true
+            → is_some (tags_at self.old key) ≡ true)
+            → (key : Key) → tags_at self.new key
+            ≡ (if is_listed (bytes_of_keys missing.items) key then None
+            else tags_written (tags_at self.old) displaced.items key) }
+    {
+        self.write(displaced);
+        self.remove_each(missing);
+    }
+
     /// Removes what is kept at the keys. Does not allocate.
+    fn remove_each(&mut self, keys: Vec<Vec<u8>>)
+        ensures { (key : Key) → tags_at self.new key
+            ≡ (if is_listed (bytes_of_keys keys.items) key then None else tags_at self.old key) }
+    {
+        for key in keys {
+            self.remove(key.as_slice());
+        }
+    }
+
+    /// Removes what is kept at the keys of the set. Does not allocate.
     pub(crate) fn remove_all(&mut self, keys: &KeySet)
-        ensures { (key : Key) → is_listed keys.now key ≡ false
-            → tags_at self.new key ≡ tags_at self.old key }
+        ensures { (key : Key) → tags_at self.new key
+            ≡ (if is_listed keys.now key then None else tags_at self.old key) }
     {
         for key in keys.iter() {
             self.remove(key.as_slice());
@@ -184,9 +242,11 @@ impl TagMap {
     }
 
     fn remove(&mut self, key: &[u8])
-        ensures { (other : Key) → is_same_key other key.now ≡ false
-            → tags_at self.new other ≡ tags_at self.old other }
+        ensures { (other : Key) → tags_at self.new other
+            ≡ (if is_same_key other key.now then None else tags_at self.old other) }
     {
+        // (gives the proof that the keys are in order)
+        let _count = self.lists.len();
         self.lists.remove(key);
     }
 }

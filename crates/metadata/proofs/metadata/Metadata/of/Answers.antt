@@ -3,6 +3,7 @@ use Rattle.std.proofs.Common.{◌∙◌, ap, subst}
 use Rattle.model.specs.Metadata.{Entries, entry_value, is_key_servers}
 use Rattle.metadata.specs.CachedTags.{tags_at, chosen_tags}
 use Rattle.metadata.specs.ServerTables.{AreServers}
+use Rattle.metadata.proofs.ExactTags.{made_rows}
 use Rattle.metadata.proofs.MetadataTags.{made_tags}
 use Rattle.metadata.proofs.metadata.Metadata.of.Goals as goal
 
@@ -14,4 +15,7 @@ invariant_of-result c = (
   c.new.ensures,
   subst (λ (entries : Entries). AreServers c.in_ok-servers.servers.tags (entry_value entries)) c.map-map.ensures.entries c.in_ok-servers.ensures,
   c.new-2.ensures,
+  made_rows c.args.entries (tags_at c.in_ok-tags.tags) c.in_ok-rows.rows.items
+      (c.in_ok-rows.ensures ∙ ap (λ (entries : Entries). chosen_tags (entry_value entries) is_key_servers entries) c.map-map.ensures.entries)
+      c.in_ok-tags.ensures,
 )

@@ -1,4 +1,4 @@
--- The keys that are left are among the keys, and no other key has changed.
+-- What is left to be removed, and what is kept so far, is what there is without all of the keys.
 use Rattle.metadata.specs.CachedTags.{tags_at}
 use Rattle.metadata.proofs.TagEntries.{AreRemoving}
 use Rattle.metadata.proofs.tag_map.TagMap.remove_all.Given as goal
