@@ -277,7 +277,7 @@ prefix_first [] (y ∷ b) = refl
 prefix_first (x ∷ p) b = rw (tied_itself nat_cmp_total x) (prefix_first p b)
 
 -- a key that begins with `p` is `p` and what follows it
-begun : (p k : Key) → starts_with nat_eq k p ≡ true → k ≡ p ++ drop (length p) k
+pub begun : (p k : Key) → starts_with nat_eq k p ≡ true → k ≡ p ++ drop (length p) k
 begun [] k h = refl
 begun (x ∷ p) [] h = absurd (cc)
 begun (x ∷ p) (y ∷ k) h =

@@ -26,5 +26,6 @@ pub mod ServingEntries
 pub mod SortedTags
 pub mod StagedChanges
 pub mod TagEntries
+pub mod TagKeys
 pub mod Tags
 pub mod WrittenEntries

@@ -1,5 +1,5 @@
 -- What the calls of the map to tags do to the tags at each key.
-use Rattle.std.proofs.Common.{◌≡◌, refl, sym, ap, ◌∙◌, Result, Ok, Err, OnOk, OnErr, ℕ, zero, suc, ◌-◌, ◌<◌, slice_get, arith, length, List, [], ◌∷◌, ◌++◌, filter, Bool, true, false, not, cond, if◌then◌else◌, ◌||◌, Option, Some, None, option_map, Ordering, Less, Equal, Greater, nat_cmp}
+use Rattle.std.proofs.Common.{◌≡◌, refl, sym, ap, ◌∙◌, Result, Ok, Err, OnOk, OnErr, ℕ, zero, suc, ◌-◌, ◌<◌, slice_get, arith, length, take, drop, length-drop, List, [], ◌∷◌, ◌++◌, filter, Bool, true, false, not, cond, if◌then◌else◌, ◌||◌, Option, Some, None, option_map, Ordering, Less, Equal, Greater, nat_cmp}
 use Rattle.std.specs.Global.{Vec}
 use Rattle.std.specs.List.{AllByRecursion, last_or}
 use Rattle.std.specs.List.Sorted.{IsStrictlySortedBy}
@@ -13,42 +13,60 @@ use Rattle.std.specs.Cmp.Lexicographic.{slice_cmp}
 use Rattle.std.proofs.lemmas.Cmp.{tied_itself, nat_list_cmp_total}
 use Rattle.system_keys.specs.declared.tag.Tag.{Tag}
 use Rattle.system_keys.specs.Keys.{Key, is_key_below}
-use Rattle.system_keys.specs.Families.{key_servers_family}
+use Rattle.system_keys.specs.Families.{key_servers_family, is_in}
 use Rattle.system_keys.proofs.KeyOrder.{up_to_is}
 use Rattle.metadata.specs.MapEntries.{bytes_of_keys}
 use Rattle.metadata.specs.Overwrites.{is_same_key, is_listed}
 use Rattle.metadata.specs.CachedTags.{TagLists, KeyTags, tags_at, tags_written, is_row_up_to, serving_tags}
 use Rattle.metadata.specs.TagEntries.{row_from, rows_of, AreThere}
 use Rattle.metadata.proofs.KeyValues.{key_cmp, same_key, same_itself, AreRising, Behind, value_put, value_removed}
-use Rattle.metadata.proofs.MapEntries.{vec_cmp}
+
+-- the whole key of an entry
+abbrev pub whole : Key → Key
+whole key = key_servers_family.prefix ++ key
+
+-- it begins with the prefix
+begins : (key : Key) → is_in key_servers_family (whole key) ≡ true
+begins key = refl
 
 -- ---- one key
 
-pub looked_up : (key : Key) (es : List (Vec ℕ × List Tag)) → lookup (is_at (λ (k : Vec ℕ). slice_cmp nat_cmp key k.items)) es ≡ tags_at (rows_of es) key
+pub looked_up : (key : Key) (es : List KeyTags) → lookup (is_at (key_cmp key)) es ≡ tags_at (rows_of es) (whole key)
 looked_up key [] = refl
-looked_up key (e ∷ es) = ap (λ (later : Option (List Tag)). cond (is_same_key key e.0.items) (Some e.1) later) (looked_up key es)
+looked_up key (e ∷ es) = ap (λ (later : Option (List Tag)). cond (is_same_key key e.0) (Some e.1) later) (looked_up key es)
+
+-- a key without the prefix has no tags
+pub none_outside : (key : Key) (es : List KeyTags) → is_in key_servers_family key ≡ false → tags_at (rows_of es) key ≡ None
+none_outside key [] out = refl
+none_outside key (e ∷ es) out = by (is_same_key key (whole e.0)) refl (none_outside key es out)
+  where
+    by : (t : Bool) → is_same_key key (whole e.0) ≡ t → tags_at (rows_of es) key ≡ None → cond t (Some e.1) (tags_at (rows_of es) key) ≡ None
+    by true same later =
+        let own : is_in key_servers_family (whole e.0) ≡ true = begins e.0 in
+        let two : true ≡ false = sym own ∙ ap (is_in key_servers_family) (sym (same_key key (whole e.0) same)) ∙ out in absurd (cc)
+    by false other later = later
 
 -- of two keys in order, the greater is another
-others_key : (a b : Vec ℕ) → vec_cmp a b ≡ Less → is_same_key b.items a.items ≡ false
-others_key a b less = by (is_same_key b.items a.items) refl
+others_key : (a b : Key) → key_cmp a b ≡ Less → is_same_key (whole b) (whole a) ≡ false
+others_key a b less = by (is_same_key b a) refl
   where
-    by : (t : Bool) → is_same_key b.items a.items ≡ t → is_same_key b.items a.items ≡ false
+    by : (t : Bool) → is_same_key b a ≡ t → is_same_key b a ≡ false
     by true h =
-        let tied : key_cmp a.items b.items ≡ Equal = ap (key_cmp a.items) (same_key b.items a.items h) ∙ tied_itself nat_list_cmp_total a.items in
+        let tied : key_cmp a b ≡ Equal = ap (key_cmp a) (same_key b a h) ∙ tied_itself nat_list_cmp_total a in
         let none : Less ≡ Equal = sym less ∙ tied in absurd (cc)
     by false h = h
 
-there_behind : (e : Vec ℕ × List Tag) (all es : List (Vec ℕ × List Tag)) → AllByRecursion (λ (other : Vec ℕ). vec_cmp e.0 other ≡ Less) (keys_of es) → AreThere (tags_at (rows_of all)) es → AreThere (tags_at (rows_of (e ∷ all))) es
+there_behind : (e : KeyTags) (all es : List KeyTags) → AllByRecursion (λ (other : Key). key_cmp e.0 other ≡ Less) (keys_of es) → AreThere (tags_at (rows_of all)) es → AreThere (tags_at (rows_of (e ∷ all))) es
 there_behind e all [] behind there = tt
 there_behind e all (f ∷ es) behind there = (rw (others_key e.0 f.0 behind.0) there.0, there_behind e all es behind.1 there.1)
 
 -- each entry of a map in order has its tags at its key
-pub all_there : (es : List (Vec ℕ × List Tag)) → IsStrictlySortedBy vec_cmp (keys_of es) → AreThere (tags_at (rows_of es)) es
+pub all_there : (es : List KeyTags) → AreRising es → AreThere (tags_at (rows_of es)) es
 unfolding IsStrictlySortedBy
 all_there [] s = tt
-all_there (e ∷ es) s = (rw (same_itself e.0.items) refl, there_behind e es es s.0 (all_there es s.1))
+all_there (e ∷ es) s = (rw (same_itself (whole e.0)) refl, there_behind e es es s.0 (all_there es s.1))
 
-pub some_there : (lists : TagLists) (p : Vec ℕ × List Tag → Bool) (es : List (Vec ℕ × List Tag)) → AreThere lists es → AreThere lists (filter p es)
+pub some_there : (lists : TagLists) (p : KeyTags → Bool) (es : List KeyTags) → AreThere lists es → AreThere lists (filter p es)
 some_there lists p [] there = tt
 some_there lists p (e ∷ es) there = by (p e) (some_there lists p es there.1)
   where
@@ -56,50 +74,57 @@ some_there lists p (e ∷ es) there = by (p e) (some_there lists p es there.1)
     by true rest = (there.0, rest)
     by false rest = rest
 
-pub put_row : (es : List (Vec ℕ × List Tag)) (key : Vec ℕ) (tags : List Tag) → rows_of (insert_entry vec_cmp es key tags) ≡ insert_entry key_cmp (rows_of es) key.items tags
+put_row : (es : List KeyTags) (key : Key) (tags : List Tag) → rows_of (insert_entry key_cmp es key tags) ≡ insert_entry key_cmp (rows_of es) (whole key) tags
 put_row [] key tags = refl
-put_row (e ∷ es) key tags = by (vec_cmp key e.0) (put_row es key tags)
+put_row (e ∷ es) key tags = by (key_cmp key e.0) (put_row es key tags)
   where
-    by : (r : Ordering) → rows_of (insert_entry vec_cmp es key tags) ≡ insert_entry key_cmp (rows_of es) key.items tags
-        → rows_of (match_ordering r ((key, tags) ∷ e ∷ es) ((e.0, tags) ∷ es) (e ∷ insert_entry vec_cmp es key tags))
-        ≡ match_ordering r ((key.items, tags) ∷ row_from e ∷ rows_of es) ((e.0.items, tags) ∷ rows_of es) (row_from e ∷ insert_entry key_cmp (rows_of es) key.items tags)
+    by : (r : Ordering) → rows_of (insert_entry key_cmp es key tags) ≡ insert_entry key_cmp (rows_of es) (whole key) tags
+        → rows_of (match_ordering r ((key, tags) ∷ e ∷ es) ((e.0, tags) ∷ es) (e ∷ insert_entry key_cmp es key tags))
+        ≡ match_ordering r ((whole key, tags) ∷ row_from e ∷ rows_of es) ((whole e.0, tags) ∷ rows_of es) (row_from e ∷ insert_entry key_cmp (rows_of es) (whole key) tags)
     by Less rest = refl
     by Equal rest = refl
     by Greater rest = ap (λ (rows : List KeyTags). row_from e ∷ rows) rest
 
-pub tags_put : (es : List (Vec ℕ × List Tag)) (key : Vec ℕ) (tags : List Tag) (other : Key) → tags_at (rows_of (insert_entry vec_cmp es key tags)) other ≡ (if is_same_key other key.items then Some tags else tags_at (rows_of es) other)
-tags_put es key tags other = ap (λ (rows : List KeyTags). tags_at rows other) (put_row es key tags) ∙ value_put (rows_of es) key.items other tags
+pub tags_put : (es : List KeyTags) (key : Key) (tags : List Tag) (other : Key) → tags_at (rows_of (insert_entry key_cmp es key tags)) other ≡ (if is_same_key other (whole key) then Some tags else tags_at (rows_of es) other)
+tags_put es key tags other = ap (λ (rows : List KeyTags). tags_at rows other) (put_row es key tags) ∙ value_put (rows_of es) (whole key) other tags
 
-removed_row : (key : Key) (es : List (Vec ℕ × List Tag)) → rows_of (remove_entry (is_at (λ (k : Vec ℕ). slice_cmp nat_cmp key k.items)) es) ≡ remove_entry (is_same_key key) (rows_of es)
+removed_row : (key : Key) (es : List KeyTags) → rows_of (remove_entry (is_at (key_cmp key)) es) ≡ remove_entry (is_same_key (whole key)) (rows_of es)
 removed_row key [] = refl
-removed_row key (e ∷ es) = by (is_same_key key e.0.items) (removed_row key es)
+removed_row key (e ∷ es) = by (is_same_key key e.0) (removed_row key es)
   where
-    by : (t : Bool) → rows_of (remove_entry (is_at (λ (k : Vec ℕ). slice_cmp nat_cmp key k.items)) es) ≡ remove_entry (is_same_key key) (rows_of es)
-        → rows_of (cond t es (e ∷ remove_entry (is_at (λ (k : Vec ℕ). slice_cmp nat_cmp key k.items)) es)) ≡ cond t (rows_of es) (row_from e ∷ remove_entry (is_same_key key) (rows_of es))
+    by : (t : Bool) → rows_of (remove_entry (is_at (key_cmp key)) es) ≡ remove_entry (is_same_key (whole key)) (rows_of es)
+        → rows_of (cond t es (e ∷ remove_entry (is_at (key_cmp key)) es)) ≡ cond t (rows_of es) (row_from e ∷ remove_entry (is_same_key (whole key)) (rows_of es))
     by true rest = refl
     by false rest = ap (λ (rows : List KeyTags). row_from e ∷ rows) rest
 
-behind_row : (key : Vec ℕ) (es : List (Vec ℕ × List Tag)) → AllByRecursion (λ (other : Vec ℕ). vec_cmp key other ≡ Less) (keys_of es) → Behind key.items (rows_of es)
+behind_row : (key : Key) (es : List KeyTags) → AllByRecursion (λ (other : Key). key_cmp key other ≡ Less) (keys_of es) → Behind (whole key) (rows_of es)
 behind_row key [] all = tt
 behind_row key (e ∷ es) all = (all.0, behind_row key es all.1)
 
 -- the rows of a map in order are in order
-pub rows_rise : (es : List (Vec ℕ × List Tag)) → IsStrictlySortedBy vec_cmp (keys_of es) → AreRising (rows_of es)
+pub rows_rise : (es : List KeyTags) → AreRising es → AreRising (rows_of es)
 unfolding IsStrictlySortedBy
 rows_rise [] s = tt
 rows_rise (e ∷ es) s = (behind_row e.0 es s.0, rows_rise es s.1)
 
 -- a removal takes the tags of its key, and no others
-pub tags_removed : (key other : Key) (es : List (Vec ℕ × List Tag)) → IsStrictlySortedBy vec_cmp (keys_of es)
-    → tags_at (rows_of (remove_entry (is_at (λ (k : Vec ℕ). slice_cmp nat_cmp key k.items)) es)) other ≡ (if is_same_key other key then None else tags_at (rows_of es) other)
-tags_removed key other es s = ap (λ (rows : List KeyTags). tags_at rows other) (removed_row key es) ∙ value_removed (rows_of es) key other (rows_rise es s)
+pub tags_removed : (key other : Key) (es : List KeyTags) → AreRising es → tags_at (rows_of (remove_entry (is_at (key_cmp key)) es)) other ≡ (if is_same_key other (whole key) then None else tags_at (rows_of es) other)
+tags_removed key other es s = ap (λ (rows : List KeyTags). tags_at rows other) (removed_row key es) ∙ value_removed (rows_of es) (whole key) other (rows_rise es s)
+
+-- there is nothing to remove at a key without the prefix
+pub none_removed : (key other : Key) (es : List KeyTags) → is_in key_servers_family key ≡ false → tags_at (rows_of es) other ≡ (if is_same_key other key then None else tags_at (rows_of es) other)
+none_removed key other es out = by (is_same_key other key) refl
+  where
+    by : (t : Bool) → is_same_key other key ≡ t → tags_at (rows_of es) other ≡ (if t then None else tags_at (rows_of es) other)
+    by true same = ap (tags_at (rows_of es)) (same_key other key same) ∙ none_outside key es out
+    by false h = refl
 
 -- an insertion at a key that is there succeeds
-pub tags_filled : {X Y : Type 0} (r : Result X Y) (es new : List (Vec ℕ × List Tag)) (key : Vec ℕ) (tags : List Tag) → OnOk r (new ≡ insert_entry vec_cmp es key tags) → OnErr r (lookup (is_at (vec_cmp key)) es ≡ None) → is_some (tags_at (rows_of es) key.items) ≡ true
-    → (other : Key) → tags_at (rows_of new) other ≡ (if is_same_key other key.items then Some tags else tags_at (rows_of es) other)
-tags_filled (Ok x) es new key tags ok absent there other = ap (λ (rows : List (Vec ℕ × List Tag)). tags_at (rows_of rows) other) ok ∙ tags_put es key tags other
+pub tags_filled : {X Y : Type 0} (r : Result X Y) (es new : List KeyTags) (key : Key) (tags : List Tag) → OnOk r (new ≡ insert_entry key_cmp es key tags) → OnErr r (lookup (is_at (key_cmp key)) es ≡ None) → is_some (tags_at (rows_of es) (whole key)) ≡ true
+    → (other : Key) → tags_at (rows_of new) other ≡ (if is_same_key other (whole key) then Some tags else tags_at (rows_of es) other)
+tags_filled (Ok x) es new key tags ok absent there other = ap (λ (rows : List KeyTags). tags_at (rows_of rows) other) ok ∙ tags_put es key tags other
 tags_filled (Err e) es new key tags ok absent there other =
-    let two : false ≡ true = sym (ap is_some (sym (looked_up key.items es) ∙ absent)) ∙ there in absurd (cc)
+    let two : false ≡ true = sym (ap is_some (sym (looked_up key es) ∙ absent)) ∙ there in absurd (cc)
 
 -- ---- several keys
 
@@ -221,22 +246,22 @@ last_put front row now next key put =
 
 -- ---- the tags that serve a key
 
-pub filtered_rows : (p : KeyTags → Bool) (es : List (Vec ℕ × List Tag)) → rows_of (filter (λ (e : Vec ℕ × List Tag). p (row_from e)) es) ≡ filter p (rows_of es)
+filtered_rows : (p : KeyTags → Bool) (es : List KeyTags) → rows_of (filter (λ (e : KeyTags). p (row_from e)) es) ≡ filter p (rows_of es)
 filtered_rows p [] = refl
 filtered_rows p (e ∷ es) = by (p (row_from e)) (filtered_rows p es)
   where
-    by : (t : Bool) → rows_of (filter (λ (e : Vec ℕ × List Tag). p (row_from e)) es) ≡ filter p (rows_of es)
-        → rows_of (cond t (e ∷ filter (λ (e : Vec ℕ × List Tag). p (row_from e)) es) (filter (λ (e : Vec ℕ × List Tag). p (row_from e)) es)) ≡ cond t (row_from e ∷ filter p (rows_of es)) (filter p (rows_of es))
+    by : (t : Bool) → rows_of (filter (λ (e : KeyTags). p (row_from e)) es) ≡ filter p (rows_of es)
+        → rows_of (cond t (e ∷ filter (λ (e : KeyTags). p (row_from e)) es) (filter (λ (e : KeyTags). p (row_from e)) es)) ≡ cond t (row_from e ∷ filter p (rows_of es)) (filter p (rows_of es))
     by true rest = ap (λ (rows : List KeyTags). row_from e ∷ rows) rest
     by false rest = rest
 
 -- the rows up to a key
-up_to_rows : (es : List (Vec ℕ × List Tag)) (greatest : Vec ℕ) (key : Key) → greatest.items ≡ key → rows_of (entries_between vec_cmp Unbounded (Included greatest) es) ≡ filter (is_row_up_to key) (rows_of es)
-up_to_rows es greatest key is =
-    filtered_rows (λ (row : KeyTags). not (is_key_below greatest.items row.0)) es
-    ∙ ap (λ (p : KeyTags → Bool). filter p (rows_of es)) (λ i (row : KeyTags). (ap (λ (k : Key). not (is_key_below k row.0)) is ∙ sym (up_to_is row.0 key)) i)
+up_to_rows : (es : List KeyTags) (key : Key) → rows_of (entries_between key_cmp Unbounded (Included key) es) ≡ filter (is_row_up_to (whole key)) (rows_of es)
+up_to_rows es key =
+    filtered_rows (λ (row : KeyTags). not (is_key_below (whole key) row.0)) es
+    ∙ ap (λ (p : KeyTags → Bool). filter p (rows_of es)) (λ i (row : KeyTags). sym (up_to_is row.0 (whole key)) i)
 
-both_rows : (es fs : List (Vec ℕ × List Tag)) → rows_of (es ++ fs) ≡ rows_of es ++ rows_of fs
+both_rows : (es fs : List KeyTags) → rows_of (es ++ fs) ≡ rows_of es ++ rows_of fs
 both_rows [] fs = refl
 both_rows (e ∷ es) fs = ap (λ (rows : List KeyTags). row_from e ∷ rows) (both_rows es fs)
 
@@ -245,16 +270,15 @@ last_of before [] x = refl
 last_of before (y ∷ xs) x = last_of (Some y) xs x
 
 -- the last of the entries up to a key
-pub last_serving : (es front : List (Vec ℕ × List Tag)) (e : Vec ℕ × List Tag) (greatest : Vec ℕ) (key : Key) → greatest.items ≡ key_servers_family.prefix ++ key → entries_between vec_cmp Unbounded (Included greatest) es ≡ front ++ e ∷ []
-    → Some e.1 ≡ serving_tags (rows_of es) key
+pub last_serving : (es front : List KeyTags) (e : KeyTags) (greatest key : Key) → greatest ≡ key → entries_between key_cmp Unbounded (Included greatest) es ≡ front ++ e ∷ [] → Some e.1 ≡ serving_tags (rows_of es) key
 last_serving es front e greatest key is found =
     ap (option_map (λ (row : KeyTags). row.1))
-    (sym (last_of None (rows_of front) (row_from e))
-    ∙ ap (last_or None) (sym (both_rows front (e ∷ [])) ∙ ap rows_of (sym found) ∙ up_to_rows es greatest (key_servers_family.prefix ++ key) is))
+    (sym (last_of None (rows_of front) (row_from e)) ∙ ap (last_or None) (sym (both_rows front (e ∷ [])) ∙ ap rows_of (sym found) ∙ up_to_rows es greatest))
+    ∙ ap (serving_tags (rows_of es)) is
 
-pub none_serving : (es : List (Vec ℕ × List Tag)) (greatest : Vec ℕ) (key : Key) → greatest.items ≡ key_servers_family.prefix ++ key → entries_between vec_cmp Unbounded (Included greatest) es ≡ [] → None ≡ serving_tags (rows_of es) key
+pub none_serving : (es : List KeyTags) (greatest key : Key) → greatest ≡ key → entries_between key_cmp Unbounded (Included greatest) es ≡ [] → None ≡ serving_tags (rows_of es) key
 none_serving es greatest key is found =
-    ap (λ (rows : List KeyTags). option_map (λ (row : KeyTags). row.1) (last_or None rows)) (ap rows_of (sym found) ∙ up_to_rows es greatest (key_servers_family.prefix ++ key) is)
+    ap (λ (rows : List KeyTags). option_map (λ (row : KeyTags). row.1) (last_or None rows)) (ap rows_of (sym found) ∙ up_to_rows es greatest) ∙ ap (serving_tags (rows_of es)) is
 
 -- ---- the row at a place
 
@@ -265,3 +289,13 @@ pub next_place : (row : KeyTags) (rows : List KeyTags) (place : ℕ) → 0 < pla
 next_place row rows zero more = absurd (omega arith)
 next_place row rows (suc n) more =
     let less : suc n - 1 ≡ n = omega arith in ap (slice_get rows) less
+
+-- ---- the first bytes of a key, turned to the end and cut off
+
+take_front : (xs ys : List ℕ) → take (length xs) (xs ++ ys) ≡ xs
+take_front [] [] = refl
+take_front [] (y ∷ ys) = refl
+take_front (x ∷ xs) ys = ap (λ (rest : List ℕ). x ∷ rest) (take_front xs ys)
+
+pub turned_off : (n count : ℕ) (xs : List ℕ) → count ≡ length xs - n → take count (drop n xs ++ take n xs) ≡ drop n xs
+turned_off n count xs is = ap (λ m. take m (drop n xs ++ take n xs)) (is ∙ sym (length-drop n xs)) ∙ take_front (drop n xs) (take n xs)

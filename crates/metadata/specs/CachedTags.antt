@@ -1,8 +1,8 @@
 -- The tags that are kept beside the entries, one list for each keyServers row, and what brings them
 -- up to date.
 use Rattle.std.specs.Prelude.{◌≡◌, ℕ, List, [], ◌∷◌, ◌++◌, map, Bool, true, ◌&&◌, Option}
-use Rattle.std.specs.Prelude.{None, Some, if◌then◌else◌, filter, flat_map, option_map, option_to_list}
-use Rattle.std.specs.Prelude.{nat_eq}
+use Rattle.std.specs.Prelude.{None, Some, if◌then◌else◌, filter, flat_map, option_map}
+use Rattle.std.specs.Prelude.{option_to_list, nat_eq}
 use Rattle.std.specs.Option.{is_some, option_or}
 use Rattle.std.specs.Map.{keys_of, lookup}
 use Rattle.std.specs.Ordering.{nat_cmp}

@@ -10,8 +10,9 @@ use crate::entry_map::EntryMap;
 use crate::server_table::ServerTable;
 use crate::server_tags::{names_put, value_tags};
 use crate::server_view::ServerView;
+use crate::tag_key::behind_prefix;
 use crate::tag_map::TagRow;
-use system_keys::{KEY_SERVERS_PREFIX, OutOfMemory, SERVER_TAG_PREFIX};
+use system_keys::{OutOfMemory, SERVER_TAG_PREFIX};
 
 /// The tags that change when the entries are put over the others, as they are afterwards: those of
 /// the keyServers entries that name a server of which an entry is put, and those of the keyServers
@@ -82,9 +83,9 @@ fn add_row(
     ensures { OnOk result (rows.new.items ≡ rows.old.items
         ++ chosen_tags (values_after over.now) is_key_servers ((key.now, value.now) ∷ [])) }
 {
-    if key.starts_with(KEY_SERVERS_PREFIX) {
+    if let Some(behind) = behind_prefix(key) {
         let tags = value_tags(over, value)?;
-        rows.push(TagRow::new(over.alloc(), key, tags)?)?;
+        rows.push(TagRow::new(over.alloc(), behind, tags)?)?;
     }
     Ok(())
 }
@@ -115,12 +116,12 @@ fn add_row_if_named(
         ++ chosen_tags (values_after over.now) (is_row_named over.now.puts)
         ((key.now, value.now) ∷ [])) }
 {
-    if !key.starts_with(KEY_SERVERS_PREFIX) {
+    let Some(behind) = behind_prefix(key) else {
         return Ok(());
-    }
+    };
     if names_put(over, value)? {
         let tags = value_tags(over, value)?;
-        rows.push(TagRow::new(over.alloc(), key, tags)?)?;
+        rows.push(TagRow::new(over.alloc(), behind, tags)?)?;
     }
     Ok(())
 }

@@ -506,7 +506,7 @@ impl Model for Undo {
 }
 
 /// The key of the keyServers entry at a key. Fails only with `OutOfMemory`.
-pub(crate) fn key_servers_key(alloc: Global, key: &[u8]) -> Result<Vec<u8>, OutOfMemory>
+fn key_servers_key(alloc: Global, key: &[u8]) -> Result<Vec<u8>, OutOfMemory>
     ensures { IfOk result (λ whole. whole.items ≡ key_servers_family.prefix ++ key.now) }
 {
     let mut whole = Vec::with_capacity(alloc, KEY_SERVERS_PREFIX.len() + key.len())?;

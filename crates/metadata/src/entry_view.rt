@@ -86,8 +86,8 @@ impl<'a> EntryView<'a> {
     }
 
     /// The tags kept for the keyServers entry that serves a key: the greatest one at or before it
-    /// (release 7.1). If entries are hidden, takes a step for each run of these between that one and the
-    /// key, and for each hidden entry there that is in no run. Fails only with `OutOfMemory`.
+    /// (release 7.1). If entries are hidden, takes a step for each run of these between that one and
+    /// the key, and for each hidden entry there that is in no run. Fails only with `OutOfMemory`.
     pub(crate) fn serving_tags(&self, key: &[u8]) -> Result<Option<&'a [Tag]>, OutOfMemory>
         ensures { IfOk result (λ tags. option_map (λ tags. tags.now) tags
             ≡ option_map (λ entry. tags_by (entry_value self.now) entry.1)
@@ -108,7 +108,7 @@ impl<'a> EntryView<'a> {
         let mut up_to = self.entries.serving_up_to(key)?;
         while let Some((found, _)) = up_to.next_back() {
             if !self.hidden.contains(found.as_slice()) {
-                return Ok(self.tags.get(found.as_slice()));
+                return self.tags.at(found.as_slice());
             }
             if let Some((first, _)) = self.runs.run_of(found) {
                 up_to = self.entries.serving_before(first)?;

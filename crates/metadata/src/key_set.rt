@@ -7,7 +7,7 @@ ghost use Rattle.metadata.specs.Overwrites.{is_same_key, is_listed};
 
 use std::alloc::Global;
 use std::collections::BTreeSet;
-use std::collections::btree_set::{Iter, Range};
+use std::collections::btree_set::{IntoIter, Iter, Range};
 use std::marker::Model;
 use std::ops::Bound;
 use system_keys::OutOfMemory;
@@ -66,6 +66,13 @@ impl KeySet {
         ensures { bytes_of_keys result ≡ self.now }
     {
         self.keys.iter()
+    }
+
+    /// The keys, which are given away. Does not allocate.
+    pub(crate) fn into_keys(self) -> IntoIter<Vec<u8>>
+        ensures { bytes_of_keys result ≡ self }
+    {
+        self.keys.into_iter()
     }
 
     /// The keys from this one on. Does not allocate.

@@ -23,6 +23,7 @@ mod server_tags;
 mod server_view;
 mod staged;
 mod started;
+mod tag_key;
 mod tag_list;
 mod tag_map;
 mod tagging;

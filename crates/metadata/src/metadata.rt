@@ -311,7 +311,7 @@ impl Metadata {
         if self.entries.map().may_tag_some(&started.removed) {
             return;
         }
-        self.remove_all(&started.removed);
+        self.remove_all(started.removed);
     }
 
     /// Takes back what the rows that were started put: the metadata is then that before them. Does
@@ -333,13 +333,13 @@ impl Metadata {
 
     /// Removes the entries at the keys of the set, if none of them gives a server a tag. Does not
     /// allocate.
-    fn remove_all(&mut self, keys: &KeySet)
-        requires { may_tag_some self.old keys.now ≡ false }
-        ensures { self.new ≡ entries_without keys.now self.old }
+    fn remove_all(&mut self, keys: KeySet)
+        requires { may_tag_some self.old keys ≡ false }
+        ensures { self.new ≡ entries_without keys self.old }
     {
-        self.entries.remove_all(keys);
+        self.entries.remove_all(&keys);
+        self.servers.refresh(&keys, self.entries.map());
         self.tags.remove_all(keys);
-        self.servers.refresh(keys, self.entries.map());
     }
 
     /// All entries. Does not allocate.

@@ -43,7 +43,7 @@ fn add_route(
     if !key.as_slice().starts_with(KEY_SERVERS_PREFIX) {
         return Ok(());
     }
-    if let Some(tags) = tags.at(key) {
+    if let Some(tags) = tags.at(key.as_slice())? {
         let behind = &key.as_slice()[KEY_SERVERS_PREFIX.len()..];
         routes.push(new_route(entries.alloc(), behind, tags)?)?;
     }

@@ -5,14 +5,15 @@ ghost use Rattle.std.specs.Prelude.{if◌then◌else◌, option_map, slice_get};
 ghost use Rattle.std.specs.Option.{is_some};
 ghost use Rattle.std.specs.Map.{keys_of};
 ghost use Rattle.system_keys.specs.Keys.{Key};
+ghost use Rattle.system_keys.specs.Families.{key_servers_family};
 ghost use Rattle.metadata.specs.CachedTags.{displaced_tags, tags_at, tags_there, tags_written};
 ghost use Rattle.metadata.specs.CachedTags.{RowsRise, serving_tags};
 ghost use Rattle.metadata.specs.MapEntries.{bytes_of_keys};
 ghost use Rattle.metadata.specs.Overwrites.{is_same_key, is_listed};
 ghost use Rattle.metadata.specs.TagEntries.{AreThere};
 
-use crate::entry_map::key_servers_key;
 use crate::key_set::KeySet;
+use crate::tag_key::{TagKey, behind_prefix};
 use std::alloc::Global;
 use std::collections::BTreeMap;
 use std::collections::btree_map::Range;
@@ -20,42 +21,39 @@ use std::marker::Model;
 use std::ops::Bound;
 use system_keys::{Items, OutOfMemory, Tag};
 
-/// A key, and tags for it.
+/// The key of a keyServers entry, and tags for it. Contracts see the whole key.
 #[derive(Drop)]
 pub(crate) struct TagRow {
-    key: Vec<u8>,
+    key: TagKey,
     tags: Items<Tag>,
 }
 
 impl Model for TagRow {
+    ghost use Rattle.std.specs.Prelude.{◌++◌};
+    ghost use Rattle.system_keys.specs.Families.{key_servers_family};
     ghost use Rattle.metadata.specs.CachedTags.{KeyTags};
 
     ghost Value = { KeyTags };
 
-    ghost view = { λ r. (r.key.items, r.tags) };
+    ghost view = { λ r. (key_servers_family.prefix ++ r.key, r.tags) };
 }
 
 impl TagRow {
-    /// Copies the key. Fails only with `OutOfMemory`.
-    pub(crate) fn new(alloc: Global, key: &[u8], tags: Items<Tag>) -> Result<TagRow, OutOfMemory>
-        ensures { IfOk result (λ row. row ≡ (key.now, tags)) }
+    /// Copies what is behind the prefix of the key. Fails only with `OutOfMemory`.
+    pub(crate) fn new(alloc: Global, behind: &[u8], tags: Items<Tag>) -> Result<TagRow, OutOfMemory>
+        ensures { IfOk result (λ row. row ≡ (key_servers_family.prefix ++ behind.now, tags)) }
     {
-        let key = Vec::from_slice(alloc, key)?;
+        let key = TagKey::new(alloc, behind)?;
         Ok(TagRow { key, tags })
-    }
-
-    fn key(&self) -> &[u8]
-        ensures { result.now ≡ self.now.0 }
-    {
-        self.key.as_slice()
     }
 }
 
-/// A map from keys to tags. Contracts see the list of keys with their tags, in the order of the keys.
+/// A map from keys of keyServers entries to tags. Contracts see the list of the whole keys with
+/// their tags, in the order of the keys.
 #[derive(Drop)]
 pub(crate) struct TagMap {
     alloc: Global,
-    lists: BTreeMap<Vec<u8>, Items<Tag>>,
+    lists: BTreeMap<TagKey, Items<Tag>>,
 }
 
 impl Model for TagMap {
@@ -79,6 +77,11 @@ impl TagMap {
         }
     }
 
+    /// The allocator of the map.
+    fn alloc(&self) -> Global {
+        self.alloc
+    }
+
     /// The map of the tags in these rows: at a key those of its first row. The rows are put from the
     /// last to the first: keys that rise are then each compared with few others. Fails only with
     /// `OutOfMemory`.
@@ -93,23 +96,37 @@ impl TagMap {
     }
 
     /// The tags at a key. Does not allocate.
-    pub(crate) fn get(&self, key: &[u8]) -> Option<&[Tag]>
-        ensures { option_map (λ tags. tags.now) result ≡ tags_at self.now key.now }
+    fn get(&self, key: &TagKey) -> Option<&[Tag]>
+        ensures { option_map (λ tags. tags.now) result
+            ≡ tags_at self.now (key_servers_family.prefix ++ key.now) }
     {
         let tags = self.lists.get(key)?;
         Some(tags.as_slice())
     }
 
-    /// The tags of the last row whose key, behind the prefix of keyServers keys, is at or before this
-    /// one. Fails only with `OutOfMemory`.
+    /// The tags at a whole key. Fails only with `OutOfMemory`.
+    pub(crate) fn at(&self, whole: &[u8]) -> Result<Option<&[Tag]>, OutOfMemory>
+        ensures { IfOk result (λ found. option_map (λ tags. tags.now) found
+            ≡ tags_at self.now whole.now) }
+    {
+        match behind_prefix(whole) {
+            Some(behind) => {
+                let key = TagKey::new(self.alloc, behind)?;
+                Ok(self.get(&key))
+            }
+            None => Ok(None),
+        }
+    }
+
+    /// The tags of the last row whose key, behind the prefix of keyServers keys, is at or before
+    /// this one. Fails only with `OutOfMemory`.
     pub(crate) fn serving(&self, key: &[u8]) -> Result<Option<&[Tag]>, OutOfMemory>
         ensures found { IfOk result (λ found. option_map (λ tags. tags.now) found
             ≡ serving_tags self.now key.now) }
         ensures rise { OnOk result (RowsRise self.now) }
     {
-        let greatest = key_servers_key(self.alloc, key)?;
-        let bounds = (Bound::Unbounded, Bound::Included(&greatest));
-        match self.lists.range(bounds).next_back() {
+        let greatest = TagKey::new(self.alloc, key)?;
+        match self.lists.range(..=&greatest).next_back() {
             Some((_, tags)) => Ok(Some(tags.as_slice())),
             None => Ok(None),
         }
@@ -132,8 +149,15 @@ impl TagMap {
         None
     }
 
+    /// The keys, in order, each with its tags. Does not allocate.
+    fn all(&self) -> Range<'_, TagKey, Items<Tag>>
+        ensures { AreThere (tags_at self.now) result }
+    {
+        self.lists.range(..)
+    }
+
     /// The keys behind this one, in order, each with its tags. Does not allocate.
-    fn behind<'a>(&'a self, key: &Vec<u8>) -> Range<'a, Vec<u8>, Items<Tag>>
+    fn behind<'a>(&'a self, key: &TagKey) -> Range<'a, TagKey, Items<Tag>>
         ensures { AreThere (tags_at self.now) result }
     {
         let bounds = (Bound::Excluded(key), Bound::Unbounded);
@@ -189,11 +213,12 @@ impl TagMap {
         ensures { OnOk result (found.new.items
             ≡ found.old.items ++ tags_there (tags_at self.now) row.now) }
     {
-        let Some(tags) = self.get(row.key()) else {
+        let Some(tags) = self.get(&row.key) else {
             return Ok(());
         };
         let tags = copied_tags(self.alloc, tags)?;
-        found.push(TagRow::new(self.alloc, row.key(), tags)?)?;
+        let key = row.key.copy()?;
+        found.push(TagRow { key, tags })?;
         Ok(())
     }
 
@@ -208,8 +233,8 @@ impl TagMap {
         }
     }
 
-    /// Takes back tags that were put: those that were displaced are put again, and those at the keys
-    /// that had none are removed. Does not allocate.
+    /// Takes back tags that were put: those that were displaced are put again, and those at the
+    /// keys that had none are removed. Does not allocate.
     pub(crate) fn take_back(&mut self, missing: Vec<Vec<u8>>, displaced: Vec<TagRow>)
         ensures { ((key : Key) → is_listed (keys_of displaced.items) key ≡ true
             → is_some (tags_at self.old key) ≡ true)
@@ -227,23 +252,37 @@ impl TagMap {
             ≡ (if is_listed (bytes_of_keys keys.items) key then None else tags_at self.old key) }
     {
         for key in keys {
-            self.remove(key.as_slice());
+            self.remove(key);
         }
     }
 
     /// Removes what is kept at the keys of the set. Does not allocate.
-    pub(crate) fn remove_all(&mut self, keys: &KeySet)
+    pub(crate) fn remove_all(&mut self, keys: KeySet)
         ensures { (key : Key) → tags_at self.new key
-            ≡ (if is_listed keys.now key then None else tags_at self.old key) }
+            ≡ (if is_listed keys key then None else tags_at self.old key) }
     {
-        for key in keys.iter() {
-            self.remove(key.as_slice());
+        for key in keys.into_keys() {
+            self.remove(key);
         }
     }
 
-    fn remove(&mut self, key: &[u8])
+    /// Removes what is kept at a whole key, which is given away since a look-up takes its bytes.
+    /// Does not allocate.
+    fn remove(&mut self, whole: Vec<u8>)
+        ensures { (key : Key) → tags_at self.new key
+            ≡ (if is_same_key key whole.items then None else tags_at self.old key) }
+    {
+        // (gives the proof that there is nothing at a key without the prefix)
+        let _count = self.lists.len();
+        if let Some(key) = TagKey::of_whole(whole) {
+            self.remove_key(&key);
+        }
+    }
+
+    fn remove_key(&mut self, key: &TagKey)
         ensures { (other : Key) → tags_at self.new other
-            ≡ (if is_same_key other key.now then None else tags_at self.old other) }
+            ≡ (if is_same_key other (key_servers_family.prefix ++ key.now) then None
+            else tags_at self.old other) }
     {
         // (gives the proof that the keys are in order)
         let _count = self.lists.len();
@@ -256,7 +295,7 @@ impl TagMap {
 pub(crate) struct TagSteps<'a> {
     kept: &'a TagMap,
     /// The keys behind the last one that was looked up.
-    behind: Range<'a, Vec<u8>, Items<Tag>>,
+    behind: Range<'a, TagKey, Items<Tag>>,
 }
 
 impl<'a> Model for TagSteps<'a> {
@@ -276,39 +315,43 @@ impl<'a> TagSteps<'a> {
     pub(crate) fn new(kept: &'a TagMap) -> TagSteps<'a>
         ensures { result ≡ kept.now }
     {
-        let least = Vec::new(kept.alloc);
         TagSteps {
             kept,
-            behind: kept.behind(&least),
+            behind: kept.all(),
         }
     }
 
-    /// The tags at a key: one step if the key is the next behind the last one, and else a look-up. Does
-    /// not allocate.
-    pub(crate) fn at(&mut self, key: &Vec<u8>) -> Option<&'a [Tag]>
+    /// The tags at a whole key: one step if the key is the next behind the last one, and else a
+    /// look-up. Fails only with `OutOfMemory`.
+    pub(crate) fn at(&mut self, whole: &[u8]) -> Result<Option<&'a [Tag]>, OutOfMemory>
         ensures kept { self.new ≡ self.old }
-        ensures found { option_map (λ tags. tags.now) result ≡ tags_at self.old key.now.items }
+        ensures found { IfOk result (λ found. option_map (λ tags. tags.now) found
+            ≡ tags_at self.old whole.now) }
     {
-        match self.step_to(key) {
-            Some(tags) => Some(tags),
+        let Some(behind) = behind_prefix(whole) else {
+            return self.kept.at(whole);
+        };
+        match self.step_to(behind) {
+            Some(tags) => Ok(Some(tags)),
             None => {
-                self.behind = self.kept.behind(key);
-                self.kept.get(key.as_slice())
+                let key = TagKey::new(self.kept.alloc(), behind)?;
+                self.behind = self.kept.behind(&key);
+                Ok(self.kept.get(&key))
             }
         }
     }
 
     /// The tags at the key, if it is the next behind the last one. Does not allocate.
-    fn step_to(&mut self, key: &Vec<u8>) -> Option<&'a [Tag]>
+    fn step_to(&mut self, key: &[u8]) -> Option<&'a [Tag]>
         ensures kept { self.new ≡ self.old }
-        ensures found { IfSome result (λ tags. tags_at self.old key.now.items ≡ Some tags.now) }
+        ensures found { IfSome result (λ tags.
+            tags_at self.old (key_servers_family.prefix ++ key.now) ≡ Some tags.now) }
     {
         let (next, tags) = self.behind.next()?;
-        if next.as_slice() == key.as_slice() {
-            Some(tags.as_slice())
-        } else {
-            None
+        if next.as_slice() != key {
+            return None;
         }
+        Some(tags.as_slice())
     }
 }
 

@@ -103,7 +103,7 @@ fn add_unless_hidden(
         → OnOk result (tags.new.keys ≡ fold (insert_key tag_cmp) tags.old.keys some) }
 {
     // (also at a hidden key, so that the next one is one step away)
-    let there = kept.at(key);
+    let there = kept.at(key.as_slice())?;
     if hidden.contains(key.as_slice()) {
         return Ok(());
     }

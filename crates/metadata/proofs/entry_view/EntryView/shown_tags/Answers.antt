@@ -2,6 +2,7 @@
 use Rattle.std.proofs.Common.{◌≡◌, ◌∙◌, ap, sym, subst, true, false, [], ◌∷◌, None, ℕ, List, rules}
 use Rattle.std.specs.Global.{Vec}
 use Rattle.std.specs.Option.{option_map}
+use Rattle.std.proofs.lemmas.Result.{IfOk-weaker}
 use Rattle.model.specs.Metadata.{Entry, Entries, entry_value, serving_entry, key_servers_entries}
 use Rattle.metadata.specs.MapEntries.{entry_from, is_serving_up_to}
 use Rattle.metadata.specs.Overwrites.{is_listed, entries_without}
@@ -75,12 +76,15 @@ returns-then-not-contains c =
     let steps = c.in-Some.ensures.steps in
     let rows = subst (AreRows c.self.inside.entries.now) steps c.loop-found.invariant.rows (entry_from last) (has_last c.next_back.new.self last) in
     let own = subst AreKeyServers steps c.loop-found.invariant.own (entry_from last) (has_last c.next_back.new.self last) in
-    c.get.ensures
+    IfOk-weaker c.at.result _ _
+    (λ found is.
+    is
     ∙ ap (tags_at c.self.inside.tags.now) c.as_slice-then-not-contains.ensures.value
     ∙ tags_shown_at c.self.inside.hidden.now c.self.inside.entries.now (tags_at c.self.inside.tags.now) (entry_from last) c.self.invariant.0 shows rows own
     ∙ ap (option_map (λ (entry : Entry). tags_by (entry_value (entries_without c.self.inside.hidden.now c.self.inside.entries.now)) entry.1))
     (sym (last_shown None c.self.inside.hidden.now c.next_back.new.self last shows) ∙ ap (last_left None c.self.inside.hidden.now) (sym steps) ∙ c.loop-found.invariant.last)
-    ∙ ap (λ (entries : Entries). option_map (λ (entry : Entry). tags_by (entry_value entries) entry.1) (serving_entry (key_servers_entries entries) c.args.key.now)) c.self.view_is
+    ∙ ap (λ (entries : Entries). option_map (λ (entry : Entry). tags_by (entry_value entries) entry.1) (serving_entry (key_servers_entries entries) c.args.key.now)) c.self.view_is)
+    c.at.ensures
 
 pub returns : goal.returns
 returns c =

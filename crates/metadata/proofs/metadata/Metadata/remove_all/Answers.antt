@@ -10,14 +10,14 @@ use Rattle.metadata.proofs.metadata.Metadata.remove_all.Goals as goal
 
 pub invariant_of-self : goal.invariant_of-self
 invariant_of-self c = (
-  tags_left_over c.args.keys.now c.self.inside.entries c.remove_all.new.self (tags_at c.self.inside.tags) (tags_at c.remove_all-2.new.self) (ap (λ (entries : Entries). may_tag_some entries c.args.keys.now) c.self.view_is ∙ c.requires) c.self.invariant.0 c.remove_all.ensures (λ key out. c.remove_all-2.ensures key ∙ ap (λ (t : Bool). if t then None else tags_at c.self.inside.tags key) out),
+  tags_left_over c.args.keys c.self.inside.entries c.remove_all.new.self (tags_at c.self.inside.tags) (tags_at c.remove_all-2.new.self) (ap (λ (entries : Entries). may_tag_some entries c.args.keys) c.self.view_is ∙ c.requires) c.self.invariant.0 c.remove_all.ensures (λ key out. c.remove_all-2.ensures key ∙ ap (λ (t : Bool). if t then None else tags_at c.self.inside.tags key) out),
   c.self.invariant.1,
-  servers_left c.args.keys.now c.self.inside.entries c.remove_all.new.self c.self.inside.servers.tags c.refresh.new.self.tags c.remove_all.ensures
-      (subst (λ (entries : Entries). AreRefreshed c.args.keys.now (entry_value entries) c.self.inside.servers.tags c.refresh.new.self.tags) c.map.ensures.entries c.refresh.ensures)
+  servers_left c.args.keys c.self.inside.entries c.remove_all.new.self c.self.inside.servers.tags c.refresh.new.self.tags c.remove_all.ensures
+      (subst (λ (entries : Entries). AreRefreshed c.args.keys (entry_value entries) c.self.inside.servers.tags c.refresh.new.self.tags) c.map.ensures.entries c.refresh.ensures)
       c.self.invariant.2,
   c.self.invariant.3,
-  rows_left_over c.args.keys.now c.self.inside.entries c.remove_all.new.self (tags_at c.self.inside.tags) (tags_at c.remove_all-2.new.self) c.remove_all.ensures c.remove_all-2.ensures c.self.invariant.4,
+  rows_left_over c.args.keys c.self.inside.entries c.remove_all.new.self (tags_at c.self.inside.tags) (tags_at c.remove_all-2.new.self) c.remove_all.ensures c.remove_all-2.ensures c.self.invariant.4,
 )
 
 pub refresh-requires : goal.refresh-requires
-refresh-requires c = places_left c.args.keys.now c.self.inside.entries c.map.result.now c.self.inside.servers (c.map.ensures.entries ∙ c.remove_all.ensures)
+refresh-requires c = places_left c.args.keys c.self.inside.entries c.map.result.now c.self.inside.servers (c.map.ensures.entries ∙ c.remove_all.ensures)

@@ -1,7 +1,5 @@
 -- The entries behind a key are some of all.
-use Rattle.std.proofs.Common.{sym, subst, ℕ, List}
-use Rattle.std.specs.Global.{Vec}
-use Rattle.system_keys.specs.declared.tag.Tag.{Tag}
+use Rattle.std.proofs.Common.{sym, subst, List}
 use Rattle.metadata.specs.CachedTags.{KeyTags, tags_at}
 use Rattle.metadata.specs.TagEntries.{AreThere}
 use Rattle.metadata.proofs.TagEntries.{all_there, some_there}
@@ -9,6 +7,6 @@ use Rattle.metadata.proofs.tag_map.TagMap.behind.Goals as goal
 
 pub returns : goal.returns
 returns c =
-    subst (λ (es : List (Vec ℕ × List Tag)). AreThere (tags_at c.args.self.now) es) (sym (c.range.ensures.between tt))
+    subst (λ (es : List KeyTags). AreThere (tags_at c.args.self.now) es) (sym (c.range.ensures.between tt))
     (some_there (tags_at c.args.self.now) _ c.self.inside.lists.entries
     (subst (λ (rows : List KeyTags). AreThere (tags_at rows) c.self.inside.lists.entries) c.self.view_is (all_there c.self.inside.lists.entries c.range.ensures.ordered)))

@@ -1,13 +1,12 @@
--- A removal from the map takes what its key has, and leaves the other keys alone.
-use Rattle.std.proofs.Common.{◌∙◌, ap, None, if◌then◌else◌}
-use Rattle.metadata.specs.CachedTags.{tags_at}
-use Rattle.metadata.specs.TagEntries.{rows_of}
+-- There is nothing to remove at a key without the prefix.
+use Rattle.std.proofs.Common.{◌∙◌, ap, sym, List, None, if◌then◌else◌}
+use Rattle.metadata.specs.CachedTags.{KeyTags, tags_at}
 use Rattle.metadata.specs.Overwrites.{is_same_key}
-use Rattle.metadata.proofs.TagEntries.{tags_removed}
+use Rattle.metadata.proofs.TagEntries.{none_removed}
 use Rattle.metadata.proofs.tag_map.TagMap.remove.Goals as goal
 
-pub returns : goal.returns
-returns c = λ other.
-    ap (λ es. tags_at (rows_of es) other) c.remove.ensures.entries
-    ∙ tags_removed c.args.key.now other c.self.inside.lists.entries c.len-count.ensures.ordered
-    ∙ (λ i. if is_same_key other c.args.key.now then None else tags_at (c.self.view_is i) other)
+pub returns-in_default : goal.returns-in_default
+returns-in_default c = λ other.
+    ap (λ (rows : List KeyTags). tags_at rows other) (sym c.self.view_is)
+    ∙ none_removed c.args.whole.items other c.self.inside.lists.entries c.in_default.ensures.none
+    ∙ (λ i. if is_same_key other c.args.whole.items then None else tags_at (c.self.view_is i) other)

@@ -4,4 +4,4 @@ use Rattle.metadata.proofs.TagEntries.{AreRemoving}
 use Rattle.metadata.proofs.tag_map.TagMap.remove_all.Given as goal
 
 abbrev pub invariant-loop-key : goal.invariant-loop-key
-invariant-loop-key l = AreRemoving l.keys l.key-iterator (tags_at l.fn.self) (tags_at l.self)
+invariant-loop-key l = AreRemoving l.fn.keys l.key-iterator (tags_at l.fn.self) (tags_at l.self)

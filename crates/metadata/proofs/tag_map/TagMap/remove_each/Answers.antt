@@ -13,7 +13,7 @@ pub loop-key-preserved : goal.loop-key-preserved
 loop-key-preserved c =
     let size = ap (λ (keys : List (Vec ℕ)). length keys) c.in-Some.ensures.steps.0 in (
       removing_next (bytes_of_keys c.args.keys.items) c.in-Some.key (into_iter_items c.next.new.self) (tags_at c.args.self.now) (tags_at c.loop-key.self) (tags_at c.remove.new.self)
-          (λ other. c.remove.ensures other ∙ ap (λ (key : Key). if is_same_key other key then None else tags_at c.loop-key.self other) c.as_slice.ensures.value)
+          c.remove.ensures
           (subst (λ (left : List (Vec ℕ)). AreRemoving (bytes_of_keys c.args.keys.items) left (tags_at c.args.self.now) (tags_at c.loop-key.self)) c.in-Some.ensures.steps.0 c.loop-key.invariant.0),
       omega (arith, size, c.loop-key.invariant.1, c.in-Some.ensures.steps.1),
     )
