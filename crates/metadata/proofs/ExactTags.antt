@@ -11,7 +11,7 @@ use Rattle.std.proofs.lemmas.Bool.{eqb-true}
 use Rattle.std.proofs.lemmas.Cmp.{tied_itself}
 use Rattle.system_keys.specs.declared.tag.Tag.{Tag}
 use Rattle.system_keys.specs.Keys.{Key, is_key_up_to}
-use Rattle.system_keys.specs.Families.{key_servers_family, is_in}
+use Rattle.system_keys.specs.Families.{key_servers_family}
 use Rattle.model.specs.Metadata.{Entry, Entries, IsInOrder, entry_value, is_key_servers, behind_prefix, key_servers_entries, is_entry_up_to, serving_entry, tags_of_key}
 use Rattle.model.proofs.Members.{Has}
 use Rattle.model.proofs.Metadata.Entries.{filter_in_order}

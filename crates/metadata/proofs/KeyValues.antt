@@ -1,5 +1,5 @@
 -- Entries in order are known by the value of each key, and what each change of a map does to that value.
-use Rattle.std.proofs.Common.{◌≡◌, refl, sym, ap, ◌∙◌, ℕ, List, [], ◌∷◌, Bool, true, false, cond, if◌then◌else◌, Option, Some, None, Ordering, Less, Equal, Greater, nat_cmp, is_eq}
+use Rattle.std.proofs.Common.{◌≡◌, refl, sym, ap, ◌∙◌, List, [], ◌∷◌, Bool, true, false, cond, if◌then◌else◌, Option, Some, None, Ordering, Less, Equal, Greater, nat_cmp, is_eq}
 use Rattle.std.specs.List.{AllByRecursion}
 use Rattle.std.specs.List.Sorted.{IsStrictlySortedBy}
 use Rattle.std.specs.Ordering.{ordering_reverse, match_ordering}
@@ -9,7 +9,7 @@ use Rattle.std.specs.Cmp.Lexicographic.{slice_cmp}
 use Rattle.std.proofs.lemmas.Cmp.{tied_itself, nat_list_cmp_total}
 use Rattle.std.proofs.lemmas.Map.Lookups.{exact_bytes}
 use Rattle.system_keys.specs.Keys.{Key}
-use Rattle.model.specs.Metadata.{Entry, Entries, IsInOrder, entry_value}
+use Rattle.model.specs.Metadata.{Entries, IsInOrder, entry_value}
 use Rattle.metadata.specs.Overwrites.{is_same_key}
 
 abbrev pub key_cmp : Key → Key → Ordering

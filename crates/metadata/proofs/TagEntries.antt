@@ -1,5 +1,5 @@
 -- What the calls of the map to tags do to the tags at each key.
-use Rattle.std.proofs.Common.{◌≡◌, refl, sym, ap, ◌∙◌, Result, Ok, Err, OnOk, OnErr, ℕ, zero, suc, ◌-◌, ◌<◌, slice_get, arith, length, take, drop, length-drop, List, [], ◌∷◌, ◌++◌, filter, Bool, true, false, not, cond, if◌then◌else◌, ◌||◌, Option, Some, None, option_map, Ordering, Less, Equal, Greater, nat_cmp}
+use Rattle.std.proofs.Common.{◌≡◌, refl, sym, ap, ◌∙◌, Result, Ok, Err, OnOk, OnErr, ℕ, zero, suc, ◌-◌, ◌<◌, slice_get, arith, length, take, drop, length-drop, List, [], ◌∷◌, ◌++◌, filter, Bool, true, false, not, cond, if◌then◌else◌, ◌||◌, Option, Some, None, option_map, Ordering, Less, Equal, Greater}
 use Rattle.std.specs.Global.{Vec}
 use Rattle.std.specs.List.{AllByRecursion, last_or}
 use Rattle.std.specs.List.Sorted.{IsStrictlySortedBy}
@@ -9,7 +9,6 @@ use Rattle.std.specs.Map.{keys_of, lookup, remove_entry}
 use Rattle.std.specs.BTreeMap.{insert_entry, is_at}
 use Rattle.std.specs.BTreeMap.Range.{entries_between}
 use Rattle.std.specs.declared.ops.Bound.TheVariants.{Included, Unbounded}
-use Rattle.std.specs.Cmp.Lexicographic.{slice_cmp}
 use Rattle.std.proofs.lemmas.Cmp.{tied_itself, nat_list_cmp_total}
 use Rattle.system_keys.specs.declared.tag.Tag.{Tag}
 use Rattle.system_keys.specs.Keys.{Key, is_key_below}

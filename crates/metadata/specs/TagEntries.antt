@@ -1,7 +1,6 @@
 -- The entries of an ordered map from keys without their prefix to tags, as whole keys with tags.
 use Rattle.std.specs.Prelude.{◌≡◌, ◌++◌, List, map, Some}
 use Rattle.std.specs.List.{AllByRecursion}
-use Rattle.system_keys.specs.declared.tag.Tag.{Tag}
 use Rattle.system_keys.specs.Families.{key_servers_family}
 use Rattle.metadata.specs.CachedTags.{KeyTags, TagLists}
 

@@ -1,7 +1,7 @@
 -- The row at the place has its tags kept, which are those of its key.
-use Rattle.std.proofs.Common.{◌∙◌, ap, subst, sym, slice_get}
+use Rattle.std.proofs.Common.{◌∙◌, ap, slice_get}
 use Rattle.std.specs.Option.{option_map}
-use Rattle.model.specs.Metadata.{Entry, Entries, IsInOrder, key_servers_entries, tags_of_key}
+use Rattle.model.specs.Metadata.{Entry, Entries, key_servers_entries, tags_of_key}
 use Rattle.metadata.proofs.ExactTags.{place_known}
 use Rattle.metadata.proofs.metadata.Metadata.cached.Goals as goal
 

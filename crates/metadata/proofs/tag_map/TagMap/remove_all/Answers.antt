@@ -1,9 +1,7 @@
 -- A turn of the loop removes what one key has.
-use Rattle.std.proofs.Common.{◌∙◌, ap, subst, ℕ, List, None, if◌then◌else◌}
+use Rattle.std.proofs.Common.{◌∙◌, ap, subst, ℕ, List}
 use Rattle.std.specs.Global.{Vec}
-use Rattle.system_keys.specs.Keys.{Key}
 use Rattle.metadata.specs.MapEntries.{bytes_of_keys}
-use Rattle.metadata.specs.Overwrites.{is_same_key}
 use Rattle.metadata.specs.CachedTags.{tags_at}
 use Rattle.metadata.proofs.TagEntries.{AreRemoving, removing_first, removing_next}
 use Rattle.metadata.proofs.tag_map.TagMap.remove_all.Goals as goal

@@ -1,10 +1,8 @@
 -- A turn of the loop removes what one key has, and after the last no key is left.
-use Rattle.std.proofs.Common.{◌∙◌, ap, sym, subst, ℕ, List, None, if◌then◌else◌, length, arith}
+use Rattle.std.proofs.Common.{◌∙◌, ap, sym, subst, ℕ, List, length, arith}
 use Rattle.std.specs.Global.{Vec}
 use Rattle.std.specs.Vec.Iter.{into_iter_items}
-use Rattle.system_keys.specs.Keys.{Key}
 use Rattle.metadata.specs.MapEntries.{bytes_of_keys}
-use Rattle.metadata.specs.Overwrites.{is_same_key}
 use Rattle.metadata.specs.CachedTags.{tags_at}
 use Rattle.metadata.proofs.TagEntries.{AreRemoving, removing_next, none_left}
 use Rattle.metadata.proofs.tag_map.TagMap.remove_each.Goals as goal
