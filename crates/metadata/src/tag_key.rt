@@ -56,8 +56,30 @@ impl TagKey {
     }
 
     /// What is behind the prefix of a whole key, if that is one of keyServers keys. Does not
-    /// allocate.
-    pub(crate) fn of_whole(mut whole: Vec<u8>) -> Option<TagKey>
+    /// allocate: a long key keeps its block.
+    pub(crate) fn of_whole(alloc: Global, whole: Vec<u8>) -> Option<TagKey>
+        ensures none { IfNone result (is_in key_servers_family whole.items ≡ false) }
+        ensures some { IfSome result (λ key. whole.items ≡ key_servers_family.prefix ++ key) }
+    {
+        let behind = behind_prefix(whole.as_slice())?;
+        match TagKey::of_short(alloc, behind) {
+            Some(key) => Some(key),
+            None => TagKey::turned(whole),
+        }
+    }
+
+    /// The key of these bytes, if they are few enough to lie in it. Does not allocate.
+    fn of_short(alloc: Global, bytes: &[u8]) -> Option<TagKey>
+        ensures { IfSome result (λ key. key ≡ bytes.now) }
+    {
+        if bytes.len() > SHORT {
+            return None;
+        }
+        TagKey::new(alloc, bytes).ok()
+    }
+
+    /// The same as `of_whole`, in the block of the whole key.
+    fn turned(mut whole: Vec<u8>) -> Option<TagKey>
         ensures none { IfNone result (is_in key_servers_family whole.items ≡ false) }
         ensures some { IfSome result (λ key. whole.items ≡ key_servers_family.prefix ++ key) }
     {

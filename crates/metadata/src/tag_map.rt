@@ -274,7 +274,7 @@ impl TagMap {
     {
         // (gives the proof that there is nothing at a key without the prefix)
         let _count = self.lists.len();
-        if let Some(key) = TagKey::of_whole(whole) {
+        if let Some(key) = TagKey::of_whole(self.alloc, whole) {
             self.remove_key(&key);
         }
     }

@@ -3,7 +3,7 @@ use Rattle.std.proofs.Common.{◌≡◌, ◌∙◌, ◌++◌, ◌-◌, ap, sym, 
 use Rattle.system_keys.specs.Families.{key_servers_family, is_in}
 use Rattle.metadata.proofs.HiddenRuns.{begun}
 use Rattle.metadata.proofs.TagEntries.{turned_off}
-use Rattle.metadata.proofs.tag_key.TagKey.of_whole.Goals as goal
+use Rattle.metadata.proofs.tag_key.TagKey.turned.Goals as goal
 
 pub returns-clause-some : goal.returns-clause-some
 returns-clause-some c =
