@@ -1,6 +1,6 @@
 pub mod AnswerLemmas
 pub mod EventLemmas
 pub mod OrderLemmas
-pub mod PlayLemmas
+pub mod CarryingOutLemmas
 pub mod StreamLemmas
 pub mod WorldLemmas

@@ -14,7 +14,7 @@ use Rattle.cluster_lines.specs.MetadataLines.{metadata_text, proxy_line}
 use Rattle.turn_world.specs.Events.{event_of}
 use Rattle.turns_run.specs.declared.script.TurnsScript.{TurnsScript}
 use Rattle.turns_run.specs.Lines.{events_text}
-use Rattle.turns_run.specs.Text.{played_text, proxies_text, proxy_text}
+use Rattle.turns_run.specs.Text.{printed_text, proxies_text, proxy_text}
 
 -- a proxy of the world is printed as the world says
 proxy_text-is : (config : Config) (w : World) (ask : List Key) (p : ℕ) (v : ProxyView) → IsProxyOf config w p v
@@ -35,13 +35,13 @@ one_more_proxy config w ask p v start before after is printed more =
     ∙ append_assoc start (flat_map f (each_below p)) (f p) ∙ ap (λ text. start ++ text) (sym grown)
 
 -- the events were carried out and printed, and then the proxies
-pub played_text-is : (script : TurnsScript) (before after : TurnCluster) (start between new : List ℕ)
+pub printed_text-is : (script : TurnsScript) (before after : TurnCluster) (start between new : List ℕ)
     → before ≡ record { config = script.config; world = initial_world script.config }
     → between ≡ start ++ events_text (map event_of script.events) (answers before.config before.world (map event_of script.events))
     → after ≡ record before { world = world_after before.config before.world (map event_of script.events) }
     → new ≡ between ++ proxies_text script.config after.world script.ask
-    → new ≡ start ++ played_text script
-played_text-is script before after start between new first events carried proxies =
+    → new ≡ start ++ printed_text script
+printed_text-is script before after start between new first events carried proxies =
     let given = map event_of script.events in
     let lines : between ≡ start ++ events_text given (answers script.config (initial_world script.config) given) = rw first at events in
     let world : after.world ≡ world_after script.config (initial_world script.config) given = ap (λ (c : TurnCluster). c.world) (rw first at carried) in

@@ -5,7 +5,7 @@ pub mod Text
 -- the lines that are printed of an event
 pub mod Lines
 -- what events come to that are carried out as they are read
-pub mod Playing
+pub mod CarryingOut
 -- mutations in the order of their transactions
 pub mod OrderOfMutations
 -- the script that bytes are

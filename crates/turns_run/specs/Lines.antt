@@ -152,21 +152,30 @@ refusal_of world.VersionsEnd = refusals.VersionsEnd
 
 -- ---- all events
 
+-- the proxy that finishes a record, if the event is a finish
+abbrev pub finishing_proxy : Event → Option ProxyNumber
+finishing_proxy (Finish p) = Some p
+finishing_proxy (Sequence p batch) = None
+finishing_proxy (MoveRange range destination) = None
+finishing_proxy (Offer row r) = None
+
 -- the lines of a finished record; a record is finished by a finish alone
-abbrev pub completed_text : Event → Finished → List ℕ
-completed_text (Finish p) finished = finished_text p finished
-completed_text (Sequence p batch) finished = []
-completed_text (MoveRange range destination) finished = []
-completed_text (Offer row r) finished = []
+abbrev pub completed_text : Option ProxyNumber → Finished → List ℕ
+completed_text (Some p) finished = finished_text p finished
+completed_text None finished = []
+
+-- the lines of an answer; of a finish, this is the proxy
+abbrev pub answer_text : Option ProxyNumber → Answer → List ℕ
+answer_text finishing (Sequenced row version) = sequence_line row version
+answer_text finishing (Moved date) = move_line date
+answer_text finishing (Judged reply) = offer_line (codes "judged") reply
+answer_text finishing (Again reply) = offer_line (codes "again") reply
+answer_text finishing (Completed finished) = completed_text finishing finished
+answer_text finishing (Refused refusal) = refusal_line (refusal_of refusal)
 
 -- the lines of an event with this answer
 abbrev pub event_text : Event → Answer → List ℕ
-event_text event (Sequenced row version) = sequence_line row version
-event_text event (Moved date) = move_line date
-event_text event (Judged reply) = offer_line (codes "judged") reply
-event_text event (Again reply) = offer_line (codes "again") reply
-event_text event (Completed finished) = completed_text event finished
-event_text event (Refused refusal) = refusal_line (refusal_of refusal)
+event_text event answer = answer_text (finishing_proxy event) answer
 
 -- the lines of all events, each with its answer
 abbrev pub events_text : List Event → List Answer → List ℕ

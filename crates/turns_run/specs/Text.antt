@@ -30,8 +30,8 @@ abbrev pub proxies_text : Config → World → List Key → List ℕ
 proxies_text config w ask = flat_map (proxy_text config w ask) (each_below config.proxies)
 
 -- the events of the script with their answers, and then each proxy, as the events left it
-abbrev pub played_text : TurnsScript → List ℕ
-played_text script =
+abbrev pub printed_text : TurnsScript → List ℕ
+printed_text script =
     let before = initial_world script.config in
     let events = events_of script in
     events_text events (answers script.config before events)
@@ -39,8 +39,8 @@ played_text script =
 
 -- the text and the status of the script that the bytes are, or of its first fault
 unfoldable pub turns_text : List ℕ → Answer
-turns_text bytes = answer_of played_text (script_of bytes)
+turns_text bytes = answer_of printed_text (script_of bytes)
 
 -- the run writes the text that `turns_text` gives the input, or a beginning of it
-abbrev pub Plays : Option (List ℕ) → Option (List ℕ) → Option (List ℕ) → RunStatus → Type 0
-Plays = WritesTextOf turns_text
+abbrev pub TakesTurns : Option (List ℕ) → Option (List ℕ) → Option (List ℕ) → RunStatus → Type 0
+TakesTurns = WritesTextOf turns_text

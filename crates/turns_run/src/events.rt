@@ -5,20 +5,21 @@ ghost use Rattle.std.specs.Prelude.{◌≡◌, ◌++◌, IsSome, OnOk, string_by
 ghost use Rattle.model.specs.Turns.{after_event};
 ghost use Rattle.model.specs.World.{answers, handle_event, world_after};
 ghost use Rattle.turn_world.specs.Events.{answer_of, event_of, refusal_number};
-ghost use Rattle.turns_run.specs.Lines.{completed_text, event_text, events_text, finish_text};
-ghost use Rattle.turns_run.specs.Lines.{finished_text, refusal_line, refusal_value};
+ghost use Rattle.turns_run.specs.Lines.{answer_text, completed_text, event_text, events_text};
+ghost use Rattle.turns_run.specs.Lines.{finish_text, finished_text, finishing_proxy};
+ghost use Rattle.turns_run.specs.Lines.{refusal_line, refusal_value};
 
 use crate::lines::{print_move, print_offer, print_sequence};
 use crate::numbers::push_numbered;
 use crate::transactions::print_transactions;
 use cluster_lines::push_refused;
-use model::Finished;
+use model::{Finished, ProxyNumber};
 use std::fmt::Write;
 use system_keys::{Items, OutOfMemory};
 use turn_world::{Answer, Event, OfferAnswer, Refusal, TurnWorld};
 
-/// Carries out the events, one after another, prints the lines of each, and drops it. Fails only
-/// with `OutOfMemory`.
+/// Carries out the events, one after another, and prints the lines of each. Fails only with
+/// `OutOfMemory`.
 pub(crate) fn print_events(
     text: &mut String,
     events: Items<Event>,
@@ -33,50 +34,69 @@ pub(crate) fn print_events(
         }) }
 {
     for event in Vec::from(events) {
-        print_event(text, &event, world)?;
+        print_event(text, event, world)?;
     }
     Ok(())
 }
 
-/// Carries out the event, and prints its lines.
+/// Carries out the event, of which nothing is copied, and prints its lines.
 pub(crate) fn print_event(
     text: &mut String,
-    event: &Event,
+    event: Event,
     world: &mut TurnWorld,
 ) -> Result<(), OutOfMemory>
-    ensures text { let given = event_of event.now in let before = world.old in
+    ensures text { let given = event_of event in let before = world.old in
         OnOk result (string_bytes text.new ≡ string_bytes text.old
         ++ event_text given (handle_event before.config before.world given).answer) }
-    ensures world { OnOk result (world.new ≡ after_event world.old (event_of event.now)) }
+    ensures world { OnOk result (world.new ≡ after_event world.old (event_of event)) }
 {
-    match world.step(event) {
-        Ok(answer) => print_answer(text, event, &answer),
+    let finishing = finishing_proxy(&event);
+    match world.step_owned(event) {
+        Ok(answer) => print_answer(text, finishing, &answer),
         Err(refusal) => print_refusal(text, &refusal),
     }
 }
 
-/// Prints the lines of an event that was carried out.
-fn print_answer(text: &mut String, event: &Event, answer: &Answer) -> Result<(), OutOfMemory>
+/// The proxy that finishes a record, if the event is a finish.
+fn finishing_proxy(event: &Event) -> Option<ProxyNumber>
+    ensures { result ≡ finishing_proxy (event_of event.now) }
+{
+    match event {
+        Event::Finish { proxy } => Some(*proxy),
+        Event::Sequence { .. } | Event::Move { .. } | Event::Offer { .. } => None,
+    }
+}
+
+/// Prints the lines of an event that was carried out; if it was a finish, its proxy is given.
+fn print_answer(
+    text: &mut String,
+    finishing: Option<ProxyNumber>,
+    answer: &Answer,
+) -> Result<(), OutOfMemory>
     ensures { OnOk result (string_bytes text.new
-        ≡ string_bytes text.old ++ event_text (event_of event.now) (answer_of answer.now)) }
+        ≡ string_bytes text.old ++ answer_text finishing (answer_of answer.now)) }
 {
     match answer {
         Answer::Sequenced { row, version } => print_sequence(text, *row, *version),
         Answer::Moved { date } => print_move(text, *date),
         Answer::Offered(OfferAnswer::Judged(reply)) => print_offer(text, "judged", reply),
         Answer::Offered(OfferAnswer::Again(reply)) => print_offer(text, "again", reply),
-        Answer::Finished(finished) => print_completed(text, event, finished),
+        Answer::Finished(finished) => print_completed(text, finishing, finished),
     }
 }
 
 // Prints a finished record, if it was a finish that was carried out.
-fn print_completed(text: &mut String, event: &Event, finished: &Finished) -> Result<(), OutOfMemory>
+fn print_completed(
+    text: &mut String,
+    finishing: Option<ProxyNumber>,
+    finished: &Finished,
+) -> Result<(), OutOfMemory>
     ensures { OnOk result (string_bytes text.new
-        ≡ string_bytes text.old ++ completed_text (event_of event.now) finished.now) }
+        ≡ string_bytes text.old ++ completed_text finishing finished.now) }
 {
-    match event {
-        Event::Finish { proxy } => print_finished(text, *proxy, finished),
-        Event::Sequence { .. } | Event::Move { .. } | Event::Offer { .. } => Ok(()),
+    match finishing {
+        Some(proxy) => print_finished(text, proxy, finished),
+        None => Ok(()),
     }
 }
 

@@ -4,12 +4,12 @@
 //! Source: this project's profile (scripts, lines and statuses).
 #![tactic(auto)]
 
+mod carrying_out;
 mod checks;
 mod event_streams;
 mod events;
 mod lines;
 mod numbers;
-mod playing;
 mod proxies;
 mod reading;
 mod run;

@@ -2,10 +2,10 @@
 ghost use Rattle.std.specs.Prelude.{◌-◌, ◌^◌, ◌<◌, refl};
 ghost use Rattle.scripts.specs.Runs.{LeavesDevices};
 ghost use Rattle.turns_run.specs.Scripts.{script_of};
-ghost use Rattle.turns_run.specs.Text.{Plays, played_text, turns_text};
+ghost use Rattle.turns_run.specs.Text.{TakesTurns, printed_text, turns_text};
 
 use crate::script::{RawTurns, TurnsScript};
-use crate::text::{TurnsText, print_played};
+use crate::text::{TurnsText, print_turns};
 use scripts::{RunStatus, ScriptKind, Sink, Source, make_of_tokens, run_script};
 use std::alloc::Global;
 use system_keys::OutOfMemory;
@@ -18,7 +18,7 @@ impl ScriptKind for TurnsKind {
 
     type Script = TurnsScript;
 
-    ghost printed = { played_text };
+    ghost printed = { printed_text };
 
     ghost answer_to = { turns_text };
 
@@ -28,7 +28,7 @@ impl ScriptKind for TurnsKind {
     }
 
     fn print(alloc: Global, text: &mut String, script: TurnsScript) -> Result<(), OutOfMemory> {
-        print_played(alloc, text, script)
+        print_turns(alloc, text, script)
     }
 
     ghost answers = { λ bytes. unfold turns_text in unfold script_of in refl };
@@ -39,7 +39,8 @@ impl ScriptKind for TurnsKind {
 pub fn run_turns<S: Source, T: Sink>(alloc: Global, source: &mut S, sink: &mut T) -> RunStatus
     requires read_count { S.failed source.old < 2 ^ 64 - 1 }
     requires write_count { T.failed sink.old < 2 ^ 64 - 1 }
-    ensures turns { Plays (S.remaining source.old) (T.written sink.old) (T.written sink.new) result }
+    ensures turns { TakesTurns (S.remaining source.old) (T.written sink.old) (T.written sink.new)
+        result }
     ensures devices { LeavesDevices turns_text S.Source source.old source.new
         T.Sink sink.old sink.new result }
 {

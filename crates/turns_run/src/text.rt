@@ -1,11 +1,11 @@
 //! The whole text of a turns script: the lines of its events, and then those of its proxies.
 
 ghost use Rattle.std.specs.Prelude.{◌≡◌, ◌++◌, IfSome, OnOk, string_bytes};
-ghost use Rattle.turns_run.specs.Playing.{IsTextOf};
-ghost use Rattle.turns_run.specs.Text.{played_text, proxies_text};
+ghost use Rattle.turns_run.specs.CarryingOut.{IsTextOf};
+ghost use Rattle.turns_run.specs.Text.{printed_text, proxies_text};
 
+use crate::carrying_out::CarriedOut;
 use crate::events::print_events;
-use crate::playing::Played;
 use crate::proxies::print_proxies;
 use crate::script::TurnsScript;
 use crate::streams::TurnsFields;
@@ -18,13 +18,13 @@ use turn_world::TurnWorld;
 
 /// Prints what a turns script comes to (this project's profile): the lines of its events, carried
 /// out one after another, and then those of each proxy. Fails only with `OutOfMemory`.
-pub(crate) fn print_played(
+pub(crate) fn print_turns(
     alloc: Global,
     text: &mut String,
     script: TurnsScript,
 ) -> Result<(), OutOfMemory>
     ensures { OnOk result (string_bytes text.new
-        ≡ string_bytes text.old ++ played_text script) }
+        ≡ string_bytes text.old ++ printed_text script) }
 {
     let mut world = TurnWorld::new(alloc, &script.config)?;
     print_events(text, script.events, &mut world)?;
@@ -43,21 +43,26 @@ impl MadeOfTokens for TurnsText {
 
     // Where the numbers of the cluster come after the events, it decides nothing.
     fn make(alloc: Global, reader: &mut TokenReader<'_>, depth: usize) -> Option<TurnsText> {
-        let fields: TurnsFields<Played> = take_object(alloc, reader, depth)?;
+        let fields: TurnsFields<CarriedOut> = take_object(alloc, reader, depth)?;
         let config = fields.config()?;
-        let (played, ask) = (fields.events?, fields.ask?);
-        let text = end_text(alloc, &config, played, ask.as_slice())?;
+        let (carried_out, ask) = (fields.events?, fields.ask?);
+        let text = end_text(alloc, &config, carried_out, ask.as_slice())?;
         Some(TurnsText { text })
     }
 }
 
 /// The whole text, where a cluster with these numbers carried the events out.
-fn end_text(alloc: Global, config: &Config, played: Played, ask: &[Bytes]) -> Option<String>
-    ensures { IfSome result (λ text. (played.world.config ≡ config.now)
-        × (string_bytes text ≡ string_bytes played.text
-        ++ proxies_text config.now played.world.world ask.now)) }
+fn end_text(
+    alloc: Global,
+    config: &Config,
+    carried_out: CarriedOut,
+    ask: &[Bytes],
+) -> Option<String>
+    ensures { IfSome result (λ text. (carried_out.world.config ≡ config.now)
+        × (string_bytes text ≡ string_bytes carried_out.text
+        ++ proxies_text config.now carried_out.world.world ask.now)) }
 {
-    let Played { mut text, world } = played;
+    let CarriedOut { mut text, world } = carried_out;
     if *world.config() != *config {
         return None;
     }

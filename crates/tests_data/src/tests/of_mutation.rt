@@ -186,6 +186,16 @@ fn a_stamp_takes_ten_bytes_and_every_other_field_stays(rt: HostRuntime) -> Resul
 }
 
 #[test]
+fn an_own_transaction_is_stamped_alike(rt: HostRuntime) -> Result<(), Fail> {
+    let admitted = admitted(rt.alloc(), ONE_EACH)?;
+    let stamped = admitted.into_stamped(rt.alloc(), 258, 3)?;
+    assert!(rt; stamped.snapshot() == 7 && stamped.lock_aware());
+    assert!(rt; are_ranges(stamped.reads(), stamped.writes()));
+    assert!(rt; are_changes(stamped.changes()));
+    Ok(())
+}
+
+#[test]
 fn given_transactions_are_copied(rt: HostRuntime) -> Result<(), Fail> {
     let given = transaction(rt.alloc(), ONE_EACH)?;
     assert_copied(&rt, &given, Transaction::copy);
@@ -202,5 +212,13 @@ fn batches_are_copied(rt: HostRuntime) -> Result<(), Fail> {
     let batch = batch(rt.alloc(), &[NOTHING, NOTHING, ONE_EACH])?;
     assert!(rt; matches!(batch.transactions(), [_, _, last] if are_mutations(last.mutations())));
     assert_copied(&rt, &batch, Batch::copy);
+    Ok(())
+}
+
+#[test]
+fn the_transactions_of_a_batch_are_taken(rt: HostRuntime) -> Result<(), Fail> {
+    let batch = batch(rt.alloc(), &[NOTHING, NOTHING, ONE_EACH])?;
+    let taken = batch.into_transactions();
+    assert!(rt; matches!(taken.as_slice(), [_, _, last] if is_one_each(last)));
     Ok(())
 }

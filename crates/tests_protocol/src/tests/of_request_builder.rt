@@ -374,6 +374,18 @@ fn record_of_stamping(alloc: Global) -> Result<Record, Fail> {
     Ok(record(alloc, &Moves::new(alloc), &batch)?)
 }
 
+/// One call for the record of a copy of that batch, which goes into it.
+fn own_record_by_call(alloc: Global, batch: &Batch) -> Result<Record, OutOfMemory> {
+    let moves = Moves::new(alloc);
+    Record::of_batch(alloc, 3, 30, 40, 20, 1, &moves, batch.copy()?)
+}
+
+/// That record, which is made again after a failed allocation.
+fn own_record_of_stamping(alloc: Global) -> Result<Record, Fail> {
+    let batch = batch(alloc, &[NOTHING, STAMPING])?;
+    Ok(twice!(own_record_by_call(alloc, &batch), OutOfMemory)?)
+}
+
 /// Whether the record has the numbers of these tests.
 fn is_numbered(record: &Record) -> bool {
     record.row() == 3
@@ -400,6 +412,13 @@ fn a_record_has_its_numbers_and_stamps(rt: HostRuntime) -> Result<(), Fail> {
     let record = record_of_stamping(rt.alloc())?;
     assert!(rt; is_copied(rt.alloc(), &record)?);
     assert!(rt; has_right_copy(&record)?);
+    Ok(())
+}
+
+#[test]
+fn a_record_of_an_own_batch_has_its_numbers_and_stamps(rt: HostRuntime) -> Result<(), Fail> {
+    let record = own_record_of_stamping(rt.alloc())?;
+    assert!(rt; is_numbered(&record) && has_stamp(&record));
     Ok(())
 }
 

@@ -166,6 +166,49 @@ fn a_step_carries_out_its_event(rt: HostRuntime) -> Result<(), Fail> {
     tells(&rt, &mut world, STORY)
 }
 
+// ---- single steps of own events
+
+/// What one call of the step is answered that takes a copy of the event.
+fn own_step_by_call(world: &mut TurnWorld, event: &Event) -> Result<Answer, Refusal> {
+    world.step_owned(event.copy()?)
+}
+
+/// What is told of the answer to a copy of the event.
+fn carry_out_own(world: &mut TurnWorld, event: &Event) -> Result<Told, OutOfMemory> {
+    match twice!(own_step_by_call(world, event), Refusal::OutOfMemory) {
+        Err(Refusal::OutOfMemory) => Err(OutOfMemory),
+        answer => Ok(told(&answer)),
+    }
+}
+
+fn own_step_tells(
+    alloc: Global,
+    world: &mut TurnWorld,
+    step: Step,
+    wanted: Told,
+) -> Result<bool, Fail> {
+    let event = event_of(alloc, step)?;
+    Ok(carry_out_own(world, &event)? == wanted)
+}
+
+fn own_steps_tell<R: Abort + AllocGlobal>(
+    rt: &R,
+    world: &mut TurnWorld,
+    story: Story,
+) -> Result<(), Fail> {
+    for (place, (step, wanted)) in story.iter().enumerate() {
+        let tells = own_step_tells(rt.alloc(), world, *step, *wanted)?;
+        assert!(rt; tells, "at step {place}");
+    }
+    Ok(())
+}
+
+#[test]
+fn a_step_carries_out_an_own_event(rt: HostRuntime) -> Result<(), Fail> {
+    let mut world = cluster(rt.alloc())?;
+    own_steps_tell(&rt, &mut world, STORY)
+}
+
 // ---- runs of many events at once
 
 /// The results of a run, in order.

@@ -1,5 +1,5 @@
 use Rattle.std.specs.Prelude.{string_bytes}
-use Rattle.turns_run.proofs.PlayLemmas.{text_of_bytes}
+use Rattle.turns_run.proofs.CarryingOutLemmas.{text_of_bytes}
 use Rattle.turns_run.proofs.run.TurnsKindScriptKind.stream.Goals as goal
 
 pub returns : goal.returns

@@ -10,20 +10,20 @@ use Rattle.turn_world.specs.declared.event.Event.{Event}
 use Rattle.turns_run.specs.Checks.{checked_event, checked_script}
 use Rattle.turns_run.specs.Lines.{event_text, events_text}
 use Rattle.turns_run.specs.Shapes.{script_shape}
-use Rattle.turns_run.specs.Text.{played_text}
+use Rattle.turns_run.specs.Text.{printed_text}
 use Rattle.turns_run.specs.declared.script.RawEvent.{RawEvent}
 use Rattle.turns_run.specs.declared.script.TurnsScript.{TurnsScript}
 use Rattle.turns_run.specs.declared.text.TurnsText.{TurnsText}
 
 -- the cluster carried out the event, and its lines were printed after the text
-pub record IsNextPlayed (event : Event) (old : List ℕ) (before : TurnCluster) (new : List ℕ)
+pub record IsNextCarriedOut (event : Event) (old : List ℕ) (before : TurnCluster) (new : List ℕ)
     (after : TurnCluster) : Type 0 where
   pub printed : new ≡ old ++ event_text (event_of event)
       (handle_event before.config before.world (event_of event)).answer
   pub carried_out : after ≡ after_event before (event_of event)
 
 -- the cluster carried out the events, and their lines were printed after the text
-pub record IsPlayedFrom (events : List Event) (old : List ℕ) (before : TurnCluster)
+pub record AreCarriedOutFrom (events : List Event) (old : List ℕ) (before : TurnCluster)
     (new : List ℕ) (after : TurnCluster) : Type 0 where
   pub printed : let given = map event_of events in
       new ≡ old ++ events_text given (answers before.config before.world given)
@@ -32,8 +32,8 @@ pub record IsPlayedFrom (events : List Event) (old : List ℕ) (before : TurnClu
   }
 
 -- a new cluster carried out the events, of which none has a fault, and their lines were printed
-abbrev pub ArePlayed : List RawEvent → List ℕ → TurnCluster → Type 0
-ArePlayed raws text after =
+abbrev pub AreCarriedOut : List RawEvent → List ℕ → TurnCluster → Type 0
+AreCarriedOut raws text after =
     let config = after.config in
     let w = initial_world config in
     (events : List Event) × (each_checked checked_event raws ≡ Ok events)
@@ -43,4 +43,4 @@ ArePlayed raws text after =
 -- the value is a script without a fault, and this is what it comes to
 abbrev pub IsTextOf : Data → TurnsText → Type 0
 IsTextOf d made = (script : TurnsScript) × (checked_raw checked_script (script_shape d) ≡ Ok script)
-    × (string_bytes made.text ≡ played_text script)
+    × (string_bytes made.text ≡ printed_text script)

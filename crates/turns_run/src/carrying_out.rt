@@ -5,7 +5,7 @@ ghost use Rattle.scripts.specs.Checks.{each_checked};
 ghost use Rattle.scripts.specs.Streams.{Takes, TakesEach};
 ghost use Rattle.turn_world.specs.declared.event.Event.{Event as TheEvent};
 ghost use Rattle.turns_run.specs.Checks.{checked_event};
-ghost use Rattle.turns_run.specs.Playing.{ArePlayed, IsNextPlayed, IsPlayedFrom};
+ghost use Rattle.turns_run.specs.CarryingOut.{AreCarriedOut, IsNextCarriedOut, AreCarriedOutFrom};
 ghost use Rattle.turns_run.specs.Shapes.{event_shape};
 ghost use Rattle.turns_run.specs.declared.script.RawEvent.{RawEvent as TheRawEvent};
 
@@ -20,35 +20,36 @@ use turn_world::{Event, TurnWorld};
 
 /// What the events of a script come to: what is printed of them, and the cluster that they leave.
 #[derive(Drop)]
-pub(crate) struct Played {
+pub(crate) struct CarriedOut {
     /// The lines of the events.
     pub(crate) text: String,
     /// The cluster after the last event.
     pub(crate) world: TurnWorld,
 }
 
-impl FromEvents for Played {
-    ghost is_from = { λ played raws. ArePlayed raws (string_bytes played.text) played.world };
+impl FromEvents for CarriedOut {
+    ghost is_from = { λ carried_out raws.
+        AreCarriedOut raws (string_bytes carried_out.text) carried_out.world };
 
     fn take(
         alloc: Global,
         reader: &mut TokenReader<'_>,
         depth: usize,
         config: Option<Config>,
-    ) -> Option<Played> {
+    ) -> Option<CarriedOut> {
         if depth == 0 || !begin_array(reader) {
             return None;
         }
         let mut text = String::new(alloc);
         let mut world = TurnWorld::new(alloc, &config?).ok()?;
-        play_each(alloc, reader, depth - 1, &mut text, &mut world)?;
-        Some(Played { text, world })
+        carry_out_each(alloc, reader, depth - 1, &mut text, &mut world)?;
+        Some(CarriedOut { text, world })
     }
 }
 
-/// Carries out each event of a list up to the bracket that closes it, prints its lines, and drops it.
+/// Carries out each event of a list up to the bracket that closes it, and prints its lines.
 /// Returns `None` as `Streamed` does, and at the first event with a fault.
-fn play_each(
+fn carry_out_each(
     alloc: Global,
     reader: &mut TokenReader<'_>,
     depth: usize,
@@ -58,16 +59,17 @@ fn play_each(
     ensures { IfSome result (λ _. (raws : List TheRawEvent) × (events : List TheEvent)
         × TakesEach event_shape depth reader.old raws reader.new
         × (each_checked checked_event raws ≡ Ok events)
-        × IsPlayedFrom events (string_bytes text.old) world.old (string_bytes text.new) world.new) }
+        × AreCarriedOutFrom events (string_bytes text.old) world.old (string_bytes text.new)
+        world.new) }
 {
     'events: while !reader.take_end_array() {
-        play_next(alloc, reader, depth, text, world)?;
+        carry_out_next(alloc, reader, depth, text, world)?;
     }
     Some(())
 }
 
-/// Carries out the next event of a list, prints its lines, and drops it.
-fn play_next(
+/// Carries out the next event of a list, and prints its lines.
+fn carry_out_next(
     alloc: Global,
     reader: &mut TokenReader<'_>,
     depth: usize,
@@ -77,10 +79,11 @@ fn play_next(
     ensures { IfSome result (λ _. (raw : TheRawEvent) × (event : TheEvent)
         × Takes event_shape depth reader.old raw reader.new
         × (checked_event raw ≡ Ok event)
-        × IsNextPlayed event (string_bytes text.old) world.old (string_bytes text.new) world.new) }
+        × IsNextCarriedOut event (string_bytes text.old) world.old (string_bytes text.new)
+        world.new) }
 {
     let event = take_event(alloc, reader, depth)?;
-    match print_event(text, &event, world) {
+    match print_event(text, event, world) {
         Ok(()) => Some(()),
         Err(_) => None,
     }

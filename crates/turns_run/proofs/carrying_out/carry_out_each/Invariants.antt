@@ -6,14 +6,14 @@ use Rattle.turn_world.specs.declared.event.Event.{Event}
 use Rattle.turns_run.specs.Checks.{checked_event}
 use Rattle.turns_run.specs.Shapes.{event_shape}
 use Rattle.turns_run.specs.declared.script.RawEvent.{RawEvent}
-use Rattle.turns_run.proofs.PlayLemmas.{SoFarPlayed}
-use Rattle.turns_run.proofs.playing.play_each.Given as goal
+use Rattle.turns_run.proofs.CarryingOutLemmas.{SoFarCarriedOut}
+use Rattle.turns_run.proofs.carrying_out.carry_out_each.Given as goal
 
 abbrev pub invariant-events : goal.invariant-events
 invariant-events l = (raws : List RawEvent) × (events : List Event)
     × SoFar event_shape l.depth l.initial.reader raws l.reader
     × (each_checked checked_event raws ≡ Ok events)
-    × SoFarPlayed events (string_bytes l.initial.text) l.initial.world (string_bytes l.text) l.world
+    × SoFarCarriedOut events (string_bytes l.initial.text) l.initial.world (string_bytes l.text) l.world
 
 abbrev pub decreases-events : goal.decreases-events
 decreases-events l = length l.reader

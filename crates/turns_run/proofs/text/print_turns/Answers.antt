@@ -1,11 +1,11 @@
 use Rattle.std.proofs.lemmas.Result.{on_ok_weaker}
-use Rattle.turns_run.proofs.WorldLemmas.{played_text-is}
-use Rattle.turns_run.proofs.text.print_played.Goals as goal
+use Rattle.turns_run.proofs.WorldLemmas.{printed_text-is}
+use Rattle.turns_run.proofs.text.print_turns.Goals as goal
 
 pub returns : goal.returns
 returns c =
     on_ok_weaker c.print_proxies.result
-    (λ printed. played_text-is c.args.script _ _ _ _ _
+    (λ printed. printed_text-is c.args.script _ _ _ _ _
     c.in_ok-world.ensures
     c.in_ok-print_events.ensures.text
     c.in_ok-print_events.ensures.world
