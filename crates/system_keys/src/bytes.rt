@@ -1,16 +1,22 @@
 //! A byte string that contracts see as the list of its bytes.
 
-ghost use Rattle.std.specs.Prelude.{◌≡◌, IfOk};
+ghost use Rattle.std.specs.Prelude.{◌≡◌, ◌++◌, ◌∷◌, [], IfOk, OnOk};
 
 use crate::memory::OutOfMemory;
+use smallvec::SmallVec;
 use std::alloc::{AllocError, Global};
+use std::cmp::Ordering;
 use std::marker::Model;
 
-/// Owned bytes: a key, or the value of a row. Converts from and into a `Vec<u8>` without
-/// allocating.
+/// So many bytes lie in the value itself, and want no block of memory.
+const SHORT: usize = 24;
+
+/// Owned bytes: a key, or the value of a row. Up to 24 bytes take no block of memory.
+///
+/// Made from a `Vec<u8>` without allocating.
 #[derive(Debug, Drop)]
 pub struct Bytes {
-    bytes: Vec<u8>,
+    bytes: SmallVec<u8, SHORT>,
 }
 
 impl Model for Bytes {
@@ -22,18 +28,43 @@ impl Model for Bytes {
 }
 
 impl Bytes {
+    /// Returns a copy of the bytes. Fails only with `OutOfMemory`, and never for up to 24 bytes.
+    pub fn from_slice(alloc: Global, bytes: &[u8]) -> Result<Bytes, OutOfMemory>
+        ensures { IfOk result (λ copy. copy ≡ bytes.now) }
+    {
+        Ok(Bytes {
+            bytes: SmallVec::from_slice(alloc, bytes)?,
+        })
+    }
+
+    /// No bytes, with room for so many. Fails only with `OutOfMemory`.
+    pub(crate) fn with_capacity(alloc: Global, capacity: usize) -> Result<Bytes, OutOfMemory>
+        ensures { IfOk result (λ bytes. bytes ≡ []) }
+    {
+        Ok(Bytes {
+            bytes: SmallVec::with_capacity(alloc, capacity)?,
+        })
+    }
+
+    /// Adds a byte at the end. Fails only with `OutOfMemory`.
+    pub(crate) fn push(&mut self, byte: u8) -> Result<(), OutOfMemory>
+        ensures { OnOk result (self.new ≡ self.old ++ byte ∷ []) }
+    {
+        Ok(self.bytes.push(byte)?)
+    }
+
+    /// Adds a copy of the bytes at the end. Fails only with `OutOfMemory`.
+    pub(crate) fn extend_from_slice(&mut self, more: &[u8]) -> Result<(), OutOfMemory>
+        ensures { OnOk result (self.new ≡ self.old ++ more.now) }
+    {
+        Ok(self.bytes.extend_from_slice(more)?)
+    }
+
     /// Borrows the bytes.
     pub fn as_slice(&self) -> &[u8]
         ensures { result.now ≡ self.now }
     {
         self.bytes.as_slice()
-    }
-
-    /// Borrows the vector in which the bytes are kept, as a key of a map of vectors is looked up.
-    pub fn as_vec(&self) -> &Vec<u8>
-        ensures { result.now.items ≡ self.now }
-    {
-        &self.bytes
     }
 
     /// Returns a deep copy. Fails only with `OutOfMemory`.
@@ -42,21 +73,23 @@ impl Bytes {
     {
         Ok(self.clone()?)
     }
+
+    /// The bytes as a vector. Allocates if they lie in the value itself, and fails only with
+    /// `OutOfMemory`.
+    pub fn into_vec(self) -> Result<Vec<u8>, OutOfMemory>
+        ensures { IfOk result (λ bytes. bytes.items ≡ self) }
+    {
+        Ok(self.bytes.into_vec()?)
+    }
 }
 
 impl From<Vec<u8>> for Bytes {
     ghost from_gives = { λ bytes b. b ≡ bytes.items };
 
     fn from(bytes: Vec<u8>) -> Bytes {
-        Bytes { bytes }
-    }
-}
-
-impl From<Bytes> for Vec<u8> {
-    ghost from_gives = { λ b bytes. bytes.items ≡ b };
-
-    fn from(b: Bytes) -> Vec<u8> {
-        b.bytes
+        Bytes {
+            bytes: SmallVec::from_vec(bytes),
+        }
     }
 }
 
@@ -66,7 +99,7 @@ impl Clone for Bytes {
     fn clone(&self) -> Result<Bytes, AllocError> {
         let alloc: Global = *self.bytes.allocator();
         Ok(Bytes {
-            bytes: Vec::from_slice(alloc, &self.bytes)?,
+            bytes: SmallVec::from_slice(alloc, self.as_slice())?,
         })
     }
 }
@@ -82,5 +115,45 @@ impl PartialEq for Bytes {
 
     fn eq(&self, other: &Bytes) -> bool {
         self.as_slice() == other.as_slice()
+    }
+}
+
+impl Eq for Bytes {
+    ghost use Rattle.std.specs.Cmp.Lexicographic.{nat_list_eq_equiv};
+
+    ghost laws = { nat_list_eq_equiv };
+}
+
+impl PartialOrd for Bytes {
+    ghost use Rattle.std.specs.Prelude.{Some};
+    ghost use Rattle.std.specs.Ordering.{nat_cmp};
+    ghost use Rattle.std.specs.Cmp.Lexicographic.{slice_cmp};
+    ghost use Rattle.std.specs.Cmp.Lexicographic.{texts_po};
+
+    ghost partial_cmp = { λ a b. Some (slice_cmp nat_cmp a b) };
+
+    ghost laws = { texts_po };
+
+    fn partial_cmp(&self, other: &Bytes) -> Option<Ordering> {
+        Some(self.cmp(other))
+    }
+}
+
+impl Ord for Bytes {
+    ghost use Rattle.std.specs.Prelude.{refl};
+    ghost use Rattle.std.specs.Ordering.{nat_cmp};
+    ghost use Rattle.std.specs.Cmp.Lexicographic.{slice_cmp, nat_list_cmp_total};
+    ghost use Rattle.std.specs.Cmp.Lexicographic.{texts_ties};
+
+    ghost cmp = { slice_cmp nat_cmp };
+
+    ghost total = { nat_list_cmp_total };
+
+    ghost matches_partial_cmp = { λ a b. refl };
+
+    ghost matches_eq = { texts_ties };
+
+    fn cmp(&self, other: &Bytes) -> Ordering {
+        self.as_slice().cmp(other.as_slice())
     }
 }

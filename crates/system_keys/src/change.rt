@@ -37,11 +37,18 @@ impl Change {
             × (change ≡ Set key.items value.items))
             (λ refusal. set_fault key.items value.items ≡ Some refusal) }
     {
-        check_set(&key, &value)?;
-        Ok(Change::Set {
-            key: Bytes::from(key),
-            value: Bytes::from(value),
-        })
+        Change::set_bytes(Bytes::from(key), Bytes::from(value))
+    }
+
+    /// Returns the Set of a key to a value, or the first fault that `check_set` finds. Does not
+    /// allocate.
+    pub fn set_bytes(key: Bytes, value: Bytes) -> Result<Change, Refusal>
+        ensures { MatchResult result
+            (λ change. (set_fault key value ≡ None) × (change ≡ Set key value))
+            (λ refusal. set_fault key value ≡ Some refusal) }
+    {
+        check_set(key.as_slice(), value.as_slice())?;
+        Ok(Change::Set { key, value })
     }
 
     /// Returns the Clear of a range. Never fails.

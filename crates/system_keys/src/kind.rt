@@ -49,7 +49,9 @@ pub const SERVER_ID_LENGTH: usize = 16;
 pub fn classify(key: &[u8]) -> RowKind
     ensures { result ≡ kind_of key.now }
 {
-    if key.starts_with(KEY_SERVERS_PREFIX) {
+    if !key.starts_with(b"\xff") {
+        RowKind::Normal
+    } else if key.starts_with(KEY_SERVERS_PREFIX) {
         RowKind::KeyServers
     } else if key.starts_with(SERVER_TAG_PREFIX)
         && key.len() == SERVER_TAG_PREFIX.len() + SERVER_ID_LENGTH
@@ -63,10 +65,8 @@ pub fn classify(key: &[u8]) -> RowKind
         RowKind::ServerKeys
     } else if key.starts_with(b"\xff\x02") {
         RowKind::NonMetadata
-    } else if key.starts_with(b"\xff") {
-        RowKind::OtherSystem
     } else {
-        RowKind::Normal
+        RowKind::OtherSystem
     }
 }
 

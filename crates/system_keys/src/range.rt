@@ -56,20 +56,29 @@ impl KeyRange {
             × (range ≡ record { begin = begin.items; end = end.items }))
             (λ refusal. range_fault begin.items end.items ≡ Some refusal) }
     {
-        check_range(&begin, &end)?;
+        KeyRange::of_bytes(Bytes::from(begin), Bytes::from(end))
+    }
+
+    /// Returns the range from `begin` up to `end`, or the first fault that `check_range` finds.
+    /// Does not allocate.
+    pub fn of_bytes(begin: Bytes, end: Bytes) -> Result<KeyRange, Refusal>
+        ensures { MatchResult result
+            (λ range. (range_fault begin end ≡ None)
+            × (range ≡ record { begin = begin; end = end }))
+            (λ refusal. range_fault begin end ≡ Some refusal) }
+    {
+        check_range(begin.as_slice(), end.as_slice())?;
         Ok(KeyRange::from_checked(begin, end))
     }
 
     /// Returns the range from `begin` up to `end`, in which `check_range` has found no fault. Does not
     /// allocate.
-    pub fn from_checked(begin: Vec<u8>, end: Vec<u8>) -> KeyRange
-        requires { range_fault begin.items end.items ≡ None }
-        ensures { result ≡ record { begin = begin.items; end = end.items } }
+    pub fn from_checked(begin: Bytes, end: Bytes) -> KeyRange
+        requires { range_fault begin end ≡ None }
+        ensures { result ≡ record { begin = begin; end = end } }
     {
-        KeyRange {
-            begin: kept_begin(begin, &end),
-            end: Bytes::from(end),
-        }
+        let begin = kept_begin(begin, end.as_slice());
+        KeyRange { begin, end }
     }
 
     /// The least key of the range.
@@ -122,13 +131,13 @@ impl KeyRange {
 }
 
 /// The begin as it is kept beside the end. Does not allocate.
-fn kept_begin(begin: Vec<u8>, end: &[u8]) -> Begin
-    ensures same { begin_of result end.now ≡ begin.items }
+fn kept_begin(begin: Bytes, end: &[u8]) -> Begin
+    ensures same { begin_of result end.now ≡ begin }
     ensures front { HasFront result end.now }
 {
-    if end.starts_with(&begin) {
-        Begin::Front(begin.len())
+    if end.starts_with(begin.as_slice()) {
+        Begin::Front(begin.as_slice().len())
     } else {
-        Begin::Other(Bytes::from(begin))
+        Begin::Other(begin)
     }
 }

@@ -11,6 +11,7 @@ ghost use Rattle.system_keys.specs.Refusals.{row_fault};
 ghost use Rattle.system_keys.specs.Text.{text_of, byte_text, bytes_of, bytes_read, first_of};
 ghost use Rattle.system_keys.specs.Text.{is_plain, is_escape, is_digit, digit_of, byte_of};
 
+use crate::bytes::Bytes;
 use crate::memory::OutOfMemory;
 use crate::plain::plain_length;
 use crate::refusal::RowFault;
@@ -84,7 +85,7 @@ fn hex_digit(value: u8) -> char
     }
 }
 
-/// Returns the bytes of the text.
+/// Returns the bytes of the text, as a vector.
 ///
 /// Fails with `BadText` for another character, an escape with another letter, a missing or
 /// upper-case digit, or an escape of a byte that has its own character. Fails with `OutOfMemory`
@@ -93,13 +94,24 @@ pub fn read_bytes(alloc: Global, text: &str) -> Result<Vec<u8>, RowFault>
     ensures value { IsAsSpecified row_fault (λ bytes. bytes.items) result (bytes_read text.now) }
     ensures spelled { IfOk result (λ bytes. text_of bytes.items ≡ text.now) }
 {
-    match decode(alloc, text.as_bytes()) {
-        Ok(Some(bytes)) => Ok(bytes),
-        Ok(None) => Err(RowFault::BadText),
-        Err(OutOfMemory) => match spelled_length(text.as_bytes()) {
-            Some(_) => Err(RowFault::OutOfMemory),
-            None => Err(RowFault::BadText),
-        },
+    Ok(Bytes::from_text(alloc, text)?.into_vec()?)
+}
+
+impl Bytes {
+    /// Returns the bytes of the text: those of [`read_bytes`], without a block of memory if there are
+    /// up to 24. Fails as `read_bytes` does.
+    pub fn from_text(alloc: Global, text: &str) -> Result<Bytes, RowFault>
+        ensures value { IsAsSpecified row_fault (λ bytes. bytes) result (bytes_read text.now) }
+        ensures spelled { IfOk result (λ bytes. text_of bytes ≡ text.now) }
+    {
+        match decode(alloc, text.as_bytes()) {
+            Ok(Some(bytes)) => Ok(bytes),
+            Ok(None) => Err(RowFault::BadText),
+            Err(OutOfMemory) => match spelled_length(text.as_bytes()) {
+                Some(_) => Err(RowFault::OutOfMemory),
+                None => Err(RowFault::BadText),
+            },
+        }
     }
 }
 
@@ -118,11 +130,10 @@ fn spelled_length(text: &[u8]) -> Option<usize>
 }
 
 /// The bytes that the text stands for, decoded in one pass.
-fn decode(alloc: Global, text: &[u8]) -> Result<Option<Vec<u8>>, OutOfMemory>
-    ensures { IfOk result
-        (λ found. option_map (λ bytes. bytes.items) found ≡ bytes_of text.now) }
+fn decode(alloc: Global, text: &[u8]) -> Result<Option<Bytes>, OutOfMemory>
+    ensures { IfOk result (λ found. found ≡ bytes_of text.now) }
 {
-    let mut bytes = Vec::with_capacity(alloc, room_for(text))?;
+    let mut bytes = Bytes::with_capacity(alloc, room_for(text))?;
     let mut rest = text;
     while !rest.is_empty() {
         let (plain, behind) = rest.split_at(plain_length(rest));

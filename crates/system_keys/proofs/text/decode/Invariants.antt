@@ -4,7 +4,7 @@ use Rattle.system_keys.proofs.TextLaws.{behind_kept}
 use Rattle.system_keys.proofs.text.decode.Given as goal
 
 abbrev pub invariant-loop-rest : goal.invariant-loop-rest
-invariant-loop-rest l = behind_kept l.bytes.items (bytes_of l.rest) ≡ bytes_of l.text
+invariant-loop-rest l = behind_kept l.bytes (bytes_of l.rest) ≡ bytes_of l.text
 
 abbrev pub decreases-loop-rest : goal.decreases-loop-rest
 decreases-loop-rest l = length l.rest
