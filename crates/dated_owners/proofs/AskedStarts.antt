@@ -1,6 +1,5 @@
 -- The owners at the begin of a range, and at each start inside, say who is asked.
 use Rattle.std.proofs.Common.{◌≡◌, ℕ, ◌<◌, ◌≤◌, refl, sym, ap, ap₂, subst, ◌∙◌, Bool, true, false, not, cond, ◌&&◌, ◌||◌, List, [], ◌∷◌, ◌++◌, length, take, replicate, zero, suc, filter, arith}
-use Rattle.std.specs.Global.{Vec}
 use Rattle.std.specs.List.{list_any}
 use Rattle.std.specs.declared.ops.Bound.TheVariants.{Included, Excluded, Unbounded}
 use Rattle.std.specs.BTreeMap.Range.{entries_between}
@@ -16,9 +15,9 @@ use Rattle.dated_owners.specs.declared.walks.Walk.{Walk}
 use Rattle.dated_owners.specs.LaterOwners.{with_first}
 use Rattle.dated_owners.specs.Walks.{takes, takes_later, askers}
 use Rattle.dated_owners.specs.Flags.{is_flagged, Flags}
-use Rattle.dated_owners.specs.Starts.{starts_of, value_from, AreAbove, AreRising, AreKept, moves_of, is_inside, some_start, changed_in, with_values}
+use Rattle.dated_owners.specs.Starts.{value_from, AreAbove, AreRising, AreKept, moves_of, is_inside, some_start, changed_in, with_values}
 use Rattle.dated_owners.proofs.FlagLaws.{filter_below}
-use Rattle.dated_owners.proofs.KeyStarts.{vec_cmp, value_up_to}
+use Rattle.dated_owners.proofs.KeyStarts.{key_cmp, value_up_to}
 use Rattle.dated_owners.proofs.SomeStarts.{inside, some_start_from, some_start_to}
 use Rattle.dated_owners.proofs.JoinedStarts.{Starts, owners_kept}
 
@@ -277,38 +276,23 @@ not_up_to a b = ap not (up_to_is a b) ∙ twice (is_key_below b a)
     twice false = refl
 
 -- up to the end of the range
-pub until_end : {X : Type 0} (es : List (Vec ℕ × X)) (end : Vec ℕ) (range : Range) → end.items ≡ range.end → starts_of (entries_between vec_cmp Unbounded (Excluded end) es) ≡ before_end range (starts_of es)
-until_end [] end range high = refl
-until_end {X} (e ∷ es) end range high =
-    ap (λ (t : Bool). starts_of (cond t (e ∷ rest) rest)) test ∙ by (is_key_below e.0.items range.end) (until_end es end range high)
-  where
-    rest : List (Vec ℕ × X)
-    rest = entries_between vec_cmp Unbounded (Excluded end) es
-
-    test : (true && not (is_key_up_to end.items e.0.items)) ≡ is_key_below e.0.items range.end
-    test = not_up_to end.items e.0.items ∙ ap (is_key_below e.0.items) high
-
-    by : (t : Bool) → starts_of rest ≡ before_end range (starts_of es) → starts_of (cond t (e ∷ rest) rest) ≡ cond t ((e.0.items, e.1) ∷ before_end range (starts_of es)) (before_end range (starts_of es))
-    by true is = ap (λ (xs : List (Key × X)). (e.0.items, e.1) ∷ xs) is
-    by false is = is
+pub until_end : {X : Type 0} (es : List (Key × X)) (range : Range) → entries_between key_cmp Unbounded (Excluded range.end) es ≡ before_end range es
+until_end {X} es range =
+    let same : (s : Key × X) → not (is_key_up_to range.end s.0) ≡ is_key_below s.0 range.end = λ s. not_up_to range.end s.0 in
+    ap (λ (p : Key × X → Bool). filter p es) (λ i s. same s i)
 
 -- from the begin of the range on, each changed
-pub between_changed : {X : Type 0} (f : X → X) (es : List (Vec ℕ × X)) (begin end : Vec ℕ)
-    → with_values f (starts_of (entries_between vec_cmp (Included begin) (Excluded end) es)) ≡ changed_in (record { begin = begin.items; end = end.items }) f (starts_of es)
-between_changed f [] begin end = refl
-between_changed {X} f (e ∷ es) begin end =
-    ap (λ (t : Bool). with_values f (starts_of (cond t (e ∷ rest) rest))) test ∙ by (holds range e.0.items) (between_changed f es begin end)
+pub between_changed : {X : Type 0} (f : X → X) (es : List (Key × X)) (range : Range) → with_values f (entries_between key_cmp (Included range.begin) (Excluded range.end) es) ≡ changed_in range f es
+between_changed f [] range = refl
+between_changed {X} f (e ∷ es) range =
+    ap (λ (t : Bool). with_values f (cond t (e ∷ rest) rest)) test ∙ by (holds range e.0) (between_changed f es range)
   where
-    range : Range
-    range = record { begin = begin.items; end = end.items }
+    rest : List (Key × X)
+    rest = entries_between key_cmp (Included range.begin) (Excluded range.end) es
 
-    rest : List (Vec ℕ × X)
-    rest = entries_between vec_cmp (Included begin) (Excluded end) es
+    test : (is_key_up_to range.begin e.0 && not (is_key_up_to range.end e.0)) ≡ holds range e.0
+    test = ap₂ (λ (s t : Bool). s && t) (up_to_is range.begin e.0) (not_up_to range.end e.0)
 
-    test : (is_key_up_to begin.items e.0.items && not (is_key_up_to end.items e.0.items)) ≡ holds range e.0.items
-    test = ap₂ (λ (s t : Bool). s && t) (up_to_is begin.items e.0.items) (not_up_to end.items e.0.items)
-
-    by : (t : Bool) → with_values f (starts_of rest) ≡ changed_in range f (starts_of es)
-        → with_values f (starts_of (cond t (e ∷ rest) rest)) ≡ cond t ((e.0.items, f e.1) ∷ changed_in range f (starts_of es)) (changed_in range f (starts_of es))
-    by true is = ap (λ (xs : List (Key × X)). (e.0.items, f e.1) ∷ xs) is
+    by : (t : Bool) → with_values f rest ≡ changed_in range f es → with_values f (cond t (e ∷ rest) rest) ≡ cond t ((e.0, f e.1) ∷ changed_in range f es) (changed_in range f es)
+    by true is = ap (λ (xs : List (Key × X)). (e.0, f e.1) ∷ xs) is
     by false is = is

@@ -1,6 +1,5 @@
 -- Starts at which the owners change: what cuts and sweeps leave, and the moves that give each key its owners.
 use Rattle.std.proofs.Common.{◌≡◌, ℕ, refl, sym, ap, ap₂, ◌∙◌, subst, Bool, true, false, not, ◌&&◌, cond, List, [], ◌∷◌, ◌++◌, map, append-nil, Ordering, Less, Equal, Greater}
-use Rattle.std.specs.Global.{Vec}
 use Rattle.std.specs.Map.Calls.{RetainsPairs}
 use Rattle.std.specs.Ordering.{match_ordering}
 use Rattle.std.specs.BTreeMap.{insert_entry}
@@ -10,7 +9,7 @@ use Rattle.model.specs.declared.moves.Move.{Move}
 use Rattle.model.specs.Owners.{Owner, later_owners, owners}
 use Rattle.dated_owners.specs.declared.later_owners.LaterOwner.{LaterOwner}
 use Rattle.dated_owners.specs.LaterOwners.{owner_from, with_first, needed, are_same}
-use Rattle.dated_owners.specs.Starts.{starts_of, value_from, last_value, AreAbove, AreRising, AreKept, with_values, joined, moves_in, moves_from, moves_of}
+use Rattle.dated_owners.specs.Starts.{value_from, last_value, AreAbove, AreRising, AreKept, with_values, joined, moves_in, moves_from, moves_of}
 use Rattle.dated_owners.proofs.LaterOwnerLaws.{first_owner, same_equal, equal_same}
 use Rattle.dated_owners.proofs.KeyStarts.{key_cmp, none_below, value_skip, value_at_less, value_at_equal, value_at_greater, rising_changed_all, last_changed_all}
 
@@ -85,9 +84,9 @@ last_alike d xs ys e = sym (last_joined d xs) ∙ ap (last_value d) e ∙ last_j
 -- ---- sweeping
 
 -- what a closure did at each entry: it changed the owners as the relation says, and dropped the entry only if they are those noted before
-abbrev pub Sweeps : {F : Type 0} → (Changes : List LaterOwner → List LaterOwner → Type 0) → (IsGood : F → Type 0) → (is_noted : F → Bool) → (noted : F → List LaterOwner) → (F → Vec ℕ → List LaterOwner → Bool → List LaterOwner → F → Type 0) → Type 0
+abbrev pub Sweeps : {F : Type 0} → (Changes : List LaterOwner → List LaterOwner → Type 0) → (IsGood : F → Type 0) → (is_noted : F → Bool) → (noted : F → List LaterOwner) → (F → Key → List LaterOwner → Bool → List LaterOwner → F → Type 0) → Type 0
 Sweeps {F} Changes IsGood is_noted noted T =
-    (f : F) (k : Vec ℕ) (v : List LaterOwner) (b : Bool) (w : List LaterOwner) (next : F) → IsGood f → T f k v b w next
+    (f : F) (k : Key) (v : List LaterOwner) (b : Bool) (w : List LaterOwner) (next : F) → IsGood f → T f k v b w next
     → Changes v w × (b ≡ false → (is_noted f ≡ true) × (w ≡ noted f)) × (is_noted next ≡ true → noted next ≡ w) × IsGood next
 
 -- the same starts, with owners that are changed as the relation says
@@ -103,28 +102,28 @@ pub record IsSwept (Changes : List LaterOwner → List LaterOwner → Type 0) (d
   pub changed : AreChanged Changes old all
   pub same : joined d new ≡ joined d all
 
-pub swept_by : {F : Type 0} (T : F → Vec ℕ → List LaterOwner → Bool → List LaterOwner → F → Type 0) (Changes : List LaterOwner → List LaterOwner → Type 0) (IsGood : F → Type 0) (is_noted : F → Bool) (noted : F → List LaterOwner) → Sweeps Changes IsGood is_noted noted T
-    → (f : F) (es kept : List (Vec ℕ × List LaterOwner)) (d : List LaterOwner) → IsGood f → (is_noted f ≡ true → noted f ≡ d) → RetainsPairs T f es kept
-    → IsSwept Changes d (starts_of es) (starts_of kept)
-swept_by T Changes IsGood is_noted noted law f [] kept d good at done = record { all = []; changed = tt; same = ap (λ (es : List (Vec ℕ × List LaterOwner)). joined d (starts_of es)) done }
+pub swept_by : {F : Type 0} (T : F → Key → List LaterOwner → Bool → List LaterOwner → F → Type 0) (Changes : List LaterOwner → List LaterOwner → Type 0) (IsGood : F → Type 0) (is_noted : F → Bool) (noted : F → List LaterOwner) → Sweeps Changes IsGood is_noted noted T
+    → (f : F) (es kept : Starts) (d : List LaterOwner) → IsGood f → (is_noted f ≡ true → noted f ≡ d) → RetainsPairs T f es kept
+    → IsSwept Changes d es kept
+swept_by T Changes IsGood is_noted noted law f [] kept d good at done = record { all = []; changed = tt; same = ap (joined d) done }
 swept_by {F} T Changes IsGood is_noted noted law f ((k, v) ∷ es) kept d good at (b, w, next, rest, step, more, is) =
     let facts = law f k v b w next good step in
     let rec = swept_by T Changes IsGood is_noted noted law next es rest w facts.3 facts.2 more in
     record {
-      all = (k.items, w) ∷ rec.all;
+      all = (k, w) ∷ rec.all;
       changed = (refl, facts.0, rec.changed);
-      same = ap (λ (xs : List (Vec ℕ × List LaterOwner)). joined d (starts_of xs)) is ∙ by b facts.1 rec.all rec.same;
+      same = ap (joined d) is ∙ by b facts.1 rec.all rec.same;
     }
   where
-    by : (t : Bool) → (t ≡ false → (is_noted f ≡ true) × (w ≡ noted f)) → (others : Starts) → joined w (starts_of rest) ≡ joined w others
-        → joined d (starts_of (cond t ((k, w) ∷ rest) rest)) ≡ joined d ((k.items, w) ∷ others)
-    by true dropped others same = joined_after d (k.items, w) (starts_of rest) others same
+    by : (t : Bool) → (t ≡ false → (is_noted f ≡ true) × (w ≡ noted f)) → (others : Starts) → joined w rest ≡ joined w others
+        → joined d (cond t ((k, w) ∷ rest) rest) ≡ joined d ((k, w) ∷ others)
+    by true dropped others same = joined_after d (k, w) rest others same
     by false dropped others same =
         let noted_is : w ≡ d = (dropped refl).1 ∙ at (dropped refl).0 in
-        ap (λ (x : List LaterOwner). joined x (starts_of rest)) (sym noted_is)
+        ap (λ (x : List LaterOwner). joined x rest) (sym noted_is)
         ∙ same
         ∙ ap (λ (x : List LaterOwner). joined x others) noted_is
-        ∙ sym (joined_same d w k.items others noted_is)
+        ∙ sym (joined_same d w k others noted_is)
 
 -- owners changed by a function
 changed_all : (f : List LaterOwner → List LaterOwner) (ss ts : Starts) → AreChanged (λ v w. w ≡ f v) ss ts → ts ≡ with_values f ss

@@ -1,10 +1,8 @@
 -- Starts in rising order, and the value at a key.
-use Rattle.std.proofs.Common.{◌≡◌, inl, inr, ⊎_elim, refl, sym, ap, ap₂, ◌∙◌, ℕ, Bool, true, false, not, ◌&&◌, cond, List, [], ◌∷◌, ◌++◌, Ordering, Less, Equal, Greater, nat_cmp, is_lt}
+use Rattle.std.proofs.Common.{◌≡◌, inl, inr, ⊎_elim, refl, sym, ap, ap₂, ◌∙◌, Bool, true, false, not, ◌&&◌, cond, List, [], ◌∷◌, ◌++◌, Ordering, Less, Equal, Greater, nat_cmp, is_lt}
 use Rattle.std.proofs.lemmas.Cmp.{nat_list_cmp_total, tied_itself}
 use Rattle.std.proofs.lemmas.Map.Lookups.{exact_bytes}
-use Rattle.std.specs.Global.{Vec}
-use Rattle.std.specs.Vec.{vec_len}
-use Rattle.std.specs.List.{AllByRecursion, AllZip, each_same}
+use Rattle.std.specs.List.{AllByRecursion, AllZip}
 use Rattle.std.specs.declared.ops.Bound.TheVariants.{Included, Unbounded}
 use Rattle.std.specs.BTreeMap.Range.{entries_between}
 use Rattle.std.specs.List.Sorted.{IsStrictlySortedBy}
@@ -14,13 +12,10 @@ use Rattle.std.specs.BTreeMap.{insert_entry}
 use Rattle.std.specs.Cmp.Lexicographic.{slice_cmp}
 use Rattle.system_keys.specs.Keys.{Key, is_key_below}
 use Rattle.system_keys.proofs.KeyOrder.{not_below_itself, below_trans, not_below_back, up_to_below}
-use Rattle.dated_owners.specs.Starts.{starts_of, value_from, last_value, AreAbove, AreRising, IsStart, AreStarts, with_values}
+use Rattle.dated_owners.specs.Starts.{value_from, last_value, AreAbove, AreRising, IsStart, AreStarts, with_values}
 
 abbrev pub key_cmp : Key → Key → Ordering
 key_cmp = slice_cmp nat_cmp
-
-abbrev pub vec_cmp : Vec ℕ → Vec ℕ → Ordering
-vec_cmp a b = slice_cmp nat_cmp a.items b.items
 
 -- ---- comparisons
 
@@ -43,43 +38,29 @@ none_below (x ∷ key) = refl
 
 -- ---- the entries of a map
 
-above_entry : {X : Type 0} (key : Vec ℕ) (es : List (Vec ℕ × X)) → AllByRecursion (λ (other : Vec ℕ). vec_cmp key other ≡ Less) (keys_of es) → AreAbove key.items (starts_of es)
+above_entry : {X : Type 0} (key : Key) (es : List (Key × X)) → AllByRecursion (λ (other : Key). key_cmp key other ≡ Less) (keys_of es) → AreAbove key es
 above_entry key [] all = tt
 above_entry key (e ∷ es) all = (ap is_lt all.0, above_entry key es all.1)
 
 -- the entries of a map in order rise
-pub rising_entries : {X : Type 0} (es : List (Vec ℕ × X)) → IsStrictlySortedBy vec_cmp (keys_of es) → AreRising (starts_of es)
+pub rising_entries : {X : Type 0} (es : List (Key × X)) → IsStrictlySortedBy key_cmp (keys_of es) → AreRising es
 unfolding IsStrictlySortedBy
 rising_entries [] s = tt
 rising_entries (e ∷ es) s = (above_entry e.0 es s.0, rising_entries es s.1)
 
-pub inserted : {X : Type 0} (es : List (Vec ℕ × X)) (key : Vec ℕ) (value : X) → starts_of (insert_entry vec_cmp es key value) ≡ insert_entry key_cmp (starts_of es) key.items value
-inserted [] key value = refl
-inserted {X} (e ∷ es) key value = by (vec_cmp key e.0) (inserted es key value)
-  where
-    by : (r : Ordering) → starts_of (insert_entry vec_cmp es key value) ≡ insert_entry key_cmp (starts_of es) key.items value
-        → starts_of (match_ordering r ((key, value) ∷ e ∷ es) ((e.0, value) ∷ es) (e ∷ insert_entry vec_cmp es key value))
-        ≡ match_ordering r ((key.items, value) ∷ (e.0.items, e.1) ∷ starts_of es) ((e.0.items, value) ∷ starts_of es) ((e.0.items, e.1) ∷ insert_entry key_cmp (starts_of es) key.items value)
-    by Less rest = refl
-    by Equal rest = refl
-    by Greater rest = ap (λ (ss : List (Key × X)). (e.0.items, e.1) ∷ ss) rest
-
 -- an entry that is put in
-pub put_in : {X : Type 0} (es new : List (Vec ℕ × X)) (copy : Vec ℕ) (key : Key) (value at : X) → new ≡ insert_entry vec_cmp es copy value → copy.items ≡ key → value ≡ at → starts_of new ≡ insert_entry key_cmp (starts_of es) key at
-put_in {X} es new copy key value at is same there =
-    ap starts_of is ∙ inserted es copy value ∙ ap₂ (λ (k : Key) (v : X). insert_entry key_cmp (starts_of es) k v) same there
+pub put_in : {X : Type 0} (es new : List (Key × X)) (copy key : Key) (value at : X) → new ≡ insert_entry key_cmp es copy value → copy ≡ key → value ≡ at → new ≡ insert_entry key_cmp es key at
+put_in {X} es new copy key value at is same there = is ∙ ap₂ (λ (k : Key) (v : X). insert_entry key_cmp es k v) same there
 
 -- a clone of an entry has the same key and the same value
-abbrev pub IsSame : {X : Type 0} → Vec ℕ × X → Vec ℕ × X → Type 0
-IsSame e f = (AllZip (λ x y. y ≡ x) e.0.items f.0.items × (vec_len f.0 ≡ vec_len e.0)) × (f.1 ≡ e.1)
+abbrev pub IsSame : {X : Type 0} → Key × X → Key × X → Type 0
+IsSame e f = (f.0 ≡ e.0) × (f.1 ≡ e.1)
 
-pub cloned : {X : Type 0} (es fs : List (Vec ℕ × X)) → AllZip IsSame es fs → starts_of fs ≡ starts_of es
+pub cloned : {X : Type 0} (es fs : List (Key × X)) → AllZip IsSame es fs → fs ≡ es
 cloned [] [] same = refl
 cloned [] (f ∷ fs) same = absurd same
 cloned (e ∷ es) [] same = absurd same
-cloned (e ∷ es) (f ∷ fs) same =
-    let key : f.0.items ≡ e.0.items = each_same e.0.items f.0.items same.0.0.0 in
-    λ i. (key i, same.0.1 i) ∷ cloned es fs same.1 i
+cloned (e ∷ es) (f ∷ fs) same = λ i. (same.0.0 i, same.0.1 i) ∷ cloned es fs same.1 i
 
 -- ---- starts above a key
 
@@ -105,23 +86,19 @@ value_skip d s ss q above same = by (is_key_below q s.0) refl
     by false h = ap (λ x. value_from x ss q) (sym same)
 
 -- the value at a key is that of the last entry up to it
-pub value_is_last : {X : Type 0} (d : X) (es : List (Vec ℕ × X)) (key : Vec ℕ) → AreRising (starts_of es) → value_from d (starts_of es) key.items ≡ last_value d (starts_of (entries_between vec_cmp Unbounded (Included key) es))
+pub value_is_last : {X : Type 0} (d : X) (es : List (Key × X)) (key : Key) → AreRising es → value_from d es key ≡ last_value d (entries_between key_cmp Unbounded (Included key) es)
 value_is_last d [] key r = refl
-value_is_last {X} d (e ∷ es) key r = by (is_key_below key.items e.0.items) refl (λ x. value_is_last x es key r.1)
+value_is_last {X} d (e ∷ es) key r = by (is_key_below key e.0) refl (λ x. value_is_last x es key r.1)
   where
-    rest : List (Vec ℕ × X)
-    rest = entries_between vec_cmp Unbounded (Included key) es
+    rest : List (Key × X)
+    rest = entries_between key_cmp Unbounded (Included key) es
 
-    by : (t : Bool) → is_key_below key.items e.0.items ≡ t → ((x : X) → value_from x (starts_of es) key.items ≡ last_value x (starts_of rest))
-        → cond t d (value_from e.1 (starts_of es) key.items) ≡ last_value d (starts_of (cond (true && not t) (e ∷ rest) rest))
-    by true h rec = sym (value_up_to d (starts_of es) e.0.items key.items r.0 (not_below_back key.items e.0.items h)) ∙ rec d
+    by : (t : Bool) → is_key_below key e.0 ≡ t → ((x : X) → value_from x es key ≡ last_value x rest)
+        → cond t d (value_from e.1 es key) ≡ last_value d (cond (true && not t) (e ∷ rest) rest)
+    by true h rec = sym (value_up_to d es e.0 key r.0 (not_below_back key e.0 h)) ∙ rec d
     by false h rec = rec e.1
 
-pub with_last : {X : Type 0} (front : List (Vec ℕ × X)) (key : Vec ℕ) (value : X) → starts_of (front ++ (key, value) ∷ []) ≡ starts_of front ++ (key.items, value) ∷ []
-with_last [] key value = refl
-with_last {X} (e ∷ front) key value = ap (λ (ss : List (Key × X)). (e.0.items, e.1) ∷ ss) (with_last front key value)
-
-pub last_entry : {X : Type 0} (d : X) (front : List (Vec ℕ × X)) (key : Vec ℕ) (value : X) → last_value d (starts_of (front ++ (key, value) ∷ [])) ≡ value
+pub last_entry : {X : Type 0} (d : X) (front : List (Key × X)) (key : Key) (value : X) → last_value d (front ++ (key, value) ∷ []) ≡ value
 last_entry d [] key value = refl
 last_entry d (e ∷ front) key value = last_entry e.1 front key value
 

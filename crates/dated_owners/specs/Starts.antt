@@ -1,7 +1,6 @@
 -- Keys at which a value begins: each stands for all keys from it on, up to the next.
 use Rattle.std.specs.Prelude.{◌≡◌, ℕ, suc, List, [], ◌∷◌, ◌++◌, map, filter, Bool, ◌&&◌, ◌||◌}
 use Rattle.std.specs.Prelude.{not, if◌then◌else◌, ◌⊎◌, true}
-use Rattle.std.specs.Global.{Vec}
 use Rattle.std.specs.List.{list_any}
 use Rattle.std.specs.Ordering.{nat_cmp}
 use Rattle.std.specs.BTreeMap.{insert_entry}
@@ -11,10 +10,6 @@ use Rattle.model.specs.declared.moves.Move.{Move}
 use Rattle.dated_owners.specs.declared.later_owners.LaterOwner.{LaterOwner}
 use Rattle.dated_owners.specs.LaterOwners.{needed, are_same}
 use Rattle.system_keys.specs.Limits.{key_space_end}
-
--- the entries of a map, with the bytes of their keys
-abbrev pub starts_of : {X : Type 0} → List (Vec ℕ × X) → List (Key × X)
-starts_of {X} entries = map (λ (entry : Vec ℕ × X). (entry.0.items, entry.1)) entries
 
 -- the value at a key: that of the last start up to it, or `value` before the first
 abbrev pub value_from : {X : Type 0} → (value : X) → List (Key × X) → Key → X

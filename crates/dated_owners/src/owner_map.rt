@@ -19,7 +19,7 @@ use model::{ResolverNumber, Version};
 use std::alloc::{AllocError, Global};
 use std::collections::BTreeMap;
 use std::marker::Model;
-use system_keys::{Items, KeyRange, OutOfMemory};
+use system_keys::{Bytes, Items, KeyRange, OutOfMemory};
 
 /// How many pieces are paid for by a move: each of its two ends makes one, which is swept a few
 /// times.
@@ -52,7 +52,7 @@ pub struct OwnerMap {
 impl Model for OwnerMap {
     ghost use Rattle.std.specs.Prelude.{◌≤◌};
     ghost use Rattle.model.specs.OwnerMaps.{OwnerMapView};
-    ghost use Rattle.dated_owners.specs.Starts.{starts_of, moves_of, AreKept};
+    ghost use Rattle.dated_owners.specs.Starts.{moves_of, AreKept};
 
     ghost Value = { OwnerMapView };
 
@@ -60,10 +60,10 @@ impl Model for OwnerMap {
       resolvers = map.resolvers;
       last_date = map.last_date;
       oldest = map.oldest;
-      moves = moves_of (starts_of map.pieces.entries);
+      moves = moves_of map.pieces.entries;
     } };
 
-    ghost invariant = { λ map. (map.resolvers ≤ 64) × AreKept (starts_of map.pieces.entries) };
+    ghost invariant = { λ map. (map.resolvers ≤ 64) × AreKept map.pieces.entries };
 }
 
 impl OwnerMap {
@@ -155,14 +155,13 @@ impl OwnerMap {
         ensures oldest { self.new.oldest ≡ self.old.oldest }
         ensures err { OnErr result (self.new ≡ self.old) }
     {
-        let alloc = self.spare.alloc();
-        let first = Vec::from_slice(alloc, range.begin())?;
-        let end = Vec::from_slice(alloc, range.end())?;
+        let begin = Bytes::from_slice(self.spare.alloc(), range.begin())?;
+        let end = range.end_bytes();
         let owner = LaterOwner {
             date,
             resolver: dest,
         };
-        let grown = add_owner(&mut self.pieces, &mut self.spare, &first, &end, owner)?;
+        let grown = add_owner(&mut self.pieces, &mut self.spare, &begin, end, owner)?;
         self.last_date = date;
         self.due = self.due.min(date);
         self.paid = self.paid.saturating_add(PAID_BY_MOVE);
@@ -213,7 +212,7 @@ impl OwnerMap {
         ensures { let map = self.now in
             result ≡ askers map.resolvers map.moves walk range.now }
     {
-        let end = range.end_bytes().as_vec();
+        let end = range.end_bytes();
         askers(self.resolvers, &self.pieces, walk, range.begin(), end)
     }
 

@@ -5,7 +5,7 @@ ghost use Rattle.std.specs.Prelude.{◌≡◌, suc, ◌++◌, ◌∷◌, [], tru
 ghost use Rattle.system_keys.specs.Keys.{Range, is_key_below};
 ghost use Rattle.dated_owners.specs.LaterOwners.{needed, are_same};
 ghost use Rattle.dated_owners.specs.MergedOwners.{WalkAlike, IsMerged};
-ghost use Rattle.dated_owners.specs.Starts.{starts_of, value_from, IsStart, AreStarts, AreKept, AddsIn};
+ghost use Rattle.dated_owners.specs.Starts.{value_from, IsStart, AreStarts, AreKept, AddsIn};
 ghost use Rattle.dated_owners.specs.Starts.{put_all, changed_in, with_values, joined, changes};
 
 use crate::later_owners::{LaterOwner, LaterOwners, are_same, needed};
@@ -13,14 +13,14 @@ use model::Version;
 use std::alloc::Global;
 use std::collections::BTreeMap;
 use std::ops::Bound;
-use system_keys::{KEY_SPACE_END, OutOfMemory};
+use system_keys::{Bytes, KEY_SPACE_END, OutOfMemory};
 
 /// From each key on, the owners after the first one.
-pub(crate) type Pieces = BTreeMap<Vec<u8>, LaterOwners>;
+pub(crate) type Pieces = BTreeMap<Bytes, LaterOwners>;
 
 /// The owners of the key after the first one.
-pub(crate) fn owners_at<'a>(pieces: &'a Pieces, key: &Vec<u8>) -> &'a [LaterOwner]
-    ensures { result.now ≡ value_from [] (starts_of pieces.now.entries) key.now.items }
+pub(crate) fn owners_at<'a>(pieces: &'a Pieces, key: &Bytes) -> &'a [LaterOwner]
+    ensures { result.now ≡ value_from [] pieces.now.entries key.now }
 {
     match pieces.range(..=key).next_back() {
         Some((_, owners)) => owners.as_slice(),
@@ -29,15 +29,13 @@ pub(crate) fn owners_at<'a>(pieces: &'a Pieces, key: &Vec<u8>) -> &'a [LaterOwne
 }
 
 /// Cuts the piece that the key lies in, at the key. Fails only with `OutOfMemory`.
-pub(crate) fn cut(alloc: Global, pieces: &mut Pieces, key: &Vec<u8>) -> Result<(), OutOfMemory>
-    ensures same { joined [] (starts_of pieces.new.entries)
-        ≡ joined [] (starts_of pieces.old.entries) }
-    ensures there { OnOk result (IsStart key.now.items (starts_of pieces.new.entries)) }
-    ensures others { (k : _) → IsStart k (starts_of pieces.old.entries)
-        → IsStart k (starts_of pieces.new.entries) }
-    ensures kept { AreKept (starts_of pieces.old.entries) → AreKept (starts_of pieces.new.entries) }
+pub(crate) fn cut(alloc: Global, pieces: &mut Pieces, key: &Bytes) -> Result<(), OutOfMemory>
+    ensures same { joined [] pieces.new.entries ≡ joined [] pieces.old.entries }
+    ensures there { OnOk result (IsStart key.now pieces.new.entries) }
+    ensures others { (k : _) → IsStart k pieces.old.entries → IsStart k pieces.new.entries }
+    ensures kept { AreKept pieces.old.entries → AreKept pieces.new.entries }
 {
-    let copy = Vec::from_slice(alloc, key.as_slice())?;
+    let copy = key.copy()?;
     let owners = LaterOwners::copied(alloc, owners_at(pieces, key))?;
     pieces.insert(copy, owners)?;
     Ok(())
@@ -49,17 +47,17 @@ pub(crate) fn cut(alloc: Global, pieces: &mut Pieces, key: &Vec<u8>) -> Result<(
 pub(crate) fn add_owner(
     pieces: &mut Pieces,
     spare: &mut LaterOwners,
-    begin: &Vec<u8>,
-    end: &Vec<u8>,
+    begin: &Bytes,
+    end: &Bytes,
     owner: LaterOwner,
 ) -> Result<usize, OutOfMemory>
-    requires below { is_key_below begin.now.items end.now.items ≡ true }
-    requires kept { AreKept (starts_of pieces.old.entries) }
-    ensures ok { let range : Range = record { begin = begin.now.items; end = end.now.items } in
-        OnOk result (AddsIn range owner (starts_of pieces.old.entries) (starts_of pieces.new.entries)) }
+    requires below { is_key_below begin.now end.now ≡ true }
+    requires kept { AreKept pieces.old.entries }
+    ensures ok { let range : Range = record { begin = begin.now; end = end.now } in
+        OnOk result (AddsIn range owner pieces.old.entries pieces.new.entries) }
     ensures err { OnErr result
-        (joined [] (starts_of pieces.new.entries) ≡ joined [] (starts_of pieces.old.entries)) }
-    ensures kept { AreKept (starts_of pieces.new.entries) }
+        (joined [] pieces.new.entries ≡ joined [] pieces.old.entries) }
+    ensures kept { AreKept pieces.new.entries }
 {
     let alloc = spare.alloc();
     cut(alloc, pieces, end)?;
@@ -75,19 +73,19 @@ pub(crate) fn add_owner(
 fn grown_inside(
     pieces: &Pieces,
     spare: &mut LaterOwners,
-    begin: &Vec<u8>,
-    end: &Vec<u8>,
+    begin: &Bytes,
+    end: &Bytes,
     owner: LaterOwner,
-) -> Result<Vec<(Vec<u8>, LaterOwners)>, OutOfMemory>
-    requires { is_key_below begin.now.items end.now.items ≡ true }
-    ensures { let range : Range = record { begin = begin.now.items; end = end.now.items } in
-        IfOk result (λ grown. starts_of grown.items
-        ≡ changed_in range (λ later. later ++ owner ∷ []) (starts_of pieces.now.entries)) }
+) -> Result<Vec<(Bytes, LaterOwners)>, OutOfMemory>
+    requires { is_key_below begin.now end.now ≡ true }
+    ensures { let range : Range = record { begin = begin.now; end = end.now } in
+        IfOk result (λ grown.
+        grown.items ≡ changed_in range (λ later. later ++ owner ∷ []) pieces.now.entries) }
 {
     let alloc = spare.alloc();
     let mut grown = Vec::new(alloc);
     for (key, owners) in pieces.range((Bound::Included(begin), Bound::Excluded(end))) {
-        let key = Vec::from_slice(alloc, key.as_slice())?;
+        let key = key.copy()?;
         let more = LaterOwners::with_newest(alloc, owners.as_slice(), owner)?;
         spare.make_room(more.as_slice().len())?;
         grown.push((key, more))?;
@@ -96,10 +94,9 @@ fn grown_inside(
 }
 
 /// Puts owners at keys at which pieces begin. Does not allocate.
-fn put_all(pieces: &mut Pieces, grown: Vec<(Vec<u8>, LaterOwners)>)
-    ensures { AreStarts (starts_of grown.items) (starts_of pieces.old.entries)
-        → starts_of pieces.new.entries
-        ≡ put_all (starts_of pieces.old.entries) (starts_of grown.items) }
+fn put_all(pieces: &mut Pieces, grown: Vec<(Bytes, LaterOwners)>)
+    ensures { AreStarts grown.items pieces.old.entries
+        → pieces.new.entries ≡ put_all pieces.old.entries grown.items }
 {
     for (key, owners) in grown {
         put(pieces, key, owners);
@@ -107,10 +104,9 @@ fn put_all(pieces: &mut Pieces, grown: Vec<(Vec<u8>, LaterOwners)>)
 }
 
 /// Puts owners at a key at which a piece begins. Does not allocate.
-fn put(pieces: &mut Pieces, key: Vec<u8>, owners: LaterOwners)
-    ensures { IsStart key.items (starts_of pieces.old.entries)
-        → starts_of pieces.new.entries
-        ≡ put_all (starts_of pieces.old.entries) ((key.items, owners) ∷ []) }
+fn put(pieces: &mut Pieces, key: Bytes, owners: LaterOwners)
+    ensures { IsStart key pieces.old.entries
+        → pieces.new.entries ≡ put_all pieces.old.entries ((key, owners) ∷ []) }
 {
     let _ = pieces.insert(key, owners);
 }
@@ -119,9 +115,9 @@ fn put(pieces: &mut Pieces, key: Vec<u8>, owners: LaterOwners)
 ///
 /// `spare` holds the owners of the piece before; one that there is no room for is not joined.
 pub(crate) fn sweep(pieces: &mut Pieces, spare: &mut LaterOwners, oldest: Version)
-    ensures swept { joined [] (starts_of pieces.new.entries)
-        ≡ joined [] (with_values (needed oldest) (starts_of pieces.old.entries)) }
-    ensures kept { AreKept (starts_of pieces.old.entries) → AreKept (starts_of pieces.new.entries) }
+    ensures swept { joined [] pieces.new.entries
+        ≡ joined [] (with_values (needed oldest) pieces.old.entries) }
+    ensures kept { AreKept pieces.old.entries → AreKept pieces.new.entries }
 {
     spare.clear();
     let mut is_noted = true;
@@ -155,10 +151,10 @@ fn is_kept(
 ///
 /// `spare` holds the owners of the piece before; one that there is no room for is not joined.
 pub(crate) fn merge(pieces: &mut Pieces, spare: &mut LaterOwners)
-    ensures walks { AreKept (starts_of pieces.old.entries) → (key : _)
-        → WalkAlike (value_from [] (starts_of pieces.old.entries) key)
-        (value_from [] (starts_of pieces.new.entries) key) }
-    ensures kept { AreKept (starts_of pieces.old.entries) → AreKept (starts_of pieces.new.entries) }
+    ensures walks { AreKept pieces.old.entries → (key : _)
+        → WalkAlike (value_from [] pieces.old.entries key)
+        (value_from [] pieces.new.entries key) }
+    ensures kept { AreKept pieces.old.entries → AreKept pieces.new.entries }
 {
     spare.clear();
     let mut is_noted = true;
@@ -206,7 +202,7 @@ pub(crate) fn count_owners(pieces: &Pieces) -> usize {
 
 /// How many greatest ranges of keys have one list of owners that a walk may need.
 pub(crate) fn count_pieces(pieces: &Pieces, oldest: Version) -> usize
-    ensures { result ≡ suc (changes oldest [] (starts_of pieces.now.entries)) }
+    ensures { result ≡ suc (changes oldest [] pieces.now.entries) }
 {
     let _length = pieces.len();
     let mut count = 1;

@@ -5,7 +5,7 @@ ghost use Rattle.system_keys.specs.Keys.{Range, is_key_below};
 ghost use Rattle.model.specs.Owners.{is_last, walk_visits};
 ghost use Rattle.model.specs.Shares.{each_below};
 ghost use Rattle.dated_owners.specs.LaterOwners.{with_first};
-ghost use Rattle.dated_owners.specs.Starts.{starts_of, some_start};
+ghost use Rattle.dated_owners.specs.Starts.{some_start};
 ghost use Rattle.dated_owners.specs.Walks.{takes, takes_later};
 ghost use Rattle.dated_owners.specs.Flags.{Flags};
 
@@ -14,6 +14,7 @@ use crate::later_owners::LaterOwner;
 use crate::pieces::{Pieces, is_below};
 use crate::resolver_set::{MOST, ResolverSet};
 use model::{ResolverNumber, Version};
+use system_keys::Bytes;
 
 /// Which owners of a key are asked.
 #[derive(Clone, Copy)]
@@ -30,13 +31,14 @@ pub(crate) fn askers(
     pieces: &Pieces,
     walk: Walk,
     begin: &[u8],
-    end: &Vec<u8>,
+    end: &Bytes,
 ) -> ResolverSet
     requires few { resolvers ≤ 64 }
-    requires rising { is_key_below begin.now end.now.items ≡ true }
-    ensures { let range : Range = record { begin = begin.now; end = end.now.items } in
-        let starts = starts_of pieces.now.entries in result
-        ≡ filter (λ r. some_start [] starts (takes_later walk r) range) (each_below resolvers) }
+    requires rising { is_key_below begin.now end.now ≡ true }
+    ensures { let range : Range = record { begin = begin.now; end = end.now } in
+        let starts = pieces.now.entries in
+        result ≡ filter (λ r. some_start [] starts (takes_later walk r) range)
+        (each_below resolvers) }
 {
     let mut flags = [false; MOST];
     flag_askers(pieces, walk, begin, end, &mut flags);
@@ -45,10 +47,10 @@ pub(crate) fn askers(
 
 /// Flags the resolvers that are asked about some key from `begin` up to `end`: the owners are those
 /// from each start inside on, and from the last start up to `begin`, which are those at `begin`.
-fn flag_askers(pieces: &Pieces, walk: Walk, begin: &[u8], end: &Vec<u8>, flags: &mut [bool])
-    requires { is_key_below begin.now end.now.items ≡ true }
-    ensures { let range : Range = record { begin = begin.now; end = end.now.items } in
-        let starts = starts_of pieces.now.entries in
+fn flag_askers(pieces: &Pieces, walk: Walk, begin: &[u8], end: &Bytes, flags: &mut [bool])
+    requires { is_key_below begin.now end.now ≡ true }
+    ensures { let range : Range = record { begin = begin.now; end = end.now } in
+        let starts = pieces.now.entries in
         Flags flags.old (λ r. some_start [] starts (takes_later walk r) range) flags.new }
 {
     let mut left = pieces.range(..end);

@@ -2,12 +2,12 @@
 use Rattle.std.proofs.Common.{◌∙◌, Bool, [], ℕ}
 use Rattle.system_keys.specs.Keys.{Range}
 use Rattle.dated_owners.specs.Walks.{takes_later}
-use Rattle.dated_owners.specs.Starts.{starts_of, some_start}
+use Rattle.dated_owners.specs.Starts.{some_start}
 use Rattle.dated_owners.proofs.AskedStarts.{first_flagged}
 use Rattle.dated_owners.proofs.walks.askers.Goals as goal
 
 pub returns : goal.returns
 returns c =
-    let range : Range = record { begin = c.args.begin.now; end = c.args.end.now.items } in
-    let test : ℕ → Bool = λ r. some_start [] (starts_of c.args.pieces.now.entries) (takes_later c.args.walk r) range in
+    let range : Range = record { begin = c.args.begin.now; end = c.args.end.now } in
+    let test : ℕ → Bool = λ r. some_start [] c.args.pieces.now.entries (takes_later c.args.walk r) range in
     c.of_flags.ensures ∙ first_flagged test c.args.resolvers 64 c.flag_askers.new.flags c.requires.few c.flag_askers.ensures

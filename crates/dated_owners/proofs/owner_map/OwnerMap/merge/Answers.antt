@@ -1,12 +1,11 @@
 -- The owners of each key are merged, so the map asks as before.
 use Rattle.std.proofs.Common.{ap, sym, refl}
 use Rattle.model.specs.OwnerMaps.{OwnerMapView}
-use Rattle.dated_owners.specs.Starts.{starts_of}
 use Rattle.dated_owners.proofs.MadeMaps.{merge_asks}
 use Rattle.dated_owners.proofs.owner_map.OwnerMap.merge.Goals as goal
 
 pub returns-then-max-self-clause-asks : goal.returns-then-max-self-clause-asks
 returns-then-max-self-clause-asks c =
-    merge_asks c.args.self.now _ (starts_of c.self.inside.pieces.entries) (starts_of c.merge.new.pieces.entries)
+    merge_asks c.args.self.now _ c.self.inside.pieces.entries c.merge.new.pieces.entries
     (ap (λ (map : OwnerMapView). map.oldest) c.self.view_is) (ap (λ (map : OwnerMapView). map.last_date) c.self.view_is) (sym (ap (λ (map : OwnerMapView). map.moves) c.self.view_is)) refl
     c.self.invariant.1 (c.merge.ensures.kept c.self.invariant.1) (c.merge.ensures.walks c.self.invariant.1)
