@@ -111,5 +111,5 @@ fn to_range(begin: Bytes, end: Bytes) -> KeyRange
     requires { fault_of_range (record { begin = begin; end = end }) ≡ None }
     ensures { result ≡ record { begin = begin; end = end } }
 {
-    KeyRange::from_checked(Vec::from(begin), Vec::from(end))
+    KeyRange::from_checked(begin, end)
 }
