@@ -34,9 +34,9 @@ impl Checked<RawChange> for Change {
 
     fn check(_alloc: Global, raw: RawChange) -> Result<Change, ScriptFault> {
         match raw {
-            RawChange::Set { key, value } => { Ok(Change::set(Vec::from(key), Vec::from(value))?) }
+            RawChange::Set { key, value } => { Ok(Change::set_bytes(key, value)?) }
             RawChange::Clear { begin, end } => {
-                Ok(Change::clear(KeyRange::new(Vec::from(begin), Vec::from(end))?))
+                Ok(Change::clear(KeyRange::of_bytes(begin, end)?))
             }
         }
     }
@@ -54,7 +54,7 @@ impl<R: Drop, X: Checked<R>> Checked<Items<R>> for Items<X> {
 pub fn check_range(range: GivenRange) -> Result<KeyRange, ScriptFault>
     ensures { IsReadAs (λ found. found) result (checked_range range) }
 {
-    Ok(KeyRange::new(Vec::from(range.begin), Vec::from(range.end))?)
+    Ok(KeyRange::of_bytes(range.begin, range.end)?)
 }
 
 /// Returns all of the list, or the first fault.

@@ -14,7 +14,7 @@ use crate::script_fault::ScriptFault;
 use model::Verdict;
 use serde_json::Value;
 use std::alloc::Global;
-use system_keys::{Bytes, Items, RowFault, read_bytes};
+use system_keys::{Bytes, Items, RowFault};
 
 /// The greatest number of a script (this project's profile).
 pub(crate) const NUMBER_LIMIT: u64 = 9_223_372_036_854_775_807;
@@ -63,8 +63,8 @@ impl Shaped for Bytes {
 
     fn shaped(alloc: Global, value: &Value) -> Result<Bytes, ScriptFault> {
         let text = value.as_str().ok_or(ScriptFault::BadShape)?;
-        match read_bytes(alloc, text) {
-            Ok(bytes) => Ok(Bytes::from(bytes)),
+        match Bytes::from_text(alloc, text) {
+            Ok(bytes) => Ok(bytes),
             Err(RowFault::OutOfMemory) => Err(ScriptFault::OutOfMemory),
             Err(_) => Err(ScriptFault::BadShape),
         }

@@ -10,7 +10,7 @@ use crate::streams::Streamed;
 use json::{Reader as TokenReader, Token};
 use model::Verdict;
 use std::alloc::Global;
-use system_keys::{Bytes, Items, read_bytes};
+use system_keys::{Bytes, Items};
 
 impl Streamed for bool {
     #[tactic(auto, using(crate::proofs::StreamLemmas::takes_bool))]
@@ -45,8 +45,7 @@ impl Streamed for Bytes {
     #[tactic(auto, using(crate::proofs::StreamLemmas::takes_text))]
     fn from_tokens(alloc: Global, reader: &mut TokenReader<'_>, _depth: usize) -> Option<Bytes> {
         let text = take_text(reader)?;
-        let bytes = read_bytes(alloc, text).ok()?;
-        Some(Bytes::from(bytes))
+        Bytes::from_text(alloc, text).ok()
     }
 }
 
