@@ -301,7 +301,7 @@ impl KeptEntries {
         ensures { OnOk result (self.new ≡ after_change self.old (Set key value)) }
     {
         if is_kept(key.as_slice()) {
-            self.entries.put_owned(Vec::from(key), value)?;
+            self.entries.put_owned(key.into_vec()?, value)?;
         }
         Ok(())
     }
