@@ -1,15 +1,14 @@
 -- Ranges with no start inside: how they are found, and what is written over them.
-use Rattle.std.proofs.Common.{◌≡◌, refl, sym, ap, ap₂, ◌∙◌, subst, ℕ, ◌⊎◌, filter, inl, inr, List, [], ◌∷◌, ◌++◌, Bool, true, false, cond, not, ◌&&◌, ◌||◌, append_assoc, IsTrue, Option, Some, None, IfSome, Ordering, Less, Equal, Greater}
+use Rattle.std.proofs.Common.{◌≡◌, refl, sym, ap, ◌∙◌, subst, ℕ, ◌⊎◌, inl, inr, List, [], ◌∷◌, ◌++◌, Bool, true, false, cond, not, ◌&&◌, IsTrue, Option, Some, None, IfSome, Ordering, Less, Equal, Greater}
 use Rattle.std.proofs.lemmas.Bool.{both_ways}
-use Rattle.std.proofs.lemmas.List.Folds.{list_any-append}
-use Rattle.std.specs.Map.{keys_of}
 use Rattle.std.specs.Ordering.{match_ordering}
 use Rattle.std.specs.BTreeMap.{insert_entry}
 use Rattle.std.specs.BTreeMap.Range.{entries_between}
 use Rattle.std.specs.declared.ops.Bound.TheVariants.{Included, Unbounded}
 use Rattle.system_keys.specs.Keys.{Key, holds, is_key_below}
 use Rattle.system_keys.proofs.KeyOrder.{not_below_itself, below_trans, below_up_to, up_to_trans, not_below_back, equal_unless_below}
-use Rattle.share_judge.specs.Steps.{Start, last_from, last_of_all, IsBefore, AreRising, HasStart, IsEdge, IsFree, TellTheSame, AreOver, is_same_key, is_listed, keys_between, ListsMore}
+use Rattle.share_judge.specs.declared.step.Step.{Step}
+use Rattle.share_judge.specs.Steps.{Start, StepStart, no_step, last_from, last_of_all, IsBefore, AreRising, HasStart, IsEdge, IsFree, TellTheSame, AreOver}
 use Rattle.share_judge.proofs.Starts.{key_cmp, less, greater, equal, before_has, before_trans, none_before, starts_up_to}
 use Rattle.share_judge.proofs.Settled.{same_last, same_past}
 use Rattle.share_judge.proofs.WalkBack.{last_above, last_after, last_decides, front_rising}
@@ -17,17 +16,17 @@ use Rattle.share_judge.proofs.MapCalls.{found_at, none_at}
 
 -- ---- no start between
 
-free_append : (begin end : Key) (front : List Start) (s : Start) → IsFree begin end front → is_key_below s.0 end ≡ false → IsFree begin end (front ++ s ∷ [])
+free_append : {X : Type 0} → (begin end : Key) (front : List (Key × X)) (s : Key × X) → IsFree begin end front → is_key_below s.0 end ≡ false → IsFree begin end (front ++ s ∷ [])
 free_append begin end [] s free past = (λ below. absurd (both_ways (is_key_below s.0 end) past below), tt)
 free_append begin end (t ∷ front) s free past = (free.0, free_append begin end front s free.1 past)
 
 -- starts up to the begin are not between
-free_up_to : (begin end : Key) (front : List Start) (s : Start) → AreRising (front ++ s ∷ []) → is_key_below begin s.0 ≡ false → IsFree begin end (front ++ s ∷ [])
+free_up_to : {X : Type 0} → (begin end : Key) (front : List (Key × X)) (s : Key × X) → AreRising (front ++ s ∷ []) → is_key_below begin s.0 ≡ false → IsFree begin end (front ++ s ∷ [])
 free_up_to begin end [] s rising up_to = (λ below. up_to, tt)
 free_up_to begin end (t ∷ front) s rising up_to =
     (λ below. up_to_trans t.0 s.0 begin (not_below_back t.0 s.0 (last_above t.0 front s rising.0)) up_to, free_up_to begin end front s rising.1 up_to)
 
-before_up_to : (key end : Key) (ss : List Start) → IsBefore key ss → IsBefore key (starts_up_to end ss)
+before_up_to : {X : Type 0} → (key end : Key) (ss : List (Key × X)) → IsBefore key ss → IsBefore key (starts_up_to end ss)
 before_up_to key end [] all = tt
 before_up_to key end (s ∷ ss) all = by (not (is_key_below end s.0)) (before_up_to key end ss all.1)
   where
@@ -35,7 +34,7 @@ before_up_to key end (s ∷ ss) all = by (not (is_key_below end s.0)) (before_up
     by true rest = (all.0, rest)
     by false rest = rest
 
-rising_up_to : (end : Key) (ss : List Start) → AreRising ss → AreRising (starts_up_to end ss)
+rising_up_to : {X : Type 0} → (end : Key) (ss : List (Key × X)) → AreRising ss → AreRising (starts_up_to end ss)
 rising_up_to end [] rising = tt
 rising_up_to end (s ∷ ss) rising = by (not (is_key_below end s.0)) (rising_up_to end ss rising.1)
   where
@@ -44,7 +43,7 @@ rising_up_to end (s ∷ ss) rising = by (not (is_key_below end s.0)) (rising_up_
     by false rest = rest
 
 -- nor are starts past the end
-free_of_up_to : (begin end : Key) (ss : List Start) → IsFree begin end (starts_up_to end ss) → IsFree begin end ss
+free_of_up_to : {X : Type 0} → (begin end : Key) (ss : List (Key × X)) → IsFree begin end (starts_up_to end ss) → IsFree begin end ss
 free_of_up_to begin end [] free = tt
 free_of_up_to begin end (s ∷ ss) free = by (is_key_below end s.0) refl free (free_of_up_to begin end ss)
   where
@@ -53,7 +52,7 @@ free_of_up_to begin end (s ∷ ss) free = by (is_key_below end s.0) refl free (f
     by true past free rest = (λ below. absurd (both_ways (is_key_below s.0 end) (not_below_back end s.0 past) below), rest free)
     by false up_to free rest = (free.0, rest free.1)
 
-has_up_to : (end : Key) (ss : List Start) (key : Key) → HasStart (starts_up_to end ss) key → HasStart ss key × (is_key_below end key ≡ false)
+has_up_to : {X : Type 0} → (end : Key) (ss : List (Key × X)) (key : Key) → HasStart (starts_up_to end ss) key → HasStart ss key × (is_key_below end key ≡ false)
 has_up_to end [] key has = absurd has
 has_up_to end (s ∷ ss) key has = by (is_key_below end s.0) refl has (λ has. let rest = has_up_to end ss key has in (inr rest.0, rest.1))
   where
@@ -63,14 +62,14 @@ has_up_to end (s ∷ ss) key has = by (is_key_below end s.0) refl has (λ has. l
     by false up_to (inl is) later = (inl is, ap (is_key_below end) is ∙ up_to)
     by false up_to (inr has) later = later has
 
-last_has : (front : List Start) (s : Start) → HasStart (front ++ s ∷ []) s.0
+last_has : {X : Type 0} → (front : List (Key × X)) (s : Key × X) → HasStart (front ++ s ∷ []) s.0
 last_has [] s = inl refl
 last_has (t ∷ front) s = inr (last_has front s)
 
 -- the starts up to the end decide at the begin
-begin_up_to : (first : ℕ) (begin end : Key) (ss : List Start) → is_key_below begin end ≡ true → AreRising ss → last_from first (starts_up_to end ss) begin ≡ last_from first ss begin
+begin_up_to : {X : Type 0} → (first : X) (begin end : Key) (ss : List (Key × X)) → is_key_below begin end ≡ true → AreRising ss → last_from first (starts_up_to end ss) begin ≡ last_from first ss begin
 begin_up_to first begin end [] forward rising = refl
-begin_up_to first begin end (s ∷ ss) forward rising = by (is_key_below end s.0) refl (begin_up_to s.1 begin end ss forward rising.1)
+begin_up_to {X} first begin end (s ∷ ss) forward rising = by (is_key_below end s.0) refl (begin_up_to s.1 begin end ss forward rising.1)
   where
     by : (t : Bool) → is_key_below end s.0 ≡ t → last_from s.1 (starts_up_to end ss) begin ≡ last_from s.1 ss begin
         → last_from first (cond (not t) (s ∷ starts_up_to end ss) (starts_up_to end ss)) begin ≡ cond (is_key_below begin s.0) first (last_from s.1 ss begin)
@@ -78,78 +77,78 @@ begin_up_to first begin end (s ∷ ss) forward rising = by (is_key_below end s.0
         let early : is_key_below begin s.0 ≡ true = below_trans begin end s.0 forward past in
         none_before first (starts_up_to end ss) begin (before_up_to begin end ss (before_trans begin s.0 ss early rising.0))
         ∙ sym (ap (λ (b : Bool). cond b first (last_from s.1 ss begin)) early)
-    by false up_to rest = ap (λ (n : ℕ). cond (is_key_below begin s.0) first n) rest
+    by false up_to rest = ap (λ (n : X). cond (is_key_below begin s.0) first n) rest
 
 -- ---- what is found from the end back
 
 -- the starts up to the end
-abbrev pub AreUpTo : (end : Key) (es left : List Start) → Type 0
+abbrev pub AreUpTo : (end : Key) (es left : List StepStart) → Type 0
 AreUpTo end es left = entries_between key_cmp Unbounded (Included end) es ≡ left
 
 -- there is none
-pub none_at_begin : (es : List Start) (begin end : Key) → is_key_below begin end ≡ true → AreRising es → AreUpTo end es [] → IsEdge es begin 0 false
+pub none_at_begin : (es : List StepStart) (begin end : Key) → is_key_below begin end ≡ true → AreRising es → AreUpTo end es [] → IsEdge es begin no_step false
 none_at_begin es begin end forward rising is =
-    (ap (λ (ss : List Start). last_from 0 ss begin) (sym is) ∙ begin_up_to 0 begin end es forward rising, λ there. absurd (cc))
+    (ap (λ (ss : List StepStart). last_from no_step ss begin) (sym is) ∙ begin_up_to no_step begin end es forward rising, λ there. absurd (cc))
 
-pub none_at_end : (es : List Start) (end : Key) → AreRising es → AreUpTo end es [] → IsEdge es end 0 false
-none_at_end es end rising is = (none_at es end rising is, λ there. absurd (cc))
+pub none_at_end : (es : List StepStart) (end : Key) → AreRising es → AreUpTo end es [] → IsEdge es end no_step false
+none_at_end es end rising is = (none_at no_step es end rising is, λ there. absurd (cc))
 
-pub none_found : (es : List Start) (begin end : Key) → AreUpTo end es [] → IsFree begin end es
+pub none_found : (es : List StepStart) (begin end : Key) → AreUpTo end es [] → IsFree begin end es
 none_found es begin end is = free_of_up_to begin end es (subst (IsFree begin end) (sym is) tt)
 
 -- the last one is up to the begin
-pub last_at_begin : (es front : List Start) (e : Start) (begin end : Key) (version : ℕ) (is_start : Bool) → is_key_below begin end ≡ true → AreRising es → AreUpTo end es (front ++ e ∷ []) → is_key_below begin e.0 ≡ false → version ≡ e.1 → (IsTrue is_start → e.0 ≡ begin)
-    → IsEdge es begin version is_start
-last_at_begin es front e begin end version is_start forward rising is up_to version_is start_is = (
-  version_is
-      ∙ sym (last_decides 0 front e begin (subst AreRising is (rising_up_to end es rising)) up_to)
-      ∙ ap (λ (ss : List Start). last_from 0 ss begin) (sym is)
-      ∙ begin_up_to 0 begin end es forward rising,
-  λ there. subst (HasStart es) (start_is there) (has_up_to end es e.0 (subst (λ (ss : List Start). HasStart ss e.0) (sym is) (last_has front e))).0,
+pub last_at_begin : (es front : List StepStart) (e : StepStart) (begin end : Key) (step : Step) (is_start : Bool) → is_key_below begin end ≡ true → AreRising es → AreUpTo end es (front ++ e ∷ []) → is_key_below begin e.0 ≡ false → step ≡ e.1 → (IsTrue is_start → e.0 ≡ begin)
+    → IsEdge es begin step is_start
+last_at_begin es front e begin end step is_start forward rising is up_to step_is start_is = (
+  step_is
+      ∙ sym (last_decides no_step front e begin (subst AreRising is (rising_up_to end es rising)) up_to)
+      ∙ ap (λ (ss : List StepStart). last_from no_step ss begin) (sym is)
+      ∙ begin_up_to no_step begin end es forward rising,
+  λ there. subst (HasStart es) (start_is there) (has_up_to end es e.0 (subst (λ (ss : List StepStart). HasStart ss e.0) (sym is) (last_has front e))).0,
 )
 
-pub last_at_end : (es front : List Start) (e : Start) (end : Key) → AreRising es → AreUpTo end es (front ++ e ∷ []) → IsEdge es end e.1 false
-last_at_end es front e end rising is = (found_at es front e end rising is, λ there. absurd (cc))
+pub last_at_end : (es front : List StepStart) (e : StepStart) (end : Key) → AreRising es → AreUpTo end es (front ++ e ∷ []) → IsEdge es end e.1 false
+last_at_end es front e end rising is = (found_at no_step es front e end rising is, λ there. absurd (cc))
 
-pub last_found : (es front : List Start) (e : Start) (begin end : Key) → AreRising es → AreUpTo end es (front ++ e ∷ []) → is_key_below begin e.0 ≡ false → IsFree begin end es
+pub last_found : (es front : List StepStart) (e : StepStart) (begin end : Key) → AreRising es → AreUpTo end es (front ++ e ∷ []) → is_key_below begin e.0 ≡ false → IsFree begin end es
 last_found es front e begin end rising is up_to =
     free_of_up_to begin end es (subst (IsFree begin end) (sym is) (free_up_to begin end front e (subst AreRising is (rising_up_to end es rising)) up_to))
 
 -- the last one is at the end, and the one before it up to the begin
-pub start_at_end : (es front : List Start) (e : Start) (end : Key) → AreRising es → AreUpTo end es (front ++ e ∷ []) → is_key_below e.0 end ≡ false → IsEdge es end e.1 true
+pub start_at_end : (es front : List StepStart) (e : StepStart) (end : Key) → AreRising es → AreUpTo end es (front ++ e ∷ []) → is_key_below e.0 end ≡ false → IsEdge es end e.1 true
 start_at_end es front e end rising is past =
-    let has = has_up_to end es e.0 (subst (λ (ss : List Start). HasStart ss e.0) (sym is) (last_has front e)) in
-    (found_at es front e end rising is, λ there. subst (HasStart es) (equal_unless_below e.0 end past has.1) has.0)
+    let has = has_up_to end es e.0 (subst (λ (ss : List StepStart). HasStart ss e.0) (sym is) (last_has front e)) in
+    (found_at no_step es front e end rising is, λ there. subst (HasStart es) (equal_unless_below e.0 end past has.1) has.0)
 
-front_has : (front : List Start) (s : Start) (key : Key) → HasStart front key → HasStart (front ++ s ∷ []) key
+front_has : {X : Type 0} → (front : List (Key × X)) (s : Key × X) (key : Key) → HasStart front key → HasStart (front ++ s ∷ []) key
 front_has [] s key has = absurd has
 front_has (t ∷ front) s key (inl is) = inl is
 front_has (t ∷ front) s key (inr has) = inr (front_has front s key has)
 
-past_begin : (begin end : Key) (e : Start) → is_key_below begin end ≡ true → is_key_below e.0 end ≡ false → is_key_below begin e.0 ≡ true
+past_begin : {X : Type 0} → (begin end : Key) (e : Key × X) → is_key_below begin end ≡ true → is_key_below e.0 end ≡ false → is_key_below begin e.0 ≡ true
 past_begin begin end e forward past = below_up_to begin end e.0 forward past
 
 -- below the last start the others decide
-front_at : (es mid : List Start) (e : Start) (begin end : Key) → is_key_below begin end ≡ true → AreRising es → AreUpTo end es (mid ++ e ∷ []) → is_key_below e.0 end ≡ false → last_from 0 mid begin ≡ last_from 0 es begin
+front_at : (es mid : List StepStart) (e : StepStart) (begin end : Key) → is_key_below begin end ≡ true → AreRising es → AreUpTo end es (mid ++ e ∷ []) → is_key_below e.0 end ≡ false → last_from no_step mid begin ≡ last_from no_step es begin
 front_at es mid e begin end forward rising is past =
-    sym (last_after 0 mid e begin (past_begin begin end e forward past))
-    ∙ ap (λ (ss : List Start). last_from 0 ss begin) (sym is)
-    ∙ begin_up_to 0 begin end es forward rising
+    sym (last_after no_step mid e begin (past_begin begin end e forward past))
+    ∙ ap (λ (ss : List StepStart). last_from no_step ss begin) (sym is)
+    ∙ begin_up_to no_step begin end es forward rising
 
-pub two_at_begin : (es mid front : List Start) (e f : Start) (begin end : Key) (version : ℕ) (is_start : Bool) → is_key_below begin end ≡ true → AreRising es → AreUpTo end es (mid ++ e ∷ []) → is_key_below e.0 end ≡ false → mid ≡ front ++ f ∷ [] → is_key_below begin f.0 ≡ false → version ≡ f.1 → (IsTrue is_start → f.0 ≡ begin)
-    → IsEdge es begin version is_start
-two_at_begin es mid front e f begin end version is_start forward rising is past mid_is up_to version_is start_is = (
-  version_is
-      ∙ sym (last_decides 0 front f begin (subst AreRising mid_is rising_mid) up_to)
-      ∙ ap (λ (ss : List Start). last_from 0 ss begin) (sym mid_is)
+pub two_at_begin : (es mid front : List StepStart) (e f : StepStart) (begin end : Key) (step : Step) (is_start : Bool) → is_key_below begin end ≡ true → AreRising es → AreUpTo end es (mid ++ e ∷ []) → is_key_below e.0 end ≡ false → mid ≡ front ++ f ∷ [] → is_key_below begin f.0 ≡ false → step ≡ f.1 → (IsTrue is_start → f.0 ≡ begin)
+    → IsEdge es begin step is_start
+two_at_begin es mid front e f begin end step is_start forward rising is past mid_is up_to step_is start_is = (
+  step_is
+      ∙ sym (last_decides no_step front f begin (subst AreRising mid_is rising_mid) up_to)
+      ∙ ap (λ (ss : List StepStart). last_from no_step ss begin) (sym mid_is)
       ∙ front_at es mid e begin end forward rising is past,
-  λ there. subst (HasStart es) (start_is there) (has_up_to end es f.0 (subst (λ (ss : List Start). HasStart ss f.0) (sym is) (front_has mid e f.0 (subst (λ (ss : List Start). HasStart ss f.0) (sym mid_is) (last_has front f))))).0,
+  λ there. subst (HasStart es) (start_is there) (has_up_to end es f.0 (subst (λ (ss : List StepStart). HasStart ss f.0) (sym is) (front_has mid e f.0 (subst (λ (ss : List StepStart). HasStart ss f.0) (sym mid_is) (last_has front f))))).0,
 )
   where
     rising_mid : AreRising mid
     rising_mid = front_rising mid e (subst AreRising is (rising_up_to end es rising))
 
-pub two_found : (es mid front : List Start) (e f : Start) (begin end : Key) → AreRising es → AreUpTo end es (mid ++ e ∷ []) → is_key_below e.0 end ≡ false → mid ≡ front ++ f ∷ [] → is_key_below begin f.0 ≡ false → IsFree begin end es
+pub two_found : (es mid front : List StepStart) (e f : StepStart) (begin end : Key) → AreRising es → AreUpTo end es (mid ++ e ∷ []) → is_key_below e.0 end ≡ false → mid ≡ front ++ f ∷ [] → is_key_below begin f.0 ≡ false → IsFree begin end es
 two_found es mid front e f begin end rising is past mid_is up_to =
     free_of_up_to begin end es (subst (IsFree begin end) (sym is) (free_append begin end mid e free past))
   where
@@ -157,11 +156,11 @@ two_found es mid front e f begin end rising is past mid_is up_to =
     free = subst (IsFree begin end) (sym mid_is) (free_up_to begin end front f (subst AreRising mid_is (front_rising mid e (subst AreRising is (rising_up_to end es rising)))) up_to)
 
 -- only the one at the end is there
-pub one_at_begin : (es mid : List Start) (e : Start) (begin end : Key) → is_key_below begin end ≡ true → AreRising es → AreUpTo end es (mid ++ e ∷ []) → is_key_below e.0 end ≡ false → mid ≡ [] → IsEdge es begin 0 false
+pub one_at_begin : (es mid : List StepStart) (e : StepStart) (begin end : Key) → is_key_below begin end ≡ true → AreRising es → AreUpTo end es (mid ++ e ∷ []) → is_key_below e.0 end ≡ false → mid ≡ [] → IsEdge es begin no_step false
 one_at_begin es mid e begin end forward rising is past none =
-    (ap (λ (ss : List Start). last_from 0 ss begin) (sym none) ∙ front_at es mid e begin end forward rising is past, λ there. absurd (cc))
+    (ap (λ (ss : List StepStart). last_from no_step ss begin) (sym none) ∙ front_at es mid e begin end forward rising is past, λ there. absurd (cc))
 
-pub one_found : (es mid : List Start) (e : Start) (begin end : Key) → AreUpTo end es (mid ++ e ∷ []) → is_key_below e.0 end ≡ false → mid ≡ [] → IsFree begin end es
+pub one_found : (es mid : List StepStart) (e : StepStart) (begin end : Key) → AreUpTo end es (mid ++ e ∷ []) → is_key_below e.0 end ≡ false → mid ≡ [] → IsFree begin end es
 one_found es mid e begin end is past none =
     free_of_up_to begin end es (subst (IsFree begin end) (sym is) (free_append begin end mid e (subst (IsFree begin end) (sym none) tt) past))
 
@@ -172,16 +171,16 @@ if_some (Some x) to p q r = to x p q r
 
 -- ---- starts put at the ends
 
-free_from : (begin end : Key) (ss : List Start) → ((key : Key) → HasStart ss key → is_key_below key end ≡ true → is_key_below begin key ≡ false) → IsFree begin end ss
+free_from : {X : Type 0} → (begin end : Key) (ss : List (Key × X)) → ((key : Key) → HasStart ss key → is_key_below key end ≡ true → is_key_below begin key ≡ false) → IsFree begin end ss
 free_from begin end [] each = tt
 free_from begin end (s ∷ ss) each = (each s.0 (inl refl), free_from begin end ss (λ key has. each key (inr has)))
 
-free_has : (begin end : Key) (ss : List Start) (key : Key) → IsFree begin end ss → HasStart ss key → is_key_below key end ≡ true → is_key_below begin key ≡ false
+free_has : {X : Type 0} → (begin end : Key) (ss : List (Key × X)) (key : Key) → IsFree begin end ss → HasStart ss key → is_key_below key end ≡ true → is_key_below begin key ≡ false
 free_has begin end [] key free has below = absurd has
 free_has begin end (s ∷ ss) key free (inl is) below = ap (is_key_below begin) is ∙ free.0 (ap (λ (k : Key). is_key_below k end) (sym is) ∙ below)
 free_has begin end (s ∷ ss) key free (inr has) below = free_has begin end ss key free.1 has below
 
-pub ends_free : (es new : List Start) (begin end : Key) → IsFree begin end es → ((key : Key) → HasStart new key → HasStart es key ⊎ ((key ≡ begin) ⊎ (key ≡ end))) → IsFree begin end new
+pub ends_free : {X : Type 0} → (es new : List (Key × X)) (begin end : Key) → IsFree begin end es → ((key : Key) → HasStart new key → HasStart es key ⊎ ((key ≡ begin) ⊎ (key ≡ end))) → IsFree begin end new
 ends_free es new begin end free no_more = free_from begin end new (λ key has. by key (no_more key has))
   where
     by : (key : Key) → HasStart es key ⊎ ((key ≡ begin) ⊎ (key ≡ end)) → is_key_below key end ≡ true → is_key_below begin key ≡ false
@@ -189,88 +188,12 @@ ends_free es new begin end free no_more = free_from begin end new (λ key has. b
     by key (inr (inl is)) below = ap (is_key_below begin) is ∙ not_below_itself begin
     by key (inr (inr is)) below = absurd (both_ways (is_key_below key end) (ap (λ (k : Key). is_key_below k end) is ∙ not_below_itself end) below)
 
-pub end_free : (es new : List Start) (begin end : Key) → IsFree begin end es → ((key : Key) → HasStart new key → HasStart es key ⊎ (key ≡ end)) → IsFree begin end new
+pub end_free : {X : Type 0} → (es new : List (Key × X)) (begin end : Key) → IsFree begin end es → ((key : Key) → HasStart new key → HasStart es key ⊎ (key ≡ end)) → IsFree begin end new
 end_free es new begin end free no_more = ends_free es new begin end free (λ key has. by key (no_more key has))
   where
     by : (key : Key) → HasStart es key ⊎ (key ≡ end) → HasStart es key ⊎ ((key ≡ begin) ⊎ (key ≡ end))
     by key (inl old) = inl old
     by key (inr is) = inr (inr is)
-
--- what is known of a key stays so while another one gets a start
-pub edge_stays : (es new : List Start) (key : Key) (version : ℕ) (is_start : Bool) → AreRising es → AreRising new → TellTheSame es new → ((other : Key) → HasStart es other → HasStart new other) → IsEdge es key version is_start → IsEdge new key version is_start
-edge_stays es new key version is_start rising rising_new same others edge =
-    (edge.0 ∙ sym (same_last es new rising rising_new same key), λ there. others key (edge.1 there))
-
--- both keys got a start, one after the other
-pub both_put : (es mid new : List Start) (begin end : Key) → ((key : Key) → HasStart mid key → HasStart es key ⊎ (key ≡ end)) → ((key : Key) → HasStart new key → HasStart mid key ⊎ (key ≡ begin)) → (key : Key) → HasStart new key → HasStart es key ⊎ ((key ≡ begin) ⊎ (key ≡ end))
-both_put es mid new begin end first second key has = by (second key has)
-  where
-    of : HasStart es key ⊎ (key ≡ end) → HasStart es key ⊎ ((key ≡ begin) ⊎ (key ≡ end))
-    of (inl old) = inl old
-    of (inr is) = inr (inr is)
-
-    by : HasStart mid key ⊎ (key ≡ begin) → HasStart es key ⊎ ((key ≡ begin) ⊎ (key ≡ end))
-    by (inl old) = of (first key old)
-    by (inr is) = inr (inl is)
-
--- ---- the only start of a range
-
-none_between : (begin end : Key) (ss : List Start) → AreRising ss → IsBefore begin ss → IsFree begin end ss → filter (λ (s : Start). holds (record { begin = begin; end = end }) s.0) ss ≡ []
-none_between begin end [] rising all free = refl
-none_between begin end (s ∷ ss) rising all free = by (is_key_below s.0 begin) (is_key_below s.0 end) refl (none_between begin end ss rising.1 all.1 free.1)
-  where
-    rest : List Start
-    rest = filter (λ (x : Start). holds (record { begin = begin; end = end }) x.0) ss
-
-    by : (a b : Bool) → is_key_below s.0 end ≡ b → rest ≡ [] → cond (not a && b) (s ∷ rest) rest ≡ []
-    by true b below none = none
-    by false true below none = absurd (both_ways (is_key_below begin s.0) (free.0 below) all.0)
-    by false false below none = none
-
-only_start : (begin end : Key) (ss : List Start) → is_key_below begin end ≡ true → AreRising ss → HasStart ss begin → IsFree begin end ss → keys_between (Some begin) end ss ≡ begin ∷ []
-only_start begin end [] forward rising has free = absurd has
-only_start begin end (s ∷ ss) forward rising (inl is) free =
-    ap₂ (λ (a b : Bool). keys_of (cond (not a && b) (s ∷ rest) rest)) (ap (λ (k : Key). is_key_below k begin) (sym is) ∙ not_below_itself begin) (ap (λ (k : Key). is_key_below k end) (sym is) ∙ forward)
-    ∙ ap₂ (λ (k : Key) (more : List Start). k ∷ keys_of more) (sym is) (none_between begin end ss rising.1 (subst (λ (k : Key). IsBefore k ss) (sym is) rising.0) free.1)
-  where
-    rest : List Start
-    rest = filter (λ (x : Start). holds (record { begin = begin; end = end }) x.0) ss
-only_start begin end (s ∷ ss) forward rising (inr has) free =
-    ap (λ (a : Bool). keys_of (cond (not a && is_key_below s.0 end) (s ∷ rest) rest)) (before_has s.0 begin ss rising.0 has)
-    ∙ only_start begin end ss forward rising.1 has free.1
-  where
-    rest : List Start
-    rest = filter (λ (x : Start). holds (record { begin = begin; end = end }) x.0) ss
-
-pub lists_begin : (begin end : Key) (ss : List Start) (old new : List Key) → is_key_below begin end ≡ true → AreRising ss → HasStart ss begin → IsFree begin end ss → ((key : Key) → is_listed new key ≡ (is_listed old key || is_same_key begin key)) → ListsMore (Some begin) end ss old new
-lists_begin begin end ss old new forward rising has free pushed key =
-    pushed key
-    ∙ ap (λ (b : Bool). is_listed old key || b) (sym (or_false (is_same_key begin key)) ∙ ap (λ (keys : List Key). is_listed keys key) (sym (only_start begin end ss forward rising has free)))
-  where
-    or_false : (b : Bool) → (b || false) ≡ b
-    or_false true = refl
-    or_false false = refl
-
--- ---- lists of begins, and of the starts of other ranges
-
-pub begin_pushed : (begins inside : List Key) (key other : Key) → is_listed ((begins ++ key ∷ []) ++ inside) other ≡ (is_listed (begins ++ inside) other || is_same_key key other)
-begin_pushed begins inside key other =
-    list_any-append (λ (k : Key). is_same_key k other) (begins ++ key ∷ []) inside
-    ∙ ap (λ (b : Bool). b || is_listed inside other) (list_any-append (λ (k : Key). is_same_key k other) begins (key ∷ []))
-    ∙ turned (is_listed begins other) (is_same_key key other) (is_listed inside other)
-    ∙ ap (λ (b : Bool). b || is_same_key key other) (sym (list_any-append (λ (k : Key). is_same_key k other) begins inside))
-  where
-    turned : (a b c : Bool) → ((a || (b || false)) || c) ≡ ((a || c) || b)
-    turned true b c = refl
-    turned false true true = refl
-    turned false true false = refl
-    turned false false true = refl
-    turned false false false = refl
-
-pub inside_pushed : (begins inside more : List Key) (other : Key) → is_listed (begins ++ (inside ++ more)) other ≡ (is_listed (begins ++ inside) other || is_listed more other)
-inside_pushed begins inside more other =
-    ap (λ (keys : List Key). is_listed keys other) (sym (append_assoc begins inside more))
-    ∙ list_any-append (λ (k : Key). is_same_key k other) (begins ++ inside) more
 
 -- ---- the range written
 

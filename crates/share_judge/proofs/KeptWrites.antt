@@ -1,9 +1,9 @@
 -- The starts that a history keeps, as writes: what they give each key, and what changes it.
-use Rattle.std.proofs.Common.{◌≡◌, refl, sym, ap, ◌∙◌, subst, ℕ, ◌<◌, ◌≤◌, max, List, [], ◌∷◌, Bool, true, false, cond, not, ◌&&◌, nat_le, if◌then◌else◌, arith}
+use Rattle.std.proofs.Common.{◌≡◌, refl, sym, ap, ◌∙◌, subst, ℕ, ◌≤◌, max, List, [], ◌∷◌, Bool, true, false, cond, not, ◌&&◌, nat_le, if◌then◌else◌, arith}
 use Rattle.system_keys.specs.Keys.{Key, is_key_below}
 use Rattle.system_keys.proofs.KeyOrder.{below_trans}
 use Rattle.model.specs.WriteHistories.{last_at, unless_forgotten}
-use Rattle.share_judge.specs.Steps.{Start, last_from, last_of_all, settled, writes_from, writes_of_starts, kept_writes, IsBefore, AreRising, TellTheSame, AreOver}
+use Rattle.share_judge.specs.Steps.{Start, last_from, last_of_all, settled, writes_from, writes_of_starts, kept_writes, IsBefore, AreRising, TellTheSame}
 use Rattle.share_judge.specs.Kept.{AreKept}
 use Rattle.share_judge.proofs.Settled.{settled_last, settled_past, settled_rising, settled_twice, same_last, same_past}
 
@@ -60,19 +60,6 @@ same_kept last dropped old new kept rising same =
       up_to = λ key. let is = same_last old new kept.rising rising same key in let low = kept.up_to key in omega (arith, is, low);
       dropped_up_to = kept.dropped_up_to;
     }
-
-pub over_kept : (last dropped version : ℕ) (test : Key → Bool) (old new : List Start) → AreKept last dropped old → last < version → AreRising new → AreOver test version old new → AreKept version dropped new
-over_kept last dropped version test old new kept above rising over =
-    record {
-      rising = rising;
-      past = over.past kept.past;
-      up_to = λ key. by (test key) (last_from 0 old key) (last_from 0 new key) (over.at key) (kept.up_to key);
-      dropped_up_to = let low = kept.dropped_up_to in omega (arith, low, above);
-    }
-  where
-    by : (t : Bool) (n m : ℕ) → m ≡ cond t version n → n ≤ last → m ≤ version
-    by true n m is low = omega (arith, is)
-    by false n m is low = omega (arith, is, low, above)
 
 pub dropped_kept : (last dropped bound : ℕ) (ss : List Start) → AreKept last dropped ss → bound ≤ last → AreKept last (max dropped bound) ss
 dropped_kept last dropped bound ss kept low =

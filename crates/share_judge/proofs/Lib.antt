@@ -1,4 +1,3 @@
-pub mod Apart
 pub mod Counted
 pub mod Free
 pub mod JudgedParts
@@ -7,11 +6,10 @@ pub mod Listed
 pub mod MapCalls
 pub mod MapStarts
 pub mod Overwritten
+pub mod Puts
 pub mod Reached
+pub mod Readings
 pub mod Repeated
-pub mod RoomBetween
-pub mod RoomForMap
-pub mod RoomForShare
 pub mod Settled
 pub mod Starts
 pub mod StepKeys

@@ -3,10 +3,10 @@ use Rattle.std.proofs.Common.{◌≡◌, refl, sym, ap, ◌∙◌, inl, inr, Lis
 use Rattle.std.specs.Map.{keys_of}
 use Rattle.std.proofs.lemmas.Bool.{or_left}
 use Rattle.system_keys.specs.Keys.{Key}
-use Rattle.share_judge.specs.Steps.{Start, HasStart, is_same_key, is_listed}
+use Rattle.share_judge.specs.Steps.{HasStart, is_same_key, is_listed}
 use Rattle.share_judge.proofs.Starts.{same_key, same_itself}
 
-has_listed : (ss : List Start) (key : Key) → HasStart ss key → is_listed (keys_of ss) key ≡ true
+has_listed : {X : Type 0} → (ss : List (Key × X)) (key : Key) → HasStart ss key → is_listed (keys_of ss) key ≡ true
 has_listed [] key has = absurd has
 has_listed (s ∷ ss) key (inl e) = or_left (is_same_key s.0 key) (is_listed (keys_of ss) key) (ap (is_same_key s.0) e ∙ same_itself s.0)
 has_listed (s ∷ ss) key (inr has) = by (is_same_key s.0 key) (has_listed ss key has)
@@ -16,10 +16,10 @@ has_listed (s ∷ ss) key (inr has) = by (is_same_key s.0 key) (has_listed ss ke
     by false rest = rest
 
 -- the starts whose keys pass a test
-abbrev pub passing : (Key → Bool) → List Start → List Start
-passing test ss = filter (λ (s : Start). test s.0) ss
+abbrev pub passing : {X : Type 0} → (Key → Bool) → List (Key × X) → List (Key × X)
+passing {X} test ss = filter (λ (s : Key × X). test s.0) ss
 
-pub listed_passing : (test : Key → Bool) (ss : List Start) (key : Key) → is_listed (keys_of (passing test ss)) key ≡ (test key && is_listed (keys_of ss) key)
+pub listed_passing : {X : Type 0} → (test : Key → Bool) (ss : List (Key × X)) (key : Key) → is_listed (keys_of (passing test ss)) key ≡ (test key && is_listed (keys_of ss) key)
 listed_passing test [] key = by (test key)
   where
     by : (t : Bool) → false ≡ (t && false)
@@ -46,5 +46,5 @@ and_false : (b : Bool) → (b && false) ≡ false
 and_false true = refl
 and_false false = refl
 
-pub listed_there : (test : Key → Bool) (ss : List Start) (key : Key) → HasStart ss key → is_listed (keys_of (passing test ss)) key ≡ test key
+pub listed_there : {X : Type 0} → (test : Key → Bool) (ss : List (Key × X)) (key : Key) → HasStart ss key → is_listed (keys_of (passing test ss)) key ≡ test key
 listed_there test ss key has = listed_passing test ss key ∙ ap (λ (b : Bool). test key && b) (has_listed ss key has) ∙ and_true (test key)

@@ -1,22 +1,18 @@
--- Starts that get a version: each key that is written in the other map has it then.
-use Rattle.std.proofs.Common.{◌≡◌, refl, sym, ap, ap₂, ◌∙◌, ℕ, ◌<◌, inl, inr, List, [], ◌∷◌, map, Bool, true, false, cond, not, ◌&&◌, ◌||◌, nat_lt, arith}
-use Rattle.std.proofs.lemmas.Bool.{both_ways, lt-ltb}
-use Rattle.std.specs.Map.{set_value}
+-- Starts that get a version: each key of their range has it then.
+use Rattle.std.proofs.Common.{◌≡◌, refl, sym, ap, ap₂, ◌∙◌, subst, ℕ, zero, suc, ◌+◌, ◌-◌, ◌≤◌, inl, inr, List, [], ◌∷◌, ◌++◌, map, length, take, drop, length-append, Bool, true, false, cond, not, ◌&&◌, ◌||◌, nat_lt, arith}
+use Rattle.std.proofs.lemmas.Bool.{both_ways, and_parts}
+use Rattle.std.proofs.lemmas.List.Prefix.{front_rest}
+use Rattle.std.specs.Map.{keys_of, set_value}
 use Rattle.system_keys.specs.Keys.{Key, Range, is_key_below, holds}
 use Rattle.system_keys.proofs.KeyOrder.{not_below_itself, below_trans, up_to_trans, not_below_back}
-use Rattle.share_judge.specs.Steps.{Start, last_from, last_of_all, IsBefore, AreRising, HasStart, TellTheSame, is_same_key, is_listed, marked, is_written, AreOver, TakeOver}
+use Rattle.share_judge.specs.declared.step.Step.{Step}
+use Rattle.share_judge.specs.Steps.{Start, StepStart, last_from, last_of_all, IsBefore, AreRising, HasStart, TellTheSame, is_same_key, is_listed, keys_between, marked, AreOver, starts_now}
 use Rattle.share_judge.proofs.Starts.{same_key, below_differs, before_has}
 use Rattle.share_judge.proofs.Settled.{same_last, same_past}
+use Rattle.share_judge.proofs.Listed.{listed_passing, listed_there}
+use Rattle.share_judge.proofs.Readings.{read_rising, read_has, has_read}
 
 -- ---- marked starts
-
-marked_before : (test : Key → Bool) (version : ℕ) (key : Key) (ss : List Start) → IsBefore key ss → IsBefore key (marked test version ss)
-marked_before test version key [] all = tt
-marked_before test version key (s ∷ ss) all = (all.0, marked_before test version key ss all.1)
-
-pub marked_rising : (test : Key → Bool) (version : ℕ) (ss : List Start) → AreRising ss → AreRising (marked test version ss)
-marked_rising test version [] rising = tt
-marked_rising test version (s ∷ ss) rising = (marked_before test version s.0 ss rising.0, marked_rising test version ss rising.1)
 
 marked_has : (test : Key → Bool) (version : ℕ) (ss : List Start) (key : Key) → HasStart (marked test version ss) key → HasStart ss key
 marked_has test version [] key has = absurd has
@@ -158,43 +154,20 @@ pub record IsDecided (test : Key → Bool) (ss : List Start) : Type 0 where
   pub at : (key : Key) → last_from false (sampled test ss) key ≡ test key
   pub past : test (top [] ss) ≡ false
 
-pub decided_by : (over ss : List Start) → AreRising ss → last_of_all 0 over ≡ 0 → ((k : Key) → HasStart over k → HasStart ss k) → IsDecided (is_written over) ss
+-- the key has a version
+abbrev pub is_written : (starts : List Start) (key : Key) → Bool
+is_written starts key = nat_lt 0 (last_from 0 starts key)
+
+decided_by : (over ss : List Start) → AreRising ss → last_of_all 0 over ≡ 0 → ((k : Key) → HasStart over k → HasStart ss k) → IsDecided (is_written over) ss
 decided_by over ss rising none_over there =
     record {
       at = λ key. tested (nat_lt 0) (last_from 0 over) 0 ss key ∙ ap (nat_lt 0) (sampled_is 0 over ss key rising there);
       past = ap (nat_lt 0) (past_all 0 over (top [] ss) (λ k has. has_up_to_top [] ss k rising (there k has)) ∙ none_over);
     }
 
-sampled_either : (p q : Key → Bool) (b c : Bool) (ss : List Start) (key : Key) → last_from (b || c) (sampled (λ k. p k || q k) ss) key ≡ (last_from b (sampled p ss) key || last_from c (sampled q ss) key)
-sampled_either p q b c [] key = refl
-sampled_either p q b c (s ∷ ss) key = by (is_key_below key s.0) (sampled_either p q (p s.0) (q s.0) ss key)
-  where
-    by : (t : Bool) → last_from (p s.0 || q s.0) (sampled (λ k. p k || q k) ss) key ≡ (last_from (p s.0) (sampled p ss) key || last_from (q s.0) (sampled q ss) key)
-        → cond t (b || c) (last_from (p s.0 || q s.0) (sampled (λ k. p k || q k) ss) key) ≡ (cond t b (last_from (p s.0) (sampled p ss) key) || cond t c (last_from (q s.0) (sampled q ss) key))
-    by true rest = refl
-    by false rest = rest
-
-pub decided_either : (p q : Key → Bool) (ss : List Start) → IsDecided p ss → IsDecided q ss → IsDecided (λ k. p k || q k) ss
-decided_either p q ss first second =
-    record {
-      at = λ key. sampled_either p q false false ss key ∙ ap₂ (λ (b c : Bool). b || c) (first.at key) (second.at key);
-      past = ap₂ (λ (b c : Bool). b || c) first.past second.past;
-    }
-
-no_more_sampled : (ss : List Start) (key : Key) → last_from false (sampled (λ (k : Key). false) ss) key ≡ false
-no_more_sampled [] key = refl
-no_more_sampled (s ∷ ss) key = by (is_key_below key s.0) (no_more_sampled ss key)
-  where
-    by : (t : Bool) → last_from false (sampled (λ (k : Key). false) ss) key ≡ false → cond t false (last_from false (sampled (λ (k : Key). false) ss) key) ≡ false
-    by true rest = refl
-    by false rest = rest
-
-pub decided_none : (ss : List Start) → IsDecided (λ k. false) ss
-decided_none ss = record { at = no_more_sampled ss; past = refl }
-
 -- once the starts at the keys have a version, each key that passes the test has it
-pub takes_over : (test : Key → Bool) (ss : List Start) (keys : List Key) → AreRising ss → IsDecided test ss → ((k : Key) → HasStart ss k → is_listed keys k ≡ test k) → TakeOver test ss keys
-takes_over test ss keys rising decided listed version =
+takes_over : (test : Key → Bool) (ss : List Start) (keys : List Key) (version : ℕ) → AreRising ss → IsDecided test ss → ((k : Key) → HasStart ss k → is_listed keys k ≡ test k) → AreOver test version ss (marked (is_listed keys) version ss)
+takes_over test ss keys version rising decided listed =
     record {
       at = λ key. ap (λ (ts : List Start). last_from 0 ts key) same ∙ at_each key;
       past = λ none. ap (last_of_all 0) same ∙ past_each none;
@@ -213,34 +186,73 @@ takes_over test ss keys rising decided listed version =
         ∙ at_each key
         ∙ ap₂ (λ (b : Bool) (n : ℕ). cond b version n) decided.past (past_all 0 ss key (λ k has. has_up_to_top [] ss k rising has) ∙ none)
 
--- room is made, and then filled
-pub filled : (test : Key → Bool) (old mid new : List Start) (keys : List Key) (version : ℕ) → AreRising old → AreRising mid → AreRising new → TellTheSame old mid → TakeOver test mid keys → TellTheSame (marked (is_listed keys) version mid) new → AreOver test version old new
-filled test old mid new keys version rising rising_mid rising_new same take same_too =
-    let taken = take version in
-    record {
-      at = λ key.
-          same_last (marked (is_listed keys) version mid) new (marked_rising (is_listed keys) version mid rising_mid) rising_new same_too key
-          ∙ taken.at key
-          ∙ ap (λ n. cond (test key) version n) (same_last old mid rising rising_mid same key);
-      past = λ none. same_past (marked (is_listed keys) version mid) new same_too ∙ taken.past (same_past old mid same ∙ none);
-    }
-
 -- ---- one range
 
-pub range_written : (range : Range) (version : ℕ) (key : Key) → 0 < version → is_written ((range.begin, version) ∷ (range.end, 0) ∷ []) key ≡ holds range key
-range_written range version key above = by (is_key_below key range.begin) (is_key_below key range.end)
+-- a version from `begin` up to `end` alone
+abbrev pub range_starts : (begin end : Key) → List Start
+range_starts begin end = (begin, 1) ∷ (end, 0) ∷ []
+
+range_written : (begin end key : Key) → is_written (range_starts begin end) key ≡ holds (record { begin = begin; end = end }) key
+range_written begin end key = by (is_key_below key begin) (is_key_below key end)
   where
-    by : (a b : Bool) → nat_lt 0 (cond a 0 (cond b version 0)) ≡ (not a && b)
+    by : (a b : Bool) → nat_lt 0 (cond a 0 (cond b 1 0)) ≡ (not a && b)
     by true b = refl
-    by false true = lt-ltb 0 version above
+    by false true = refl
     by false false = refl
 
--- a map over another one that has a version from `begin` up to `end` alone
-pub over_keys : (begin end : Key) (range : Range) (version : ℕ) (old new : List Start) → begin ≡ range.begin → end ≡ range.end → AreOver (is_written ((begin, 1) ∷ (end, 0) ∷ [])) version old new → AreOver (holds range) version old new
-over_keys begin end range version old new low high over =
+range_decided : (begin end : Key) (ss : List Start) → AreRising ss → HasStart ss begin → HasStart ss end → IsDecided (holds (record { begin = begin; end = end })) ss
+range_decided begin end ss rising first second =
+    subst (λ (test : Key → Bool). IsDecided test ss) (λ i key. range_written begin end key i) (decided_by (range_starts begin end) ss rising refl there)
+  where
+    there : (k : Key) → HasStart (range_starts begin end) k → HasStart ss k
+    there k (inl is) = subst (HasStart ss) (sym is) first
+    there k (inr (inl is)) = subst (HasStart ss) (sym is) second
+    there k (inr (inr none)) = absurd none
+
+-- the starts of a range get a version, where there is one at both ends
+range_over : (begin end : Key) (es : List StepStart) (keys : List Key) (version : ℕ) → AreRising es → HasStart es begin → HasStart es end → keys ≡ keys_between begin end es → AreOver (holds (record { begin = begin; end = end })) version (starts_now es) (marked (is_listed keys) version (starts_now es))
+range_over begin end es keys version rising first second is =
+    takes_over (holds range) (starts_now es) keys version (read_rising read es rising) (range_decided begin end (starts_now es) (read_rising read es rising) (read_has read es begin first) (read_has read es end second))
+    (λ k has. ap (λ (ks : List Key). is_listed ks k) is ∙ listed_there (holds range) es k (has_read read es k has))
+  where
+    range : Range
+    range = record { begin = begin; end = end }
+
+    read : Step → ℕ
+    read step = step.version
+
+-- the keys between are in the range
+pub between_inside : (begin end : Key) (es : List StepStart) (key : Key) → is_listed (keys_between begin end es) key ≡ true → holds (record { begin = begin; end = end }) key ≡ true
+between_inside begin end es key listed = (and_parts (holds range key) (is_listed (keys_of es) key) (sym (listed_passing (holds range) es key) ∙ listed)).0
+  where
+    range : Range
+    range = record { begin = begin; end = end }
+
+-- what tells the same is written over alike
+pub same_over : (test : Key → Bool) (old mid new : List Start) (version : ℕ) → AreRising old → AreRising mid → TellTheSame old mid → AreOver test version mid new → AreOver test version old new
+same_over test old mid new version rising rising_mid same over =
     record {
-      at = λ key.
-          over.at key
-          ∙ ap (λ (b : Bool). cond b version (last_from 0 old key)) (ap₂ (λ (b e : Key). is_written ((b, 1) ∷ (e, 0) ∷ []) key) low high ∙ range_written range 1 key (omega arith));
-      past = over.past;
+      at = λ key. over.at key ∙ ap (λ n. cond (test key) version n) (same_last old mid rising rising_mid same key);
+      past = λ none. over.past (same_past old mid same ∙ none);
     }
+
+-- ---- the starts of a range, once they are listed
+
+take_whole : (keys : List Key) (n : ℕ) → length keys ≤ n → take n keys ≡ keys
+take_whole [] zero within = refl
+take_whole [] (suc n) within = refl
+take_whole (key ∷ keys) zero within = absurd (omega arith)
+take_whole (key ∷ keys) (suc n) within = ap (λ (ks : List Key). key ∷ ks) (take_whole keys n (omega arith))
+
+-- those listed last, as a slice
+slice_is : (before all more whole : List Key) (first : ℕ) → first ≡ length before → all ≡ before ++ more → whole ≡ all → take (length whole - first) (drop first whole) ≡ more
+slice_is before all more whole first size is same =
+    let rest : drop first whole ≡ more = ap (λ (n : ℕ). drop n whole) size ∙ front_rest whole before more (same ∙ is) in
+    let many : length whole ≡ length before + length more = ap (λ (keys : List Key). length keys) (same ∙ is) ∙ length-append before more in
+    ap (take (length whole - first)) rest ∙ take_whole more (length whole - first) (omega (arith, many, size))
+
+pub steps_over : (begin end : Key) (mid new : List StepStart) (before all whole : List Key) (first version : ℕ) → AreRising mid → HasStart mid begin → HasStart mid end → first ≡ length before → all ≡ before ++ keys_between begin end mid → whole ≡ all → starts_now new ≡ marked (is_listed (take (length whole - first) (drop first whole))) version (starts_now mid)
+    → AreOver (holds (record { begin = begin; end = end })) version (starts_now mid) (starts_now new)
+steps_over begin end mid new before all whole first version rising first_there second_there size is same now =
+    subst (AreOver (holds (record { begin = begin; end = end })) version (starts_now mid)) (sym now)
+    (range_over begin end mid (take (length whole - first) (drop first whole)) version rising first_there second_there (slice_is before all (keys_between begin end mid) whole first size is same))

@@ -43,7 +43,7 @@ edge_same dropped first (s ∷ ss) key rising = by (key_cmp key s.0) refl (edge_
         let same : version ≡ last_from s.1 ss key = ap (λ (b : Bool). cond b first (last_from s.1 ss key)) (not_below_back s.0 key (greater key s.0 is)) in
         behind dropped first s (insert_entry key_cmp ss key version) ss (ap (λ n. settled dropped s.1 (insert_entry key_cmp ss key n)) same ∙ rest)
 
-pub edge_there : (ss : List Start) (key : Key) (version : ℕ) → HasStart (insert_entry key_cmp ss key version) key
+pub edge_there : {X : Type 0} → (ss : List (Key × X)) (key : Key) (version : X) → HasStart (insert_entry key_cmp ss key version) key
 edge_there [] key version = inl refl
 edge_there (s ∷ ss) key version = by (key_cmp key s.0) refl (edge_there ss key version)
   where
@@ -53,7 +53,7 @@ edge_there (s ∷ ss) key version = by (key_cmp key s.0) refl (edge_there ss key
     by Equal is rest = inl (equal key s.0 is)
     by Greater is rest = inr rest
 
-pub still_there : (ss : List Start) (key : Key) (version : ℕ) (other : Key) → HasStart ss other → HasStart (insert_entry key_cmp ss key version) other
+pub still_there : {X : Type 0} → (ss : List (Key × X)) (key : Key) (version : X) (other : Key) → HasStart ss other → HasStart (insert_entry key_cmp ss key version) other
 still_there [] key version other has = absurd has
 still_there (s ∷ ss) key version other has = by (key_cmp key s.0) has (still_there ss key version other)
   where
@@ -65,7 +65,7 @@ still_there (s ∷ ss) key version other has = by (key_cmp key s.0) has (still_t
     by Greater (inl e) rest = inl e
     by Greater (inr there) rest = inr (rest there)
 
-pub no_other : (ss : List Start) (key : Key) (version : ℕ) (other : Key) → HasStart (insert_entry key_cmp ss key version) other → HasStart ss other ⊎ (other ≡ key)
+pub no_other : {X : Type 0} → (ss : List (Key × X)) (key : Key) (version : X) (other : Key) → HasStart (insert_entry key_cmp ss key version) other → HasStart ss other ⊎ (other ≡ key)
 no_other [] key version other (inl is) = inr is
 no_other [] key version other (inr none) = absurd none
 no_other (s ∷ ss) key version other has = by (key_cmp key s.0) has (no_other ss key version other)

@@ -58,39 +58,34 @@ above_differs a b h = by (is_same_key a b) refl
 
 -- ---- keys before all starts
 
-pub before_trans : (a b : Key) (ss : List Start) → is_key_below a b ≡ true → IsBefore b ss → IsBefore a ss
+pub before_trans : {X : Type 0} → (a b : Key) (ss : List (Key × X)) → is_key_below a b ≡ true → IsBefore b ss → IsBefore a ss
 before_trans a b [] h all = tt
 before_trans a b (s ∷ ss) h all = (below_trans a b s.0 h all.0, before_trans a b ss h all.1)
 
-pub up_to_before : (a b : Key) (ss : List Start) → is_key_below b a ≡ false → IsBefore b ss → IsBefore a ss
+pub up_to_before : {X : Type 0} → (a b : Key) (ss : List (Key × X)) → is_key_below b a ≡ false → IsBefore b ss → IsBefore a ss
 up_to_before a b [] h all = tt
 up_to_before a b (s ∷ ss) h all = (up_to_below a b s.0 h all.0, up_to_before a b ss h all.1)
 
-pub before_has : (a k : Key) (ss : List Start) → IsBefore a ss → HasStart ss k → is_key_below a k ≡ true
+pub before_has : {X : Type 0} → (a k : Key) (ss : List (Key × X)) → IsBefore a ss → HasStart ss k → is_key_below a k ≡ true
 before_has a k [] all has = absurd has
 before_has a k (s ∷ ss) all (inl e) = rw e all.0
 before_has a k (s ∷ ss) all (inr has) = before_has a k ss all.1 has
 
--- before the first start the first thing stands
-pub first_before : {X : Type 0} (d : X) (ss : List (Key × X)) (k : Key) → ((s : Key × X) (rest : List (Key × X)) → ss ≡ s ∷ rest → is_key_below k s.0 ≡ true) → last_from d ss k ≡ d
-first_before d [] k h = refl
-first_before d (s ∷ ss) k h = rw (h s ss refl) refl
-
-pub none_before : (d : ℕ) (ss : List Start) (k : Key) → IsBefore k ss → last_from d ss k ≡ d
+pub none_before : {X : Type 0} → (d : X) (ss : List (Key × X)) (k : Key) → IsBefore k ss → last_from d ss k ≡ d
 none_before d [] k all = refl
 none_before d (s ∷ ss) k all = ap (λ (b : Bool). cond b d (last_from s.1 ss k)) all.0
 
 -- ---- the start that decides
 
 -- the starts up to a key
-abbrev pub starts_up_to : Key → List Start → List Start
-starts_up_to k ss = filter (λ (s : Start). not (is_key_below k s.0)) ss
+abbrev pub starts_up_to : {X : Type 0} → Key → List (Key × X) → List (Key × X)
+starts_up_to {X} k ss = filter (λ (s : Key × X). not (is_key_below k s.0)) ss
 
-none_up_to : (k : Key) (ss : List Start) → IsBefore k ss → starts_up_to k ss ≡ []
+none_up_to : {X : Type 0} → (k : Key) (ss : List (Key × X)) → IsBefore k ss → starts_up_to k ss ≡ []
 none_up_to k [] all = refl
 none_up_to k (s ∷ ss) all = rw (all.0) (none_up_to k ss all.1)
 
-pub last_is : (d : ℕ) (ss : List Start) (k : Key) → AreRising ss → last_from d ss k ≡ last_of_all d (starts_up_to k ss)
+pub last_is : {X : Type 0} → (d : X) (ss : List (Key × X)) (k : Key) → AreRising ss → last_from d ss k ≡ last_of_all d (starts_up_to k ss)
 last_is d [] k rising = refl
 last_is d (s ∷ ss) k rising = by (is_key_below k s.0) refl (last_is s.1 ss k rising.1)
   where
@@ -115,6 +110,6 @@ before_is d (s ∷ ss) k rising = by (is_key_below s.0 k) refl (before_is s.1 ss
     by true e rest = rest
     by false e rest = sym (ap (last_of_all d) (none_below k s ss e rising.0))
 
-pub last_of_back : (d : ℕ) (front : List Start) (s : Start) → last_of_all d (front ++ s ∷ []) ≡ s.1
+pub last_of_back : {X : Type 0} → (d : X) (front : List (Key × X)) (s : Key × X) → last_of_all d (front ++ s ∷ []) ≡ s.1
 last_of_back d [] s = refl
 last_of_back d (t ∷ front) s = last_of_back t.1 front s

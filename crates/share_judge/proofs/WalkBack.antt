@@ -74,15 +74,15 @@ inside_below bound range (s ∷ ss) = by (is_key_below s.0 range.begin) refl (is
 
 -- ---- the last start that is left
 
-pub last_above : (key : Key) (front : List Start) (s : Start) → IsBefore key (front ++ s ∷ []) → is_key_below key s.0 ≡ true
+pub last_above : {X : Type 0} → (key : Key) (front : List (Key × X)) (s : Key × X) → IsBefore key (front ++ s ∷ []) → is_key_below key s.0 ≡ true
 last_above key [] s all = all.0
 last_above key (t ∷ front) s all = last_above key front s all.1
 
-front_before : (key : Key) (front : List Start) (s : Start) → IsBefore key (front ++ s ∷ []) → IsBefore key front
+front_before : {X : Type 0} → (key : Key) (front : List (Key × X)) (s : Key × X) → IsBefore key (front ++ s ∷ []) → IsBefore key front
 front_before key [] s all = tt
 front_before key (t ∷ front) s all = (all.0, front_before key front s all.1)
 
-pub front_rising : (front : List Start) (s : Start) → AreRising (front ++ s ∷ []) → AreRising front
+pub front_rising : {X : Type 0} → (front : List (Key × X)) (s : Key × X) → AreRising (front ++ s ∷ []) → AreRising front
 front_rising [] s rising = tt
 front_rising (t ∷ front) s rising = (front_before t.0 front s rising.0, front_rising front s rising.1)
 
@@ -95,15 +95,15 @@ last_below end [] s all = all.0
 last_below end (t ∷ front) s all = last_below end front s all.1
 
 -- above a key it does not count there
-pub last_after : (first : ℕ) (front : List Start) (s : Start) (key : Key) → is_key_below key s.0 ≡ true → last_from first (front ++ s ∷ []) key ≡ last_from first front key
+pub last_after : {X : Type 0} → (first : X) (front : List (Key × X)) (s : Key × X) (key : Key) → is_key_below key s.0 ≡ true → last_from first (front ++ s ∷ []) key ≡ last_from first front key
 last_after first [] s key after = ap (λ (b : Bool). cond b first s.1) after
 last_after first (t ∷ front) s key after = ap (λ n. cond (is_key_below key t.0) first n) (last_after t.1 front s key after)
 
-front_up_to : (front : List Start) (t s : Start) (key : Key) → IsBefore t.0 (front ++ s ∷ []) → is_key_below key s.0 ≡ false → is_key_below key t.0 ≡ false
+front_up_to : {X : Type 0} → (front : List (Key × X)) (t s : Key × X) (key : Key) → IsBefore t.0 (front ++ s ∷ []) → is_key_below key s.0 ≡ false → is_key_below key t.0 ≡ false
 front_up_to front t s key all up_to = up_to_trans t.0 s.0 key (not_below_back t.0 s.0 (last_above t.0 front s all)) up_to
 
 -- up to the key it decides there
-pub last_decides : (first : ℕ) (front : List Start) (s : Start) (key : Key) → AreRising (front ++ s ∷ []) → is_key_below key s.0 ≡ false → last_from first (front ++ s ∷ []) key ≡ s.1
+pub last_decides : {X : Type 0} → (first : X) (front : List (Key × X)) (s : Key × X) (key : Key) → AreRising (front ++ s ∷ []) → is_key_below key s.0 ≡ false → last_from first (front ++ s ∷ []) key ≡ s.1
 last_decides first [] s key rising up_to = ap (λ (b : Bool). cond b first s.1) up_to
 last_decides first (t ∷ front) s key rising up_to =
     ap (λ (b : Bool). cond b first (last_from t.1 (front ++ s ∷ []) key)) (front_up_to front t s key rising.0 up_to)

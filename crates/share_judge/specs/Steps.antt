@@ -1,7 +1,6 @@
 -- Steps over all keys: each start gives its version to the keys from it on, up to the next start.
 use Rattle.std.specs.Prelude.{◌≡◌, ℕ, ◌+◌, ◌<◌, List, [], ◌∷◌, map, filter, Bool, true, false}
-use Rattle.std.specs.Prelude.{not, ◌&&◌, nat_eq, nat_lt, cond, IsTrue, ◌⊎◌, Option, None, Some}
-use Rattle.std.specs.Prelude.{◌||◌}
+use Rattle.std.specs.Prelude.{not, ◌&&◌, ◌||◌, nat_eq, nat_lt, cond, IsTrue, ◌⊎◌}
 use Rattle.std.specs.List.{list_any}
 use Rattle.std.specs.Map.{keys_of}
 use Rattle.std.specs.Ordering.{nat_cmp, is_eq}
@@ -10,6 +9,7 @@ use Rattle.system_keys.specs.Keys.{Key, Range, is_key_below, holds}
 use Rattle.system_keys.specs.Limits.{key_space_end}
 use Rattle.model.specs.Numbers.{Version}
 use Rattle.model.specs.WriteHistories.{Write, unless_forgotten}
+use Rattle.share_judge.specs.declared.step.Step.{Step}
 
 -- a start: a key, and the version from there on
 abbrev pub Start : Type 0
@@ -26,7 +26,7 @@ last_before first [] key = first
 last_before first (s ∷ starts) key = cond (is_key_below s.0 key) (last_before s.1 starts key) first
 
 -- what stands past the last start
-abbrev pub last_of_all : (first : Version) (starts : List Start) → Version
+abbrev pub last_of_all : {X : Type 0} → (first : X) (starts : List (Key × X)) → X
 last_of_all first [] = first
 last_of_all first (s ∷ starts) = last_of_all s.1 starts
 
@@ -55,45 +55,34 @@ abbrev pub kept_writes : (dropped : Version) (starts : List Start) → List Writ
 kept_writes dropped starts = writes_of_starts (settled dropped 0 starts)
 
 -- the key is below each start
-abbrev pub IsBefore : (key : Key) (starts : List Start) → Type 0
+abbrev pub IsBefore : {X : Type 0} → (key : Key) (starts : List (Key × X)) → Type 0
 IsBefore key [] = Unit {0}
 IsBefore key (s ∷ starts) = (is_key_below key s.0 ≡ true) × IsBefore key starts
 
 -- the keys of the starts rise
-abbrev pub AreRising : (starts : List Start) → Type 0
+abbrev pub AreRising : {X : Type 0} → (starts : List (Key × X)) → Type 0
 AreRising [] = Unit {0}
 AreRising (s ∷ starts) = IsBefore s.0 starts × AreRising starts
 
 -- there is a start at the key
-abbrev pub HasStart : (starts : List Start) (key : Key) → Type 0
+abbrev pub HasStart : {X : Type 0} → (starts : List (Key × X)) (key : Key) → Type 0
 HasStart [] key = ⊥
 HasStart (s ∷ starts) key = (key ≡ s.0) ⊎ HasStart starts key
 
--- the key has the version, and if this is said, there is a start at it
-abbrev pub IsEdge : (starts : List Start) (key : Key) (version : Version) (is_start : Bool) → Type 0
-IsEdge starts key version is_start =
-    (version ≡ last_from 0 starts key) × (IsTrue is_start → HasStart starts key)
-
 -- no start lies between the two keys
-abbrev pub IsFree : (begin end : Key) (starts : List Start) → Type 0
+abbrev pub IsFree : {X : Type 0} → (begin end : Key) (starts : List (Key × X)) → Type 0
 IsFree begin end [] = Unit {0}
 IsFree begin end (s ∷ starts) =
     (is_key_below s.0 end ≡ true → is_key_below begin s.0 ≡ false) × IsFree begin end starts
 
--- if there is a start at the key, it has the version
-abbrev pub HasVersion : (starts : List Start) (key : Key) (version : Version) → Type 0
-HasVersion starts key version = HasStart starts key → last_from 0 starts key ≡ version
+-- the keys of the starts from `begin` up to `end`
+abbrev pub keys_between : {X : Type 0} → (begin end : Key) (starts : List (Key × X)) → List Key
+keys_between {X} begin end starts =
+    keys_of (filter (λ (s : Key × X). holds (record { begin = begin; end = end }) s.0) starts)
 
 -- the two give each key the same version, also where versions up to a bound count as none
 abbrev pub TellTheSame : (old new : List Start) → Type 0
 TellTheSame old new = (dropped : Version) → settled dropped 0 new ≡ settled dropped 0 old
-
--- there are the same starts, and maybe one at the key, and no key has another version
-pub record GainsStart (key : Key) (old new : List Start) : Type 0 where
-  pub same : TellTheSame old new
-  pub rising : AreRising old → AreRising new
-  pub others : (other : Key) → HasStart old other → HasStart new other
-  pub no_more : (other : Key) → HasStart new other → HasStart old other ⊎ (other ≡ key)
 
 -- the two keys are the same
 abbrev pub is_same_key : (key other : Key) → Bool
@@ -103,13 +92,14 @@ is_same_key key other = is_eq (slice_cmp nat_cmp key other)
 abbrev pub is_listed : (keys : List Key) (key : Key) → Bool
 is_listed keys key = list_any (λ k. is_same_key k key) keys
 
+-- each key of the list has the version
+abbrev pub HaveVersion : (version : Version) (starts : List Start) (keys : List Key) → Type 0
+HaveVersion version starts keys =
+    (key : Key) → is_listed keys key ≡ true → last_from 0 starts key ≡ version
+
 -- the starts, with the version at those whose keys pass the test
 abbrev pub marked : (test : Key → Bool) (version : Version) (starts : List Start) → List Start
 marked test version starts = map (λ (s : Start). (s.0, cond (test s.0) version s.1)) starts
-
--- the key has a version
-abbrev pub is_written : (starts : List Start) (key : Key) → Bool
-is_written starts key = nat_lt 0 (last_from 0 starts key)
 
 -- each key that passes the test has the version, each other one its own, and past the last start
 -- there is still none
@@ -119,47 +109,53 @@ pub record AreOver
       → last_from 0 new key ≡ cond (test key) version (last_from 0 old key)
   pub past : last_of_all 0 old ≡ 0 → last_of_all 0 new ≡ 0
 
--- once the starts at the keys have a version, each key that passes the test has it
-abbrev pub TakeOver : (test : Key → Bool) (starts : List Start) (keys : List Key) → Type 0
-TakeOver test starts keys =
-    (version : Version) → AreOver test version starts (marked (is_listed keys) version starts)
-
 -- the key is in one of the ranges
 abbrev pub is_in_some : (ranges : List Range) (key : Key) → Bool
 is_in_some ranges key = list_any (λ (range : Range). holds range key) ranges
 
--- the key is one of the two ends of one of the ranges
-abbrev pub IsEnd : (ranges : List Range) (key : Key) → Type 0
-IsEnd [] key = ⊥
-IsEnd (range ∷ ranges) key = (key ≡ range.begin) ⊎ ((key ≡ range.end) ⊎ IsEnd ranges key)
+-- ---- the steps of a map, which know what was before a share
 
--- the key is written in `over`, or in one of the ranges
-abbrev pub is_written_in : (over : List Start) (ranges : List Range) (key : Key) → Bool
-is_written_in over ranges key = is_in_some ranges key || is_written over key
+-- a start of a map
+abbrev pub StepStart : Type 0
+StepStart = Key × Step
 
--- ---- what is listed
+-- what stands before the first start
+abbrev pub no_step : Step
+no_step = record { version = 0; before = 0 }
 
--- the key at which a start of a version begins a range, or none where it ends one
-abbrev pub begin_at : (s : Start) → Option Key
-begin_at s = cond (nat_eq s.1 0) None (Some s.0)
+-- the version before the share of this version
+abbrev pub version_before : (share : Version) (step : Step) → Version
+version_before share step = cond (nat_eq step.version share) step.before step.version
 
--- the keys of the starts from `begin` up to `end`, and none without a begin
-abbrev pub keys_between : (begin : Option Key) (end : Key) (starts : List Start) → List Key
-keys_between None end starts = []
-keys_between (Some begin) end starts =
-    keys_of (filter (λ (s : Start). holds (record { begin = begin; end = end }) s.0) starts)
+-- the starts, each with what is read from its step
+abbrev pub starts_by : (read : Step → Version) (steps : List StepStart) → List Start
+starts_by read steps = map (λ (s : StepStart). (s.0, read s.1)) steps
 
--- the key is the begin, if there is one
-abbrev pub IsBegin : (begin : Option Key) (key : Key) → Type 0
-IsBegin None key = ⊥
-IsBegin (Some begin) key = key ≡ begin
+-- the starts with their versions
+abbrev pub starts_now : (steps : List StepStart) → List Start
+starts_now steps = starts_by (λ (step : Step). step.version) steps
 
--- the keys of the starts from `begin` up to `end` are listed, with those that were
-abbrev pub ListsMore :
-    (begin : Option Key) (end : Key) (starts : List Start) (old new : List Key) → Type 0
-ListsMore begin end starts old new =
-    (key : Key)
-    → is_listed new key ≡ (is_listed old key || is_listed (keys_between begin end starts) key)
+-- the starts with their versions before the share of this version
+abbrev pub starts_before : (share : Version) (steps : List StepStart) → List Start
+starts_before share steps = starts_by (version_before share) steps
+
+-- the key has the step, and if this is said, there is a start at it
+abbrev pub IsEdge : (steps : List StepStart) (key : Key) (step : Step) (is_start : Bool) → Type 0
+IsEdge steps key step is_start =
+    (step ≡ last_from no_step steps key) × (IsTrue is_start → HasStart steps key)
+
+-- no key has another version, now or before a share
+pub record AreUnchanged (old new : List StepStart) : Type 0 where
+  pub now : TellTheSame (starts_now old) (starts_now new)
+  pub before : (share : Version)
+      → TellTheSame (starts_before share old) (starts_before share new)
+
+-- there are the same starts, and maybe one at the key, and no key has another version
+pub record GainsStart (key : Key) (old new : List StepStart) : Type 0 where
+  pub same : AreUnchanged old new
+  pub rising : AreRising old → AreRising new
+  pub others : (other : Key) → HasStart old other → HasStart new other
+  pub no_more : (other : Key) → HasStart new other → HasStart old other ⊎ (other ≡ key)
 
 -- ---- what is reached
 

@@ -1,16 +1,16 @@
 //! Verdicts on parts, by the writes of what was committed before them.
 
-ghost use Rattle.std.specs.Prelude.{◌≡◌, ◌<◌, [], IfOk, OnOk, IsTrue, max};
+ghost use Rattle.std.specs.Prelude.{◌≡◌, ◌<◌, IfOk, OnOk};
 ghost use Rattle.std.specs.List.{list_any};
-ghost use Rattle.system_keys.specs.Keys.{Key, Range, is_key_below};
+ghost use Rattle.system_keys.specs.Keys.{Key};
 ghost use Rattle.model.specs.Verdicts.{JudgedPart, is_too_old};
-ghost use Rattle.share_judge.specs.Steps.{AreRising, TellTheSame, AreOver, last_from};
-ghost use Rattle.share_judge.specs.Steps.{last_of_all, is_in_some};
-ghost use Rattle.share_judge.specs.Judged.{is_read_overwritten, verdict_by_steps};
-ghost use Rattle.share_judge.specs.Judged.{committed_writes, are_apart, IsJudged, IsPlanned};
+ghost use Rattle.share_judge.specs.Steps.{AreRising, TellTheSame, AreOver, HaveVersion, last_from};
+ghost use Rattle.share_judge.specs.Steps.{last_of_all, is_in_some, is_reached};
+ghost use Rattle.share_judge.specs.Steps.{starts_now, starts_before};
+ghost use Rattle.share_judge.specs.Judged.{bound_of, verdict_by_steps, committed_writes, IsJudged};
 
 use crate::step_key::StepKey;
-use crate::step_map::{Room, StepMap, precedes};
+use crate::step_map::StepMap;
 use crate::verdicts::{Verdicts, copy_verdicts};
 use model::{Part, Verdict, Version};
 use system_keys::{Items, KeyRange, OutOfMemory};
@@ -20,100 +20,80 @@ use system_keys::{Items, KeyRange, OutOfMemory};
 pub(crate) struct Judging {
     /// How far, in versions, a snapshot may lie before the version.
     pub(crate) window: u64,
-    /// Kept versions up to this one count as none.
+    /// Versions up to this one count as none.
     pub(crate) dropped: Version,
-    /// The version of the share, above those that are kept.
+    /// The version of the share, above those of the shares before.
     pub(crate) version: Version,
 }
 
-/// Judges the parts of a share, and makes room for their writes among the `kept` ones, of which none
-/// is changed. Returns the verdicts, and the starts that the writes overwrite.
-pub(crate) fn judge_with_room(
-    kept: &mut StepMap,
-    judging: Judging,
-    parts: &[Part],
-) -> Result<(Vec<Verdict>, Room), OutOfMemory>
-    requires rising { AreRising kept.old }
-    requires past { last_of_all 0 kept.old ≡ 0 }
-    requires below { (key : Key) → last_from 0 kept.old key < judging.version }
-    ensures same { TellTheSame kept.old kept.new }
-    ensures rising { AreRising kept.new }
-    ensures planned { IfOk result (λ made. IsPlanned judging.window judging.dropped judging.version
-        kept.old kept.new parts.now made.0.items made.1) }
-{
-    let (verdicts, own, last_writes) = judge_parts(kept, judging, parts)?;
-    let room = kept.make_room(&own, last_writes)?;
-    Ok((verdicts, room))
-}
-
-/// Judges the parts of a share as [`judge_with_room`] does. Returns the verdicts, a copy of them, and
-/// the starts that the writes overwrite.
+/// Judges the parts of a share as [`judge_parts`] does. Returns the verdicts, a copy of them, and
+/// the starts that were listed.
 pub(crate) fn judge_with_copy(
-    kept: &mut StepMap,
+    steps: &mut StepMap,
     judging: Judging,
     parts: &[Part],
-) -> Result<(Verdicts, Verdicts, Room), OutOfMemory>
-    requires rising { AreRising kept.old }
-    requires past { last_of_all 0 kept.old ≡ 0 }
-    requires below { (key : Key) → last_from 0 kept.old key < judging.version }
-    ensures same { TellTheSame kept.old kept.new }
-    ensures rising { AreRising kept.new }
-    ensures planned { IfOk result (λ made. IsPlanned judging.window judging.dropped judging.version
-        kept.old kept.new parts.now made.0 made.2) }
+) -> Result<(Verdicts, Verdicts, Vec<StepKey>), OutOfMemory>
+    requires rising { AreRising steps.old }
+    requires past { last_of_all 0 (starts_now steps.old) ≡ 0 }
+    requires below { (key : Key) → last_from 0 (starts_now steps.old) key < judging.version }
+    requires dropped { judging.dropped < judging.version }
+    ensures before { TellTheSame (starts_before judging.version steps.old)
+        (starts_before judging.version steps.new) }
+    ensures rising { AreRising steps.new }
+    ensures judged { IfOk result (λ made. IsJudged judging.window judging.dropped judging.version
+        (starts_now steps.old) parts.now made.0 (starts_now steps.new)) }
     ensures copy { IfOk result (λ made. made.1 ≡ made.0) }
+    ensures listed { IfOk result
+        (λ made. HaveVersion judging.version (starts_now steps.new) made.2.items) }
 {
-    let (verdicts, room) = judge_with_room(kept, judging, parts)?;
+    let (verdicts, listed) = judge_parts(steps, judging, parts)?;
     let verdicts = Items::from(verdicts);
     let copy = copy_verdicts(&verdicts)?;
-    Ok((verdicts, copy, room))
+    Ok((verdicts, copy, listed))
 }
 
-/// Judges the parts of a share, one after another, and returns their verdicts and the writes of
-/// those that are committed: those of the last part as ranges, since no part is judged by them, if
-/// these are apart, and the others as a map. `kept` are the writes of the shares before.
-fn judge_parts<'a>(
-    kept: &StepMap,
+/// Judges the parts of a share, one after another, and gives each key that a committed one writes
+/// the version. Returns the verdicts, and the starts that were listed, as [`StepMap::overwrite`] does
+/// it. What was before the share stands, so that [`StepMap::take_back`] gives it back.
+pub(crate) fn judge_parts(
+    steps: &mut StepMap,
     judging: Judging,
-    parts: &'a [Part],
-) -> Result<(Vec<Verdict>, StepMap, &'a [KeyRange]), OutOfMemory>
-    requires rising { AreRising kept.now }
-    requires past { last_of_all 0 kept.now ≡ 0 }
-    requires below { (key : Key) → last_from 0 kept.now key < judging.version }
-    ensures { IfOk result (λ made. IsJudged judging.window judging.dropped judging.version kept.now
-        parts.now made.0.items made.1 made.2.now) }
+    parts: &[Part],
+) -> Result<(Vec<Verdict>, Vec<StepKey>), OutOfMemory>
+    requires rising { AreRising steps.old }
+    requires past { last_of_all 0 (starts_now steps.old) ≡ 0 }
+    requires below { (key : Key) → last_from 0 (starts_now steps.old) key < judging.version }
+    requires dropped { judging.dropped < judging.version }
+    ensures before { TellTheSame (starts_before judging.version steps.old)
+        (starts_before judging.version steps.new) }
+    ensures rising { AreRising steps.new }
+    ensures judged { IfOk result (λ made. IsJudged judging.window judging.dropped judging.version
+        (starts_now steps.old) parts.now made.0.items (starts_now steps.new)) }
+    ensures listed { IfOk result
+        (λ made. HaveVersion judging.version (starts_now steps.new) made.1.items) }
 {
-    let alloc = kept.alloc();
+    let alloc = steps.alloc();
     let mut verdicts = Vec::with_capacity(alloc, parts.len())?;
-    let mut own = StepMap::new(alloc);
-    let mut last_writes: &[KeyRange] = &[];
+    let mut listed = Vec::new(alloc);
     for part in parts {
-        write_ranges(&mut own, judging.version, last_writes)?;
-        let verdict = verdict_on(kept, &own, judging, part)?;
-        last_writes = committed_writes(verdict, part);
+        let verdict = verdict_on(steps, judging, part)?;
+        let writes = committed_writes(verdict, part);
+        write_ranges(steps, judging.version, writes, &mut listed)?;
         verdicts.push(verdict)?;
     }
-    if are_apart(last_writes) {
-        return Ok((verdicts, own, last_writes));
-    }
-    write_ranges(&mut own, judging.version, last_writes)?;
-    Ok((verdicts, own, &[]))
+    Ok((verdicts, listed))
 }
 
-/// The verdict on a part, where `kept` are the writes of the shares before, and `own` those of the
-/// parts before it in its share.
-fn verdict_on(
-    kept: &StepMap,
-    own: &StepMap,
-    judging: Judging,
-    part: &Part,
-) -> Result<Verdict, OutOfMemory>
+/// The verdict on a part, where the steps have the writes of the shares before, and of the parts
+/// before it in its share.
+fn verdict_on(steps: &StepMap, judging: Judging, part: &Part) -> Result<Verdict, OutOfMemory>
     ensures { let t : JudgedPart = record { version = judging.version; part = part.now } in
         IfOk result (λ verdict. verdict
-        ≡ verdict_by_steps judging.window judging.dropped kept.now own.now t) }
+        ≡ verdict_by_steps judging.window judging.dropped (starts_now steps.now) t) }
 {
     if is_too_old(judging.window, judging.version, part) {
         Ok(Verdict::TooOld)
-    } else if has_overwritten_read(kept, own, judging.dropped, part)? {
+    } else if has_overwritten_read(steps, judging, part)? {
         Ok(Verdict::Conflict)
     } else {
         Ok(Verdict::Committed)
@@ -131,54 +111,39 @@ fn is_too_old(window: u64, version: Version, part: &Part) -> bool
 
 /// Whether some read of the part has a key that was written after its snapshot or earlier in its
 /// share.
-fn has_overwritten_read(
-    kept: &StepMap,
-    own: &StepMap,
-    dropped: Version,
-    part: &Part,
-) -> Result<bool, OutOfMemory>
-    ensures { let bound = max dropped part.now.snapshot in IfOk result
-        (λ answer. answer ≡ list_any (is_read_overwritten bound kept.now own.now) part.now.reads) }
+fn has_overwritten_read(steps: &StepMap, judging: Judging, part: &Part) -> Result<bool, OutOfMemory>
+    ensures { let t : JudgedPart = record { version = judging.version; part = part.now } in
+        let bound = bound_of judging.dropped t in IfOk result
+        (λ answer. answer ≡ list_any (is_reached bound (starts_now steps.now)) part.now.reads) }
 {
-    let bound = dropped.max(part.snapshot);
+    let bound = bound_of(judging, part);
     let reads = part.reads.as_slice();
     for read in reads {
-        if is_overwritten(kept, own, bound, read)? {
+        if is_reached(steps, bound, read)? {
             return Ok(true);
         }
     }
     Ok(false)
 }
 
-/// Whether some key of the read has a kept version above the bound, or was written in the share.
-fn is_overwritten(
-    kept: &StepMap,
-    own: &StepMap,
-    bound: Version,
-    read: &KeyRange,
-) -> Result<bool, OutOfMemory>
-    ensures { IfOk result
-        (λ answer. answer ≡ is_read_overwritten bound kept.now own.now read.now) }
+/// Versions above this one count against the part: those above its snapshot that were not dropped,
+/// and that of its share, which only parts before it have written.
+fn bound_of(judging: Judging, part: &Part) -> Version
+    ensures { let t : JudgedPart = record { version = judging.version; part = part.now } in
+        result ≡ bound_of judging.dropped t }
 {
-    let begin = StepKey::new(kept.alloc(), read.begin())?;
-    let end = StepKey::new(kept.alloc(), read.end())?;
-    Ok(are_overwritten(kept, own, bound, &begin, &end))
+    let newest = judging.dropped.max(part.snapshot);
+    newest.min(judging.version.saturating_sub(1))
 }
 
-/// Whether some key from `begin` up to `end` has a kept version above the bound, or was written in
-/// the share.
-fn are_overwritten(
-    kept: &StepMap,
-    own: &StepMap,
-    bound: Version,
-    begin: &StepKey,
-    end: &StepKey,
-) -> bool
-    requires { IsTrue (is_key_below begin.now end.now) }
-    ensures { let range : Range = record { begin = begin.now; end = end.now } in
-        result ≡ is_read_overwritten bound kept.now own.now range }
+/// Whether some key of the read has a version above the bound.
+fn is_reached(steps: &StepMap, bound: Version, read: &KeyRange) -> Result<bool, OutOfMemory>
+    ensures { IfOk result
+        (λ answer. answer ≡ is_reached bound (starts_now steps.now) read.now) }
 {
-    kept.reaches(begin, end, bound) || own.reaches(begin, end, 0)
+    let begin = StepKey::new(steps.alloc(), read.begin())?;
+    let end = StepKey::new(steps.alloc(), read.end())?;
+    Ok(steps.reaches(&begin, &end, bound))
 }
 
 /// The writes of a part, if its verdict is Committed.
@@ -191,29 +156,23 @@ fn committed_writes(verdict: Verdict, part: &Part) -> &[KeyRange]
     }
 }
 
-/// Whether each range begins at or after the end of the one before, so that no key is in two of them.
-fn are_apart(ranges: &[KeyRange]) -> bool
-    ensures { result ≡ are_apart [] ranges.now }
-{
-    let mut end: &[u8] = &[];
-    for range in ranges {
-        if precedes(range.begin(), end) {
-            return false;
-        }
-        end = range.end();
-    }
-    true
-}
-
-/// Gives each key of the ranges the version.
-fn write_ranges(own: &mut StepMap, version: Version, ranges: &[KeyRange]) -> Result<(), OutOfMemory>
-    requires above { 0 < version }
-    requires rising { AreRising own.old }
-    ensures over { OnOk result (AreOver (is_in_some ranges.now) version own.old own.new) }
-    ensures rising { AreRising own.new }
+/// Gives each key of the ranges the version, and lists starts as [`StepMap::overwrite`] does it.
+fn write_ranges(
+    steps: &mut StepMap,
+    version: Version,
+    ranges: &[KeyRange],
+    listed: &mut Vec<StepKey>,
+) -> Result<(), OutOfMemory>
+    requires { AreRising steps.old }
+    ensures over { OnOk result (AreOver (is_in_some ranges.now) version (starts_now steps.old)
+        (starts_now steps.new)) }
+    ensures before { TellTheSame (starts_before version steps.old) (starts_before version steps.new) }
+    ensures rising { AreRising steps.new }
+    ensures listed { OnOk result (HaveVersion version (starts_now steps.old) listed.old.items
+        → HaveVersion version (starts_now steps.new) listed.new.items) }
 {
     for range in ranges {
-        own.overwrite(range, version)?;
+        steps.overwrite(range, version, listed)?;
     }
     Ok(())
 }

@@ -5,7 +5,7 @@ ghost use Rattle.model.specs.WriteHistories.{ShareAt, StandsForShares, last_at};
 ghost use Rattle.share_judge.specs.Answers.{AreVerdicts, GainsShare, Forgets, IsCount, IfNotKept};
 ghost use Rattle.share_judge.specs.Answers.{IfOutOfMemory};
 
-use crate::judging::{Judging, judge_with_copy, judge_with_room};
+use crate::judging::{Judging, judge_parts, judge_with_copy};
 use crate::not_judged::NotJudged;
 use crate::step_map::StepMap;
 use crate::verdicts::Verdicts;
@@ -34,7 +34,7 @@ pub struct WriteHistory {
 
 impl Model for WriteHistory {
     ghost use Rattle.model.specs.WriteHistories.{WriteHistoryView};
-    ghost use Rattle.share_judge.specs.Steps.{kept_writes};
+    ghost use Rattle.share_judge.specs.Steps.{kept_writes, starts_now};
     ghost use Rattle.share_judge.specs.Kept.{AreKept};
 
     ghost Value = { WriteHistoryView };
@@ -42,10 +42,11 @@ impl Model for WriteHistory {
     ghost view = { λ history. record {
       window = history.window;
       last = history.last;
-      writes = kept_writes history.dropped history.steps;
+      writes = kept_writes history.dropped (starts_now history.steps);
     } };
 
-    ghost invariant = { λ history. AreKept history.last history.dropped history.steps };
+    ghost invariant = { λ history.
+        AreKept history.last history.dropped (starts_now history.steps) };
 }
 
 impl WriteHistory {
@@ -95,8 +96,11 @@ impl WriteHistory {
             dropped: self.dropped,
             version,
         };
-        let (verdicts, room) = judge_with_room(&mut self.steps, judging, share.parts())?;
-        self.steps.fill(&room, version);
+        let Ok((verdicts, listed)) = judge_parts(&mut self.steps, judging, share.parts()) else {
+            self.steps.take_back(version);
+            return Err(OutOfMemory);
+        };
+        self.steps.take_out_repeated(&listed, version);
         self.last = version;
         Ok(Items::from(verdicts))
     }
@@ -135,17 +139,21 @@ impl WriteHistory {
             dropped: self.dropped,
             version,
         };
-        let Ok((verdicts, copy, room)) = judge_with_copy(&mut self.steps, judging, share.parts())
+        let Ok((verdicts, copy, listed)) = judge_with_copy(&mut self.steps, judging, share.parts())
         else {
+            self.steps.take_back(version);
             return Err(NotJudged::OutOfMemory(keep));
         };
         match keep(copy) {
             Ok(kept) => {
-                self.steps.fill(&room, version);
+                self.steps.take_out_repeated(&listed, version);
                 self.last = version;
                 Ok((verdicts, kept))
             }
-            Err(reason) => Err(NotJudged::NotKept(reason)),
+            Err(reason) => {
+                self.steps.take_back(version);
+                Err(NotJudged::NotKept(reason))
+            }
         }
     }
 

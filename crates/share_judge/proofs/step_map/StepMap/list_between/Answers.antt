@@ -1,8 +1,8 @@
 -- The keys of the entries of the range are those between.
-use Rattle.std.proofs.Common.{◌∙◌, ◌++◌, ap, List, Some}
+use Rattle.std.proofs.Common.{◌∙◌, ◌++◌, ap, List}
 use Rattle.std.specs.Map.{keys_of}
 use Rattle.system_keys.specs.Keys.{Key}
-use Rattle.share_judge.specs.Steps.{keys_between}
+use Rattle.share_judge.specs.Steps.{StepStart, keys_between}
 use Rattle.share_judge.proofs.MapCalls.{between_held}
 use Rattle.share_judge.proofs.step_map.StepMap.list_between.Goals as goal
 
@@ -11,5 +11,5 @@ loop-key-init c =
     ap (λ (more : List Key). c.args.keys.now.items ++ more)
     (ap keys_of
     (c.into_iter-key-iterator.ensures.into_iter_gives ∙ c.range-key-items.ensures.between tt
-    ∙ between_held c.self.inside.versions.entries c.args.begin.now c.args.end.now)
-    ∙ ap (keys_between (Some c.args.begin.now) c.args.end.now) c.self.view_is)
+    ∙ between_held c.self.inside.steps.entries c.args.begin.now c.args.end.now)
+    ∙ ap (λ (ss : List StepStart). keys_between c.args.begin.now c.args.end.now ss) c.self.view_is)

@@ -2,11 +2,11 @@
 use Rattle.std.proofs.Common.{◌≡◌, ◌∙◌, ap₂, true}
 use Rattle.system_keys.specs.Keys.{Key, is_key_below}
 use Rattle.system_keys.proofs.KeyLaws.{begins_below}
-use Rattle.share_judge.specs.Judged.{is_read_overwritten}
-use Rattle.share_judge.proofs.judging.is_overwritten.Goals as goal
+use Rattle.share_judge.specs.Steps.{is_reached, starts_now}
+use Rattle.share_judge.proofs.judging.is_reached.Goals as goal
 
-pub are_overwritten-requires : goal.are_overwritten-requires
-are_overwritten-requires c =
+pub reaches-requires : goal.reaches-requires
+reaches-requires c =
     let below : is_key_below c.in_ok-begin.begin c.in_ok-end.end ≡ true =
     ap₂ is_key_below (c.in_ok-begin.ensures ∙ c.begin.ensures.value) (c.in_ok-end.ensures ∙ c.end.ensures.value)
     ∙ begins_below c.args.read.now.begin c.args.read.now.end c.begin.ensures.kept in
@@ -14,5 +14,5 @@ are_overwritten-requires c =
 
 pub returns : goal.returns
 returns c =
-    c.are_overwritten.ensures
-    ∙ ap₂ (λ (b e : Key). is_read_overwritten c.args.bound c.args.kept.now c.args.own.now (record { begin = b; end = e })) (c.in_ok-begin.ensures ∙ c.begin.ensures.value) (c.in_ok-end.ensures ∙ c.end.ensures.value)
+    c.reaches.ensures
+    ∙ ap₂ (λ (b e : Key). is_reached c.args.bound (starts_now c.args.steps.now) (record { begin = b; end = e })) (c.in_ok-begin.ensures ∙ c.begin.ensures.value) (c.in_ok-end.ensures ∙ c.end.ensures.value)
