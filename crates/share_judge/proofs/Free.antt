@@ -1,5 +1,5 @@
 -- Ranges with no start inside: how they are found, and what is written over them.
-use Rattle.std.proofs.Common.{◌≡◌, refl, sym, ap, ◌∙◌, subst, ℕ, ◌⊎◌, inl, inr, List, [], ◌∷◌, ◌++◌, Bool, true, false, cond, not, ◌&&◌, IsTrue, Option, Some, None, IfSome, Ordering, Less, Equal, Greater}
+use Rattle.std.proofs.Common.{◌≡◌, refl, sym, ap, ◌∙◌, subst, ℕ, ◌⊎◌, inl, inr, List, [], ◌∷◌, ◌++◌, Bool, true, false, cond, not, ◌&&◌, Option, Some, None, IfSome, Ordering, Less, Equal, Greater}
 use Rattle.std.proofs.lemmas.Bool.{both_ways}
 use Rattle.std.specs.Ordering.{match_ordering}
 use Rattle.std.specs.BTreeMap.{insert_entry}
@@ -86,9 +86,8 @@ abbrev pub AreUpTo : (end : Key) (es left : List StepStart) → Type 0
 AreUpTo end es left = entries_between key_cmp Unbounded (Included end) es ≡ left
 
 -- there is none
-pub none_at_begin : (es : List StepStart) (begin end : Key) → is_key_below begin end ≡ true → AreRising es → AreUpTo end es [] → IsEdge es begin no_step false
-none_at_begin es begin end forward rising is =
-    (ap (λ (ss : List StepStart). last_from no_step ss begin) (sym is) ∙ begin_up_to no_step begin end es forward rising, λ there. absurd (cc))
+pub none_at_begin : (es : List StepStart) (begin end : Key) → is_key_below begin end ≡ true → AreRising es → AreUpTo end es [] → no_step ≡ last_from no_step es begin
+none_at_begin es begin end forward rising is = ap (λ (ss : List StepStart). last_from no_step ss begin) (sym is) ∙ begin_up_to no_step begin end es forward rising
 
 pub none_at_end : (es : List StepStart) (end : Key) → AreRising es → AreUpTo end es [] → IsEdge es end no_step false
 none_at_end es end rising is = (none_at no_step es end rising is, λ there. absurd (cc))
@@ -97,15 +96,12 @@ pub none_found : (es : List StepStart) (begin end : Key) → AreUpTo end es [] �
 none_found es begin end is = free_of_up_to begin end es (subst (IsFree begin end) (sym is) tt)
 
 -- the last one is up to the begin
-pub last_at_begin : (es front : List StepStart) (e : StepStart) (begin end : Key) (step : Step) (is_start : Bool) → is_key_below begin end ≡ true → AreRising es → AreUpTo end es (front ++ e ∷ []) → is_key_below begin e.0 ≡ false → step ≡ e.1 → (IsTrue is_start → e.0 ≡ begin)
-    → IsEdge es begin step is_start
-last_at_begin es front e begin end step is_start forward rising is up_to step_is start_is = (
-  step_is
-      ∙ sym (last_decides no_step front e begin (subst AreRising is (rising_up_to end es rising)) up_to)
-      ∙ ap (λ (ss : List StepStart). last_from no_step ss begin) (sym is)
-      ∙ begin_up_to no_step begin end es forward rising,
-  λ there. subst (HasStart es) (start_is there) (has_up_to end es e.0 (subst (λ (ss : List StepStart). HasStart ss e.0) (sym is) (last_has front e))).0,
-)
+pub last_at_begin : (es front : List StepStart) (e : StepStart) (begin end : Key) (step : Step) → is_key_below begin end ≡ true → AreRising es → AreUpTo end es (front ++ e ∷ []) → is_key_below begin e.0 ≡ false → step ≡ e.1 → step ≡ last_from no_step es begin
+last_at_begin es front e begin end step forward rising is up_to step_is =
+    step_is
+    ∙ sym (last_decides no_step front e begin (subst AreRising is (rising_up_to end es rising)) up_to)
+    ∙ ap (λ (ss : List StepStart). last_from no_step ss begin) (sym is)
+    ∙ begin_up_to no_step begin end es forward rising
 
 pub last_at_end : (es front : List StepStart) (e : StepStart) (end : Key) → AreRising es → AreUpTo end es (front ++ e ∷ []) → IsEdge es end e.1 false
 last_at_end es front e end rising is = (found_at no_step es front e end rising is, λ there. absurd (cc))
@@ -120,11 +116,6 @@ start_at_end es front e end rising is past =
     let has = has_up_to end es e.0 (subst (λ (ss : List StepStart). HasStart ss e.0) (sym is) (last_has front e)) in
     (found_at no_step es front e end rising is, λ there. subst (HasStart es) (equal_unless_below e.0 end past has.1) has.0)
 
-front_has : {X : Type 0} → (front : List (Key × X)) (s : Key × X) (key : Key) → HasStart front key → HasStart (front ++ s ∷ []) key
-front_has [] s key has = absurd has
-front_has (t ∷ front) s key (inl is) = inl is
-front_has (t ∷ front) s key (inr has) = inr (front_has front s key has)
-
 past_begin : {X : Type 0} → (begin end : Key) (e : Key × X) → is_key_below begin end ≡ true → is_key_below e.0 end ≡ false → is_key_below begin e.0 ≡ true
 past_begin begin end e forward past = below_up_to begin end e.0 forward past
 
@@ -135,15 +126,12 @@ front_at es mid e begin end forward rising is past =
     ∙ ap (λ (ss : List StepStart). last_from no_step ss begin) (sym is)
     ∙ begin_up_to no_step begin end es forward rising
 
-pub two_at_begin : (es mid front : List StepStart) (e f : StepStart) (begin end : Key) (step : Step) (is_start : Bool) → is_key_below begin end ≡ true → AreRising es → AreUpTo end es (mid ++ e ∷ []) → is_key_below e.0 end ≡ false → mid ≡ front ++ f ∷ [] → is_key_below begin f.0 ≡ false → step ≡ f.1 → (IsTrue is_start → f.0 ≡ begin)
-    → IsEdge es begin step is_start
-two_at_begin es mid front e f begin end step is_start forward rising is past mid_is up_to step_is start_is = (
-  step_is
-      ∙ sym (last_decides no_step front f begin (subst AreRising mid_is rising_mid) up_to)
-      ∙ ap (λ (ss : List StepStart). last_from no_step ss begin) (sym mid_is)
-      ∙ front_at es mid e begin end forward rising is past,
-  λ there. subst (HasStart es) (start_is there) (has_up_to end es f.0 (subst (λ (ss : List StepStart). HasStart ss f.0) (sym is) (front_has mid e f.0 (subst (λ (ss : List StepStart). HasStart ss f.0) (sym mid_is) (last_has front f))))).0,
-)
+pub two_at_begin : (es mid front : List StepStart) (e f : StepStart) (begin end : Key) (step : Step) → is_key_below begin end ≡ true → AreRising es → AreUpTo end es (mid ++ e ∷ []) → is_key_below e.0 end ≡ false → mid ≡ front ++ f ∷ [] → is_key_below begin f.0 ≡ false → step ≡ f.1 → step ≡ last_from no_step es begin
+two_at_begin es mid front e f begin end step forward rising is past mid_is up_to step_is =
+    step_is
+    ∙ sym (last_decides no_step front f begin (subst AreRising mid_is rising_mid) up_to)
+    ∙ ap (λ (ss : List StepStart). last_from no_step ss begin) (sym mid_is)
+    ∙ front_at es mid e begin end forward rising is past
   where
     rising_mid : AreRising mid
     rising_mid = front_rising mid e (subst AreRising is (rising_up_to end es rising))
@@ -156,18 +144,17 @@ two_found es mid front e f begin end rising is past mid_is up_to =
     free = subst (IsFree begin end) (sym mid_is) (free_up_to begin end front f (subst AreRising mid_is (front_rising mid e (subst AreRising is (rising_up_to end es rising)))) up_to)
 
 -- only the one at the end is there
-pub one_at_begin : (es mid : List StepStart) (e : StepStart) (begin end : Key) → is_key_below begin end ≡ true → AreRising es → AreUpTo end es (mid ++ e ∷ []) → is_key_below e.0 end ≡ false → mid ≡ [] → IsEdge es begin no_step false
-one_at_begin es mid e begin end forward rising is past none =
-    (ap (λ (ss : List StepStart). last_from no_step ss begin) (sym none) ∙ front_at es mid e begin end forward rising is past, λ there. absurd (cc))
+pub one_at_begin : (es mid : List StepStart) (e : StepStart) (begin end : Key) → is_key_below begin end ≡ true → AreRising es → AreUpTo end es (mid ++ e ∷ []) → is_key_below e.0 end ≡ false → mid ≡ [] → no_step ≡ last_from no_step es begin
+one_at_begin es mid e begin end forward rising is past none = ap (λ (ss : List StepStart). last_from no_step ss begin) (sym none) ∙ front_at es mid e begin end forward rising is past
 
 pub one_found : (es mid : List StepStart) (e : StepStart) (begin end : Key) → AreUpTo end es (mid ++ e ∷ []) → is_key_below e.0 end ≡ false → mid ≡ [] → IsFree begin end es
 one_found es mid e begin end is past none =
     free_of_up_to begin end es (subst (IsFree begin end) (sym is) (free_append begin end mid e (subst (IsFree begin end) (sym none) tt) past))
 
--- three facts of a value give a fourth
-pub if_some : {X : Type 0} {P Q R S : X → Type 0} (o : Option X) → ((x : X) → P x → Q x → R x → S x) → IfSome o P → IfSome o Q → IfSome o R → IfSome o S
-if_some None to p q r = tt
-if_some (Some x) to p q r = to x p q r
+-- two facts of a value give a third
+pub if_some : {X : Type 0} {P Q R : X → Type 0} (o : Option X) → ((x : X) → P x → Q x → R x) → IfSome o P → IfSome o Q → IfSome o R
+if_some None to p q = tt
+if_some (Some x) to p q = to x p q
 
 -- ---- starts put at the ends
 

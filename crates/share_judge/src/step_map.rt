@@ -14,7 +14,6 @@ use crate::step::{NO_STEP, Step};
 use crate::step_key::StepKey;
 use model::Version;
 use std::alloc::{AllocError, Global};
-use std::cmp::Ordering;
 use std::collections::BTreeMap;
 use std::marker::Model;
 use std::ops::Bound;
@@ -37,8 +36,8 @@ const NO_EDGE: Edge = Edge {
 /// What a map has at the ends of a range.
 #[derive(Clone, Copy)]
 struct Edges {
-    /// At the begin, if no start lies between the begin and the end.
-    begin: Option<Edge>,
+    /// The step at the begin, if no start lies between the begin and the end.
+    begin: Option<Step>,
     end: Edge,
 }
 
@@ -141,8 +140,8 @@ impl StepMap {
         let begin = StepKey::new(self.alloc, range.begin())?;
         let end = StepKey::new(self.alloc, range.end())?;
         let edges = self.edges(&begin, &end);
-        if let Some(edge) = edges.begin {
-            return self.overwrite_free(begin, end, edge.step, edges.end, version);
+        if let Some(at_begin) = edges.begin {
+            return self.overwrite_free(begin, end, at_begin, edges.end, version);
         }
         self.overwrite_steps(&begin, &end, edges.end, version, listed)
     }
@@ -150,22 +149,21 @@ impl StepMap {
     /// What there is at the two keys. Does not allocate.
     fn edges(&self, begin: &StepKey, end: &StepKey) -> Edges
         requires { is_key_below begin.now end.now ≡ true }
-        ensures begin { IfSome result.begin
-            (λ edge. IsEdge self.now begin.now edge.step edge.is_start) }
-        ensures is_free { IfSome result.begin (λ edge. IsFree begin.now end.now self.now) }
+        ensures begin { IfSome result.begin (λ step. step ≡ last_from no_step self.now begin.now) }
+        ensures is_free { IfSome result.begin (λ _. IsFree begin.now end.now self.now) }
         ensures end { IsEdge self.now end.now result.end.step result.end.is_start }
         ensures rising { AreRising self.now }
     {
         let mut left = self.steps.range(..=end);
         let Some((last, step)) = left.next_back() else {
             return Edges {
-                begin: Some(NO_EDGE),
+                begin: Some(NO_STEP),
                 end: NO_EDGE,
             };
         };
         if last < end {
             return Edges {
-                begin: edge_up_to(last, *step, begin),
+                begin: step_up_to(last, *step, begin),
                 end: Edge {
                     step: *step,
                     is_start: false,
@@ -178,11 +176,11 @@ impl StepMap {
         };
         match left.next_back() {
             Some((key, step)) => Edges {
-                begin: edge_up_to(key, *step, begin),
+                begin: step_up_to(key, *step, begin),
                 end,
             },
             None => Edges {
-                begin: Some(NO_EDGE),
+                begin: Some(NO_STEP),
                 end,
             },
         }
@@ -414,24 +412,13 @@ impl Clone for StepMap {
     }
 }
 
-/// What there is at `begin` if the last start up to the end of its range is at `key`, with this
-/// step; or none if that start lies above `begin`.
-fn edge_up_to(key: &StepKey, step: Step, begin: &StepKey) -> Option<Edge>
-    ensures up_to { IfSome result (λ edge. is_key_below begin.now key.now ≡ false) }
-    ensures step { IfSome result (λ edge. edge.step ≡ step) }
-    ensures is_start { IfSome result (λ edge. IsTrue edge.is_start → key.now ≡ begin.now) }
+/// The step at `begin` if the last start up to the end of its range is at `key`, with this step; or
+/// none if that start lies above `begin`.
+fn step_up_to(key: &StepKey, step: Step, begin: &StepKey) -> Option<Step>
+    ensures up_to { IfSome result (λ _. is_key_below begin.now key.now ≡ false) }
+    ensures step { IfSome result (λ found. found ≡ step) }
 {
-    match key.cmp(begin) {
-        Ordering::Less => Some(Edge {
-            step,
-            is_start: false,
-        }),
-        Ordering::Equal => Some(Edge {
-            step,
-            is_start: true,
-        }),
-        Ordering::Greater => None,
-    }
+    if key <= begin { Some(step) } else { None }
 }
 
 /// The version, or 0 if it is at or below the bound.

@@ -1,12 +1,12 @@
 -- The last start up to the end is at it, or else up to the begin; or the one before is.
-use Rattle.std.proofs.Common.{◌∙◌, sym, subst, List, false, true}
-use Rattle.share_judge.specs.Steps.{StepStart, IsEdge, IsFree, no_step}
+use Rattle.std.proofs.Common.{◌≡◌, ◌∙◌, sym, subst, List, false, true}
+use Rattle.share_judge.specs.Steps.{StepStart, IsEdge, IsFree, no_step, last_from}
 use Rattle.share_judge.proofs.Free.{if_some, none_at_begin, none_at_end, none_found, last_at_begin, last_at_end, last_found, start_at_end, two_at_begin, two_found, one_at_begin, one_found}
 use Rattle.share_judge.proofs.step_map.StepMap.edges.Goals as goal
 
 pub returns-in_default-clause-begin : goal.returns-in_default-clause-begin
 returns-in_default-clause-begin c =
-    subst (λ (ss : List StepStart). IsEdge ss c.args.begin.now no_step false) c.self.view_is
+    subst (λ (ss : List StepStart). no_step ≡ last_from no_step ss c.args.begin.now) c.self.view_is
     (none_at_begin c.self.inside.steps.entries c.args.begin.now c.args.end.now c.requires c.self.invariant (sym (c.range-left.ensures.between tt) ∙ c.in_default.ensures.steps.0))
 
 pub returns-in_default-clause-is_free : goal.returns-in_default-clause-is_free
@@ -21,19 +21,19 @@ returns-in_default-clause-end c =
 
 pub returns-then-lt-clause-begin : goal.returns-then-lt-clause-begin
 returns-then-lt-clause-begin c =
-    if_some c.edge_up_to.result
-    (λ edge up_to step is_start.
-    subst (λ (ss : List StepStart). IsEdge ss c.args.begin.now edge.step edge.is_start) c.self.view_is
-    (last_at_begin c.self.inside.steps.entries c.next_back.new.self (c.in-Some.last.now, c.in-Some.step.now) c.args.begin.now c.args.end.now edge.step edge.is_start c.requires c.self.invariant (sym (c.range-left.ensures.between tt) ∙ c.in-Some.ensures.steps) up_to step is_start))
-    c.edge_up_to.ensures.up_to c.edge_up_to.ensures.step c.edge_up_to.ensures.is_start
+    if_some c.step_up_to.result
+    (λ step up_to is.
+    subst (λ (ss : List StepStart). step ≡ last_from no_step ss c.args.begin.now) c.self.view_is
+    (last_at_begin c.self.inside.steps.entries c.next_back.new.self (c.in-Some.last.now, c.in-Some.step.now) c.args.begin.now c.args.end.now step c.requires c.self.invariant (sym (c.range-left.ensures.between tt) ∙ c.in-Some.ensures.steps) up_to is))
+    c.step_up_to.ensures.up_to c.step_up_to.ensures.step
 
 pub returns-then-lt-clause-is_free : goal.returns-then-lt-clause-is_free
 returns-then-lt-clause-is_free c =
-    if_some c.edge_up_to.result
-    (λ edge up_to step is_start.
+    if_some c.step_up_to.result
+    (λ step up_to is.
     subst (λ (ss : List StepStart). IsFree c.args.begin.now c.args.end.now ss) c.self.view_is
     (last_found c.self.inside.steps.entries c.next_back.new.self (c.in-Some.last.now, c.in-Some.step.now) c.args.begin.now c.args.end.now c.self.invariant (sym (c.range-left.ensures.between tt) ∙ c.in-Some.ensures.steps) up_to))
-    c.edge_up_to.ensures.up_to c.edge_up_to.ensures.step c.edge_up_to.ensures.is_start
+    c.step_up_to.ensures.up_to c.step_up_to.ensures.step
 
 pub returns-then-lt-clause-end : goal.returns-then-lt-clause-end
 returns-then-lt-clause-end c =
@@ -42,19 +42,19 @@ returns-then-lt-clause-end c =
 
 pub returns-in-Some-next_back-clause-begin : goal.returns-in-Some-next_back-clause-begin
 returns-in-Some-next_back-clause-begin c =
-    if_some c.edge_up_to-in-Some-next_back.result
-    (λ edge up_to step is_start.
-    subst (λ (ss : List StepStart). IsEdge ss c.args.begin.now edge.step edge.is_start) c.self.view_is
-    (two_at_begin c.self.inside.steps.entries c.next_back.new.self c.next_back-2.new.self (c.in-Some.last.now, c.in-Some.step.now) (c.in-Some-next_back.key.now, c.in-Some-next_back.step.now) c.args.begin.now c.args.end.now edge.step edge.is_start c.requires c.self.invariant (sym (c.range-left.ensures.between tt) ∙ c.in-Some.ensures.steps) (sym c.lt.ensures ∙ c.if-lt.false) c.in-Some-next_back.ensures.steps up_to step is_start))
-    c.edge_up_to-in-Some-next_back.ensures.up_to c.edge_up_to-in-Some-next_back.ensures.step c.edge_up_to-in-Some-next_back.ensures.is_start
+    if_some c.step_up_to-in-Some-next_back.result
+    (λ step up_to is.
+    subst (λ (ss : List StepStart). step ≡ last_from no_step ss c.args.begin.now) c.self.view_is
+    (two_at_begin c.self.inside.steps.entries c.next_back.new.self c.next_back-2.new.self (c.in-Some.last.now, c.in-Some.step.now) (c.in-Some-next_back.key.now, c.in-Some-next_back.step.now) c.args.begin.now c.args.end.now step c.requires c.self.invariant (sym (c.range-left.ensures.between tt) ∙ c.in-Some.ensures.steps) (sym c.lt.ensures ∙ c.if-lt.false) c.in-Some-next_back.ensures.steps up_to is))
+    c.step_up_to-in-Some-next_back.ensures.up_to c.step_up_to-in-Some-next_back.ensures.step
 
 pub returns-in-Some-next_back-clause-is_free : goal.returns-in-Some-next_back-clause-is_free
 returns-in-Some-next_back-clause-is_free c =
-    if_some c.edge_up_to-in-Some-next_back.result
-    (λ edge up_to step is_start.
+    if_some c.step_up_to-in-Some-next_back.result
+    (λ step up_to is.
     subst (λ (ss : List StepStart). IsFree c.args.begin.now c.args.end.now ss) c.self.view_is
     (two_found c.self.inside.steps.entries c.next_back.new.self c.next_back-2.new.self (c.in-Some.last.now, c.in-Some.step.now) (c.in-Some-next_back.key.now, c.in-Some-next_back.step.now) c.args.begin.now c.args.end.now c.self.invariant (sym (c.range-left.ensures.between tt) ∙ c.in-Some.ensures.steps) (sym c.lt.ensures ∙ c.if-lt.false) c.in-Some-next_back.ensures.steps up_to))
-    c.edge_up_to-in-Some-next_back.ensures.up_to c.edge_up_to-in-Some-next_back.ensures.step c.edge_up_to-in-Some-next_back.ensures.is_start
+    c.step_up_to-in-Some-next_back.ensures.up_to c.step_up_to-in-Some-next_back.ensures.step
 
 pub returns-in-Some-next_back-clause-end : goal.returns-in-Some-next_back-clause-end
 returns-in-Some-next_back-clause-end c =
@@ -63,7 +63,7 @@ returns-in-Some-next_back-clause-end c =
 
 pub returns-in-None-clause-begin : goal.returns-in-None-clause-begin
 returns-in-None-clause-begin c =
-    subst (λ (ss : List StepStart). IsEdge ss c.args.begin.now no_step false) c.self.view_is
+    subst (λ (ss : List StepStart). no_step ≡ last_from no_step ss c.args.begin.now) c.self.view_is
     (one_at_begin c.self.inside.steps.entries c.next_back.new.self (c.in-Some.last.now, c.in-Some.step.now) c.args.begin.now c.args.end.now c.requires c.self.invariant (sym (c.range-left.ensures.between tt) ∙ c.in-Some.ensures.steps) (sym c.lt.ensures ∙ c.if-lt.false) c.in-None.ensures.steps.0)
 
 pub returns-in-None-clause-is_free : goal.returns-in-None-clause-is_free
