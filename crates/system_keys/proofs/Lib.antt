@@ -5,5 +5,6 @@ pub mod KindLaws
 pub mod LaneLaws
 pub mod ListedTagLaws
 pub mod LocationLaws
+pub mod OrderedKeys
 pub mod RowLaws
 pub mod TextLaws

@@ -4,6 +4,8 @@
 pub mod Keys
 -- how a range keeps the key at which it begins
 pub mod KeptRanges
+-- a number that is in the order of keys
+pub mod OrderedKeys
 -- the families of rows, as data: the four that the metadata keeps, and that of server keys; and the
 -- kind of any key
 pub mod Families

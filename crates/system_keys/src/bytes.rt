@@ -9,14 +9,14 @@ use std::cmp::Ordering;
 use std::marker::Model;
 
 /// So many bytes lie in the value itself, and want no block of memory.
-const SHORT: usize = 24;
+pub const SHORT_LENGTH: usize = 24;
 
 /// Owned bytes: a key, or the value of a row. Up to 24 bytes take no block of memory.
 ///
 /// Made from a `Vec<u8>` without allocating.
 #[derive(Debug, Drop)]
 pub struct Bytes {
-    bytes: SmallVec<u8, SHORT>,
+    bytes: SmallVec<u8, SHORT_LENGTH>,
 }
 
 impl Model for Bytes {
