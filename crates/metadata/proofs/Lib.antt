@@ -26,6 +26,5 @@ pub mod ServingEntries
 pub mod SortedTags
 pub mod StagedChanges
 pub mod TagEntries
-pub mod TagKeys
 pub mod Tags
 pub mod WrittenEntries

@@ -10,8 +10,6 @@ pub mod OwnRoutes
 pub mod CachedTags
 -- the table of the servers' tags, and what brings it up to date
 pub mod ServerTables
--- the keys of the map to tags, with a number in front that is in their order
-pub mod TagKeys
 -- the entries of a map to tags, as the tags at each key
 pub mod TagEntries
 -- runs of rows that are hidden

@@ -13,18 +13,18 @@ ghost use Rattle.metadata.specs.Overwrites.{is_same_key, is_listed};
 ghost use Rattle.metadata.specs.TagEntries.{AreThere};
 
 use crate::key_set::KeySet;
-use crate::tag_key::{TagKey, behind_prefix};
+use crate::tag_key::{behind_prefix, key_behind_prefix};
 use std::alloc::Global;
 use std::collections::BTreeMap;
 use std::collections::btree_map::Range;
 use std::marker::Model;
 use std::ops::Bound;
-use system_keys::{Items, OutOfMemory, Tag};
+use system_keys::{Items, OrderedKey, OutOfMemory, Tag};
 
 /// The key of a keyServers entry, and tags for it. Contracts see the whole key.
 #[derive(Drop)]
 pub(crate) struct TagRow {
-    key: TagKey,
+    key: OrderedKey,
     tags: Items<Tag>,
 }
 
@@ -43,7 +43,7 @@ impl TagRow {
     pub(crate) fn new(alloc: Global, behind: &[u8], tags: Items<Tag>) -> Result<TagRow, OutOfMemory>
         ensures { IfOk result (λ row. row ≡ (key_servers_family.prefix ++ behind.now, tags)) }
     {
-        let key = TagKey::new(alloc, behind)?;
+        let key = OrderedKey::new(alloc, behind)?;
         Ok(TagRow { key, tags })
     }
 }
@@ -53,7 +53,7 @@ impl TagRow {
 #[derive(Drop)]
 pub(crate) struct TagMap {
     alloc: Global,
-    lists: BTreeMap<TagKey, Items<Tag>>,
+    lists: BTreeMap<OrderedKey, Items<Tag>>,
 }
 
 impl Model for TagMap {
@@ -96,7 +96,7 @@ impl TagMap {
     }
 
     /// The tags at a key. Does not allocate.
-    fn get(&self, key: &TagKey) -> Option<&[Tag]>
+    fn get(&self, key: &OrderedKey) -> Option<&[Tag]>
         ensures { option_map (λ tags. tags.now) result
             ≡ tags_at self.now (key_servers_family.prefix ++ key.now) }
     {
@@ -111,7 +111,7 @@ impl TagMap {
     {
         match behind_prefix(whole) {
             Some(behind) => {
-                let key = TagKey::new(self.alloc, behind)?;
+                let key = OrderedKey::new(self.alloc, behind)?;
                 Ok(self.get(&key))
             }
             None => Ok(None),
@@ -125,7 +125,7 @@ impl TagMap {
             ≡ serving_tags self.now key.now) }
         ensures rise { OnOk result (RowsRise self.now) }
     {
-        let greatest = TagKey::new(self.alloc, key)?;
+        let greatest = OrderedKey::new(self.alloc, key)?;
         match self.lists.range(..=&greatest).next_back() {
             Some((_, tags)) => Ok(Some(tags.as_slice())),
             None => Ok(None),
@@ -150,14 +150,14 @@ impl TagMap {
     }
 
     /// The keys, in order, each with its tags. Does not allocate.
-    fn all(&self) -> Range<'_, TagKey, Items<Tag>>
+    fn all(&self) -> Range<'_, OrderedKey, Items<Tag>>
         ensures { AreThere (tags_at self.now) result }
     {
         self.lists.range(..)
     }
 
     /// The keys behind this one, in order, each with its tags. Does not allocate.
-    fn behind<'a>(&'a self, key: &TagKey) -> Range<'a, TagKey, Items<Tag>>
+    fn behind<'a>(&'a self, key: &OrderedKey) -> Range<'a, OrderedKey, Items<Tag>>
         ensures { AreThere (tags_at self.now) result }
     {
         let bounds = (Bound::Excluded(key), Bound::Unbounded);
@@ -274,12 +274,12 @@ impl TagMap {
     {
         // (gives the proof that there is nothing at a key without the prefix)
         let _count = self.lists.len();
-        if let Some(key) = TagKey::of_whole(self.alloc, whole) {
+        if let Some(key) = key_behind_prefix(self.alloc, whole) {
             self.remove_key(&key);
         }
     }
 
-    fn remove_key(&mut self, key: &TagKey)
+    fn remove_key(&mut self, key: &OrderedKey)
         ensures { (other : Key) → tags_at self.new other
             ≡ (if is_same_key other (key_servers_family.prefix ++ key.now) then None
             else tags_at self.old other) }
@@ -295,7 +295,7 @@ impl TagMap {
 pub(crate) struct TagSteps<'a> {
     kept: &'a TagMap,
     /// The keys behind the last one that was looked up.
-    behind: Range<'a, TagKey, Items<Tag>>,
+    behind: Range<'a, OrderedKey, Items<Tag>>,
 }
 
 impl<'a> Model for TagSteps<'a> {
@@ -334,7 +334,7 @@ impl<'a> TagSteps<'a> {
         match self.step_to(behind) {
             Some(tags) => Ok(Some(tags)),
             None => {
-                let key = TagKey::new(self.kept.alloc(), behind)?;
+                let key = OrderedKey::new(self.kept.alloc(), behind)?;
                 self.behind = self.kept.behind(&key);
                 Ok(self.kept.get(&key))
             }

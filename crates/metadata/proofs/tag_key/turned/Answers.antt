@@ -3,7 +3,7 @@ use Rattle.std.proofs.Common.{◌≡◌, ◌∙◌, ◌++◌, ◌-◌, ap, sym, 
 use Rattle.system_keys.specs.Families.{key_servers_family, is_in}
 use Rattle.metadata.proofs.HiddenRuns.{begun}
 use Rattle.metadata.proofs.TagEntries.{turned_off}
-use Rattle.metadata.proofs.tag_key.TagKey.turned.Goals as goal
+use Rattle.metadata.proofs.tag_key.turned.Goals as goal
 
 pub returns-clause-some : goal.returns-clause-some
 returns-clause-some c =
@@ -11,4 +11,4 @@ returns-clause-some c =
     let count : c.len.result - 13 ≡ length c.args.whole.items - 13 = omega (arith, c.len.ensures, c.args.whole.ok.0) in
     begun key_servers_family.prefix c.args.whole.items own
     ∙ ap (λ (key : List ℕ). key_servers_family.prefix ++ key)
-    (sym (c.of_bytes.ensures ∙ c.from_vec.ensures.items ∙ c.truncate.ensures.items ∙ ap (take (c.len.result - 13)) c.rotate_left.ensures.items ∙ turned_off 13 (c.len.result - 13) c.args.whole.items count))
+    (sym (c.from-2.ensures ∙ c.from.ensures ∙ c.truncate.ensures.items ∙ ap (take (c.len.result - 13)) c.rotate_left.ensures.items ∙ turned_off 13 (c.len.result - 13) c.args.whole.items count))
