@@ -1,5 +1,5 @@
 -- The array holds the front of the key, and then the count.
-use Rattle.std.proofs.Common.{◌≡◌, ◌∙◌, ap, sym, List, ℕ, ◌++◌, take, drop, set, replicate, arith}
+use Rattle.std.proofs.Common.{◌∙◌, ap, List, ℕ, ◌++◌, drop, set, replicate, arith}
 use Rattle.std.specs.Int.{w128, from_be_bytes}
 use Rattle.system_keys.proofs.OrderedKeys.{padded_is, head_is}
 use Rattle.system_keys.proofs.ordered_key.head_of.Goals as goal
