@@ -1,15 +1,14 @@
 -- Records that are a start of one history.
 use Rattle.std.proofs.Common.{◌≡◌, ◌∙◌, ◌++◌, ◌+◌, ◌-◌, ◌<◌, ◌≤◌, [], ◌∷◌, ℕ, List, refl, sym, ap, subst, drop, take, length, append-nil, append_assoc, inl, inr, arith}
-use Rattle.std.specs.Prelude.{◌⊎◌, ⊤, cond, nat_le, true, slice_get, Some, Result, Ok, Err, IfOk, OnOk}
+use Rattle.std.specs.Prelude.{◌⊎◌, cond, nat_le, true, slice_get, Some}
 use Rattle.std.proofs.lemmas.Bool.{le-leb}
 use Rattle.facts.specs.Stretches.{Agree, Stretch, StretchesAgree, extended, rest_from}
 use Rattle.model.specs.Configs.{Config}
 use Rattle.model.specs.Records.{Record, IsHistory}
 use Rattle.model.proofs.History.Growth.{push_cases}
+use Rattle.locked_cluster.specs.Answers.{NotedFinishedView}
 use Rattle.locked_resolvers.proofs.Lists.{agree_rest, beginning_of, take_all, take_next}
-use Rattle.threads_lines.specs.Faults.{join_results}
-use Rattle.threads_lines.specs.Histories.{AreOfThreads, IsStartOf}
-use Rattle.threads_lines.specs.declared.faults.RunFault.{RunFault}
+use Rattle.threads_lines.specs.Histories.{IsStartOf, Joins, Known, SeesFinished}
 
 -- ---- starts
 
@@ -88,59 +87,63 @@ has_learned config old other new first from agree is mine theirs =
         ap (λ (s : Stretch Record). s.known) (is ∙ (λ i. extended (from_zero old first i) (from_zero other from i)))
         ∙ ap (λ (rest : List Record). old.known ++ rest) (rest_after (length old.known) other.known)
 
--- ---- threads
+-- the records that are told are a history
+pub told_history : (config : Config) (told : Stretch Record) (records : List Record) → told ≡ record { first = 0; known = records } → IsHistory config records → IsHistory config told.known
+told_history config told records is history = subst (λ (s : Stretch Record). IsHistory config s.known) (sym is) history
 
--- the history that one more thread knows is learned
-pub one_more_learned : {X : Type 0} (known : X → List Record) (returned : List (Result X RunFault)) (one : Result X RunFault) (history more : List Record)
-    → IsStartOf history more → AreOfThreads known returned history → IfOk one (λ answered. IsStartOf (known answered) more) → AreOfThreads known (returned ++ one ∷ []) more
-one_more_learned {X = X} known returned one history more kept before learned place found at = by (push_cases returned one place found at)
-  where
-    grown : (r : Result X RunFault) → IfOk r (λ answered. IsStartOf (known answered) history) → IfOk r (λ answered. IsStartOf (known answered) more)
-    grown (Ok answered) start = start_more (known answered) history more start kept
-    grown (Err fault) start = start
+-- a batch was seen finished: its records were learned, and it was counted
+pub finish_seen : (noted : NotedFinishedView) (told : Stretch Record) (before between after : Known)
+    → length before.records ≤ noted.finished.row → told ≡ record { first = 0; known = noted.records }
+    → IsStartOf before.records between.records → IsStartOf told.known between.records → between.finished ≡ before.finished
+    → after.records ≡ between.records → after.finished ≡ between.finished + 1
+    → SeesFinished noted before after
+finish_seen noted told before between after beyond is kept learned uncounted same counted = record {
+  kept = subst (λ (rs : List Record). IsStartOf before.records rs) (sym same) kept;
+  beyond = beyond;
+  learned = subst (λ (rs : List Record). IsStartOf noted.records rs) (sym same) (subst (λ (s : Stretch Record). IsStartOf s.known between.records) is learned);
+  counted = counted ∙ ap (λ (n : ℕ). n + 1) uncounted;
+}
 
-    by : ((place ≡ length returned) × (one ≡ found)) ⊎ ((place < length returned) × (slice_get returned place ≡ Some found)) → IfOk found (λ answered. IsStartOf (known answered) more)
-    by (inl (last, same)) = subst (λ (r : Result X RunFault). IfOk r (λ answered. IsStartOf (known answered) more)) same learned
-    by (inr (within, earlier)) = grown found (before place found earlier)
-
--- one more result was joined, and its history learned if it is a text
-pub learned_next : {X : Type 0} (known : X → List Record) (returned : List (Result X RunFault)) (one : Result X RunFault) (history more : List Record) (outcome appended next : Result ⊤ RunFault)
-    → next ≡ join_results outcome appended → IsStartOf history more
-    → IfOk outcome (λ _. AreOfThreads known returned history) → OnOk appended (IfOk one (λ answered. IsStartOf (known answered) more))
-    → IfOk next (λ _. AreOfThreads known (returned ++ one ∷ []) more)
-learned_next {X = X} known returned one history more outcome appended next is kept before learned =
-    subst (λ (r : Result ⊤ RunFault). IfOk r (λ _. AreOfThreads known (returned ++ one ∷ []) more)) (sym is) (by outcome appended before learned)
-  where
-    by : (o a : Result ⊤ RunFault) → IfOk o (λ _. AreOfThreads known returned history) → OnOk a (IfOk one (λ answered. IsStartOf (known answered) more))
-        → IfOk (join_results o a) (λ _. AreOfThreads known (returned ++ one ∷ []) more)
-    by (Ok _) (Ok _) earlier last = one_more_learned known returned one history more kept earlier last
-    by (Ok _) (Err fault) earlier last = search
-    by (Err fault) (Ok _) earlier last = search
-    by (Err fault) (Err second) earlier last = search
-
--- all results were joined
-pub all_learned : {X : Type 0} (known : X → List Record) (results joined : List (Result X RunFault)) (history : List Record) (outcome : Result ⊤ RunFault) (nothing : ⊤)
-    → joined ≡ results → outcome ≡ Ok nothing → IfOk outcome (λ _. AreOfThreads known joined history) → AreOfThreads known results history
-all_learned {X = X} known results joined history outcome nothing all is learned =
-    subst (λ (rs : List (Result X RunFault)). AreOfThreads known rs history) all
-    (subst (λ (o : Result ⊤ RunFault). IfOk o (λ _. AreOfThreads known joined history)) is learned)
+-- another was joined: its records were learned, and what it saw finished was counted
+pub both_known : (other : Known) (told : Stretch Record) (before between after : Known)
+    → told ≡ record { first = 0; known = other.records }
+    → IsStartOf before.records between.records → IsStartOf told.known between.records → between.finished ≡ before.finished
+    → after.records ≡ between.records → after.finished ≡ between.finished + other.finished
+    → Joins other before after
+both_known other told before between after is kept learned uncounted same counted = record {
+  kept = subst (λ (rs : List Record). IsStartOf before.records rs) (sym same) kept;
+  learned = subst (λ (rs : List Record). IsStartOf other.records rs) (sym same) (subst (λ (s : Stretch Record). IsStartOf s.known between.records) is learned);
+  counted = counted ∙ ap (λ (n : ℕ). n + other.finished) uncounted;
+}
 
 -- ---- guards
 
--- the records of one more guard are learned
-pub one_more_of : {V : Type 0} (records_of : V → List Record) (guards : List V) (k : ℕ) (v : V) (history more : List Record)
-    → slice_get guards k ≡ Some v → IsStartOf history more → IsStartOf (records_of v) more
-    → ((place : ℕ) (w : V) → slice_get (take k guards) place ≡ Some w → IsStartOf (records_of w) history)
-    → (place : ℕ) (w : V) → slice_get (take (k + 1) guards) place ≡ Some w → IsStartOf (records_of w) more
-one_more_of {V = V} records_of guards k v history more here kept learned before place w at =
-    by (push_cases (take k guards) v place w (ap (λ (vs : List V). slice_get vs place) (sym (take_next guards k v here)) ∙ at))
+-- the records of these guards are learned, and no batch was counted
+pub record LearnedFrom {V : Type 0} (records_of : V → List Record) (guards : List V) (first now : Known) : Type 0 where
+  pub kept : IsStartOf first.records now.records
+  pub counted : now.finished ≡ first.finished
+  pub learned : (place : ℕ) (w : V) → slice_get guards place ≡ Some w → IsStartOf (records_of w) now.records
+
+-- those of one more guard are learned
+pub one_more_guard : {V : Type 0} (records_of : V → List Record) (guards : List V) (k : ℕ) (v : V) (told : Stretch Record) (first before after : Known)
+    → slice_get guards k ≡ Some v → told ≡ record { first = 0; known = records_of v }
+    → IsStartOf before.records after.records → after.finished ≡ before.finished → IsStartOf told.known after.records
+    → LearnedFrom records_of (take k guards) first before → LearnedFrom records_of (take (k + 1) guards) first after
+one_more_guard {V = V} records_of guards k v told first before after here is kept counted learned earlier = record {
+  kept = start_more first.records before.records after.records earlier.kept kept;
+  counted = counted ∙ earlier.counted;
+  learned = λ place w at. by place w (push_cases (take k guards) v place w (ap (λ (vs : List V). slice_get vs place) (sym (take_next guards k v here)) ∙ at));
+}
   where
-    by : ((place ≡ length (take k guards)) × (v ≡ w)) ⊎ ((place < length (take k guards)) × (slice_get (take k guards) place ≡ Some w)) → IsStartOf (records_of w) more
-    by (inl (last, same)) = subst (λ (u : V). IsStartOf (records_of u) more) same learned
-    by (inr (within, earlier)) = start_more (records_of w) history more (before place w earlier) kept
+    mine : IsStartOf (records_of v) after.records
+    mine = subst (λ (s : Stretch Record). IsStartOf s.known after.records) is learned
+
+    by : (place : ℕ) (w : V) → ((place ≡ length (take k guards)) × (v ≡ w)) ⊎ ((place < length (take k guards)) × (slice_get (take k guards) place ≡ Some w)) → IsStartOf (records_of w) after.records
+    by place w (inl (last, same)) = subst (λ (u : V). IsStartOf (records_of u) after.records) same mine
+    by place w (inr (within, sooner)) = start_more (records_of w) before.records after.records (earlier.learned place w sooner) kept
 
 -- those of all guards are learned
-pub all_of : {V : Type 0} (records_of : V → List Record) (guards : List V) (k : ℕ) (history : List Record) → length guards ≤ k
-    → ((place : ℕ) (w : V) → slice_get (take k guards) place ≡ Some w → IsStartOf (records_of w) history)
-    → (place : ℕ) (w : V) → slice_get guards place ≡ Some w → IsStartOf (records_of w) history
-all_of {V = V} records_of guards k history all learned place w at = learned place w (ap (λ (vs : List V). slice_get vs place) (take_all guards k all) ∙ at)
+pub all_of : {V : Type 0} (records_of : V → List Record) (guards : List V) (k : ℕ) (first now : Known) → length guards ≤ k
+    → LearnedFrom records_of (take k guards) first now
+    → (place : ℕ) (w : V) → slice_get guards place ≡ Some w → IsStartOf (records_of w) now.records
+all_of {V = V} records_of guards k first now all learned place w at = learned.learned place w (ap (λ (vs : List V). slice_get vs place) (take_all guards k all) ∙ at)

@@ -1,22 +1,19 @@
 -- Threads that are started and joined, one for each proxy.
-use Rattle.std.proofs.Common.{◌≡◌, ◌++◌, ◌+◌, ◌∙◌, ◌<◌, ◌≤◌, [], ◌∷◌, ℕ, zero, suc, List, sym, ap, subst, drop, take, length, inl, inr, arith}
-use Rattle.std.specs.Prelude.{◌⊎◌, slice_get, Some, Result, Ok, Err, IfOk}
+use Rattle.std.proofs.Common.{◌≡◌, ◌++◌, ◌+◌, ◌∙◌, ◌<◌, [], ◌∷◌, ℕ, zero, suc, List, refl, sym, ap, subst, drop, length, inl, inr, arith}
+use Rattle.std.specs.Prelude.{◌⊎◌, ⊤, slice_get, Some, Result, Ok, Err, IfOk, OnOk, MatchResult}
 use Rattle.std.proofs.lemmas.Option.{same_Some}
 use Rattle.model.proofs.History.Chain.{element_at}
-use Rattle.locked_resolvers.proofs.Lists.{take_all, take_next}
 use Rattle.model.specs.Stamps.{Given}
 use Rattle.model.proofs.History.Growth.{push_cases}
 use Rattle.model.specs.Configs.{Config}
-use Rattle.model.specs.Records.{Record}
-use Rattle.threads_lines.specs.Answers.{AreBatchLines, AreLinesOfProxy}
-use Rattle.threads_lines.specs.Histories.{AreOfThreads, IsStartOf}
-use Rattle.system_keys.specs.AsSpecified.{IsAsSpecifiedIfAllocated}
-use Rattle.threads_lines.specs.Faults.{run_fault, text_of, texts_of}
-use Rattle.threads_lines.specs.Parts.{IsInParts}
-use Rattle.threads_lines.specs.Threads.{AreInOrder, AreInPlace, AreLinesOfThread, AreLinesOfThreads, KeepPromises}
+use Rattle.threads_lines.specs.Answers.{AreBatchLines, AreLinesOfProxy, AreWorkLines}
+use Rattle.threads_lines.specs.Faults.{join_results}
+use Rattle.threads_lines.specs.Histories.{Joins, Known, nothing_known}
+use Rattle.threads_lines.specs.Parts.{IsInTurns}
+use Rattle.threads_lines.specs.Threads.{AreInOrder, AreInPlace, IsTextOf, KeepPromises}
 use Rattle.threads_lines.specs.declared.faults.RunFault.{RunFault}
-use Rattle.threads_lines.proofs.FaultLemmas.{joined_parts, texts_more}
-use Rattle.threads_lines.proofs.PartLemmas.{batch_lines_after_more, parts_weaker}
+use Rattle.threads_lines.specs.declared.faults.RunFault.TheVariants as faults
+use Rattle.threads_lines.proofs.PartLemmas.{turns_weaker}
 
 -- the first of those that are left
 pub drop_next : {X : Type 0} (xs : List X) (k : ℕ) (x : X) (rest : List X) → drop k xs ≡ x ∷ rest → (slice_get xs k ≡ Some x) × (drop (k + 1) xs ≡ rest)
@@ -44,18 +41,6 @@ one_more_thread threads number batches work thread is there before p found at = 
   by (inl (last, same)) = (ap number (sym same) ∙ is ∙ sym last, ap (slice_get work) last ∙ there ∙ ap (λ t. Some (batches t)) same)
   by (inr (within, earlier)) = before p found earlier
 
--- what the threads promise is what the proxies are answered
-pub lines_of_proxies : {X : Type 0} (threads : List X) (number : X → ℕ) (batches : X → List (List Given)) (AreLines : ℕ → List (List Given) → List ℕ → Type 0) (work : List (List (List Given))) (text : List ℕ)
-    → AreInOrder threads number batches work → length threads ≡ length work → AreLinesOfThreads AreLines threads number batches text
-    → IsInParts (AreLinesOfProxy AreLines work) (length work) text
-lines_of_proxies threads number batches AreLines work text ordered count lines =
-    subst (λ (n : ℕ). IsInParts (AreLinesOfProxy AreLines work) n text) count
-    (parts_weaker (AreLinesOfThread AreLines threads number batches) (AreLinesOfProxy AreLines work) (length threads) text
-    (λ p part below of_thread.
-    let (thread, at, is) = of_thread in
-    let (same, there) = ordered p thread at in
-    (batches thread, there, subst (λ (n : ℕ). AreLines n (batches thread) part) same is)) lines)
-
 -- one more thread was joined
 pub one_more_joined : {X Y : Type 0} (Keeps : ℕ → List (List Given) → Y → Type 0) (threads : List X) (number : X → ℕ) (batches : X → List (List Given))
     (returned : List (Result Y RunFault)) (thread : X) (one : Result Y RunFault)
@@ -70,73 +55,73 @@ one_more_joined {X = X} {Y = Y} Keeps threads number batches returned thread one
         (subst (λ (r : Result Y RunFault). IfOk r (Keeps (number thread) (batches thread))) same kept)
     by (inr (within, earlier)) = before place found result at earlier
 
--- a thread that returned a text kept its promise
-kept_text : {Y : Type 0} (P : List ℕ → Type 0) (bytes : Y → List ℕ) (one : Result Y RunFault) (part : List ℕ)
-    → text_of bytes one ≡ Ok part → IfOk one (λ text. P (bytes text)) → P part
-kept_text P bytes (Ok text) part is kept = let same : bytes text ≡ part = cc in subst P same kept
-kept_text P bytes (Err fault) part is kept = absurd (cc)
-
--- the texts of the first threads are the lines that they promise
-lines_of_first : {X Y : Type 0} (AreLines : ℕ → List (List Given) → List ℕ → Type 0) (threads : List X) (number : X → ℕ) (batches : X → List (List Given)) (bytes : Y → List ℕ)
-    (returned : List (Result Y RunFault)) → length returned ≡ length threads → KeepPromises (λ p given text. AreLines p given (bytes text)) threads number batches returned
-    → (k : ℕ) (text : List ℕ) → k ≤ length returned → texts_of bytes (take k returned) ≡ Ok text
-    → IsInParts (AreLinesOfThread AreLines threads number batches) k text
-lines_of_first AreLines threads number batches bytes returned count kept zero text within is = let none : [] ≡ text = cc in sym none
-lines_of_first AreLines threads number batches bytes returned count kept (suc k) text within is =
-    let (one, there) = element_at returned k (omega (arith, within)) in
-    let (thread, at) = element_at threads k (omega (arith, within, count)) in
-    let more : suc k ≡ k + 1 = omega arith in
-    let next : take (suc k) returned ≡ take k returned ++ one ∷ [] = ap (λ (n : ℕ). take n returned) more ∙ take_next returned k one there in
-    let (before, part, first, last, whole) = joined_parts (texts_of bytes (take k returned)) (text_of bytes one) text
-    (sym (texts_more bytes (take k returned) one) ∙ ap (texts_of bytes) (sym next) ∙ is) in (
-      before,
-      part,
-      lines_of_first AreLines threads number batches bytes returned count kept k before (omega (arith, within)) first,
-      (thread, at, kept_text (AreLines (number thread) (batches thread)) bytes one part last (kept k thread one at there)),
-      whole,
-    )
-
--- if each thread returned a text, the texts are the lines that all threads promise
-lines_of_threads : {X Y : Type 0} (AreLines : ℕ → List (List Given) → List ℕ → Type 0) (threads : List X) (number : X → ℕ) (batches : X → List (List Given)) (bytes : Y → List ℕ)
-    (returned : List (Result Y RunFault)) (text : List ℕ) → length returned ≡ length threads → KeepPromises (λ p given one. AreLines p given (bytes one)) threads number batches returned
-    → texts_of bytes returned ≡ Ok text → AreLinesOfThreads AreLines threads number batches text
-lines_of_threads AreLines threads number batches bytes returned text count kept is =
-    subst (λ (n : ℕ). IsInParts (AreLinesOfThread AreLines threads number batches) n text) count
-    (lines_of_first AreLines threads number batches bytes returned count kept (length returned) text (omega arith)
-    (ap (texts_of bytes) (take_all returned (length returned) (omega arith)) ∙ is))
-
--- what each thread promises of its own history holds of a history that all threads' ones begin
-promises_after : {X Y : Type 0} (config : Config) (rows : ℕ) (threads : List X) (number : X → ℕ) (batches : X → List (List Given))
-    (returned : List (Result Y RunFault)) (bytes : Y → List ℕ) (known : Y → List Record) (history : List Record)
-    → KeepPromises (λ p given one. AreBatchLines config rows (known one) p given (bytes one)) threads number batches returned
-    → AreOfThreads known returned history
-    → KeepPromises (λ p given one. AreBatchLines config rows history p given (bytes one)) threads number batches returned
-promises_after {Y = Y} config rows threads number batches returned bytes known history kept learned place thread one at there =
-    by one (kept place thread one at there) (learned place one there)
+-- what the threads returned is what the proxies are answered
+pub work_lines : {X Y : Type 0} (config : Config) (rows : ℕ) (threads : List X) (number : X → ℕ) (batches : X → List (List Given)) (work : List (List (List Given)))
+    (returned : List (Result Y RunFault)) (bytes : Y → List ℕ) (known : Y → Known) (last : Known) (text : List ℕ)
+    → AreInOrder threads number batches work → length threads ≡ length work → length returned ≡ length threads
+    → KeepPromises (λ p given one. AreBatchLines config rows p given (known one) (bytes one)) threads number batches returned
+    → IsInTurns (IsTextOf bytes known returned) nothing_known (length returned) last text
+    → AreWorkLines config rows work last text
+work_lines {Y = Y} config rows threads number batches work returned bytes known last text ordered count all kept are =
+    subst (λ (n : ℕ). IsInTurns (AreLinesOfProxy config rows work) nothing_known n last text) (all ∙ count)
+    (turns_weaker (IsTextOf bytes known returned) (AreLinesOfProxy config rows work) nothing_known (length returned) last text of_proxy are)
   where
-    p : ℕ
-    p = number thread
+    of_proxy : (p : ℕ) (before after : Known) (part : List ℕ) → p < length returned → IsTextOf bytes known returned p before after part → AreLinesOfProxy config rows work p before after part
+    of_proxy p before after part below of_thread =
+        let (one, at, joins, is) = of_thread in
+        let (thread, there) = element_at threads p (omega (arith, below, all)) in
+        let (same, given) = ordered p thread there in
+        let lines : AreBatchLines config rows (number thread) (batches thread) (known one) (bytes one) = kept p thread (Ok one) there at in
+        let mine : AreBatchLines config rows p (batches thread) (known one) (bytes one) = subst (λ (n : ℕ). AreBatchLines config rows n (batches thread) (known one) (bytes one)) same lines in
+        (batches thread, known one, given, subst (AreBatchLines config rows p (batches thread) (known one)) (sym is) mine, joins)
 
-    given : List (List Given)
-    given = batches thread
-
-    by : (r : Result Y RunFault) → IfOk r (λ answered. AreBatchLines config rows (known answered) p given (bytes answered)) → IfOk r (λ answered. IsStartOf (known answered) history)
-        → IfOk r (λ answered. AreBatchLines config rows history p given (bytes answered))
-    by (Ok answered) lines start = batch_lines_after_more config rows (known answered) history p given (length given) (bytes answered) start lines
-    by (Err fault) lines start = lines
-
--- what the threads promise is what the proxies are answered
+-- the same if each thread returned a text
 pub answered_proxies : {X Y : Type 0} (config : Config) (rows : ℕ) (threads : List X) (number : X → ℕ) (batches : X → List (List Given)) (work : List (List (List Given)))
-    (returned : List (Result Y RunFault)) (result : Result Y RunFault) (bytes : Y → List ℕ) (known : Y → List Record)
-    → AreInOrder threads number batches work → length threads ≡ length work
-    → length returned ≡ length threads
-    → KeepPromises (λ p given one. AreBatchLines config rows (known one) p given (bytes one)) threads number batches returned
-    → IsAsSpecifiedIfAllocated run_fault bytes result (texts_of bytes returned)
-    → IfOk result (λ answered. AreOfThreads known returned (known answered))
-    → IfOk result (λ answered. IsInParts (AreLinesOfProxy (AreBatchLines config rows (known answered)) work) (length work) (bytes answered))
-answered_proxies config rows threads number batches work returned (Ok answered) bytes known ordered count all kept is learned =
-    let AreLines = AreBatchLines config rows (known answered) in
-    lines_of_proxies threads number batches AreLines work (bytes answered) ordered count
-    (lines_of_threads AreLines threads number batches bytes returned (bytes answered) all
-    (promises_after config rows threads number batches returned bytes known (known answered) kept learned) is)
-answered_proxies config rows threads number batches work returned (Err fault) bytes known ordered count all kept is learned = search
+    (returned : List (Result Y RunFault)) (result : Result Y RunFault) (bytes : Y → List ℕ) (known : Y → Known)
+    → AreInOrder threads number batches work → length threads ≡ length work → length returned ≡ length threads
+    → KeepPromises (λ p given one. AreBatchLines config rows p given (known one) (bytes one)) threads number batches returned
+    → IfOk result (λ answered. IsInTurns (IsTextOf bytes known returned) nothing_known (length returned) (known answered) (bytes answered))
+    → IfOk result (λ answered. AreWorkLines config rows work (known answered) (bytes answered))
+answered_proxies config rows threads number batches work returned (Ok answered) bytes known ordered count all kept are =
+    work_lines config rows threads number batches work returned bytes known (known answered) (bytes answered) ordered count all kept are
+answered_proxies config rows threads number batches work returned (Err fault) bytes known ordered count all kept are = are
+
+-- ---- results that are joined
+
+-- what stands after the front
+pub after_front : {X : Type 0} (front rest all : List X) (x : X) → front ++ x ∷ rest ≡ all → slice_get all (length front) ≡ Some x
+after_front front rest all x is = subst (λ (xs : List _). slice_get xs (length front) ≡ Some x) is (there front)
+  where
+    there : (ys : List _) → slice_get (ys ++ x ∷ rest) (length ys) ≡ Some x
+    there [] = refl
+    there (y ∷ ys) = there ys
+
+-- one more result was joined
+pub joined_next : {Y : Type 0} (bytes : Y → List ℕ) (known : Y → Known) (results : List (Result Y RunFault)) (count : ℕ) (one : Result Y RunFault) (between last : Known) (old new : List ℕ)
+    (outcome appended next : Result ⊤ RunFault) → next ≡ join_results outcome appended → slice_get results count ≡ Some one
+    → IfOk outcome (λ _. IsInTurns (IsTextOf bytes known results) nothing_known count between old)
+    → MatchResult one (λ text. MatchResult appended (λ _. new ≡ old ++ bytes text) (λ fault. fault ≡ faults.OutOfMemory)) (λ fault. appended ≡ Err fault)
+    → OnOk appended (IfOk one (λ text. Joins (known text) between last))
+    → IfOk next (λ _. IsInTurns (IsTextOf bytes known results) nothing_known (suc count) last new)
+joined_next {Y = Y} bytes known results count one between last old new outcome appended next is at before text joins =
+    subst (λ (r : Result ⊤ RunFault). IfOk r (λ _. IsInTurns (IsTextOf bytes known results) nothing_known (suc count) last new)) (sym is) (by one outcome appended at before text joins)
+  where
+    by : (r : Result Y RunFault) (o a : Result ⊤ RunFault) → slice_get results count ≡ Some r
+        → IfOk o (λ _. IsInTurns (IsTextOf bytes known results) nothing_known count between old)
+        → MatchResult r (λ text. MatchResult a (λ _. new ≡ old ++ bytes text) (λ fault. fault ≡ faults.OutOfMemory)) (λ fault. a ≡ Err fault)
+        → OnOk a (IfOk r (λ text. Joins (known text) between last))
+        → IfOk (join_results o a) (λ _. IsInTurns (IsTextOf bytes known results) nothing_known (suc count) last new)
+    by (Ok answered) (Ok _) (Ok _) there turns grown joined = (between, old, bytes answered, turns, (answered, there, joined, refl), grown)
+    by (Err fault) (Ok _) (Ok _) there turns grown joined = absurd (cc)
+    by r (Ok _) (Err fault) there turns grown joined = search
+    by r (Err fault) (Ok _) there turns grown joined = search
+    by r (Err fault) (Err second) there turns grown joined = search
+
+-- all results were joined
+pub joined_turns : {Y : Type 0} (bytes : Y → List ℕ) (known : Y → Known) (results : List (Result Y RunFault)) (count : ℕ) (last : Known) (text : List ℕ)
+    (outcome : Result ⊤ RunFault) (nothing : ⊤) → count ≡ length results → outcome ≡ Ok nothing
+    → IfOk outcome (λ _. IsInTurns (IsTextOf bytes known results) nothing_known count last text)
+    → IsInTurns (IsTextOf bytes known results) nothing_known (length results) last text
+joined_turns bytes known results count last text outcome nothing all is turns =
+    subst (λ (n : ℕ). IsInTurns (IsTextOf bytes known results) nothing_known n last text) all
+    (subst (λ (o : Result ⊤ RunFault). IfOk o (λ _. IsInTurns (IsTextOf bytes known results) nothing_known count last text)) is turns)

@@ -1,5 +1,6 @@
 -- What a batch may be answered, and the texts that are the lines of such answers. `rows` is how many
--- rows the ledger has, and `history` the records that the run knows. *Profile*: all of it.
+-- rows the ledger has. `before` is what is known before an answer, and `after` what is known after it.
+-- *Profile*: all of it.
 use Rattle.std.specs.Prelude.{◌≡◌, ◌+◌, ◌<◌, ◌≤◌, ℕ, List, [], length, slice_get, Some, Ok, Err}
 use Rattle.model.specs.Configs.{Config, version_limit}
 use Rattle.model.specs.Numbers.{ProxyNumber}
@@ -9,9 +10,9 @@ use Rattle.agreed_ledger.specs.declared.refusal.Refusal.{Refusal}
 use Rattle.agreed_ledger.specs.declared.refusal.Refusal.TheVariants as refusals
 use Rattle.locked_cluster.specs.Answers.{NotedFinishedView, IsNotedFinished}
 use Rattle.locked_cluster.specs.Commits.{HoldsBatch}
-use Rattle.threads_lines.specs.Histories.{IsStartOf}
+use Rattle.threads_lines.specs.Histories.{IsStartOf, Joins, Known, SeesFinished, nothing_known}
 use Rattle.threads_lines.specs.Lines.{Answer, batch_line, closing_line}
-use Rattle.threads_lines.specs.Parts.{IsInParts}
+use Rattle.threads_lines.specs.Parts.{IsInTurns}
 use Rattle.threads_lines.specs.declared.committer.Committed.{Committed}
 use Rattle.threads_lines.specs.declared.committer.Committed.TheVariants as committed
 
@@ -45,49 +46,71 @@ abbrev pub IsCommitOf :
 IsCommitOf config rows p batch (committed.Finished noted) = FinishesBatch config p batch noted
 IsCommitOf config rows p batch (committed.NoRecord refusal) = IsEnd config rows refusal
 
+-- no record can follow some records; no batch was seen finished
+pub record SeesEnd (config : Config) (rows : ℕ) (refusal : Refusal) (before after : Known) :
+    Type 0 where
+  pub kept : IsStartOf before.records after.records
+  pub ended : IsEnd config rows refusal
+  pub counted : after.finished ≡ before.finished
+
 -- The batch of proxy p may be answered so: it is finished by the definition for the last of some
--- records with which the history begins; or there is no record for it.
+-- records, beyond all that were known, which are known then; or there is no record for it.
 abbrev pub AnswersBatch :
-    Config → (rows : ℕ) → (history : List Record) → ProxyNumber → List Given → Answer → Type 0
-AnswersBatch config rows history p batch (Ok finished) =
+    Config → (rows : ℕ) → ProxyNumber → List Given → (before after : Known) → Answer → Type 0
+AnswersBatch config rows p batch before after (Ok finished) =
     (noted : NotedFinishedView) × FinishesBatch config p batch noted
-    × IsStartOf noted.records history × (finished ≡ noted.finished)
-AnswersBatch config rows history p batch (Err refusal) = IsEnd config rows refusal
+    × SeesFinished noted before after × (finished ≡ noted.finished)
+AnswersBatch config rows p batch before after (Err refusal) =
+    SeesEnd config rows refusal before after
 
 -- ---- their lines
 
 -- the line of an answer to the batch of proxy p
 abbrev pub IsLineOf :
-    Config → (rows : ℕ) → (history : List Record) → ProxyNumber → (line : Answer → List ℕ)
-    → List Given → (text : List ℕ) → Type 0
-IsLineOf config rows history p line batch text =
-    (answer : Answer) × AnswersBatch config rows history p batch answer × (text ≡ line answer)
+    Config → (rows : ℕ) → ProxyNumber → (line : Answer → List ℕ) → List Given
+    → (before after : Known) → (text : List ℕ) → Type 0
+IsLineOf config rows p line batch before after text =
+    (answer : Answer) × AnswersBatch config rows p batch before after answer
+    × (text ≡ line answer)
 
 -- the line of an answer to the batch at this place among those of proxy p
 abbrev pub IsBatchLine :
-    Config → (rows : ℕ) → (history : List Record) → ProxyNumber → List (List Given)
-    → (place : ℕ) → (text : List ℕ) → Type 0
-IsBatchLine config rows history p batches place text =
+    Config → (rows : ℕ) → ProxyNumber → List (List Given) → (place : ℕ)
+    → (before after : Known) → (text : List ℕ) → Type 0
+IsBatchLine config rows p batches place before after text =
     (batch : List Given) × (slice_get batches place ≡ Some batch)
-    × IsLineOf config rows history p (batch_line p place) batch text
+    × IsLineOf config rows p (batch_line p place) batch before after text
 
--- the lines of answers to these batches of proxy p, in order
+-- The lines of answers to these batches of proxy p, in order, after which so much is known by them: so
+-- the rows of those that are finished rise.
 abbrev pub AreBatchLines :
-    Config → (rows : ℕ) → (history : List Record) → ProxyNumber → List (List Given)
-    → (text : List ℕ) → Type 0
-AreBatchLines config rows history p batches text =
-    IsInParts (IsBatchLine config rows history p batches) (length batches) text
+    Config → (rows : ℕ) → ProxyNumber → List (List Given) → Known → (text : List ℕ) → Type 0
+AreBatchLines config rows p batches known text =
+    IsInTurns (IsBatchLine config rows p batches) nothing_known (length batches) known text
 
--- the lines of answers to the batches that proxy p commits; `AreLines` says which they are
+-- the lines of answers to the batches that proxy p commits, and what is known by them
 abbrev pub AreLinesOfProxy :
-    (AreLines : ProxyNumber → List (List Given) → (text : List ℕ) → Type 0)
-    → (work : List (List (List Given))) → ProxyNumber → (text : List ℕ) → Type 0
-AreLinesOfProxy AreLines work p text =
-    (batches : List (List Given)) × (slice_get work p ≡ Some batches)
-    × AreLines p batches text
+    Config → (rows : ℕ) → (work : List (List (List Given))) → ProxyNumber
+    → (before after : Known) → (text : List ℕ) → Type 0
+AreLinesOfProxy config rows work p before after text =
+    (batches : List (List Given)) × (known : Known) × (slice_get work p ≡ Some batches)
+    × AreBatchLines config rows p batches known text × Joins known before after
+
+-- the lines of answers to the batches of all proxies, in the order of the proxies
+abbrev pub AreWorkLines :
+    Config → (rows : ℕ) → (work : List (List (List Given))) → Known → (text : List ℕ) → Type 0
+AreWorkLines config rows work known text =
+    IsInTurns (AreLinesOfProxy config rows work) nothing_known (length work) known text
 
 -- the line of an answer to the empty batch by which proxy p closes
 abbrev pub IsClosingLine :
-    Config → (rows : ℕ) → (history : List Record) → ProxyNumber → (text : List ℕ) → Type 0
-IsClosingLine config rows history p text =
-    IsLineOf config rows history p (closing_line p) [] text
+    Config → (rows : ℕ) → ProxyNumber → (before after : Known) → (text : List ℕ) → Type 0
+IsClosingLine config rows p before after text =
+    IsLineOf config rows p (closing_line p) [] before after text
+
+-- The lines of answers to the closings of so many proxies, in order: the rows of those that are finished
+-- rise, beyond all records that were known before.
+abbrev pub AreClosingLines :
+    Config → (rows proxies : ℕ) → (before after : Known) → (text : List ℕ) → Type 0
+AreClosingLines config rows proxies before after text =
+    IsInTurns (IsClosingLine config rows) before proxies after text

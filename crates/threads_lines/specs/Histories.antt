@@ -1,13 +1,36 @@
 -- The history that a run knows, and what is a start of it (this project's profile).
-use Rattle.std.specs.Prelude.{◌≡◌, ℕ, List, length, slice_get, take, Some, Result, IfOk}
+use Rattle.std.specs.Prelude.{◌≡◌, ◌+◌, ◌≤◌, ℕ, List, [], length, slice_get, take, Some}
 use Rattle.model.specs.Records.{Record}
+use Rattle.locked_cluster.specs.Answers.{NotedFinishedView}
 use Rattle.locked_cluster.specs.Proxies.{LockedProxyView}
 use Rattle.locked_resolvers.specs.Resolvers.{LockedResolverView}
-use Rattle.threads_lines.specs.declared.faults.RunFault.{RunFault}
+
+-- what a run knows: records from row 0 on, and how many batches it saw finished, closings among them
+pub record Known : Type 0 where
+  pub records : List Record
+  pub finished : ℕ
+
+abbrev pub nothing_known : Known
+nothing_known = record { records = []; finished = 0 }
 
 -- these are the first of those records
 abbrev pub IsStartOf : (known records : List Record) → Type 0
 IsStartOf known records = known ≡ take (length known) records
+
+-- The batch was seen finished, at a row beyond all records that were known. The records up to it are
+-- known then.
+pub record SeesFinished (noted : NotedFinishedView) (before after : Known) : Type 0 where
+  pub kept : IsStartOf before.records after.records
+  pub beyond : length before.records ≤ noted.finished.row
+  pub learned : IsStartOf noted.records after.records
+  pub counted : after.finished ≡ before.finished + 1
+
+-- What another knew is known then too: the records of both are a start of one history, and the batches
+-- that both saw finished are counted.
+pub record Joins (other before after : Known) : Type 0 where
+  pub kept : IsStartOf before.records after.records
+  pub learned : IsStartOf other.records after.records
+  pub counted : after.finished ≡ before.finished + other.finished
 
 -- the records of each proxy are a start of the history
 abbrev pub AreOfProxies : (proxies : List LockedProxyView) → (history : List Record) → Type 0
@@ -21,12 +44,3 @@ abbrev pub AreOfResolvers :
 AreOfResolvers resolvers history =
     (place : ℕ) (w : LockedResolverView) → slice_get resolvers place ≡ Some w
     → IsStartOf w.records history
-
--- the history that each thread knows that did not fail is a start of this one; `known` says which one it
--- knows
-abbrev pub AreOfThreads :
-    {X : Type 0} → (known : X → List Record) → (returned : List (Result X RunFault))
-    → (history : List Record) → Type 0
-AreOfThreads known returned history =
-    (place : ℕ) (one : _) → slice_get returned place ≡ Some one
-    → IfOk one (λ answered. IsStartOf (known answered) history)

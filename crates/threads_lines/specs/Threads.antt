@@ -1,10 +1,11 @@
 -- Threads that are started and joined, one for each proxy. `number` is the proxy of a thread, and
 -- `batches` those that it commits.
-use Rattle.std.specs.Prelude.{◌≡◌, ℕ, List, length, slice_get, Some, ◌++◌, Result, IfOk}
+use Rattle.std.specs.Prelude.{◌≡◌, ℕ, List, slice_get, Some, ◌++◌, Result, Ok, IfOk}
+use Rattle.model.specs.Configs.{Config}
 use Rattle.model.specs.Numbers.{ProxyNumber}
 use Rattle.model.specs.Stamps.{Given}
-use Rattle.threads_lines.specs.Answers.{AreLinesOfProxy}
-use Rattle.threads_lines.specs.Parts.{IsInParts}
+use Rattle.threads_lines.specs.Answers.{AreClosingLines, AreWorkLines}
+use Rattle.threads_lines.specs.Histories.{Joins, Known}
 use Rattle.threads_lines.specs.declared.faults.RunFault.{RunFault}
 
 -- each number is its place
@@ -19,16 +20,6 @@ AreInOrder threads number batches work =
     (p : ℕ) (thread : _) → slice_get threads p ≡ Some thread
     → (number thread ≡ p) × (slice_get work p ≡ Some (batches thread))
 
--- the lines that the thread at this place promises; `AreLines` says which texts are the lines of
--- answers to these batches of this proxy
-abbrev pub AreLinesOfThread :
-    {X : Type 0} → (AreLines : ProxyNumber → List (List Given) → (text : List ℕ) → Type 0)
-    → (threads : List X) → (number : X → ProxyNumber)
-    → (batches : X → List (List Given)) → (place : ℕ) → (text : List ℕ) → Type 0
-AreLinesOfThread AreLines threads number batches place text =
-    (thread : _) × (slice_get threads place ≡ Some thread)
-    × AreLines (number thread) (batches thread) text
-
 -- each thread returned what it promises, if it did not fail; `Keeps` says what is promised for these
 -- batches of this proxy
 abbrev pub KeepPromises :
@@ -40,23 +31,28 @@ KeepPromises Keeps threads number batches returned =
     → slice_get returned place ≡ Some one
     → IfOk one (Keeps (number thread) (batches thread))
 
--- the lines that all threads promise, in order
-abbrev pub AreLinesOfThreads :
-    {X : Type 0} → (AreLines : ProxyNumber → List (List Given) → (text : List ℕ) → Type 0)
-    → (threads : List X) → (number : X → ProxyNumber)
-    → (batches : X → List (List Given)) → (text : List ℕ) → Type 0
-AreLinesOfThreads AreLines threads number batches text =
-    IsInParts (AreLinesOfThread AreLines threads number batches) (length threads) text
+-- the thread at this place returned this text, and what it knew is known too; `bytes` and `known` say
+-- which they are
+abbrev pub IsTextOf :
+    {Y : Type 0} → (bytes : Y → List ℕ) → (known : Y → Known)
+    → (returned : List (Result Y RunFault)) → (place : ℕ) → (before after : Known)
+    → (text : List ℕ) → Type 0
+IsTextOf bytes known returned place before after text =
+    (one : _) × (slice_get returned place ≡ Some (Ok one)) × Joins (known one) before after
+    × (text ≡ bytes one)
 
--- the lines of answers to the batches that the proxies commit, and then of those to the closings;
--- `AreLines` says which are those of one proxy, `AreClosings` which those of all closings
+-- the lines of answers to the batches that the proxies commit, and then of those to the closings of so
+-- many proxies
 pub record AreAnswerLines
-    (AreLines : ProxyNumber → List (List Given) → (text : List ℕ) → Type 0)
-    (AreClosings : (text : List ℕ) → Type 0)
+    (config : Config)
+    (rows : ℕ)
     (work : List (List (List Given)))
+    (proxies : ℕ)
+    (known : Known)
     (text : List ℕ) : Type 0 where
+  pub between : Known
   pub batches : List ℕ
   pub closings : List ℕ
-  pub answered : IsInParts (AreLinesOfProxy AreLines work) (length work) batches
-  pub closed : AreClosings closings
+  pub answered : AreWorkLines config rows work between batches
+  pub closed : AreClosingLines config rows proxies between known closings
   pub text_is : text ≡ batches ++ closings

@@ -2,10 +2,11 @@
 //! answer to each.
 
 ghost use Rattle.std.specs.Prelude.{◌≡◌, [], length, IfOk, OnOk, string_bytes};
-ghost use Rattle.threads_lines.specs.Answers.{AreBatchLines, IsClosingLine, IsCommitOf, IsLineOf};
+ghost use Rattle.threads_lines.specs.Answers.{AreBatchLines, IsBatchLine, IsClosingLine};
+ghost use Rattle.threads_lines.specs.Answers.{IsCommitOf, IsLineOf};
 ghost use Rattle.threads_lines.specs.Histories.{IsStartOf};
 ghost use Rattle.threads_lines.specs.Lines.{batch_line};
-ghost use Rattle.threads_lines.specs.Parts.{GrowsBy};
+ghost use Rattle.threads_lines.specs.Parts.{GrowsBy, IsInTurns};
 
 use crate::faults::{RunFault, printed_refusal};
 use crate::lines::{
@@ -33,7 +34,8 @@ pub struct Committer<'a, 'l, N: Naming, A: Asking<N>> {
     ghost own: { proxy.now ≡ number },
 }
 
-/// The lines of answers, and a history that begins with the records up to each finished batch.
+/// The lines of answers, and what is known by them: a history that begins with the records up to each
+/// finished batch, and how many batches are finished.
 #[derive(Drop)]
 pub struct AnsweredLines<N: Naming> {
     /// The lines.
@@ -53,8 +55,7 @@ enum Committed<N: Naming> {
 
 impl<'a, 'l, N: Naming, A: Asking<N>> Committer<'a, 'l, N, A> {
     /// Commits the batches in order, and returns the lines of their answers with what they tell of the
-    /// history. If it fails, other
-    /// proxies may wait for this one until its resolvers are closed.
+    /// history. If it fails, other proxies may wait for this one until its resolvers are closed.
     pub fn run<R: Wait>(
         &self,
         rt: &R,
@@ -62,8 +63,8 @@ impl<'a, 'l, N: Naming, A: Asking<N>> Committer<'a, 'l, N, A> {
         batches: &[Batch],
     ) -> Result<AnsweredLines<N>, RunFault>
         ensures { IfOk result (λ answered.
-            AreBatchLines N.cells.config (length N.cells.records) answered.history
-            self.now.number batches.now (string_bytes answered.text)) }
+            AreBatchLines N.cells.config (length N.cells.records) self.now.number batches.now
+            answered.history (string_bytes answered.text)) }
     {
         let mut text = String::new(alloc);
         let mut history = RunHistory::new(alloc);
@@ -78,10 +79,9 @@ impl<'a, 'l, N: Naming, A: Asking<N>> Committer<'a, 'l, N, A> {
         history: &mut RunHistory<N>,
         batches: &[Batch],
     ) -> Result<(), RunFault>
-        ensures { OnOk result
-            (GrowsBy
-            (AreBatchLines N.cells.config (length N.cells.records) history.new
-            self.now.number batches.now)
+        ensures { OnOk result (GrowsBy (IsInTurns
+            (IsBatchLine N.cells.config (length N.cells.records) self.now.number batches.now)
+            history.old (length batches.now) history.new)
             (string_bytes text.old) (string_bytes text.new)) }
     {
         for (place, batch) in batches.iter().enumerate() {
@@ -90,7 +90,8 @@ impl<'a, 'l, N: Naming, A: Asking<N>> Committer<'a, 'l, N, A> {
         Ok(())
     }
 
-    /// Commits a batch, prints its answer, and learns the records up to it.
+    /// Commits a batch, prints its answer, and learns the records up to it. Fails with `Refused` if the
+    /// history knows its row.
     fn print_batch<R: Wait>(
         &self,
         rt: &R,
@@ -99,15 +100,15 @@ impl<'a, 'l, N: Naming, A: Asking<N>> Committer<'a, 'l, N, A> {
         place: usize,
         batch: &Batch,
     ) -> Result<(), RunFault>
-        ensures kept { IsStartOf history.old history.new }
-        ensures line { OnOk result
-            (GrowsBy (IsLineOf N.cells.config (length N.cells.records) history.new
-            self.now.number (batch_line self.now.number place) batch.now)
+        ensures kept { IsStartOf history.old.records history.new.records }
+        ensures line { OnOk result (GrowsBy
+            (IsLineOf N.cells.config (length N.cells.records) self.now.number
+            (batch_line self.now.number place) batch.now history.old history.new)
             (string_bytes text.old) (string_bytes text.new)) }
     {
         match self.commit(rt, batch)? {
             Committed::Finished(noted) => {
-                history.learn(noted.records())?;
+                history.see_finished(&noted)?;
                 print_finished_batch(text, self.number, place, noted.value())?;
             }
             Committed::NoRecord(refusal) => print_refused_batch(
@@ -121,7 +122,7 @@ impl<'a, 'l, N: Naming, A: Asking<N>> Committer<'a, 'l, N, A> {
     }
 
     /// Commits an empty batch, by which the proxy closes, prints its answer, and learns the
-    /// records up to it.
+    /// records up to it. Fails with `Refused` as for any batch.
     pub fn print_closing<R: Wait>(
         &self,
         rt: &R,
@@ -130,15 +131,15 @@ impl<'a, 'l, N: Naming, A: Asking<N>> Committer<'a, 'l, N, A> {
         empty: &Batch,
     ) -> Result<(), RunFault>
         requires { empty.now ≡ [] }
-        ensures kept { IsStartOf history.old history.new }
-        ensures line { OnOk result
-            (GrowsBy (IsClosingLine N.cells.config (length N.cells.records) history.new
-            self.now.number)
+        ensures kept { IsStartOf history.old.records history.new.records }
+        ensures line { OnOk result (GrowsBy
+            (IsClosingLine N.cells.config (length N.cells.records) self.now.number
+            history.old history.new)
             (string_bytes text.old) (string_bytes text.new)) }
     {
         match self.commit(rt, empty)? {
             Committed::Finished(noted) => {
-                history.learn(noted.records())?;
+                history.see_finished(&noted)?;
                 print_closing_version(text, self.number, noted.value())?;
             }
             Committed::NoRecord(refusal) => print_refused_closing(text, self.number, &refusal)?,

@@ -7,6 +7,7 @@
 //! Source: this project's profile (lines and statuses).
 #![tactic(auto)]
 
+mod checks;
 mod cluster;
 mod committer;
 mod faults;
@@ -18,6 +19,7 @@ mod run_history;
 mod serving;
 mod threads;
 
+pub use checks::check_answered;
 pub use cluster::Cluster;
 pub use committer::{AnsweredLines, Committer};
 pub use faults::{RunFault, status_of};

@@ -3,8 +3,6 @@
 
 ghost use Rattle.std.specs.Prelude.{◌≡◌, ◌≤◌, [], length, All, IfOk, string_bytes};
 ghost use Rattle.std.specs.Vec.{vec_capacity};
-ghost use Rattle.threads_lines.specs.Answers.{AreBatchLines, IsClosingLine};
-ghost use Rattle.threads_lines.specs.Parts.{IsInParts};
 ghost use Rattle.threads_lines.specs.Threads.{AreAnswerLines};
 
 use crate::committer::AnsweredLines;
@@ -61,11 +59,9 @@ pub fn commit_over_workers<
 ) -> Result<RunOutcome<N, L>, OutOfMemory>
     requires ends { All (S.can_serve serving.now) ends.items }
     requires work { length work.now ≤ C.proxies committing }
-    ensures lines { let rows = length N.cells.records in
-        IfOk result (λ outcome. IfOk outcome.lines (λ answered. AreAnswerLines
-        (AreBatchLines N.cells.config rows answered.history)
-        (IsInParts (IsClosingLine N.cells.config rows answered.history) (C.proxies committing))
-        work.now (string_bytes answered.text))) }
+    ensures lines { IfOk result (λ outcome. IfOk outcome.lines (λ answered.
+        AreAnswerLines N.cells.config (length N.cells.records) work.now (C.proxies committing)
+        answered.history (string_bytes answered.text))) }
     ensures workers { IfOk result (λ outcome.
         length outcome.workers.items ≡ length ends.items) }
 {
@@ -75,12 +71,9 @@ pub fn commit_over_workers<
         |scope| -> Result<RunOutcome<N, L>, OutOfMemory>
             requires ends { All (S.can_serve serving.now) ends.items }
             requires work { length work.now ≤ C.proxies committing }
-            ensures lines { let rows = length N.cells.records in
-                IfOk result (λ outcome. IfOk outcome.lines (λ answered. AreAnswerLines
-                (AreBatchLines N.cells.config rows answered.history)
-                (IsInParts (IsClosingLine N.cells.config rows answered.history)
-                (C.proxies committing))
-                work.entry.now (string_bytes answered.text))) }
+            ensures lines { IfOk result (λ outcome. IfOk outcome.lines (λ answered.
+                AreAnswerLines N.cells.config (length N.cells.records) work.entry.now
+                (C.proxies committing) answered.history (string_bytes answered.text))) }
             ensures workers { IfOk result (λ outcome.
                 length outcome.workers.items ≡ length ends.items) }
         { commit_beside_workers(scope, rt, alloc, serving, ends, committing, work) },
@@ -109,11 +102,9 @@ fn commit_beside_workers<
 ) -> Result<RunOutcome<N, L>, OutOfMemory>
     requires ends { All (S.can_serve serving.now) ends.items }
     requires work { length work.now ≤ C.proxies committing }
-    ensures lines { let rows = length N.cells.records in
-        IfOk result (λ outcome. IfOk outcome.lines (λ answered. AreAnswerLines
-        (AreBatchLines N.cells.config rows answered.history)
-        (IsInParts (IsClosingLine N.cells.config rows answered.history) (C.proxies committing))
-        work.now (string_bytes answered.text))) }
+    ensures lines { IfOk result (λ outcome. IfOk outcome.lines (λ answered.
+        AreAnswerLines N.cells.config (length N.cells.records) work.now (C.proxies committing)
+        answered.history (string_bytes answered.text))) }
     ensures workers { IfOk result (λ outcome.
         length outcome.workers.items ≡ length ends.items) }
 {
@@ -222,12 +213,9 @@ fn answer_lines<N: Naming + Send, C: CommitsBatches<N> + Sync + Drop, R: Threads
     work: &[Items<Batch>],
 ) -> Result<AnsweredLines<N>, RunFault>
     requires { length work.now ≤ C.proxies committing.now }
-    ensures { let rows = length N.cells.records in
-        IfOk result (λ answered. AreAnswerLines
-        (AreBatchLines N.cells.config rows answered.history)
-        (IsInParts (IsClosingLine N.cells.config rows answered.history)
-        (C.proxies committing.now))
-        work.now (string_bytes answered.text)) }
+    ensures { IfOk result (λ answered.
+        AreAnswerLines N.cells.config (length N.cells.records) work.now (C.proxies committing.now)
+        answered.history (string_bytes answered.text)) }
 {
     let AnsweredLines {
         mut text,

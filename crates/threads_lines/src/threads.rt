@@ -3,13 +3,13 @@
 
 ghost use Rattle.std.specs.Prelude.{◌≡◌, ◌++◌, ◌≤◌, ◌<◌, [], length, ℕ, IfOk, OnOk};
 ghost use Rattle.std.specs.Prelude.{Err, MatchResult, string_bytes};
-ghost use Rattle.threads_lines.specs.Answers.{AreBatchLines, AreLinesOfProxy, IsClosingLine};
+ghost use Rattle.threads_lines.specs.Answers.{AreBatchLines, AreClosingLines, AreWorkLines};
 ghost use Rattle.std.specs.Vec.{vec_capacity};
 ghost use Rattle.system_keys.specs.AsSpecified.{IsAsSpecifiedIfAllocated};
 ghost use Rattle.threads_lines.specs.Faults.{join_results, run_fault, texts_of};
-ghost use Rattle.threads_lines.specs.Histories.{AreOfThreads, IsStartOf};
-ghost use Rattle.threads_lines.specs.Parts.{GrowsBy, IsInParts};
-ghost use Rattle.threads_lines.specs.Threads.{AreInOrder, KeepPromises};
+ghost use Rattle.threads_lines.specs.Histories.{IsStartOf, Joins, nothing_known};
+ghost use Rattle.threads_lines.specs.Parts.{GrowsBy, IsInTurns};
+ghost use Rattle.threads_lines.specs.Threads.{AreInOrder, IsTextOf, KeepPromises};
 ghost use Rattle.threads_lines.specs.declared.faults.RunFault.TheVariants as faults;
 
 use crate::committer::AnsweredLines;
@@ -40,8 +40,8 @@ pub trait CommitsBatches<N: Naming> {
     ) -> Result<AnsweredLines<N>, RunFault>
         requires { number < proxies self.now }
         ensures { IfOk result (λ answered.
-            AreBatchLines N.cells.config (length N.cells.records) answered.history
-            number batches.now (string_bytes answered.text)) };
+            AreBatchLines N.cells.config (length N.cells.records) number batches.now
+            answered.history (string_bytes answered.text)) };
 
     /// Lets each proxy in order commit one empty batch, by which it closes, and prints the answers.
     fn print_closings<R: Wait>(
@@ -51,10 +51,10 @@ pub trait CommitsBatches<N: Naming> {
         text: &mut String,
         history: &mut RunHistory<N>,
     ) -> Result<(), RunFault>
-        ensures kept { IsStartOf history.old history.new }
+        ensures kept { IsStartOf history.old.records history.new.records }
         ensures closings { OnOk result (GrowsBy
-            (IsInParts (IsClosingLine N.cells.config (length N.cells.records) history.new)
-            (proxies self.now))
+            (AreClosingLines N.cells.config (length N.cells.records) (proxies self.now)
+            history.old history.new)
             (string_bytes text.old) (string_bytes text.new)) };
 
     /// Lets all threads that wait for an answer end.
@@ -78,8 +78,8 @@ impl<'a, N: Naming> Promise<Result<AnsweredLines<N>, RunFault>> for LinesOf<'a, 
     ghost use Rattle.threads_lines.specs.Answers.{AreBatchLines};
 
     ghost kept_by = { λ promise returned. IfOk returned (λ answered.
-        AreBatchLines N.cells.config (length N.cells.records) answered.history
-        promise.number promise.batches.now (string_bytes answered.text)) };
+        AreBatchLines N.cells.config (length N.cells.records) promise.number promise.batches.now
+        answered.history (string_bytes answered.text)) };
 }
 
 /// A thread that commits the batches of a proxy.
@@ -95,19 +95,18 @@ pub(crate) fn commit_in_threads<
     R: Threads + Wait + Sync,
 >(rt: &R, alloc: Global, shared: &C, work: &[Items<Batch>]) -> Result<AnsweredLines<N>, RunFault>
     requires { length work.now ≤ C.proxies shared.now }
-    ensures { IfOk result (λ answered. IsInParts (AreLinesOfProxy
-        (AreBatchLines N.cells.config (length N.cells.records) answered.history) work.now)
-        (length work.now) (string_bytes answered.text)) }
+    ensures { IfOk result (λ answered.
+        AreWorkLines N.cells.config (length N.cells.records) work.now
+        answered.history (string_bytes answered.text)) }
 {
     thread::scope(
         thread::scope_env(),
         rt,
         |scope| -> Result<AnsweredLines<N>, RunFault>
             requires { length work.now ≤ C.proxies shared.now }
-            ensures { IfOk result (λ answered. IsInParts (AreLinesOfProxy
-                (AreBatchLines N.cells.config (length N.cells.records) answered.history)
-                work.entry.now)
-                (length work.entry.now) (string_bytes answered.text)) }
+            ensures { IfOk result (λ answered.
+                AreWorkLines N.cells.config (length N.cells.records) work.entry.now
+                answered.history (string_bytes answered.text)) }
         { commit_in_scope(scope, rt, alloc, shared, work) },
     )
 }
@@ -127,9 +126,9 @@ fn commit_in_scope<
     work: &'s [Items<Batch>],
 ) -> Result<AnsweredLines<N>, RunFault>
     requires { length work.now ≤ C.proxies shared.now }
-    ensures { IfOk result (λ answered. IsInParts (AreLinesOfProxy
-        (AreBatchLines N.cells.config (length N.cells.records) answered.history) work.now)
-        (length work.now) (string_bytes answered.text)) }
+    ensures { IfOk result (λ answered.
+        AreWorkLines N.cells.config (length N.cells.records) work.now
+        answered.history (string_bytes answered.text)) }
 {
     let Ok(room) = Vec::with_capacity(alloc, work.len()) else {
         return Err(RunFault::OutOfMemory);
@@ -198,8 +197,8 @@ fn start_proxy_thread<
     let run = move || -> Result<AnsweredLines<N>, RunFault>
         requires { number < C.proxies shared.now }
         ensures { IfOk result (λ answered.
-            AreBatchLines N.cells.config (length N.cells.records) answered.history
-            number batches.entry.now (string_bytes answered.text)) }
+            AreBatchLines N.cells.config (length N.cells.records) number batches.entry.now
+            answered.history (string_bytes answered.text)) }
     { shared.commit_batches(rt, alloc, number, batches) };
     let Ok(handle) = scope.spawn_with(promise, run) else {
         return Err(OutOfMemory);
@@ -225,8 +224,8 @@ fn join_proxy_threads<N: Naming, R: Threads>(
     requires room { length handles.items ≤ vec_capacity returned }
     ensures count { length result.items ≡ length handles.entry.items }
     ensures kept { KeepPromises (λ p batches answered.
-        AreBatchLines N.cells.config (length N.cells.records) answered.history p batches
-        (string_bytes answered.text))
+        AreBatchLines N.cells.config (length N.cells.records) p batches
+        answered.history (string_bytes answered.text))
         handles.entry.items (λ thread. thread.promise.number)
         (λ thread. thread.promise.batches.now) result.items }
 {
@@ -236,17 +235,17 @@ fn join_proxy_threads<N: Naming, R: Threads>(
     returned
 }
 
-/// Returns the lines of all results, one after the other, and one history that begins with that of each.
-/// If some of the results are faults, fails with
-/// the gravest of them; or with `OutOfMemory`.
+/// Returns the lines of all results, one after the other, and what is known by all of them. If some of
+/// the results are faults, fails with the gravest of them; or with `OutOfMemory`.
 fn join_answers<N: Naming>(
     alloc: Global,
     results: Vec<Result<AnsweredLines<N>, RunFault>>,
 ) -> Result<AnsweredLines<N>, RunFault>
     ensures text { IsAsSpecifiedIfAllocated run_fault (λ answered. string_bytes answered.text)
         result (texts_of (λ answered. string_bytes answered.text) results.items) }
-    ensures history { IfOk result (λ answered.
-        AreOfThreads (λ one. one.history) results.items answered.history) }
+    ensures joined { IfOk result (λ answered. IsInTurns
+        (IsTextOf (λ one. string_bytes one.text) (λ one. one.history) results.items)
+        nothing_known (length results.items) answered.history (string_bytes answered.text)) }
 {
     let mut text = String::new(alloc);
     let mut history = RunHistory::new(alloc);
@@ -260,7 +259,7 @@ fn join_answers<N: Naming>(
     }
 }
 
-/// Appends the lines that a thread returned, and learns its history, or fails as the thread did.
+/// Appends the lines that a thread returned, and joins what it knew, or fails as the thread did.
 /// Otherwise fails only with `OutOfMemory`.
 fn append_returned<N: Naming>(
     text: &mut String,
@@ -272,12 +271,12 @@ fn append_returned<N: Naming>(
         (λ _. string_bytes text.new ≡ string_bytes text.old ++ string_bytes answered.text)
         (λ fault. fault ≡ faults.OutOfMemory))
         (λ fault. result ≡ Err fault) }
-    ensures kept { IsStartOf history.old history.new }
-    ensures history { OnOk result (IfOk returned (λ answered.
-        IsStartOf answered.history history.new)) }
+    ensures kept { IsStartOf history.old.records history.new.records }
+    ensures joined { OnOk result (IfOk returned (λ answered.
+        Joins answered.history history.old history.new)) }
 {
     let answered = returned?;
-    history.learn(answered.history.records())?;
+    history.join(&answered.history)?;
     let Ok(()) = text.push_str(answered.text.as_str()) else {
         return Err(RunFault::OutOfMemory);
     };

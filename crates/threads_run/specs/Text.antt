@@ -7,11 +7,11 @@ use Rattle.model.specs.Records.{Record, IsHistory}
 use Rattle.cluster_lines.specs.MetadataLines.{metadata_text, proxy_line}
 use Rattle.locked_cluster.specs.Proxies.{LockedProxyView}
 use Rattle.locked_resolvers.specs.Resolvers.{LockedResolverView}
-use Rattle.threads_lines.specs.Answers.{AreBatchLines, AreLinesOfProxy, IsClosingLine}
 use Rattle.threads_lines.specs.Guards.{AreLockedProxies, AreLockedResolvers}
-use Rattle.threads_lines.specs.Histories.{AreOfProxies, AreOfResolvers}
+use Rattle.threads_lines.specs.Histories.{AreOfProxies, AreOfResolvers, IsStartOf, Known}
 use Rattle.threads_lines.specs.Meetings.{AreAuditsOf, AreMeetingsOf}
 use Rattle.threads_lines.specs.Parts.{IsInParts}
+use Rattle.threads_lines.specs.Threads.{AreAnswerLines}
 use Rattle.threads_scripts.specs.declared.script.ThreadsScript.{ThreadsScript}
 
 -- a proxy: its number, its routing at its version, and the tags of the asked keys, by the metadata of
@@ -34,14 +34,15 @@ AreProxyTexts ask proxies text =
 
 -- The text of the script: the lines of answers to its batches, those of answers to one empty batch of
 -- each proxy, those of each proxy, of each two proxies that meet, and of the audit of each proxy. All
--- lines of proxies, meetings and audits are of the same state of the proxies and the resolvers, as
--- their locks keep it. The records up to each finished batch, and those that each shown proxy and
--- resolver has, are a start of one history, which fits the ledger. That of a refused batch may be another,
+-- are of one history, which fits the ledger. Its records are those of the finished batches and closings,
+-- as many as these are: so it has no others, and each is of one line. All lines of proxies, meetings and
+-- audits are of the same state of the proxies and the resolvers, as their locks keep it; the records
+-- that each of them has are a start of the history. Why a batch is refused may be of another history,
 -- and the state may be one before the answers.
 pub record IsThreadsText (script : ThreadsScript) (text : List ℕ) : Type 0 where
   pub history : List Record
-  pub batches : List ℕ
-  pub closings : List ℕ
+  pub known : Known
+  pub answers : List ℕ
   pub routings : List ℕ
   pub meetings : List ℕ
   pub audits : List ℕ
@@ -50,10 +51,9 @@ pub record IsThreadsText (script : ThreadsScript) (text : List ℕ) : Type 0 whe
   pub is_history : IsHistory script.config history
   pub fits : length history ≤ script.rows
   pub answered :
-      IsInParts (AreLinesOfProxy (AreBatchLines script.config script.rows history) script.work)
-      (length script.work) batches
-  pub closed :
-      IsInParts (IsClosingLine script.config script.rows history) script.config.proxies closings
+      AreAnswerLines script.config script.rows script.work script.config.proxies known answers
+  pub of_answers : IsStartOf known.records history
+  pub counted : known.finished ≡ length history
   pub of_proxies : AreOfProxies proxies history
   pub of_resolvers : AreOfResolvers resolvers history
   pub all_proxies : AreLockedProxies script.config proxies
@@ -61,4 +61,4 @@ pub record IsThreadsText (script : ThreadsScript) (text : List ℕ) : Type 0 whe
   pub shown : AreProxyTexts script.ask proxies routings
   pub met : AreMeetingsOf proxies meetings
   pub audited : AreAuditsOf script.config proxies resolvers audits
-  pub text_is : text ≡ (((batches ++ closings) ++ routings) ++ meetings) ++ audits
+  pub text_is : text ≡ ((answers ++ routings) ++ meetings) ++ audits

@@ -2,8 +2,7 @@
 
 ghost use Rattle.std.specs.Prelude.{◌≡◌, ◌++◌, length, IfOk, OnOk, string_bytes};
 ghost use Rattle.inboxes.specs.Blanks.{AreSides};
-ghost use Rattle.threads_lines.specs.Answers.{AreBatchLines, IsClosingLine};
-ghost use Rattle.threads_lines.specs.Parts.{GrowsBy, IsInParts};
+ghost use Rattle.threads_lines.specs.Parts.{GrowsBy};
 ghost use Rattle.threads_scripts.specs.Runnable.{IsRunnable};
 ghost use Rattle.threads_lines.specs.Threads.{AreAnswerLines, AreInPlace};
 ghost use Rattle.threads_run.specs.Text.{AreProxyTexts, IsThreadsText, proxy_text};
@@ -21,7 +20,8 @@ use std::sync::Wait;
 use std::thread::Threads;
 use system_keys::{Bytes, Items, OutOfMemory};
 use threads_lines::{
-    AnsweredLines, Cluster, RunFault, commit_over_workers, print_audits, print_meetings,
+    AnsweredLines, Cluster, RunFault, check_answered, commit_over_workers, print_audits,
+    print_meetings,
 };
 use threads_scripts::ThreadsScript;
 use workers::{AskedRequest, ProxyInboxes};
@@ -32,7 +32,7 @@ use workers::{AskedRequest, ProxyInboxes};
 ///
 /// Fails with `OutOfMemory` if an allocation failed or a thread could not be started, and with
 /// `Refused` if the cluster refuses a call in any other way than by the end of the ledger or of the
-/// versions.
+/// versions, or if the lines are found to be of no one history, which no run is known to do.
 pub(crate) fn threads_text<R: Threads + Wait + Sync>(
     rt: &R,
     alloc: Global,
@@ -84,6 +84,7 @@ fn threads_text_in<N: Naming + Send + Sync, R: Threads + Wait + Sync>(
     let resolvers = cluster.lock_resolvers(rt, alloc)?;
     history.learn_from_proxies(proxies.as_slice())?;
     history.learn_from_resolvers(resolvers.as_slice())?;
+    check_answered(&history)?;
     // (their contracts say that it is a history, which fits the ledger)
     let _end = history.records().end();
     print_proxies(alloc, &mut text, proxies.as_slice(), script.ask.as_slice())?;
@@ -105,11 +106,9 @@ fn answers_over<N: Naming + Send + Sync, M: Channels + Send + Sync, R: Threads +
     requires proxies { length cluster.now.proxies.items ≡ N.cells.config.proxies }
     requires resolvers { length cluster.now.resolvers.items ≡ N.cells.config.resolvers }
     requires work { length work.now ≡ N.cells.config.proxies }
-    ensures { let rows = length N.cells.records in
-        IfOk result (λ answered. AreAnswerLines
-        (AreBatchLines N.cells.config rows answered.history)
-        (IsInParts (IsClosingLine N.cells.config rows answered.history) N.cells.config.proxies)
-        work.now (string_bytes answered.text)) }
+    ensures { IfOk result (λ answered.
+        AreAnswerLines N.cells.config (length N.cells.records) work.now N.cells.config.proxies
+        answered.history (string_bytes answered.text)) }
 {
     let room = InboxRoom::<N, AskedRequest<N>, M>::new(alloc, ledger)?;
     let (senders, ends) = blank.named::<M>(room);

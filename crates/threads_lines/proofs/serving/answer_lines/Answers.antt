@@ -1,4 +1,4 @@
--- The lines of the batches are of the longer history too.
+-- The lines of the closings follow those of the batches.
 use Rattle.std.proofs.Common.{length}
 use Rattle.std.specs.Prelude.{string_bytes}
 use Rattle.threads_lines.proofs.PartLemmas.{all_answer_lines}
@@ -6,5 +6,5 @@ use Rattle.threads_lines.proofs.serving.answer_lines.Goals as goal
 
 pub returns : goal.returns
 returns g c =
-    all_answer_lines g.N.Naming.cells.config (length g.N.Naming.cells.records) c.in_ok-text.field-0.history c.print_closings.new.history c.args.work.now _ (string_bytes c.in_ok-text.field-0.text) (string_bytes c.print_closings.new.text)
-    c.print_closings.ensures.kept c.in_ok-text.ensures c.in_ok-print_closings.ensures.closings
+    all_answer_lines g.N.Naming.cells.config (length g.N.Naming.cells.records) c.args.work.now _ c.in_ok-text.field-0.history c.print_closings.new.history (string_bytes c.in_ok-text.field-0.text) (string_bytes c.print_closings.new.text)
+    c.in_ok-text.ensures c.in_ok-print_closings.ensures.closings

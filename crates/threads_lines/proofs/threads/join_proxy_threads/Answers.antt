@@ -11,7 +11,7 @@ use Rattle.threads_lines.proofs.threads.join_proxy_threads.Goals as goal
 
 pub loop-handle-preserved : goal.loop-handle-preserved
 loop-handle-preserved g c =
-    let Keeps = λ (p : ℕ) (batches : List (List Given)) (answered : AnsweredLines g.row.N.Denot). AreBatchLines g.N.Naming.cells.config (length g.N.Naming.cells.records) answered.history p batches (string_bytes answered.text) in
+    let Keeps = λ (p : ℕ) (batches : List (List Given)) (answered : AnsweredLines g.row.N.Denot). AreBatchLines g.N.Naming.cells.config (length g.N.Naming.cells.records) p batches answered.history (string_bytes answered.text) in
     let l = c.loop-handle in
     let k = length l.returned.items in
     let threads = c.args.handles.items in

@@ -13,5 +13,5 @@ invariant-loop-handle g l = record {
   all : length l.returned.items + length (into_iter_items l.handle-iterator) ≡ length l.fn.handles.items;
   count : into_iter_len l.handle-iterator ≡ length (into_iter_items l.handle-iterator);
   room : length l.fn.handles.items ≤ vec_capacity l.returned;
-  kept : KeepPromises (λ p batches answered. AreBatchLines g.N.Naming.cells.config (length g.N.Naming.cells.records) answered.history p batches (string_bytes answered.text)) l.fn.handles.items (λ thread. thread.promise.number) (λ thread. thread.promise.batches.now) l.returned.items;
+  kept : KeepPromises (λ p batches answered. AreBatchLines g.N.Naming.cells.config (length g.N.Naming.cells.records) p batches answered.history (string_bytes answered.text)) l.fn.handles.items (λ thread. thread.promise.number) (λ thread. thread.promise.batches.now) l.returned.items;
 }

@@ -1,31 +1,23 @@
 -- The line is that of the answer.
-use Rattle.std.proofs.Common.{length, subst, sym}
+use Rattle.std.proofs.Common.{length, subst}
 use Rattle.std.specs.Prelude.{string_bytes}
-use Rattle.facts.specs.Stretches.{Stretch}
-use Rattle.model.specs.Records.{Record, IsHistory}
 use Rattle.threads_lines.specs.Answers.{IsCommitOf}
 use Rattle.threads_lines.specs.Lines.{batch_line}
-use Rattle.threads_lines.specs.Histories.{IsStartOf}
 use Rattle.threads_lines.proofs.AnswerLemmas.{finished_line, refused_line}
 use Rattle.threads_lines.proofs.committer.Committer.print_batch.Goals as goal
 
-pub learn-requires-clause-history : goal.learn-requires-clause-history
-learn-requires-clause-history g c =
-    subst (λ (s : Stretch Record). IsHistory g.N.Naming.cells.config s.known) (sym c.records.ensures.value) c.records.ensures.kept.history
-
 pub returns-in_ok-print_finished_batch-in-Finished-clause-line : goal.returns-in_ok-print_finished_batch-in-Finished-clause-line
 returns-in_ok-print_finished_batch-in-Finished-clause-line g c =
-    let learned : IsStartOf c.in-Finished.noted.records c.learn.new.self = subst (λ (s : Stretch Record). IsStartOf s.known c.learn.new.self) c.records.ensures.value c.in_ok-learn-in-Finished.ensures.learned in
     let config = g.N.Naming.cells.config in
     let rows = length g.N.Naming.cells.records in
     let p = c.args.self.now.number in
-    finished_line config rows c.learn.new.self p (batch_line p c.args.place) c.args.batch.now c.in-Finished.noted c.value.result.now (string_bytes c.args.text.now) (string_bytes c.print_finished_batch.new.text)
-    (subst (IsCommitOf config rows p c.args.batch.now) c.in-Finished.is c.in_ok-noted.ensures) learned c.value.ensures.value c.in_ok-print_finished_batch-in-Finished.ensures
+    finished_line config rows p (batch_line p c.args.place) c.args.batch.now c.args.history.now c.see_finished.new.self c.in-Finished.noted c.value.result.now (string_bytes c.args.text.now) (string_bytes c.print_finished_batch.new.text)
+    (subst (IsCommitOf config rows p c.args.batch.now) c.in-Finished.is c.in_ok-noted.ensures) c.in_ok-see_finished-in-Finished.ensures.seen c.value.ensures.value c.in_ok-print_finished_batch-in-Finished.ensures
 
 pub returns-in_ok-print_refused_batch-in-NoRecord-clause-line : goal.returns-in_ok-print_refused_batch-in-NoRecord-clause-line
 returns-in_ok-print_refused_batch-in-NoRecord-clause-line g c =
     let config = g.N.Naming.cells.config in
     let rows = length g.N.Naming.cells.records in
     let p = c.args.self.now.number in
-    refused_line config rows c.args.history.now p (batch_line p c.args.place) c.args.batch.now c.in-NoRecord.refusal (string_bytes c.args.text.now) (string_bytes c.print_refused_batch.new.text)
+    refused_line config rows p (batch_line p c.args.place) c.args.batch.now c.args.history.now c.in-NoRecord.refusal (string_bytes c.args.text.now) (string_bytes c.print_refused_batch.new.text)
     (subst (IsCommitOf config rows p c.args.batch.now) c.in-NoRecord.is c.in_ok-noted.ensures) c.in_ok-print_refused_batch-in-NoRecord.ensures
