@@ -12,6 +12,5 @@ pub mod Readings
 pub mod Repeated
 pub mod Settled
 pub mod Starts
-pub mod StepKeys
 pub mod StoodFor
 pub mod WalkBack

@@ -8,5 +8,3 @@ pub mod Steps
 pub mod Kept
 -- a share that is judged by them
 pub mod Judged
--- the keys at which they begin
-pub mod StepKeys

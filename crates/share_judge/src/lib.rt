@@ -11,7 +11,6 @@
 mod judging;
 mod not_judged;
 mod step;
-mod step_key;
 mod step_map;
 mod verdicts;
 mod write_history;
