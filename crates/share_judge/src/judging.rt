@@ -9,10 +9,11 @@ ghost use Rattle.share_judge.specs.Steps.{last_of_all, is_in_some, is_reached};
 ghost use Rattle.share_judge.specs.Steps.{starts_now, starts_before};
 ghost use Rattle.share_judge.specs.Judged.{bound_of, verdict_by_steps, committed_writes, IsJudged};
 
+use crate::step_key::StepKey;
 use crate::step_map::StepMap;
 use crate::verdicts::{Verdicts, copy_verdicts};
 use model::{Part, Verdict, Version};
-use system_keys::{Items, KeyRange, OrderedKey, OutOfMemory};
+use system_keys::{Items, KeyRange, OutOfMemory};
 
 /// How a share is judged: its version, and what is known of the versions before it.
 #[derive(Clone, Copy)]
@@ -31,7 +32,7 @@ pub(crate) fn judge_with_copy(
     steps: &mut StepMap,
     judging: Judging,
     parts: &[Part],
-) -> Result<(Verdicts, Verdicts, Vec<OrderedKey>), OutOfMemory>
+) -> Result<(Verdicts, Verdicts, Vec<StepKey>), OutOfMemory>
     requires rising { AreRising steps.old }
     requires past { last_of_all 0 (starts_now steps.old) ≡ 0 }
     requires below { (key : Key) → last_from 0 (starts_now steps.old) key < judging.version }
@@ -58,7 +59,7 @@ pub(crate) fn judge_parts(
     steps: &mut StepMap,
     judging: Judging,
     parts: &[Part],
-) -> Result<(Vec<Verdict>, Vec<OrderedKey>), OutOfMemory>
+) -> Result<(Vec<Verdict>, Vec<StepKey>), OutOfMemory>
     requires rising { AreRising steps.old }
     requires past { last_of_all 0 (starts_now steps.old) ≡ 0 }
     requires below { (key : Key) → last_from 0 (starts_now steps.old) key < judging.version }
@@ -140,8 +141,8 @@ fn is_reached(steps: &StepMap, bound: Version, read: &KeyRange) -> Result<bool, 
     ensures { IfOk result
         (λ answer. answer ≡ is_reached bound (starts_now steps.now) read.now) }
 {
-    let begin = OrderedKey::new(steps.alloc(), read.begin())?;
-    let end = OrderedKey::new(steps.alloc(), read.end())?;
+    let begin = StepKey::new(steps.alloc(), read.begin())?;
+    let end = StepKey::new(steps.alloc(), read.end())?;
     Ok(steps.reaches(&begin, &end, bound))
 }
 
@@ -160,7 +161,7 @@ fn write_ranges(
     steps: &mut StepMap,
     version: Version,
     ranges: &[KeyRange],
-    listed: &mut Vec<OrderedKey>,
+    listed: &mut Vec<StepKey>,
 ) -> Result<(), OutOfMemory>
     requires { AreRising steps.old }
     ensures over { OnOk result (AreOver (is_in_some ranges.now) version (starts_now steps.old)

@@ -11,6 +11,7 @@
 mod judging;
 mod not_judged;
 mod step;
+mod step_key;
 mod step_map;
 mod verdicts;
 mod write_history;

@@ -11,12 +11,13 @@ ghost use Rattle.share_judge.specs.Steps.{is_reached, keys_between, is_counted, 
 ghost use Rattle.share_judge.specs.Steps.{no_step, version_before, starts_now, starts_before};
 
 use crate::step::{NO_STEP, Step};
+use crate::step_key::StepKey;
 use model::Version;
 use std::alloc::{AllocError, Global};
 use std::collections::BTreeMap;
 use std::marker::Model;
 use std::ops::Bound;
-use system_keys::{KEY_SPACE_END, KeyRange, OrderedKey, OutOfMemory};
+use system_keys::{KEY_SPACE_END, KeyRange, OutOfMemory};
 
 /// What a map has at a key.
 #[derive(Clone, Copy)]
@@ -46,7 +47,7 @@ struct Edges {
 #[derive(Debug, Drop)]
 pub(crate) struct StepMap {
     alloc: Global,
-    steps: BTreeMap<OrderedKey, Step>,
+    steps: BTreeMap<StepKey, Step>,
 }
 
 impl Model for StepMap {
@@ -82,7 +83,7 @@ impl StepMap {
     }
 
     /// The step at a key. Does not allocate.
-    fn at(&self, key: &OrderedKey) -> Step
+    fn at(&self, key: &StepKey) -> Step
         ensures { result ≡ last_from no_step self.now key.now }
     {
         match self.steps.range(..=key).next_back() {
@@ -92,7 +93,7 @@ impl StepMap {
     }
 
     /// The version just before a key. Does not allocate.
-    fn before(&self, key: &OrderedKey) -> Version
+    fn before(&self, key: &StepKey) -> Version
         ensures { result ≡ last_before 0 (starts_now self.now) key.now }
     {
         match self.steps.range(..key).next_back() {
@@ -103,7 +104,7 @@ impl StepMap {
 
     /// Whether some key from `begin` up to `end` has a version above the bound: one of a start between,
     /// or of the last start up to `begin`. Does not allocate.
-    pub(crate) fn reaches(&self, begin: &OrderedKey, end: &OrderedKey, bound: Version) -> bool
+    pub(crate) fn reaches(&self, begin: &StepKey, end: &StepKey, bound: Version) -> bool
         requires { IsTrue (is_key_below begin.now end.now) }
         ensures { let range : Range = record { begin = begin.now; end = end.now } in
             result ≡ is_reached bound (starts_now self.now) range }
@@ -127,7 +128,7 @@ impl StepMap {
         &mut self,
         range: &KeyRange,
         version: Version,
-        listed: &mut Vec<OrderedKey>,
+        listed: &mut Vec<StepKey>,
     ) -> Result<(), OutOfMemory>
         ensures over { OnOk result
             (AreOver (holds range.now) version (starts_now self.old) (starts_now self.new)) }
@@ -136,8 +137,8 @@ impl StepMap {
         ensures listed { OnOk result (HaveVersion version (starts_now self.old) listed.old.items
             → HaveVersion version (starts_now self.new) listed.new.items) }
     {
-        let begin = OrderedKey::new(self.alloc, range.begin())?;
-        let end = OrderedKey::new(self.alloc, range.end())?;
+        let begin = StepKey::new(self.alloc, range.begin())?;
+        let end = StepKey::new(self.alloc, range.end())?;
         let edges = self.edges(&begin, &end);
         if let Some(at_begin) = edges.begin {
             return self.overwrite_free(begin, end, at_begin, edges.end, version);
@@ -146,7 +147,7 @@ impl StepMap {
     }
 
     /// What there is at the two keys. Does not allocate.
-    fn edges(&self, begin: &OrderedKey, end: &OrderedKey) -> Edges
+    fn edges(&self, begin: &StepKey, end: &StepKey) -> Edges
         requires { is_key_below begin.now end.now ≡ true }
         ensures begin { IfSome result.begin (λ step. step ≡ last_from no_step self.now begin.now) }
         ensures is_free { IfSome result.begin (λ _. IsFree begin.now end.now self.now) }
@@ -188,8 +189,8 @@ impl StepMap {
     /// Gives the keys from `begin` up to `end` the version, where no start lies between.
     fn overwrite_free(
         &mut self,
-        begin: OrderedKey,
-        end: OrderedKey,
+        begin: StepKey,
+        end: StepKey,
         at_begin: Step,
         at_end: Edge,
         version: Version,
@@ -212,11 +213,11 @@ impl StepMap {
     /// Gives the keys from `begin` up to `end` the version, and lists the starts between.
     fn overwrite_steps(
         &mut self,
-        begin: &OrderedKey,
-        end: &OrderedKey,
+        begin: &StepKey,
+        end: &StepKey,
         at_end: Edge,
         version: Version,
-        listed: &mut Vec<OrderedKey>,
+        listed: &mut Vec<StepKey>,
     ) -> Result<(), OutOfMemory>
         requires below { is_key_below begin.now end.now ≡ true }
         requires at_end { IsEdge self.old end.now at_end.step at_end.is_start }
@@ -238,7 +239,7 @@ impl StepMap {
     }
 
     /// Puts a start at the key, unless there is one.
-    fn put_missing(&mut self, key: OrderedKey, edge: Edge) -> Result<(), OutOfMemory>
+    fn put_missing(&mut self, key: StepKey, edge: Edge) -> Result<(), OutOfMemory>
         requires { IsEdge self.old key edge.step edge.is_start }
         ensures gains { GainsStart key self.old self.new }
         ensures there { OnOk result (HasStart self.new key) }
@@ -251,7 +252,7 @@ impl StepMap {
     }
 
     /// Puts a start at the key, unless there is one. Copies the key only then.
-    fn put_copy(&mut self, key: &OrderedKey, edge: Edge) -> Result<(), OutOfMemory>
+    fn put_copy(&mut self, key: &StepKey, edge: Edge) -> Result<(), OutOfMemory>
         requires { IsEdge self.old key.now edge.step edge.is_start }
         ensures gains { GainsStart key.now self.old self.new }
         ensures there { OnOk result (HasStart self.new key.now) }
@@ -263,7 +264,7 @@ impl StepMap {
     }
 
     /// Puts a start at the key, with the step that the key has.
-    fn put_edge(&mut self, key: OrderedKey) -> Result<(), OutOfMemory>
+    fn put_edge(&mut self, key: StepKey) -> Result<(), OutOfMemory>
         ensures gains { GainsStart key self.old self.new }
         ensures there { OnOk result (HasStart self.new key) }
     {
@@ -280,9 +281,9 @@ impl StepMap {
     /// Lists the keys of the starts from `begin` up to `end`.
     fn list_between(
         &self,
-        begin: &OrderedKey,
-        end: &OrderedKey,
-        keys: &mut Vec<OrderedKey>,
+        begin: &StepKey,
+        end: &StepKey,
+        keys: &mut Vec<StepKey>,
     ) -> Result<(), OutOfMemory>
         requires { is_key_below begin.now end.now ≡ true }
         ensures { OnOk result (keys.new.items
@@ -298,7 +299,7 @@ impl StepMap {
     }
 
     /// Gives the starts at the keys the version. Does not allocate.
-    fn mark(&mut self, keys: &[OrderedKey], version: Version)
+    fn mark(&mut self, keys: &[StepKey], version: Version)
         ensures now { starts_now self.new ≡ marked (is_listed keys.now) version (starts_now self.old) }
         ensures before { starts_before version self.new ≡ starts_before version self.old }
         ensures rising { AreRising self.old → AreRising self.new }
@@ -309,7 +310,7 @@ impl StepMap {
     }
 
     /// Gives the start at the key the version, if there is one.
-    fn mark_one(&mut self, key: &OrderedKey, version: Version)
+    fn mark_one(&mut self, key: &StepKey, version: Version)
         ensures now { starts_now self.new
             ≡ marked (is_same_key key.now) version (starts_now self.old) }
         ensures before { starts_before version self.new ≡ starts_before version self.old }
@@ -323,7 +324,7 @@ impl StepMap {
 
     /// Takes out the starts at the keys if the step before has their version, which is this one. Does
     /// not allocate.
-    pub(crate) fn take_out_repeated(&mut self, keys: &[OrderedKey], version: Version)
+    pub(crate) fn take_out_repeated(&mut self, keys: &[StepKey], version: Version)
         requires { HaveVersion version (starts_now self.old) keys.now }
         ensures same { TellTheSame (starts_now self.old) (starts_now self.new) }
         ensures rising { AreRising self.old → AreRising self.new }
@@ -334,7 +335,7 @@ impl StepMap {
     }
 
     /// Takes out the start at the key, if the step before has its version, which is this one.
-    fn take_out_if_repeated(&mut self, key: &OrderedKey, version: Version)
+    fn take_out_if_repeated(&mut self, key: &StepKey, version: Version)
         requires { last_from 0 (starts_now self.old) key.now ≡ version }
         ensures same { TellTheSame (starts_now self.old) (starts_now self.new) }
         ensures rising { AreRising self.new }
@@ -413,7 +414,7 @@ impl Clone for StepMap {
 
 /// The step at `begin` if the last start up to the end of its range is at `key`, with this step; or
 /// none if that start lies above `begin`.
-fn step_up_to(key: &OrderedKey, step: Step, begin: &OrderedKey) -> Option<Step>
+fn step_up_to(key: &StepKey, step: Step, begin: &StepKey) -> Option<Step>
     ensures up_to { IfSome result (λ _. is_key_below begin.now key.now ≡ false) }
     ensures step { IfSome result (λ found. found ≡ step) }
 {
