@@ -4,7 +4,7 @@ ghost use Rattle.std.specs.Prelude.{◌≡◌, ◌++◌, true, false, IfNone, If
 ghost use Rattle.system_keys.specs.Families.{key_servers_family, is_in};
 
 use std::alloc::Global;
-use system_keys::{Bytes, KEY_SERVERS_PREFIX, OrderedKey, SHORT_LENGTH};
+use system_keys::{KEY_SERVERS_PREFIX, OrderedKey, SHORT_KEY};
 
 /// What is behind the prefix of a whole key, if that is one of keyServers keys. Does not allocate.
 pub(crate) fn behind_prefix(whole: &[u8]) -> Option<&[u8]>
@@ -36,7 +36,7 @@ pub(crate) fn key_behind_prefix(alloc: Global, whole: Vec<u8>) -> Option<Ordered
 fn short_key(alloc: Global, bytes: &[u8]) -> Option<OrderedKey>
     ensures { IfSome result (λ key. key ≡ bytes.now) }
 {
-    if bytes.len() > SHORT_LENGTH {
+    if bytes.len() > SHORT_KEY {
         return None;
     }
     OrderedKey::new(alloc, bytes).ok()
@@ -53,5 +53,5 @@ fn turned(mut whole: Vec<u8>) -> Option<OrderedKey>
     let behind = whole.len() - KEY_SERVERS_PREFIX.len();
     whole.rotate_left(KEY_SERVERS_PREFIX.len());
     whole.truncate(behind);
-    Some(OrderedKey::from(Bytes::from(whole)))
+    Some(OrderedKey::from(whole))
 }

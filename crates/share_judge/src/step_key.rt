@@ -26,7 +26,7 @@ impl Model for StepKey {
 }
 
 impl StepKey {
-    /// The key of these bytes. Allocates only if there are more than 24.
+    /// The key of these bytes. Allocates only if there are more than 15.
     pub(crate) fn new(alloc: Global, bytes: &[u8]) -> Result<StepKey, OutOfMemory>
         ensures { IfOk result (λ key. key ≡ bytes.now) }
     {
@@ -42,7 +42,7 @@ impl StepKey {
         self.key.as_slice()
     }
 
-    /// A copy. Allocates only if there are more than 24 bytes.
+    /// A copy. Allocates only if there are more than 15 bytes.
     pub(crate) fn copy(&self) -> Result<StepKey, OutOfMemory>
         ensures { IfOk result (λ copy. copy ≡ self.now) }
     {

@@ -1,5 +1,5 @@
 -- Heads are in the order of keys.
-use Rattle.std.proofs.Common.{◌≡◌, refl, sym, ap, subst, ◌∙◌, ℕ, zero, suc, ◌+◌, ◌*◌, ◌<◌, min, List, [], ◌∷◌, ◌++◌, map, Ordering, Less, Equal, Greater, nat_cmp, get_or, set, replicate, length, take, drop, arith}
+use Rattle.std.proofs.Common.{◌≡◌, refl, sym, ap, subst, ◌∙◌, ℕ, zero, suc, ◌+◌, ◌*◌, ◌<◌, ◌≤◌, min, List, [], ◌∷◌, ◌++◌, map, Ordering, Less, Equal, Greater, nat_cmp, get_or, set, replicate, length, take, drop, nat_le, le-leb, if◌then◌else◌, arith}
 use Rattle.std.specs.Cmp.{nat_cmp_is}
 use Rattle.std.specs.Cmp.Lexicographic.{slice_cmp}
 use Rattle.std.specs.Int.{w128, from_be_bytes}
@@ -8,8 +8,21 @@ use Rattle.std.specs.Ordering.{ordering_then, MatchOrdering}
 use Rattle.std.proofs.lemmas.Cmp.{ranked}
 use Rattle.std.proofs.lemmas.List.FromFn.{fill_by_all}
 use Rattle.system_keys.specs.Keys.{Key}
-use Rattle.system_keys.specs.OrderedKeys.{head_from, head_of}
+use Rattle.system_keys.specs.OrderedKeys.{front_from, front_of, key_of}
 use Rattle.system_keys.specs.Rows.{AreBytes}
+
+-- The digits so far, then the next `places` bytes as digits, and then how many bytes there were, or
+-- one more if there are others. A place past the end of the key has the digit 0.
+abbrev head_from : (places digits count : ℕ) (key : Key) → ℕ
+head_from zero digits count [] = digits * 256 + count
+head_from zero digits count (byte ∷ key) = digits * 256 + (count + 1)
+head_from (suc places) digits count [] = head_from places (digits * 256) count []
+head_from (suc places) digits count (byte ∷ key) =
+    head_from places (digits * 256 + byte) (count + 1) key
+
+-- the front of the key as one number
+abbrev pub head_of : (key : Key) → ℕ
+head_of key = head_from 15 0 0 key
 
 below : (x y : ℕ) → x < y → nat_cmp x y ≡ Less
 below x y l = sym (nat_cmp_is x y Less l)
@@ -90,29 +103,22 @@ by_heads a b p q differ = decided 15 0 0 a b p q (omega arith) differ
 
 -- ---- a head is the number of sixteen bytes
 
--- the next n bytes of the key, with zeros past its end, and then how many bytes there were, or one more if there are others
-abbrev pub padded : (n count : ℕ) → Key → List ℕ
-padded zero count [] = count ∷ []
-padded zero count (byte ∷ key) = (count + 1) ∷ []
-padded (suc n) count [] = 0 ∷ padded n count []
-padded (suc n) count (byte ∷ key) = byte ∷ padded n (count + 1) key
-
-length-padded : (n count : ℕ) (key : Key) → length (padded n count key) ≡ suc n
-length-padded zero count [] = refl
-length-padded zero count (byte ∷ key) = refl
-length-padded (suc n) count [] = ap suc (length-padded n count [])
-length-padded (suc n) count (byte ∷ key) = ap suc (length-padded n (count + 1) key)
+length-front : (n count : ℕ) (key : Key) → length (front_from n count key) ≡ suc n
+length-front zero count [] = refl
+length-front zero count (byte ∷ key) = refl
+length-front (suc n) count [] = ap suc (length-front n count [])
+length-front (suc n) count (byte ∷ key) = ap suc (length-front n (count + 1) key)
 
 -- the number of digits behind others
 abbrev behind_digits : ℕ → List ℕ → ℕ
 behind_digits digits [] = digits
 behind_digits digits (byte ∷ bytes) = behind_digits (digits * 256 + byte) bytes
 
-head_of_padded : (n digits count : ℕ) (key : Key) → behind_digits digits (padded n count key) ≡ head_from n digits count key
-head_of_padded zero digits count [] = refl
-head_of_padded zero digits count (byte ∷ key) = refl
-head_of_padded (suc n) digits count [] = head_of_padded n (digits * 256 + 0) count [] ∙ ap (λ d. head_from n d count []) (omega arith)
-head_of_padded (suc n) digits count (byte ∷ key) = head_of_padded n (digits * 256 + byte) (count + 1) key
+head_of_front : (n digits count : ℕ) (key : Key) → behind_digits digits (front_from n count key) ≡ head_from n digits count key
+head_of_front zero digits count [] = refl
+head_of_front zero digits count (byte ∷ key) = refl
+head_of_front (suc n) digits count [] = head_of_front n (digits * 256 + 0) count [] ∙ ap (λ d. head_from n d count []) (omega arith)
+head_of_front (suc n) digits count (byte ∷ key) = head_of_front n (digits * 256 + byte) (count + 1) key
 
 sixteen : (bytes : List ℕ) → length bytes ≡ 16 → from_be_bytes w128 bytes ≡ behind_digits 0 bytes
 sixteen bytes long =
@@ -121,16 +127,86 @@ sixteen bytes long =
     added ∙ ap (behind_digits 0) (sym (fill_by_all at bytes 16 0 long (λ k l. refl)))
 
 -- the front of the key over zeros, and then the count
-pub padded_is : (n before count last : ℕ) (key : Key) → count ≡ min (length key) n → last ≡ before + min (length key) (n + 1)
-    → set (take count key ++ drop count (replicate (suc n) 0)) n last ≡ padded n before key
-padded_is zero before zero last [] some all = ap (λ (x : ℕ). x ∷ []) (omega arith)
-padded_is zero before zero last (byte ∷ key) some all = ap (λ (x : ℕ). x ∷ []) (omega arith)
-padded_is zero before (suc count) last key some all = absurd (omega arith)
-padded_is (suc n) before zero last [] some all = ap (λ (xs : List ℕ). 0 ∷ xs) (padded_is n before zero last [] (omega arith) (omega arith))
-padded_is (suc n) before zero last (byte ∷ key) some all = absurd (omega arith)
-padded_is (suc n) before (suc count) last [] some all = absurd (omega arith)
-padded_is (suc n) before (suc count) last (byte ∷ key) some all = ap (λ (xs : List ℕ). byte ∷ xs) (padded_is n (before + 1) count last key (omega arith) (omega arith))
+pub front_is : (n before count last : ℕ) (key : Key) → count ≡ min (length key) n → last ≡ before + min (length key) (n + 1)
+    → set (take count key ++ drop count (replicate (suc n) 0)) n last ≡ front_from n before key
+front_is zero before zero last [] some all = ap (λ (x : ℕ). x ∷ []) (omega arith)
+front_is zero before zero last (byte ∷ key) some all = ap (λ (x : ℕ). x ∷ []) (omega arith)
+front_is zero before (suc count) last key some all = absurd (omega arith)
+front_is (suc n) before zero last [] some all = ap (λ (xs : List ℕ). 0 ∷ xs) (front_is n before zero last [] (omega arith) (omega arith))
+front_is (suc n) before zero last (byte ∷ key) some all = absurd (omega arith)
+front_is (suc n) before (suc count) last [] some all = absurd (omega arith)
+front_is (suc n) before (suc count) last (byte ∷ key) some all = ap (λ (xs : List ℕ). byte ∷ xs) (front_is n (before + 1) count last key (omega arith) (omega arith))
 
 -- the number of the bytes is the head
-pub head_is : (key : Key) → from_be_bytes w128 (padded 15 0 key) ≡ head_of key
-head_is key = sixteen (padded 15 0 key) (length-padded 15 0 key) ∙ head_of_padded 15 0 0 key
+pub head_is : (key : Key) → from_be_bytes w128 (front_of key) ≡ head_of key
+head_is key = sixteen (front_of key) (length-front 15 0 key) ∙ head_of_front 15 0 0 key
+
+-- ---- a key stands in its front, if it is short
+
+last_of_front : (n count : ℕ) (key : Key) → get_or (front_from n count key) n 0 ≡ count + min (length key) (n + 1)
+last_of_front zero count [] = omega arith
+last_of_front zero count (byte ∷ key) = omega arith
+last_of_front (suc n) count [] = last_of_front n count [] ∙ omega arith
+last_of_front (suc n) count (byte ∷ key) = last_of_front n (count + 1) key ∙ omega arith
+
+begins_front : (n count : ℕ) (key : Key) → length key ≤ n → take (length key) (front_from n count key) ≡ key
+begins_front n count [] few = refl
+begins_front zero count (byte ∷ key) few = absurd (omega arith)
+begins_front (suc n) count (byte ∷ key) few = ap (λ (xs : List ℕ). byte ∷ xs) (begins_front n (count + 1) key (omega arith))
+
+-- the count of a front tells a short key from a longer one
+pub counted : (key : Key) → get_or (front_of key) 15 0 ≡ min (length key) 16
+counted key = last_of_front 15 0 key ∙ omega arith
+
+pub short_is : (key whole : Key) → length key ≤ 15 → key_of (front_of key) whole ≡ key
+short_is key whole few =
+    let count : get_or (front_of key) 15 0 ≡ length key = counted key ∙ omega arith in
+    ap (λ n. if nat_le n 15 then take n (front_of key) else whole) count
+    ∙ ap (λ b. if b then take (length key) (front_of key) else whole) (le-leb (length key) 15 few)
+    ∙ begins_front 15 0 key few
+
+pub long_is : (key : Key) → 15 < length key → key_of (front_of key) key ≡ key
+long_is key many =
+    let count : get_or (front_of key) 15 0 ≡ 16 = counted key ∙ omega arith in
+    ap (λ n. if nat_le n 15 then take n (front_of key) else key) count
+
+-- ---- a short key is the only one with its front
+
+pub alone : (n d k : ℕ) (a b : Key) → AreBytes a → AreBytes b → k + n < 255 → length a ≤ n → head_from n d k a ≡ head_from n d k b → a ≡ b
+alone n d k [] [] p q few short same = refl
+alone n d k [] (y ∷ b) p q few short same = absurd (gone n d k y b few same)
+  where
+    gone : (n d k y : ℕ) (b : Key) → k + n < 255 → head_from n d k [] ≡ head_from n d k (y ∷ b) → ⊥
+    gone zero d k y b few same = omega arith
+    gone (suc n) d k y b few same =
+        let first : head_from n (d * 256) k [] < head_from n (d * 256 + y) (k + 1) b = ends_first n d k y b few in
+        omega (arith, first, same)
+alone zero d k (x ∷ a) b p q few short same = absurd (omega arith)
+alone (suc n) d k (x ∷ a) [] p q few short same =
+    let first : head_from n (d * 256) k [] < head_from n (d * 256 + x) (k + 1) a = ends_first n d k x a few in
+    absurd (omega (arith, first, same))
+alone (suc n) d k (x ∷ a) (y ∷ b) p q few short same =
+    by (λ rest. alone n (d * 256 + x) (k + 1) a b (behind x a p) (behind y b q) (omega arith) (omega arith) rest) (nat_cmp x y) refl (ranked x y (nat_cmp x y) refl)
+  where
+    by : (head_from n (d * 256 + x) (k + 1) a ≡ head_from n (d * 256 + x) (k + 1) b → a ≡ b)
+        → (r : Ordering) → nat_cmp x y ≡ r → MatchOrdering r (x < y) (x ≡ y) (y < x) → x ∷ a ≡ y ∷ b
+    by rest Less e l =
+        let less : x < y = l in
+        let first = lower n (d * 256 + x) (d * 256 + y) (k + 1) (k + 1) a b (behind x a p) (omega (arith, less)) (omega arith) in
+        absurd (omega (arith, first, same))
+    by rest Equal e l =
+        let level : x ≡ y = l in
+        let behind_same = same ∙ ap (λ z. head_from n (d * 256 + z) (k + 1) b) (sym level) in
+        ap (λ (z : ℕ). z ∷ a) level ∙ ap (λ (xs : List ℕ). y ∷ xs) (rest behind_same)
+    by rest Greater e l =
+        let more : y < x = l in
+        let first = lower n (d * 256 + y) (d * 256 + x) (k + 1) (k + 1) b a (behind y b q) (omega (arith, more)) (omega arith) in
+        absurd (omega (arith, first, same))
+
+itself : (key : Key) → slice_cmp nat_cmp key key ≡ Equal
+itself [] = refl
+itself (x ∷ key) = ap (λ r. ordering_then r (slice_cmp nat_cmp key key)) (sym (nat_cmp_is x x Equal refl)) ∙ itself key
+
+-- short keys with one front are equal
+pub by_front : (a b : Key) → AreBytes a → AreBytes b → length a ≤ 15 → head_of a ≡ head_of b → slice_cmp nat_cmp a b ≡ Equal
+by_front a b p q short same = ap (λ (z : Key). slice_cmp nat_cmp a z) (sym (alone 15 0 0 a b p q (omega arith) short same)) ∙ itself a

@@ -9,7 +9,7 @@ use std::cmp::Ordering;
 use std::marker::Model;
 
 /// So many bytes lie in the value itself, and want no block of memory.
-pub const SHORT_LENGTH: usize = 24;
+const SHORT_LENGTH: usize = 24;
 
 /// Owned bytes: a key, or the value of a row. Up to 24 bytes take no block of memory.
 ///

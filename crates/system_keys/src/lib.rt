@@ -27,7 +27,7 @@ mod tag_teams;
 mod teams;
 mod text;
 
-pub use bytes::{Bytes, SHORT_LENGTH};
+pub use bytes::Bytes;
 pub use change::Change;
 pub use items::Items;
 pub use kind::{
@@ -38,7 +38,7 @@ pub use laws::{kind_law, location_law, row_law, text_law};
 pub use limits::{END_LIMIT, KEY_LIMIT, KEY_SPACE_END, VALUE_LIMIT, check_range, check_set};
 pub use location::{Location, decode_location};
 pub use memory::OutOfMemory;
-pub use ordered_key::OrderedKey;
+pub use ordered_key::{OrderedKey, SHORT_KEY};
 pub use range::KeyRange;
 pub use refusal::{Refusal, RowFault};
 pub use rows::{decode_key_servers, decode_tag, encode_key_servers, encode_tag};

@@ -1,55 +1,68 @@
 //! Keys that are compared by a number before their bytes.
 
 ghost use Rattle.std.specs.Prelude.{◌≡◌, IfOk};
-ghost use Rattle.system_keys.specs.OrderedKeys.{head_of};
+ghost use Rattle.system_keys.specs.OrderedKeys.{front_of};
 ghost use Rattle.system_keys.specs.Rows.{AreBytes};
 
-use crate::bytes::Bytes;
 use crate::memory::OutOfMemory;
 use std::alloc::{AllocError, Global};
 use std::cmp::Ordering;
 use std::marker::Model;
 
-/// So many bytes of a key are in its head.
-const FRONT: usize = 15;
+/// Up to so many bytes of a key lie in the `OrderedKey` itself.
+pub const SHORT_KEY: usize = 15;
 
-/// A key, and a number that is in the order of keys: most comparisons look at the numbers alone.
-/// Contracts see its bytes. Up to 24 bytes take no block of memory.
+/// A key that is compared by a number before its bytes: most comparisons look at the numbers alone.
+/// Contracts see its bytes. Up to 15 bytes take no block of memory.
 ///
-/// Made from `Bytes` without allocating.
+/// Made from a `Vec<u8>` without allocating.
 #[derive(Debug, Drop)]
 pub struct OrderedKey {
-    /// The first bytes of the key, as digits, and then how many there are, or one more if there are
-    /// others.
-    head: u128,
-    bytes: Bytes,
+    /// The first bytes of the key, with zeros past its end, and then how many it has, or 16 if it has
+    /// more than 15. Read as one number, it is in the order of keys.
+    front: [u8; SHORT_KEY + 1],
+    /// All bytes of a key of more than 15. It says nothing of other keys.
+    whole: Vec<u8>,
 }
 
 impl Model for OrderedKey {
     ghost use Rattle.std.specs.Prelude.{◌≡◌, ℕ, List};
-    ghost use Rattle.system_keys.specs.OrderedKeys.{head_of};
+    ghost use Rattle.system_keys.specs.OrderedKeys.{front_of, key_of};
     ghost use Rattle.system_keys.specs.Rows.{AreBytes};
 
     ghost Value = { List ℕ };
 
-    ghost view = { λ key. key.bytes };
+    ghost view = { λ key. key_of key.front key.whole.items };
 
-    ghost invariant = { λ key. (key.head ≡ head_of key.bytes) × AreBytes key.bytes };
+    ghost invariant = { λ key. (key.front ≡ front_of (key_of key.front key.whole.items))
+        × AreBytes (key_of key.front key.whole.items) };
 }
 
 impl OrderedKey {
-    /// The key of these bytes. Fails only with `OutOfMemory`, and never for up to 24 bytes.
+    /// The key of these bytes. Fails only with `OutOfMemory`, and never for up to 15 bytes.
     pub fn new(alloc: Global, bytes: &[u8]) -> Result<OrderedKey, OutOfMemory>
         ensures { IfOk result (λ key. key ≡ bytes.now) }
     {
-        Ok(OrderedKey::from(Bytes::from_slice(alloc, bytes)?))
+        let mut whole = Vec::new(alloc);
+        if bytes.len() > SHORT_KEY {
+            whole.extend_from_slice(bytes)?;
+        }
+        Ok(OrderedKey {
+            front: front_of(bytes),
+            whole,
+        })
     }
 
     /// Borrows the bytes.
     pub fn as_slice(&self) -> &[u8]
         ensures { result.now ≡ self.now }
     {
-        self.bytes.as_slice()
+        let count = usize::from(self.front[SHORT_KEY]);
+        if count <= SHORT_KEY {
+            &self.front[..count]
+        } else {
+            self.whole.as_slice()
+        }
     }
 
     /// Returns a deep copy. Fails only with `OutOfMemory`.
@@ -60,13 +73,13 @@ impl OrderedKey {
     }
 }
 
-impl From<Bytes> for OrderedKey {
-    ghost from_gives = { λ bytes key. key ≡ bytes };
+impl From<Vec<u8>> for OrderedKey {
+    ghost from_gives = { λ bytes key. key ≡ bytes.items };
 
-    fn from(bytes: Bytes) -> OrderedKey {
+    fn from(bytes: Vec<u8>) -> OrderedKey {
         OrderedKey {
-            head: head_of(bytes.as_slice()),
-            bytes,
+            front: front_of(bytes.as_slice()),
+            whole: bytes,
         }
     }
 }
@@ -76,8 +89,8 @@ impl Clone for OrderedKey {
 
     fn clone(&self) -> Result<OrderedKey, AllocError> {
         Ok(OrderedKey {
-            head: self.head,
-            bytes: self.bytes.clone()?,
+            front: self.front,
+            whole: self.whole.clone()?,
         })
     }
 }
@@ -132,21 +145,26 @@ impl Ord for OrderedKey {
     ghost matches_eq = { texts_ties };
 
     fn cmp(&self, other: &OrderedKey) -> Ordering {
-        if self.head != other.head {
-            return self.head.cmp(&other.head);
+        let own = u128::from_be_bytes(self.front);
+        let others = u128::from_be_bytes(other.front);
+        if own != others {
+            return own.cmp(&others);
+        }
+        if usize::from(self.front[SHORT_KEY]) <= SHORT_KEY {
+            return Ordering::Equal;
         }
         self.as_slice().cmp(other.as_slice())
     }
 }
 
-/// The first bytes, as digits of 256, and then how many there are, or one more if there are others.
-fn head_of(bytes: &[u8]) -> u128
-    ensures head { result ≡ head_of bytes.now }
+/// The first bytes, with zeros past their end, and then how many there are, or 16 if more than 15.
+fn front_of(bytes: &[u8]) -> [u8; SHORT_KEY + 1]
+    ensures front { result ≡ front_of bytes.now }
     ensures bytes { AreBytes bytes.now }
 {
-    let count = bytes.len().min(FRONT);
-    let mut digits = [0u8; FRONT + 1];
-    digits[..count].copy_from_slice(&bytes[..count]);
-    digits[FRONT] = bytes.len().min(FRONT + 1) as u8;
-    u128::from_be_bytes(digits)
+    let count = bytes.len().min(SHORT_KEY);
+    let mut front = [0u8; SHORT_KEY + 1];
+    front[..count].copy_from_slice(&bytes[..count]);
+    front[SHORT_KEY] = bytes.len().min(SHORT_KEY + 1) as u8;
+    front
 }
