@@ -117,6 +117,14 @@ impl Stamped {
         self.changes.as_slice()
     }
 
+    /// What it wants to change, in order. Does not allocate.
+    pub fn into_changes(self) -> Items<Change>
+        ensures value { result ≡ self.changes }
+        ensures limits { stamped_fault self ≡ None }
+    {
+        self.changes
+    }
+
     /// Whether it is a state transaction: whether it changes the metadata. Does not allocate.
     pub fn is_state(&self) -> bool
         ensures { result ≡ is_state_transaction self.now }
