@@ -2,7 +2,7 @@
 //!
 //! Release 7.1, `masterserver.actor.cpp`, getVersion.
 
-ghost use Rattle.std.specs.Prelude.{◌≡◌, ◌<◌, IfOk};
+ghost use Rattle.std.specs.Prelude.{◌≡◌, ◌<◌, IfOk, OnErr};
 ghost use Rattle.model.specs.Stamps.{stamped_from};
 
 use crate::moves::Moves;
@@ -208,6 +208,20 @@ impl Record {
         ensures { result.now ≡ self.now.batch }
     {
         self.batch.as_slice()
+    }
+
+    /// Takes the transactions: the record may have none afterwards, and is otherwise unchanged. If a
+    /// copy of the record shares them, they are copied. Fails only with `OutOfMemory`; the record is
+    /// then unchanged.
+    pub fn take_batch(&mut self, alloc: Global) -> Result<Items<Stamped>, OutOfMemory>
+        ensures ok { IfOk result (λ batch. batch ≡ self.old.batch) }
+        ensures others { record self.new { batch = self.old.batch } ≡ self.old }
+        ensures err { OnErr result (self.new ≡ self.old) }
+    {
+        match Arc::get_mut(&mut self.batch) {
+            Some(batch) => Ok(std::mem::replace(batch, Items::from(Vec::new(alloc)))),
+            None => Ok((*self.batch).clone()?),
+        }
     }
 
     /// Returns a copy, which shares the moves and the transactions. Fails only with `OutOfMemory`.
