@@ -1,5 +1,5 @@
 -- The earliest record of a proxy, what the replies to it tell, and the proxy after it is finished.
-use Rattle.std.proofs.Common.{◌≡◌, refl, sym, ap, ◌∙◌, subst, ℕ, ◌<◌, ◌≤◌, List, [], ◌∷◌, ◌++◌, map, length, drop, fold, slice_get, slice_index_or, Some, None, arith}
+use Rattle.std.proofs.Common.{◌≡◌, refl, sym, ap, ◌∙◌, subst, ℕ, ◌<◌, ◌≤◌, List, [], ◌∷◌, ◌++◌, map, length, drop, fold, slice_get, slice_index_or, slice_set, Some, None, arith}
 use Rattle.std.proofs.lemmas.List.Sums.{fold-append}
 use Rattle.model.specs.Configs.{Config}
 use Rattle.model.specs.declared.journal.JournalRow.{JournalRow}
@@ -60,6 +60,21 @@ learned_from v config replies one learned replied same told own columns =
     }
 
 -- ---- the proxy afterwards
+
+-- where the replies tell something, a record is begun
+pub some_begun : (begun : List BegunRecord) (v : ProxyView) (replies : Replies) (learned : Learned) → map record_of begun ≡ v.begun → IsLearned v replies learned → 0 < length begun
+some_begun [] v replies learned are tells = let none : [] ≡ tells.rec ∷ tells.rest = are ∙ tells.begun_is in absurd (cc)
+some_begun (first ∷ later) v replies learned are tells = omega arith
+
+-- a record that is set to what it was leaves the records as they were
+pub set_back : (begun : List BegunRecord) (now : BegunRecord) → 0 < length begun → now ≡ slice_index_or begun 0 now → slice_set begun 0 now ≡ begun
+set_back [] now some is = absurd (omega (arith, some))
+set_back (first ∷ later) now some is = ap (λ (b : BegunRecord). b ∷ later) is
+
+-- and one that is changed leaves the later ones
+pub later_left : (begun left : List BegunRecord) (now : BegunRecord) → left ≡ drop 1 (slice_set begun 0 now) → left ≡ drop 1 begun
+later_left [] left now is = is
+later_left (first ∷ later) left now is = is
 
 -- the calls by which a proxy finishes its earliest record
 pub record AreFinishing (v : ProxyView) (begun left : List BegunRecord) (grown : List JournalRow) (entries after : Entries) (one : BegunRecord) (learned : Learned) : Type 0 where

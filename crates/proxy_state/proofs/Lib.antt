@@ -8,3 +8,4 @@ pub mod KeptProxies
 pub mod MadeMoves
 pub mod Misfits
 pub mod RefusedCalls
+pub mod TakenChanges

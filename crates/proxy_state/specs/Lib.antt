@@ -12,3 +12,5 @@ pub mod Begun
 pub mod Learning
 -- which replies are refused, what they tell, and the finished batch by columns
 pub mod Finishing
+-- mutations whose changes are put in last
+pub mod TakenChanges

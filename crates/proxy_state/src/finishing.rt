@@ -16,7 +16,8 @@ use std::alloc::Global;
 use system_keys::OutOfMemory;
 
 /// Applies the rows that the replies tell and then the record's own row, and returns the finished
-/// batch. Fails only with `OutOfMemory`; the metadata is then unchanged.
+/// batch, into which the changes of the record are taken. Fails only with `OutOfMemory`; the metadata
+/// and the record are then unchanged.
 ///
 /// The rows are started, and taken back if the answer cannot be allocated. What they remove is hidden
 /// while the answer is made, and removed when nothing can fail any more.
@@ -24,15 +25,16 @@ pub(crate) fn finish_batch(
     alloc: Global,
     metadata: &mut Metadata,
     config: &Config,
-    begun: &BegunRecord,
+    begun: &mut BegunRecord,
     learned: &Learned,
 ) -> Result<Finished, OutOfMemory>
-    requires { AskedAreKept config.now begun.now }
+    requires { AskedAreKept config.now begun.old }
     ensures ok { OnOk result (metadata.new ≡ after_batch metadata.old learned.now) }
     ensures finished { let locked = is_locked (after_told metadata.old learned.now) in
         IfOk result (λ finished. finished
-        ≡ finished_by config.now learned.now.columns.items locked metadata.new begun.now.rec) }
+        ≡ finished_by config.now learned.now.columns.items locked metadata.new begun.old.rec) }
     ensures err { OnErr result (metadata.new ≡ metadata.old) }
+    ensures kept { OnErr result (begun.new ≡ begun.old) }
 {
     let started = metadata.start_rows(&learned.told, &learned.own)?;
     let locked = started.was_locked();

@@ -3,11 +3,14 @@
 //! Release 7.1, `CommitProxyServer.actor.cpp`, determineCommittedTransactions and
 //! assignMutationsToStorageServers; what differs is marked *profile*.
 
-ghost use Rattle.std.specs.Prelude.{◌≡◌, ◌++◌, length, IfOk, OnOk};
+ghost use Rattle.std.specs.Prelude.{◌≡◌, ◌+◌, ◌≤◌, ◌++◌, map, take, drop, length};
+ghost use Rattle.std.specs.Prelude.{IfOk, OnOk, OnErr};
 ghost use Rattle.model.specs.Outcomes.{outcome_by, is_refused, outcomes_from};
 ghost use Rattle.model.specs.World.{tagged_all, tagged_from};
 ghost use Rattle.proxy_state.specs.Learning.{by_columns, AskedAreKept};
 ghost use Rattle.proxy_state.specs.Finishing.{outcome_asked, outcomes_by, finished_by};
+ghost use Rattle.proxy_state.specs.TakenChanges.{no_change, without_change, with_changes};
+ghost use Rattle.proxy_state.specs.TakenChanges.{changes_if, changes_of};
 
 use crate::begun::BegunRecord;
 use crate::columns::joined_by;
@@ -17,27 +20,32 @@ use model::{
 };
 use mutation::Stamped;
 use std::alloc::Global;
-use system_keys::{Change, Items, OutOfMemory};
+use system_keys::{Bytes, Change, Items, OutOfMemory};
 
 /// The finished batch of the record, by the verdicts of the columns. `locked` is the lock before the
-/// batch, and `entries` are those of the metadata after it. Fails only with `OutOfMemory`.
+/// batch, and `entries` are those of the metadata after it. The changes are taken out of the record.
+/// Fails only with `OutOfMemory`; the record is then unchanged.
 pub(crate) fn finished_by(
     alloc: Global,
     config: &Config,
     columns: &[Items<Verdict>],
     locked: bool,
     entries: &EntryView,
-    begun: &BegunRecord,
+    begun: &mut BegunRecord,
 ) -> Result<Finished, OutOfMemory>
-    requires { AskedAreKept config.now begun.now }
-    ensures { IfOk result (λ finished.
-        finished ≡ finished_by config.now columns.now locked entries.now begun.now.rec) }
+    requires { AskedAreKept config.now begun.old }
+    ensures ok { IfOk result (λ finished.
+        finished ≡ finished_by config.now columns.now locked entries.now begun.old.rec) }
+    ensures err { OnErr result (begun.new ≡ begun.old) }
 {
     let outcomes = outcomes_of(alloc, config, columns, locked, begun)?;
-    let tagged = tagged_all(alloc, entries, begun.rec.batch(), &outcomes)?;
+    let mut tagged = labelled_all(alloc, entries, begun.rec.batch(), &outcomes)?;
+    let (row, version) = (begun.rec.row(), begun.rec.version());
+    let batch = begun.rec.take_batch(alloc)?;
+    put_changes(alloc, &mut tagged, batch, &outcomes);
     Ok(Finished {
-        row: begun.rec.row(),
-        version: begun.rec.version(),
+        row,
+        version,
         outcomes: Items::from(outcomes),
         tagged: Items::from(tagged),
     })
@@ -128,44 +136,100 @@ fn outcome_by(
     }
 }
 
-/// The mutations of the committed transactions, each with its tags and its private copy.
-fn tagged_all(
+/// The mutations of the committed transactions, each with its tags and its private copy, but without
+/// its change.
+#[tactic(auto, using(crate::proofs::TakenChanges::labels_append))]
+fn labelled_all(
     alloc: Global,
     entries: &EntryView,
     batch: &[Stamped],
     outcomes: &[Outcome],
 ) -> Result<Vec<Tagged>, OutOfMemory>
     requires { length outcomes.now ≡ length batch.now }
-    ensures { IfOk result (λ tagged.
-        tagged.items ≡ tagged_all entries.now batch.now outcomes.now) }
+    ensures { IfOk result (λ labelled. labelled.items
+        ≡ map without_change (tagged_all entries.now batch.now outcomes.now)) }
 {
-    let mut tagged = Vec::new(alloc);
+    let mut labelled = Vec::new(alloc);
     for (place, transaction) in batch.iter().enumerate() {
         if let Outcome::Committed { version: _, number } = outcomes[place] {
-            add_tagged(entries, number, transaction.changes(), &mut tagged)?;
+            add_labelled(alloc, entries, number, transaction.changes(), &mut labelled)?;
         }
     }
-    Ok(tagged)
+    Ok(labelled)
 }
 
-/// Adds the mutations of the transaction of this number, each with its tags and its private copy.
-fn add_tagged(
+/// Adds the mutations of the transaction of this number, each with its tags and its private copy, but
+/// without its change.
+fn add_labelled(
+    alloc: Global,
     entries: &EntryView,
     number: TransactionNumber,
     changes: &[Change],
-    tagged: &mut Vec<Tagged>,
+    labelled: &mut Vec<Tagged>,
 ) -> Result<(), OutOfMemory>
-    ensures { OnOk result (tagged.new.items
-        ≡ tagged.old.items ++ tagged_from entries.now number 0 changes.now) }
+    ensures { OnOk result (labelled.new.items ≡ labelled.old.items
+        ++ map without_change (tagged_from entries.now number 0 changes.now)) }
 {
     for (place, change) in changes.iter().enumerate() {
-        tagged.push(Tagged {
+        labelled.push(Tagged {
             number,
             place,
-            change: change.copy()?,
+            change: no_change(alloc),
             tags: tags_of(entries, change)?,
             private: private_of(entries, change)?,
         })?;
     }
     Ok(())
+}
+
+/// What stands in the place of a change until it is put in. Does not allocate.
+fn no_change(alloc: Global) -> Change
+    ensures { result ≡ no_change }
+{
+    Change::Set {
+        key: Bytes::from(Vec::new(alloc)),
+        value: Bytes::from(Vec::new(alloc)),
+    }
+}
+
+/// Puts the changes of the committed transactions into their mutations. Does not allocate.
+fn put_changes(alloc: Global, tagged: &mut Vec<Tagged>, batch: Items<Stamped>, outcomes: &[Outcome])
+    requires outcomes { length outcomes.now ≡ length batch }
+    requires room { length (changes_of batch outcomes.now) ≤ length tagged.old.items }
+    ensures { tagged.new.items ≡ with_changes tagged.old.items (changes_of batch outcomes.now) }
+{
+    let mut number = 0;
+    let mut first = 0;
+    for transaction in Vec::from(batch) {
+        let changes = changes_if(alloc, transaction, &outcomes[number]);
+        first = put_each(tagged, first, changes);
+        number += 1;
+    }
+}
+
+/// The changes of the transaction, if it is committed, and otherwise none. Does not allocate.
+fn changes_if(alloc: Global, transaction: Stamped, outcome: &Outcome) -> Items<Change>
+    ensures { result ≡ changes_if transaction outcome.now }
+{
+    match outcome {
+        Outcome::Committed { .. } => transaction.into_changes(),
+        Outcome::Conflict | Outcome::TooOld | Outcome::Locked => Items::from(Vec::new(alloc)),
+    }
+}
+
+/// Puts the changes into the mutations from this one on, and returns how many have theirs then. Does
+/// not allocate.
+fn put_each(tagged: &mut Vec<Tagged>, first: usize, changes: Items<Change>) -> usize
+    requires { first + length changes ≤ length tagged.old.items }
+    ensures place { result ≡ first + length changes }
+    ensures count { length tagged.new.items ≡ length tagged.old.items }
+    ensures tagged { tagged.new.items
+        ≡ take first tagged.old.items ++ with_changes (drop first tagged.old.items) changes }
+{
+    let mut place = first;
+    for change in Vec::from(changes) {
+        tagged[place].change = change;
+        place += 1;
+    }
+    place
 }

@@ -307,6 +307,7 @@ impl Proxy {
         }
     }
 
+    #[tactic(auto, using(crate::proofs::FinishedProxies::set_back))]
     fn finish_by(&mut self, replies: &[Option<Reply>]) -> Result<Finished, Refusal>
         ensures ok { OnOk result (finish_fault self.old replies.now ≡ None) }
         ensures finished { IfOk result (λ finished.
@@ -320,7 +321,7 @@ impl Proxy {
         let Ok(()) = self.journal.reserve(learned.told.len() + 1) else {
             return Err(Refusal::OutOfMemory);
         };
-        let begun = &self.begun[0];
+        let begun = &mut self.begun[0];
         let version = begun.rec.version();
         let finished = finish_batch(alloc, &mut self.metadata, &self.config, begun, &learned)?;
         self.begun.pop_front();

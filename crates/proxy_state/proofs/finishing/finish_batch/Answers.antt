@@ -19,7 +19,7 @@ pub returns-in-Ok-clause-finished : goal.returns-in-Ok-clause-finished
 returns-in-Ok-clause-finished c =
     let lock = c.was_locked-locked.ensures ∙ c.in_ok-started.ensures.locked ∙ ap (λ (rows : List JournalRow). is_locked (after_rows c.args.metadata.now rows)) c.deref.ensures.value in
     let entries = c.entries_after-entries.ensures c.args.metadata.now _ c.in_ok-started.ensures.ok ∙ sym (c.finish_rows.ensures c.args.metadata.now _ c.in_ok-started.ensures.ok) in
-    c.in-Ok.ensures
+    c.in-Ok.ensures.ok
     ∙ ap (λ (columns : List (List Verdict)). finished_by c.args.config.now columns c.was_locked-locked.result c.entries_after-entries.result c.args.begun.now.rec) c.deref-2.ensures.value
     ∙ ap (λ (locked : Bool). finished_by c.args.config.now c.args.learned.now.columns.items locked c.entries_after-entries.result c.args.begun.now.rec) lock
     ∙ ap (λ (after : Entries). finished_by c.args.config.now c.args.learned.now.columns.items (is_locked (after_told c.args.metadata.now c.args.learned.now)) after c.args.begun.now.rec) entries

@@ -1,8 +1,8 @@
 -- The proxy finished its earliest record, and keeps what every proxy keeps.
-use Rattle.std.proofs.Common.{◌≡◌, ◌++◌, refl, subst, map, rules}
+use Rattle.std.proofs.Common.{◌≡◌, ◌++◌, refl, ap, subst, map, rules}
 use Rattle.model.specs.Finishing.{ProxyView, HasFinished}
 use Rattle.proxy_state.specs.Begun.{record_of}
-use Rattle.proxy_state.proofs.FinishedProxies.{AreFinishing, kept_finish, has_finished}
+use Rattle.proxy_state.proofs.FinishedProxies.{AreFinishing, kept_finish, has_finished, later_left, some_begun}
 use Rattle.proxy_state.proofs.proxy.Proxy.finish_by.Goals as goal
 
 -- the proxy as it was
@@ -25,12 +25,12 @@ after c = record (before c) { begun = map record_of c.pop_front.new.self.items; 
 appended : (c : goal.After-drop-learned-3) → c.append.new.self.items ≡ c.self.inside.journal.items ++ c.in_ok-learned.learned.told.items
 appended c = search rules
 
-finishing : (c : goal.After-drop-learned-3) → AreFinishing (before c) c.self.inside.begun.items c.pop_front.new.self.items c.push_reserved.new.self.items c.self.inside.metadata c.finish_batch.new.metadata c.index-begun.result.now c.in_ok-learned.learned
+finishing : (c : goal.After-drop-learned-3) → AreFinishing (before c) c.self.inside.begun.items c.pop_front.new.self.items c.push_reserved.new.self.items c.self.inside.metadata c.finish_batch.new.metadata c.index_mut-begun.result.now c.in_ok-learned.learned
 finishing c =
     record {
-      some = search rules;
+      some = some_begun c.self.inside.begun.items c.args.self.now c.args.replies.now c.in_ok-learned.learned (ap (λ (v : ProxyView). v.begun) c.self.view_is) c.in_ok-learned.ensures.learned;
       one_is = search rules;
-      left_is = search rules;
+      left_is = later_left c.self.inside.begun.items c.pop_front.new.self.items c.finish_batch.new.begun (search rules);
       grown_is = search rules;
       after_is = search rules;
     }
@@ -42,4 +42,4 @@ invariant_of-self-2 c =
 pub returns-clause-finished : goal.returns-clause-finished
 returns-clause-finished c =
     subst (λ (v : ProxyView). HasFinished v (after c) c.args.replies.now c.in_ok-finished.finished) c.self.view_is
-    (has_finished (before c) c.version-version.result _ _ _ _ _ c.index-begun.result.now c.in_ok-learned.learned c.args.replies.now c.in_ok-finished.finished (finishing c) refl c.self.invariant.metadata_is c.version-version.ensures.value (rw c.self.view_is c.in_ok-learned.ensures.learned) (search rules))
+    (has_finished (before c) c.version-version.result _ _ _ _ _ c.index_mut-begun.result.now c.in_ok-learned.learned c.args.replies.now c.in_ok-finished.finished (finishing c) refl c.self.invariant.metadata_is c.version-version.ensures.value (rw c.self.view_is c.in_ok-learned.ensures.learned) (search rules))

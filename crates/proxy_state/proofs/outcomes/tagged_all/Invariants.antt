@@ -1,7 +1,0 @@
--- The mutations so far, and those of the transactions that are left, are all.
-use Rattle.std.proofs.Common.{◌≡◌, ◌++◌, drop}
-use Rattle.model.specs.World.{tagged_all}
-use Rattle.proxy_state.proofs.outcomes.tagged_all.Given as goal
-
-abbrev pub invariant-loop-place : goal.invariant-loop-place
-invariant-loop-place l = l.tagged.items ++ tagged_all l.entries (drop l.place l.batch) (drop l.place l.outcomes) ≡ tagged_all l.entries l.batch l.outcomes
