@@ -265,7 +265,11 @@ impl KeptEntries {
 
     /// Applies the transactions as `apply_states` does, and moves their keys and values. Fails only
     /// with `OutOfMemory`; some of their changes are then applied.
-    fn apply_own_states(&mut self, locked: bool, states: Items<StateTxn>) -> Result<(), OutOfMemory>
+    pub(crate) fn apply_own_states(
+        &mut self,
+        locked: bool,
+        states: Items<StateTxn>,
+    ) -> Result<(), OutOfMemory>
         ensures { OnOk result (self.new ≡ fold (after_state locked) self.old states) }
     {
         let states = Vec::from(states);

@@ -10,6 +10,7 @@ mod applying;
 mod changing;
 mod entry_map;
 mod entry_view;
+mod journal_fold;
 mod kept_entries;
 mod key_runs;
 mod key_set;
@@ -29,6 +30,7 @@ mod tag_map;
 mod tagging;
 
 pub use entry_view::EntryView;
+pub use journal_fold::JournalFold;
 pub use metadata::Metadata;
 pub use private_copies::private_of;
 pub use started::StartedRows;

@@ -80,7 +80,7 @@ impl Metadata {
     }
 
     /// The entries, with the tags of each and the table of the servers. Fails only with `OutOfMemory`.
-    fn of(entries: KeptEntries) -> Result<Metadata, OutOfMemory>
+    pub(crate) fn of(entries: KeptEntries) -> Result<Metadata, OutOfMemory>
         ensures { IfOk result (λ made. made ≡ entries) }
     {
         let map = entries.map();
