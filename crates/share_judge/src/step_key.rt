@@ -22,7 +22,6 @@ impl Model for StepKey {
     ghost Value = { List ℕ };
 
     ghost view = { λ k. k.key };
-
 }
 
 impl StepKey {

@@ -11,4 +11,4 @@ returns-clause-some c =
     let count : c.len.result - 13 ≡ length c.args.whole.items - 13 = omega (arith, c.len.ensures, c.args.whole.ok.0) in
     begun key_servers_family.prefix c.args.whole.items own
     ∙ ap (λ (key : List ℕ). key_servers_family.prefix ++ key)
-    (sym (c.from-2.ensures ∙ c.from.ensures ∙ c.truncate.ensures.items ∙ ap (take (c.len.result - 13)) c.rotate_left.ensures.items ∙ turned_off 13 (c.len.result - 13) c.args.whole.items count))
+    (sym (c.from.ensures ∙ c.truncate.ensures.items ∙ ap (take (c.len.result - 13)) c.rotate_left.ensures.items ∙ turned_off 13 (c.len.result - 13) c.args.whole.items count))
