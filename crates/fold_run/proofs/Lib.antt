@@ -1,1 +1,4 @@
+pub mod CheckLemmas
+pub mod FoldingLemmas
 pub mod ListLemmas
+pub mod StreamLemmas

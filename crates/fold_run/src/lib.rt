@@ -5,8 +5,10 @@
 #![tactic(auto)]
 
 mod checks;
+mod folding;
 mod limits;
 mod reading;
+mod row_streams;
 mod run;
 mod script;
 mod shapes;

@@ -41,7 +41,7 @@ fn have_verdicts(resolvers: u64, rows: &[RawRow]) -> bool
 }
 
 /// Whether each state transaction of the row has a verdict of each resolver.
-fn row_has_verdicts(resolvers: u64, row: &RawRow) -> bool
+pub(crate) fn row_has_verdicts(resolvers: u64, row: &RawRow) -> bool
     ensures { result ≡ row_has_verdicts resolvers row.now }
 {
     row.states

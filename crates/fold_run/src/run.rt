@@ -5,8 +5,8 @@ ghost use Rattle.fold_run.specs.Scripts.{script_of};
 ghost use Rattle.fold_run.specs.Text.{Folds, fold_text, folded_text};
 
 use crate::script::{FoldScript, RawScript};
-use crate::text::print_folded;
-use scripts::{RunStatus, ScriptKind, Sink, Source, run_script};
+use crate::text::{FoldText, print_folded};
+use scripts::{RunStatus, ScriptKind, Sink, Source, make_of_tokens, run_script};
 use std::alloc::Global;
 use system_keys::OutOfMemory;
 
@@ -22,9 +22,9 @@ impl ScriptKind for FoldKind {
 
     ghost answer_to = { fold_text };
 
-    // The rows are folded together, so nothing is printed before the last.
-    fn stream(_alloc: Global, _bytes: &[u8]) -> Option<String> {
-        None
+    fn stream(alloc: Global, bytes: &[u8]) -> Option<String> {
+        let made: FoldText = make_of_tokens(alloc, bytes)?;
+        Some(made.text)
     }
 
     fn print(alloc: Global, text: &mut String, script: FoldScript) -> Result<(), OutOfMemory> {

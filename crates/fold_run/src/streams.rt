@@ -1,45 +1,22 @@
-//! What is read of a fold script as its tokens come: its objects with their fields in any order.
+//! What is read of a fold script as its tokens come: its fields in any order.
 
-ghost use Rattle.std.specs.Prelude.{◌≡◌, ◌+◌, codes};
-ghost use Rattle.serde_json.specs.Find.{as_bool};
-ghost use Rattle.scripts.specs.ChangeShapes.{change_shape};
-ghost use Rattle.scripts.specs.Shapes.{bytes_shape, list_shape, number_shape, verdict_shape};
-ghost use Rattle.scripts.specs.Shapes.{count_members};
-ghost use Rattle.scripts.specs.Streams.{Slot, one};
-ghost use Rattle.fold_run.specs.Shapes.{row_shape, state_shape};
+ghost use Rattle.std.specs.Prelude.{◌≡◌, List, IfSome, Some, None};
+ghost use Rattle.scripts.specs.Shapes.{list_shape};
+ghost use Rattle.scripts.specs.Streams.{Takes};
+ghost use Rattle.fold_run.specs.Shapes.{row_shape};
+ghost use Rattle.fold_run.specs.Streams.{HoldsFields};
+ghost use Rattle.fold_run.specs.declared.script.RawRow.{RawRow as TheRawRow};
 
 use crate::limits::is_within_limits;
-use crate::script::{RawRow, RawScript, RawState};
+use crate::script::{RawRow, RawScript};
 use json::Reader as TokenReader;
-use model::Verdict;
-use scripts::{Fields, RawChange, Streamed, take_into, take_object};
+use scripts::{Fields, Streamed, take_into, take_object};
 use std::alloc::Global;
 use system_keys::{Bytes, Items};
 
-impl Streamed for RawState {
-    fn from_tokens(alloc: Global, reader: &mut TokenReader<'_>, depth: usize) -> Option<RawState> {
-        let fields: StateFields = take_object(alloc, reader, depth)?;
-        Some(RawState {
-            mutations: fields.mutations?,
-            lock_aware: fields.lock_aware?,
-            verdicts: fields.verdicts?,
-        })
-    }
-}
-
-impl Streamed for RawRow {
-    fn from_tokens(alloc: Global, reader: &mut TokenReader<'_>, depth: usize) -> Option<RawRow> {
-        let fields: RowFields = take_object(alloc, reader, depth)?;
-        Some(RawRow {
-            version: fields.version?,
-            states: fields.states?,
-        })
-    }
-}
-
 impl Streamed for RawScript {
     fn from_tokens(alloc: Global, reader: &mut TokenReader<'_>, depth: usize) -> Option<RawScript> {
-        let fields: ScriptFields = take_object(alloc, reader, depth)?;
+        let fields: ScriptFields<Items<RawRow>> = take_object(alloc, reader, depth)?;
         let script = RawScript {
             resolvers: fields.resolvers?,
             rows: fields.rows?,
@@ -52,93 +29,69 @@ impl Streamed for RawScript {
     }
 }
 
-// The fields of a state transaction, as they come.
-#[derive(Drop)]
-struct StateFields {
-    mutations: Option<Items<RawChange>>,
-    lock_aware: Option<bool>,
-    verdicts: Option<Items<Verdict>>,
-}
+/// What is made of the rows of a script as their tokens come.
+pub(crate) trait FromRows: Drop {
+    ghost is_from: { Self → List TheRawRow → Type 0 };
 
-impl Fields for StateFields {
-    ghost holds = { λ f ms. Slot (list_shape change_shape) (codes "mutations") f.mutations ms
-        × Slot as_bool (codes "lock_aware") f.lock_aware ms
-        × Slot (list_shape verdict_shape) (codes "verdicts") f.verdicts ms
-        × (count_members ms ≡ one f.mutations + one f.lock_aware + one f.verdicts) };
-
-    fn none() -> StateFields {
-        StateFields {
-            mutations: None,
-            lock_aware: None,
-            verdicts: None,
-        }
-    }
-
-    fn take_field(
-        &mut self,
+    /// Takes the tokens of a list of rows, for so many resolvers if their number came before it.
+    /// Returns `None` as `Streamed` does.
+    fn take(
         alloc: Global,
         reader: &mut TokenReader<'_>,
         depth: usize,
-        name: &str,
-    ) -> Option<()> {
-        match name {
-            "mutations" => take_into(&mut self.mutations, alloc, reader, depth),
-            "lock_aware" => take_into(&mut self.lock_aware, alloc, reader, depth),
-            "verdicts" => take_into(&mut self.verdicts, alloc, reader, depth),
-            _ => None,
-        }
-    }
+        resolvers: Option<u64>,
+    ) -> Option<Self>
+        ensures { IfSome result (λ made. (raws : List TheRawRow)
+            × Takes (list_shape row_shape) depth reader.old raws reader.new
+            × is_from made raws) };
 }
 
-// The fields of a row, as they come.
-#[derive(Drop)]
-struct RowFields {
-    version: Option<u64>,
-    states: Option<Items<RawState>>,
-}
+impl FromRows for Items<RawRow> {
+    ghost is_from = { λ rows raws. rows ≡ raws };
 
-impl Fields for RowFields {
-    ghost holds = { λ f ms. Slot number_shape (codes "version") f.version ms
-        × Slot (list_shape state_shape) (codes "states") f.states ms
-        × (count_members ms ≡ one f.version + one f.states) };
-
-    fn none() -> RowFields {
-        RowFields {
-            version: None,
-            states: None,
-        }
-    }
-
-    fn take_field(
-        &mut self,
+    fn take(
         alloc: Global,
         reader: &mut TokenReader<'_>,
         depth: usize,
-        name: &str,
-    ) -> Option<()> {
-        match name {
-            "version" => take_into(&mut self.version, alloc, reader, depth),
-            "states" => take_into(&mut self.states, alloc, reader, depth),
-            _ => None,
-        }
+        _resolvers: Option<u64>,
+    ) -> Option<Items<RawRow>> {
+        Items::from_tokens(alloc, reader, depth)
     }
 }
 
-// The fields of a fold script, as they come.
+/// The fields of a fold script, as they come.
 #[derive(Drop)]
-struct ScriptFields {
-    resolvers: Option<u64>,
-    rows: Option<Items<RawRow>>,
-    ask: Option<Items<Bytes>>,
+pub(crate) struct ScriptFields<R: Drop> {
+    /// How many resolvers there are.
+    pub(crate) resolvers: Option<u64>,
+    /// What is made of the rows.
+    pub(crate) rows: Option<R>,
+    /// The keys whose tags are asked.
+    pub(crate) ask: Option<Items<Bytes>>,
 }
 
-impl Fields for ScriptFields {
-    ghost holds = { λ f ms. Slot number_shape (codes "resolvers") f.resolvers ms
-        × Slot (list_shape row_shape) (codes "rows") f.rows ms
-        × Slot (list_shape bytes_shape) (codes "ask") f.ask ms
-        × (count_members ms ≡ one f.resolvers + one f.rows + one f.ask) };
+impl<R: FromRows> ScriptFields<R> {
+    // Takes the rows, if none were taken before.
+    fn take_rows(&mut self, alloc: Global, reader: &mut TokenReader<'_>, depth: usize) -> Option<()>
+        ensures { IfSome result (λ _. (raws : List TheRawRow) × (made : R)
+            × Takes (list_shape row_shape) depth reader.old raws reader.new
+            × R.is_from made raws
+            × (self.old.rows ≡ None)
+            × (self.new ≡ record self.old { rows = Some made })) }
+    {
+        if self.rows.is_some() {
+            return None;
+        }
+        let made = R::take(alloc, reader, depth, self.resolvers)?;
+        self.rows = Some(made);
+        Some(())
+    }
+}
 
-    fn none() -> ScriptFields {
+impl<R: FromRows> Fields for ScriptFields<R> {
+    ghost holds = { λ f ms. HoldsFields R.is_from f ms };
+
+    fn none() -> ScriptFields<R> {
         ScriptFields {
             resolvers: None,
             rows: None,
@@ -155,7 +108,7 @@ impl Fields for ScriptFields {
     ) -> Option<()> {
         match name {
             "resolvers" => take_into(&mut self.resolvers, alloc, reader, depth),
-            "rows" => take_into(&mut self.rows, alloc, reader, depth),
+            "rows" => self.take_rows(alloc, reader, depth),
             "ask" => take_into(&mut self.ask, alloc, reader, depth),
             _ => None,
         }

@@ -1,15 +1,21 @@
 //! The whole text of a fold script: its rows are folded, and the routing is printed.
 
-ghost use Rattle.std.specs.Prelude.{◌≡◌, ◌++◌, OnOk, string_bytes};
+ghost use Rattle.std.specs.Prelude.{◌≡◌, ◌++◌, IfSome, OnOk, string_bytes};
 ghost use Rattle.model.specs.Metadata.{metadata};
+ghost use Rattle.cluster_lines.specs.MetadataLines.{metadata_text};
+ghost use Rattle.fold_run.specs.Folding.{IsTextOf};
 ghost use Rattle.fold_run.specs.Text.{folded_text, last_version};
 
+use crate::folding::FoldedRows;
 use crate::script::FoldScript;
+use crate::streams::ScriptFields;
 use cluster_lines::print_metadata;
+use json::Reader as TokenReader;
 use metadata::Metadata;
-use model::JournalRow;
+use model::{JournalRow, RESOLVERS_LIMIT, is_from_one};
+use scripts::{MadeOfTokens, take_object};
 use std::alloc::Global;
-use system_keys::OutOfMemory;
+use system_keys::{Bytes, OutOfMemory};
 
 /// Prints what a fold script comes to (this project's profile): the routing of its folded rows and
 /// the tags of its asked keys. Fails only with `OutOfMemory`.
@@ -35,5 +41,45 @@ fn last_version(rows: &[JournalRow]) -> u64
     match rows.last() {
         Some(row) => row.version,
         None => 0,
+    }
+}
+
+/// What a fold script comes to, folded as its tokens come.
+#[derive(Drop)]
+pub(crate) struct FoldText {
+    /// The routing of its folded rows, and the tags of its asked keys.
+    pub(crate) text: String,
+}
+
+impl MadeOfTokens for FoldText {
+    ghost is_made_of = { λ made d. IsTextOf d made };
+
+    // Where the number of resolvers comes after the rows, it decides nothing.
+    fn make(alloc: Global, reader: &mut TokenReader<'_>, depth: usize) -> Option<FoldText> {
+        let fields: ScriptFields<FoldedRows> = take_object(alloc, reader, depth)?;
+        let (resolvers, folded, ask) = (fields.resolvers?, fields.rows?, fields.ask?);
+        if folded.resolvers != resolvers || !is_from_one(RESOLVERS_LIMIT, resolvers) {
+            return None;
+        }
+        let text = text_of_folded(alloc, folded, ask.as_slice())?;
+        Some(FoldText { text })
+    }
+}
+
+/// The whole text, where the rows are folded.
+fn text_of_folded(alloc: Global, folded: FoldedRows, ask: &[Bytes]) -> Option<String>
+    ensures { IfSome result (λ text. string_bytes text
+        ≡ metadata_text folded.version folded.journal ask.now) }
+{
+    let FoldedRows {
+        version,
+        journal,
+        ..
+    } = folded;
+    let metadata = journal.into_metadata().ok()?;
+    let mut text = String::new(alloc);
+    match print_metadata(alloc, &mut text, version, &metadata, ask) {
+        Ok(()) => Some(text),
+        Err(_) => None,
     }
 }

@@ -3,7 +3,7 @@ use Rattle.serde_json.specs.Find.{as_bool}
 use Rattle.scripts.specs.ChangeShapes.{change_shape}
 use Rattle.scripts.specs.Shapes.{list_shape, verdict_shape}
 use Rattle.scripts.proofs.StreamObjectLemmas.{slot_put, slot_other, count_new, if_some_weaker}
-use Rattle.fold_run.proofs.streams.StateFieldsFields.take_field.Goals as goal
+use Rattle.fold_run.proofs.row_streams.StateFieldsFields.take_field.Goals as goal
 
 pub returns-in-mutations : goal.returns-in-mutations
 returns-in-mutations c =

@@ -2,7 +2,7 @@ use Rattle.std.proofs.Common.{codes, refl, arith}
 use Rattle.scripts.specs.Shapes.{list_shape, number_shape}
 use Rattle.fold_run.specs.Shapes.{state_shape}
 use Rattle.scripts.proofs.StreamObjectLemmas.{slot_put, slot_other, count_new, if_some_weaker}
-use Rattle.fold_run.proofs.streams.RowFieldsFields.take_field.Goals as goal
+use Rattle.fold_run.proofs.row_streams.RowFieldsFields.take_field.Goals as goal
 
 pub returns-in-version : goal.returns-in-version
 returns-in-version c =
