@@ -46,6 +46,9 @@ ASKING = {
     "threads": (b'{"proxies":1,"resolvers":1,"window":1,"step":1,"rows":9,"moves":[],"work":[[]],"ask":[', b"]}"),
 }
 
+# the modes whose scripts have a list of which none is kept where the numbers of the script stand before it, and its field
+TAKEN_AS_THEY_COME = {"": "rows", "turns": "events"}
+
 # how many growths fewer a run of threads takes at least, whose growths have no fixed number, if it is read as its tokens come
 FEWER_IN_THREADS = 20
 
@@ -162,16 +165,17 @@ def read_by_tokens(trial, example):
         trial.expect(count + fewer < by_tree, "%s: is read through a tree: %d growths, and %d" % (name, count, by_tree))
 
 
-def carried_out_as_they_come(trial, example):
-    """Events take fewer growths if the numbers of the cluster stand before them: no list of them is made."""
+def taken_as_they_come(trial, example):
+    """Rows of `fold` and events take fewer growths if the numbers stand before them: no list of them is made."""
     name, words, script, _, status = example
-    if status == 0 and words == ["turns"]:
+    field = TAKEN_AS_THEY_COME.get(" ".join(words))
+    if status == 0 and field:
         fields = json.loads(script)
-        events = fields.pop("events")
-        orders = {**fields, "events": events}, {"events": events, **fields}
+        items = fields.pop(field)
+        orders = {**fields, field: items}, {field: items, **fields}
         as_they_come, listed = (count_growths(trial, json.dumps(it).encode(), words) for it in orders)
-        is_right = as_they_come < listed if events else as_they_come <= listed
-        trial.expect(is_right, "%s: events are listed: %d growths, and %d" % (name, as_they_come, listed))
+        is_right = as_they_come < listed if items else as_they_come <= listed
+        trial.expect(is_right, "%s: %s are listed: %d growths, and %d" % (name, field, as_they_come, listed))
 
 
 def refuse_reads(trial, example):
@@ -383,7 +387,7 @@ def try_pipes(trial, example):
 
 
 OF_EACH_EXAMPLE = (
-    refuse_growths, read_by_tokens, carried_out_as_they_come, refuse_reads, refuse_writes, shorten_calls, try_pipes, stop_and_go,
+    refuse_growths, read_by_tokens, taken_as_they_come, refuse_reads, refuse_writes, shorten_calls, try_pipes, stop_and_go,
 )
 OF_THE_PROGRAM = (try_endless_inputs, try_words, keep_little)
 

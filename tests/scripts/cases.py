@@ -10,6 +10,7 @@ import random
 import content_cases
 import fold_limit_cases
 import fold_shape_cases
+import fold_stream_cases
 import hostile_cases
 import json_cases
 import order_cases
@@ -31,7 +32,9 @@ from forms import FOLD, THREADS, TURNS
 
 OF_EACH_FORM = [kind for part in (shape_cases, text_cases, json_cases, size_cases, hostile_cases) for kind in part.OF_EACH_FORM]
 OF_FOLD = [
-    kind for part in (right_cases, fold_shape_cases, content_cases, order_cases, size_cases, fold_limit_cases) for kind in part.CASES
+    kind
+    for part in (right_cases, fold_shape_cases, content_cases, order_cases, fold_stream_cases, size_cases, fold_limit_cases)
+    for kind in part.CASES
 ]
 OF_TURNS = [
     kind for part in (turns_right_cases, turns_shape_cases, turns_content_cases, turns_order_cases, turns_limit_cases)

@@ -112,6 +112,66 @@ fn a_script_is_folded(rt: HostRuntime) {
     assert!(rt; run(rt.alloc(), TEN_A_CALL) == done);
 }
 
+/// Scripts, and what is written. Rows are folded as they come where the number of resolvers stands
+/// before them, and else when they are all there; a late fault is told in both cases.
+const FOLDED: &[(&[u8], &[u8], RunStatus)] = &[
+    (
+        br#"{"resolvers":1,"rows":[{"version":1,"states":[]},{"version":2,"states":[]}],"ask":[]}"#,
+        b"version 2\nlocked no\nmetadata_version none\n",
+        RunStatus::Done,
+    ),
+    (
+        br#"{"ask":["a"],"resolvers":1,"rows":[{"version":3,"states":[{"mutations":[
+        {"set":["\\xff/dbLocked","L"]}],"lock_aware":true,"verdicts":["committed"]}]}]}"#,
+        b"version 3\nlocked yes\nmetadata_version none\ntags \"a\" none\n",
+        RunStatus::Done,
+    ),
+    (
+        br#"{"rows":[{"version":3,"states":[{"mutations":[
+        {"set":["\\xff/dbLocked","L"]}],"lock_aware":true,"verdicts":["committed"]}]}],
+        "ask":["a"],"resolvers":1}"#,
+        b"version 3\nlocked yes\nmetadata_version none\ntags \"a\" none\n",
+        RunStatus::Done,
+    ),
+    (
+        br#"{"resolvers":1,"rows":[{"version":2,"states":[]},{"version":2,"states":[]}],"ask":[]}"#,
+        b"refused 71 BadShape\n",
+        RunStatus::ScriptRefused,
+    ),
+    (
+        br#"{"resolvers":2,"ask":[],"rows":[{"version":1,"states":[]},{"version":2,"states":[{
+        "mutations":[],"lock_aware":true,"verdicts":["committed"]}]}]}"#,
+        b"refused 71 BadShape\n",
+        RunStatus::ScriptRefused,
+    ),
+    (
+        br#"{"resolvers":1,"ask":[],"rows":[{"version":1,"states":[]},{"version":2,"states":[{
+        "mutations":[{"clear":["b","a"]}],"lock_aware":true,"verdicts":["committed"]}]}]}"#,
+        b"refused 13 EmptyRange\n",
+        RunStatus::ScriptRefused,
+    ),
+];
+
+#[test]
+fn rows_are_folded_in_whatever_place_they_stand(rt: HostRuntime) {
+    for (script, text, status) in FOLDED {
+        let trial = Trial {
+            script: *script,
+            text: *text,
+            most: 5_000,
+            ..TEN_A_CALL
+        };
+        let expected = Ended {
+            status: *status,
+            reads: 2,
+            writes: 1,
+            failed_reads: 0,
+            failed_writes: 0,
+        };
+        assert!(rt; run(rt.alloc(), trial) == expected);
+    }
+}
+
 /// The read and the write that fail, or none at 0, and how many calls of each there are then: none
 /// follows one that failed. Where both would fail, the read is told.
 const FAILURES: &[(u64, u64, u64, u64)] = &[
