@@ -24,7 +24,8 @@ use Rattle.fold_run.specs.Text.{fold_text, folded_text, last_version, version_of
 use Rattle.fold_run.specs.declared.folding.FoldedRows.{FoldedRows}
 use Rattle.fold_run.specs.declared.script.FoldScript.{FoldScript}
 use Rattle.fold_run.specs.declared.script.RawRow.{RawRow}
-use Rattle.fold_run.proofs.CheckLemmas.{checked_turn, same_version}
+use Rattle.scripts.proofs.CheckLemmas.{checked_turn}
+use Rattle.fold_run.proofs.CheckLemmas.{same_version}
 
 -- the rows so far are folded: whatever rows follow, their versions rise if they do from the last on
 pub record SoFarFolded (raws : List RawRow) (rows : List JournalRow) (folded : FoldedRows) : Type 0 where

@@ -1,13 +1,13 @@
 -- The fields of a fold script, as they come.
-use Rattle.std.proofs.Common.{◌≡◌, ℕ, List, refl, ap, codes, arith}
-use Rattle.std.specs.Prelude.{Option, Some, None, IfSome, option_map}
+use Rattle.std.proofs.Common.{◌≡◌, ℕ, List, refl, codes, arith}
+use Rattle.std.specs.Prelude.{Option, Some, None, IfSome}
 use Rattle.json.specs.Token.{Token}
 use Rattle.serde_json.specs.Data.{Data, Members, object, put}
 use Rattle.serde_json.specs.Find.{get_member}
 use Rattle.scripts.specs.Shapes.{bytes_shape, count_members, list_shape, number_shape}
 use Rattle.scripts.specs.Streams.{Fills, Takes, TakesData}
 use Rattle.scripts.proofs.StreamLemmas.{taken_data}
-use Rattle.scripts.proofs.StreamObjectLemmas.{slot_put, slot_other, count_new, if_some_weaker}
+use Rattle.scripts.proofs.StreamObjectLemmas.{slot_put, slot_other, slot_value, count_new, if_some_weaker}
 use Rattle.fold_run.specs.Shapes.{fields_shape, row_shape}
 use Rattle.fold_run.specs.Streams.{HoldsFields}
 use Rattle.fold_run.specs.declared.script.RawRow.{RawRow}
@@ -39,14 +39,6 @@ rows_put is_from depth old rest f new result taken = if_some_weaker result (λ _
     )) taken
 
 -- ---- a whole script
-
-slot_value : {X : Type 0} (shape : Data → Option X) (read : Option Data) (x : X) → option_map shape read ≡ Some (Some x) → (d : Data) × (read ≡ Some d) × (shape d ≡ Some x)
-slot_value shape None x is = absurd (cc)
-slot_value shape (Some d) x is = (d, refl, ap (λ o. or_none o) is)
-  where
-    or_none : {X : Type 0} → Option (Option X) → Option X
-    or_none None = None
-    or_none (Some o) = o
 
 -- the fields are those of a script
 pub fields_of_script : {R : Type 0} (is_from : R → List RawRow → Type 0) (f : ScriptFields R) (ms : Members) (resolvers : ℕ) (made : R) (ask : List (List ℕ))

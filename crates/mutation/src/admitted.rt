@@ -3,7 +3,7 @@
 ghost use Rattle.std.specs.Prelude.{◌≡◌, None, IfOk};
 
 use crate::ranges::Ranges;
-use crate::stamped::{Stamped, into_changes, stamped_changes};
+use crate::stamped::{Stamped, into_stamped_changes, stamped_changes};
 use model::{TransactionNumber, Version};
 use std::alloc::Global;
 use std::marker::Model;
@@ -186,7 +186,7 @@ impl Admitted {
     ) -> Result<Stamped, OutOfMemory>
         ensures { IfOk result (λ transaction. transaction ≡ stamped version number self) }
     {
-        let changes = into_changes(alloc, version, number, self.mutations)?;
+        let changes = into_stamped_changes(alloc, version, number, self.mutations)?;
         Ok(Stamped::of_parts(self.snapshot, self.ranges, changes, self.lock_aware))
     }
 

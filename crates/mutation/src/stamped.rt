@@ -204,7 +204,7 @@ fn stamped_change(
 
 /// The changes of some admitted mutations of transaction `number` in the batch of `version`, which
 /// have their keys and values.
-pub(crate) fn into_changes(
+pub(crate) fn into_stamped_changes(
     alloc: Global,
     version: Version,
     number: TransactionNumber,
@@ -217,14 +217,14 @@ pub(crate) fn into_changes(
     let given = Vec::from(mutations);
     let mut changes = Vec::with_capacity(alloc, given.len())?;
     for mutation in given {
-        changes.push(into_change(alloc, version, number, mutation)?)?;
+        changes.push(into_stamped_change(alloc, version, number, mutation)?)?;
     }
     Ok(changes)
 }
 
 /// The change of an admitted mutation of transaction `number` in the batch of `version`, which has
 /// its key and its value or its range; only a value with a stamp is made anew.
-fn into_change(
+fn into_stamped_change(
     alloc: Global,
     version: Version,
     number: TransactionNumber,

@@ -3,7 +3,7 @@
 ghost use Rattle.std.specs.Prelude.{◌≡◌, IfOk};
 ghost use Rattle.model.specs.Journal.{journal_row};
 ghost use Rattle.model.specs.Finishing.{told_rows};
-ghost use Rattle.proxy_state.specs.Learning.{AskedAreKept, columns_of, by_columns};
+ghost use Rattle.proxy_state.specs.Learning.{columns_of, by_columns};
 
 use crate::begun::BegunRecord;
 use crate::columns::columns_of;

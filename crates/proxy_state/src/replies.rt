@@ -2,7 +2,7 @@
 //!
 //! Release 7.1, `CommitProxyServer.actor.cpp`, getResolution; what differs is marked *profile*.
 
-ghost use Rattle.std.specs.Prelude.{◌≡◌, None, Some, IfOk, MatchResult, OnErr, OnOk, IfErr};
+ghost use Rattle.std.specs.Prelude.{◌≡◌, None, Some, IfOk, OnErr, OnOk, IfErr};
 ghost use Rattle.std.specs.Prelude.{replicate, slice_set};
 ghost use Rattle.proxy_state.specs.Refusals.{put_fault};
 

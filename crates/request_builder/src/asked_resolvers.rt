@@ -1,6 +1,6 @@
 //! The resolvers that are asked about the ranges of transactions.
 
-ghost use Rattle.std.specs.Prelude.{◌≡◌, ◌∷◌, [], ◌&&◌, not, length, map, IfOk};
+ghost use Rattle.std.specs.Prelude.{◌≡◌, ◌∷◌, [], ◌&&◌, length, map, IfOk};
 ghost use Rattle.system_keys.specs.Keys.{only};
 ghost use Rattle.model.specs.Transactions.{locked_key, lock_read};
 ghost use Rattle.dated_owners.specs.Flags.{Flags};

@@ -2,7 +2,7 @@
 //!
 //! Release 7.1, `masterserver.actor.cpp`, getVersion.
 
-ghost use Rattle.std.specs.Prelude.{◌≡◌, ◌<◌, IfOk, OnErr};
+ghost use Rattle.std.specs.Prelude.{◌≡◌, ◌<◌, ◌⊎◌, [], IfOk, OnErr};
 ghost use Rattle.model.specs.Stamps.{stamped_from};
 
 use crate::moves::Moves;
@@ -210,11 +210,12 @@ impl Record {
         self.batch.as_slice()
     }
 
-    /// Takes the transactions: the record may have none afterwards, and is otherwise unchanged. If a
-    /// copy of the record shares them, they are copied. Fails only with `OutOfMemory`; the record is
-    /// then unchanged.
+    /// Takes the transactions: the record has none afterwards, or keeps them, copied, if a copy of the
+    /// record shares them; it is otherwise unchanged. Fails only with `OutOfMemory`; the record is then
+    /// unchanged.
     pub fn take_batch(&mut self, alloc: Global) -> Result<Items<Stamped>, OutOfMemory>
         ensures ok { IfOk result (λ batch. batch ≡ self.old.batch) }
+        ensures left { (self.new.batch ≡ []) ⊎ (self.new.batch ≡ self.old.batch) }
         ensures others { record self.new { batch = self.old.batch } ≡ self.old }
         ensures err { OnErr result (self.new ≡ self.old) }
     {

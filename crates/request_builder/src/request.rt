@@ -3,7 +3,7 @@
 //! Release 7.1, `CommitProxyServer.actor.cpp`, ResolutionRequestBuilder.
 
 ghost use Rattle.std.specs.Prelude.{◌≡◌, Some, IfOk, MatchOption, Contains, nat_lt, slice_get};
-ghost use Rattle.std.specs.List.{list_all, list_any};
+ghost use Rattle.std.specs.List.{list_all};
 ghost use Rattle.model.specs.RequestRules.{KeepsRequestRule, NumbersRise, part_numbers};
 ghost use Rattle.request_builder.specs.Requests.{request_of, least_after, numbers_rise};
 ghost use Rattle.request_builder.specs.Requests.{names_part, is_carried_to};

@@ -1,4 +1,5 @@
 pub mod AnswerLemmas
+pub mod CheckLemmas
 pub mod ListLemmas
 pub mod RunLemmas
 pub mod StreamLemmas

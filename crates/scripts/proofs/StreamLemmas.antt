@@ -6,7 +6,7 @@ use Rattle.std.proofs.lemmas.Bool.{le-leb, lt-ltb}
 use Rattle.fast_float.specs.Text.{IsInteger, digits_of, minus, scan}
 use Rattle.json.specs.Token.{Token}
 use Rattle.json.specs.Json as json
-use Rattle.json.specs.Json.{after_end_array, value}
+use Rattle.json.specs.Json.{value}
 use Rattle.json.proofs.Grammar.{value_is, left, skip_value-shorter}
 use Rattle.serde_json.specs.Data.{Data, string, unsigned}
 use Rattle.serde_json.specs.Find.{as_bool}

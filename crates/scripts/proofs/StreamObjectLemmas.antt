@@ -112,3 +112,12 @@ count_new shape k d old new ms fills holds =
 pub if_some_weaker : {X : Type 0} {P Q : X → Type 0} (r : Option X) → ((x : X) → P x → Q x) → IfSome r P → IfSome r Q
 if_some_weaker None weaker holds = tt
 if_some_weaker (Some x) weaker holds = weaker x holds
+
+-- a slot that has a value was filled by data of that value
+pub slot_value : {X : Type 0} (shape : Data → Option X) (read : Option Data) (x : X) → option_map shape read ≡ Some (Some x) → (d : Data) × (read ≡ Some d) × (shape d ≡ Some x)
+slot_value shape None x is = absurd (cc)
+slot_value shape (Some d) x is = (d, refl, ap (λ o. or_none o) is)
+  where
+    or_none : {X : Type 0} → Option (Option X) → Option X
+    or_none None = None
+    or_none (Some o) = o

@@ -1,6 +1,6 @@
 //! A byte string that contracts see as the list of its bytes.
 
-ghost use Rattle.std.specs.Prelude.{◌≡◌, ◌++◌, ◌∷◌, [], IfOk, OnOk};
+ghost use Rattle.std.specs.Prelude.{◌≡◌, ◌<◌, ◌≤◌, ◌++◌, ◌∷◌, [], length, IfOk, IsOk, OnOk};
 
 use crate::memory::OutOfMemory;
 use smallvec::SmallVec;
@@ -30,7 +30,8 @@ impl Model for Bytes {
 impl Bytes {
     /// Returns a copy of the bytes. Fails only with `OutOfMemory`, and never for up to 24 bytes.
     pub fn from_slice(alloc: Global, bytes: &[u8]) -> Result<Bytes, OutOfMemory>
-        ensures { IfOk result (λ copy. copy ≡ bytes.now) }
+        ensures copy { IfOk result (λ copy. copy ≡ bytes.now) }
+        ensures succeeds { length bytes.now ≤ 24 → IsOk result }
     {
         Ok(Bytes {
             bytes: SmallVec::from_slice(alloc, bytes)?,
@@ -67,17 +68,19 @@ impl Bytes {
         self.bytes.as_slice()
     }
 
-    /// Returns a deep copy. Fails only with `OutOfMemory`.
+    /// Returns a deep copy. Fails only with `OutOfMemory`, and never for up to 24 bytes.
     pub fn copy(&self) -> Result<Bytes, OutOfMemory>
-        ensures { IfOk result (λ copy. copy ≡ self.now) }
+        ensures copy { IfOk result (λ copy. copy ≡ self.now) }
+        ensures succeeds { length self.now ≤ 24 → IsOk result }
     {
-        Ok(self.clone()?)
+        Bytes::from_slice(*self.bytes.allocator(), self.as_slice())
     }
 
-    /// The bytes as a vector. Allocates if they lie in the value itself, and fails only with
-    /// `OutOfMemory`.
+    /// The bytes as a vector. More than 24 bytes keep their block of memory. Fails only with
+    /// `OutOfMemory`, and never for more than 24 bytes.
     pub fn into_vec(self) -> Result<Vec<u8>, OutOfMemory>
-        ensures { IfOk result (λ bytes. bytes.items ≡ self) }
+        ensures vector { IfOk result (λ bytes. bytes.items ≡ self) }
+        ensures succeeds { 24 < length self → IsOk result }
     {
         Ok(self.bytes.into_vec()?)
     }

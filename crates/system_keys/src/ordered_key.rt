@@ -1,6 +1,6 @@
 //! Keys that are compared by a number before their bytes.
 
-ghost use Rattle.std.specs.Prelude.{◌≡◌, IfOk};
+ghost use Rattle.std.specs.Prelude.{◌≡◌, ◌≤◌, length, IfOk, IsOk};
 ghost use Rattle.system_keys.specs.OrderedKeys.{front_of};
 ghost use Rattle.system_keys.specs.Rows.{AreBytes};
 
@@ -15,7 +15,7 @@ pub const SHORT_KEY: usize = 15;
 /// A key that is compared by a number before its bytes: most comparisons look at the numbers alone.
 /// Contracts see its bytes. Up to 15 bytes take no block of memory.
 ///
-/// Made from a `Vec<u8>` without allocating.
+/// Made from a `Vec<u8>` without allocating: it keeps the vector's block, also that of a short key.
 #[derive(Debug, Drop)]
 pub struct OrderedKey {
     /// The first bytes of the key, with zeros past its end, and then how many it has, or 16 if it has
@@ -41,7 +41,8 @@ impl Model for OrderedKey {
 impl OrderedKey {
     /// The key of these bytes. Fails only with `OutOfMemory`, and never for up to 15 bytes.
     pub fn new(alloc: Global, bytes: &[u8]) -> Result<OrderedKey, OutOfMemory>
-        ensures { IfOk result (λ key. key ≡ bytes.now) }
+        ensures key { IfOk result (λ key. key ≡ bytes.now) }
+        ensures succeeds { length bytes.now ≤ 15 → IsOk result }
     {
         let mut whole = Vec::new(alloc);
         if bytes.len() > SHORT_KEY {

@@ -17,8 +17,9 @@ use crate::plain::plain_length;
 use crate::refusal::RowFault;
 use std::alloc::Global;
 
-/// Up to how many characters a text gets as much room as it has characters.
-const SHORT: usize = 64;
+/// Up to how many characters a text gets as much room as it has characters: so many bytes take no block
+/// of memory.
+const SHORT: usize = 24;
 
 /// How many characters are counted at once: as many as fit in a byte.
 const PART: usize = 255;

@@ -1,6 +1,6 @@
 -- Events that are carried out as their tokens come.
 use Rattle.std.proofs.Common.{◌≡◌, ◌∙◌, ◌++◌, ◌∷◌, [], ℕ, List, map, refl, sym, ap, ap₂, append_assoc}
-use Rattle.std.specs.Prelude.{Result, Ok, Err, Some}
+use Rattle.std.specs.Prelude.{Ok, Some}
 use Rattle.std.proofs.lemmas.List.{append-nil}
 use Rattle.model.specs.Turns.{TurnCluster, after_event}
 use Rattle.model.specs.Configs.{Config}
@@ -10,8 +10,7 @@ use Rattle.system_keys.specs.Keys.{Key}
 use Rattle.scripts.specs.Answers.{done}
 use Rattle.scripts.specs.Scripts.{checked_raw}
 use Rattle.scripts.specs.Values.{value_of}
-use Rattle.scripts.specs.Checks.{◌>>=◌, each_checked, with_first}
-use Rattle.scripts.specs.declared.script_fault.ScriptFault.{ScriptFault}
+use Rattle.scripts.specs.Checks.{each_checked}
 use Rattle.turn_world.specs.Events.{event_of}
 use Rattle.turn_world.specs.declared.event.Event.{Event}
 use Rattle.turns_run.specs.Lines.{event_text, events_text}
@@ -88,30 +87,3 @@ pub text_of_bytes : (bytes : List ℕ) (d : Data) (text : List ℕ)
     → turns_text bytes ≡ done text
 unfolding turns_text script_of
 text_of_bytes bytes d text value is = rw (value, is.1) (ap done (sym is.2))
-
--- ---- checks of a list
-
-more_behind : {Y : Type 0} (z : Y) (ys : List Y) (y : Y) (rest after : Result (List Y) ScriptFault)
-    → ((zs : List Y) → rest ≡ Ok zs → after ≡ Ok (zs ++ y ∷ [])) → with_first z rest ≡ Ok ys → with_first z after ≡ Ok (ys ++ y ∷ [])
-more_behind z ys y (Err fault) after goes whole = absurd (cc)
-more_behind z ys y (Ok zs) after goes whole = rw (goes zs refl) (ap (with_last y) whole)
-  where
-    with_last : {Y : Type 0} → Y → Result (List Y) ScriptFault → Result (List Y) ScriptFault
-    with_last y (Ok found) = Ok (found ++ y ∷ [])
-    with_last y (Err fault) = Err fault
-
-behind_one : {Y : Type 0} (said : Result Y ScriptFault) (ys : List Y) (y : Y) (rest after : Result (List Y) ScriptFault)
-    → ((zs : List Y) → rest ≡ Ok zs → after ≡ Ok (zs ++ y ∷ [])) → (said >>= (λ z. with_first z rest)) ≡ Ok ys → (said >>= (λ z. with_first z after)) ≡ Ok (ys ++ y ∷ [])
-behind_one (Err fault) ys y rest after goes whole = absurd (cc)
-behind_one (Ok z) ys y rest after goes whole = more_behind z ys y rest after goes whole
-
-only_one : {Y : Type 0} (ys : List Y) (y : Y) (said : Result Y ScriptFault) → said ≡ Ok y → ◌≡◌ {A = Result (List Y) ScriptFault} (Ok []) (Ok ys) → (said >>= (λ z. with_first z (Ok []))) ≡ Ok (ys ++ y ∷ [])
-only_one [] y said is none = rw is refl
-only_one (z ∷ ys) y said is none = absurd (cc)
-
--- one more item of a list is checked
-pub checked_turn : {X Y : Type 0} (check : X → Result Y ScriptFault) (xs : List X) (ys : List Y) (x : X) (y : Y)
-    → each_checked check xs ≡ Ok ys → check x ≡ Ok y → each_checked check (xs ++ x ∷ []) ≡ Ok (ys ++ y ∷ [])
-checked_turn check [] ys x y before is = only_one ys y (check x) is before
-checked_turn check (first ∷ xs) ys x y before is =
-    behind_one (check first) ys y (each_checked check xs) (each_checked check (xs ++ x ∷ [])) (λ zs read. checked_turn check xs zs x y read is) before

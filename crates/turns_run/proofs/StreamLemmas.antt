@@ -1,6 +1,6 @@
 -- The fields of a turns script, as they come.
-use Rattle.std.proofs.Common.{◌≡◌, ℕ, List, refl, ap, codes, arith}
-use Rattle.std.specs.Prelude.{Option, Some, None, IfSome, option_map}
+use Rattle.std.proofs.Common.{◌≡◌, ℕ, List, refl, codes, arith}
+use Rattle.std.specs.Prelude.{Option, Some, None, IfSome}
 use Rattle.json.specs.Token.{Token}
 use Rattle.model.specs.Configs.{Config, IsConfig}
 use Rattle.serde_json.specs.Data.{Data, Members, object, put}
@@ -8,7 +8,7 @@ use Rattle.serde_json.specs.Find.{get_member}
 use Rattle.scripts.specs.Shapes.{bytes_shape, count_members, list_shape, number_shape}
 use Rattle.scripts.specs.Streams.{Fills, Takes, TakesData}
 use Rattle.scripts.proofs.StreamLemmas.{taken_data}
-use Rattle.scripts.proofs.StreamObjectLemmas.{slot_put, slot_other, count_new, if_some_weaker}
+use Rattle.scripts.proofs.StreamObjectLemmas.{slot_put, slot_other, slot_value, count_new, if_some_weaker}
 use Rattle.cluster_scripts.proofs.ConfigLemmas.{within_limits}
 use Rattle.turns_run.specs.Shapes.{event_shape, script_shape}
 use Rattle.turns_run.specs.Streams.{HoldsFields}
@@ -44,14 +44,6 @@ events_put is_from depth old rest f new result taken = if_some_weaker result (λ
     )) taken
 
 -- ---- a whole script
-
-slot_value : {X : Type 0} (shape : Data → Option X) (read : Option Data) (x : X) → option_map shape read ≡ Some (Some x) → (d : Data) × (read ≡ Some d) × (shape d ≡ Some x)
-slot_value shape None x is = absurd (cc)
-slot_value shape (Some d) x is = (d, refl, ap (λ o. or_none o) is)
-  where
-    or_none : {X : Type 0} → Option (Option X) → Option X
-    or_none None = None
-    or_none (Some o) = o
 
 -- the fields are those of a script
 pub script_of_fields : {E : Type 0} (is_from : E → List RawEvent → Type 0) (f : TurnsFields E) (ms : Members) (config : Config) (made : E) (ask : List (List ℕ))

@@ -14,4 +14,4 @@ loop-key-init c =
 pub loop-key-preserved : goal.loop-key-preserved
 loop-key-preserved c =
     next_grown c.args.owner c.loop-key.grown.items c.push.new.self.items c.in_ok-key.key c.in-Some.key.now c.in_ok-more.more c.in-Some.owners.now c.loop-key.key-iterator c.next.new.self _
-    c.in_ok-push.ensures.items c.in_ok-key.ensures (c.in_ok-more.ensures ∙ ap (more c.args.owner) c.as_slice.ensures) c.in-Some.ensures.steps c.loop-key.invariant
+    c.in_ok-push.ensures.items c.in_ok-key.ensures.copy (c.in_ok-more.ensures ∙ ap (more c.args.owner) c.as_slice.ensures) c.in-Some.ensures.steps c.loop-key.invariant

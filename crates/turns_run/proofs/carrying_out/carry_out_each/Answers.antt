@@ -5,7 +5,8 @@ use Rattle.scripts.proofs.StreamLemmas.{taken_shorter}
 use Rattle.scripts.proofs.StreamListLemmas.{so_far_start, so_far_turn, so_far_end}
 use Rattle.turns_run.specs.Checks.{checked_event}
 use Rattle.turns_run.specs.Shapes.{event_shape}
-use Rattle.turns_run.proofs.CarryingOutLemmas.{checked_turn, carry_out_end, carry_out_start, carry_out_turn}
+use Rattle.scripts.proofs.CheckLemmas.{checked_turn}
+use Rattle.turns_run.proofs.CarryingOutLemmas.{carry_out_end, carry_out_start, carry_out_turn}
 use Rattle.turns_run.proofs.carrying_out.carry_out_each.Goals as goal
 
 pub events-init : goal.events-init

@@ -11,7 +11,7 @@ pub returns-clause-ok : goal.returns-clause-ok
 returns-clause-ok c =
     let owner : LaterOwner = record { date = c.args.date; resolver = c.args.dest } in
     let range : Range = record { begin = c.in_ok-begin.begin; end = c.end_bytes-end.result.now } in
-    let begin = c.in_ok-begin.ensures ∙ c.begin.ensures.value in
+    let begin = c.in_ok-begin.ensures.copy ∙ c.begin.ensures.value in
     let same : range ≡ c.args.range.now = λ i. record { begin = begin i; end = c.end_bytes-end.ensures i } in
     let next : OwnerMapView = record { resolvers = c.self.inside.resolvers; last_date = c.args.date; oldest = c.self.inside.oldest; moves = moves_of c.add_owner.new.pieces.entries } in
     let old = c.self.inside.pieces.entries in

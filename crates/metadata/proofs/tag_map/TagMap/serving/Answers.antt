@@ -7,7 +7,7 @@ use Rattle.metadata.proofs.tag_map.TagMap.serving.Goals as goal
 pub returns-in-Some-clause-found : goal.returns-in-Some-clause-found
 returns-in-Some-clause-found c =
     ap Some c.as_slice.ensures
-    ∙ last_serving c.self.inside.lists.entries c.next_back.new.self (c.in-Some.field-0-0.now, c.in-Some.tags.now) c.in_ok-greatest.greatest c.args.key.now c.in_ok-greatest.ensures (sym (c.range.ensures.between tt) ∙ c.in-Some.ensures.steps)
+    ∙ last_serving c.self.inside.lists.entries c.next_back.new.self (c.in-Some.field-0-0.now, c.in-Some.tags.now) c.in_ok-greatest.greatest c.args.key.now c.in_ok-greatest.ensures.key (sym (c.range.ensures.between tt) ∙ c.in-Some.ensures.steps)
     ∙ ap (λ (rows : List KeyTags). serving_tags rows c.args.key.now) c.self.view_is
 
 pub returns-in-Some-clause-rise : goal.returns-in-Some-clause-rise
@@ -15,7 +15,7 @@ returns-in-Some-clause-rise c = subst RowsRise c.self.view_is (rows_rise c.self.
 
 pub returns-clause-found : goal.returns-clause-found
 returns-clause-found c =
-    none_serving c.self.inside.lists.entries c.in_ok-greatest.greatest c.args.key.now c.in_ok-greatest.ensures (sym (c.range.ensures.between tt) ∙ c.in-None.ensures.steps.0)
+    none_serving c.self.inside.lists.entries c.in_ok-greatest.greatest c.args.key.now c.in_ok-greatest.ensures.key (sym (c.range.ensures.between tt) ∙ c.in-None.ensures.steps.0)
     ∙ ap (λ (rows : List KeyTags). serving_tags rows c.args.key.now) c.self.view_is
 
 pub returns-clause-rise : goal.returns-clause-rise

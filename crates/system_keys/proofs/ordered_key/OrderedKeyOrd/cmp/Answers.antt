@@ -1,5 +1,5 @@
 -- Fronts that differ decide, and a short key is the only one with its front.
-use Rattle.std.proofs.Common.{◌≡◌, ◌∙◌, ℕ, List, ◌≤◌, length, sym, ap, ap₂, nat_cmp, get_or, min, Equal, arith}
+use Rattle.std.proofs.Common.{◌≡◌, ◌∙◌, ℕ, List, ◌≤◌, length, sym, ap, ap₂, nat_cmp, get_or, min, arith}
 use Rattle.std.specs.Cmp.Lexicographic.{slice_cmp}
 use Rattle.std.specs.Int.{w128, from_be_bytes}
 use Rattle.system_keys.specs.OrderedKeys.{front_of, key_of}

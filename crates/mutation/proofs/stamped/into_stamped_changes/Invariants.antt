@@ -4,7 +4,7 @@ use Rattle.std.specs.Vec.Iter.{into_iter_items}
 use Rattle.model.specs.Stamps.{stamped_mutation}
 use Rattle.mutation.specs.Admitted.{from_admitted}
 use Rattle.mutation.specs.Faults.{first_fault, fault_of_mutation}
-use Rattle.mutation.proofs.stamped.into_changes.Given as goal
+use Rattle.mutation.proofs.stamped.into_stamped_changes.Given as goal
 
 abbrev pub invariant-loop-mutation : goal.invariant-loop-mutation
 invariant-loop-mutation l = record {

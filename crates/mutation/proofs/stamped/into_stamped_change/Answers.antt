@@ -3,7 +3,7 @@ use Rattle.std.proofs.Common.{◌≡◌, ◌∙◌, ap, None, rules}
 use Rattle.model.specs.Stamps.{SetStamped}
 use Rattle.mutation.specs.Faults.{fault_of_mutation, has_place}
 use Rattle.mutation.proofs.LimitLaws.{place_of_stamp}
-use Rattle.mutation.proofs.stamped.into_change.Goals as goal
+use Rattle.mutation.proofs.stamped.into_stamped_change.Goals as goal
 
 pub stamped_value-requires : goal.stamped_value-requires
 stamped_value-requires c =
