@@ -4,9 +4,10 @@ use super::{assert_alike, assert_copied, is_range};
 use std::alloc::{AllocError, Global};
 use std::test::Fail;
 use system_keys::{
-    Bytes, Change, KeyRange, Location, OutOfMemory, RowFault, RowKind, ServerId, Tag, TagTeams,
-    TagTeamsFault, Teams, TeamsFault, classify, decode_key_servers, decode_location, decode_tag,
-    encode_key_servers, encode_tag, encode_tag_teams, is_state, print_bytes, read_bytes,
+    Bytes, Change, KeyRange, Location, OrderedKey, OutOfMemory, RowFault, RowKind, ServerId, Tag,
+    TagTeams, TagTeamsFault, Teams, TeamsFault, classify, decode_key_servers, decode_location,
+    decode_tag, encode_key_servers, encode_tag, encode_tag_teams, is_state, print_bytes,
+    read_bytes,
 };
 use testing::{Step, bytes, change, list, range, room, twice};
 
@@ -429,5 +430,76 @@ fn bytes_have_one_text(rt: HostRuntime) -> Result<(), Fail> {
         assert!(rt; read.as_slice() == *bytes);
     }
     assert!(rt; read_bytes(rt.alloc(), "\\xFF").err() == Some(RowFault::BadText));
+    Ok(())
+}
+
+// ---- bytes and keys that are short enough to take no block of memory
+
+/// As many bytes as lie in the value itself, one more, and one.
+const SHORT_AND_LONG: &[&[u8]] = &[
+    b"",
+    b"a",
+    b"abcdefghijklmnopqrstuvwx",
+    b"abcdefghijklmnopqrstuvwxy",
+];
+
+/// One call for the bytes, and one for their vector.
+fn vector_by_calls(alloc: Global, bytes: &[u8]) -> Result<Vec<u8>, OutOfMemory> {
+    Bytes::from_slice(alloc, bytes)?.into_vec()
+}
+
+/// One call for the bytes of a vector, and one for their vector.
+fn vector_of_vector(alloc: Global, bytes: &[u8]) -> Result<Vec<u8>, OutOfMemory> {
+    Bytes::from(Vec::from_slice(alloc, bytes)?).into_vec()
+}
+
+#[test]
+fn bytes_are_given_back_as_a_vector(rt: HostRuntime) -> Result<(), Fail> {
+    for bytes in SHORT_AND_LONG {
+        let copied = twice!(vector_by_calls(rt.alloc(), *bytes), OutOfMemory)?;
+        assert!(rt; copied.as_slice() == *bytes);
+        let given = twice!(vector_of_vector(rt.alloc(), *bytes), OutOfMemory)?;
+        assert!(rt; given.as_slice() == *bytes);
+    }
+    Ok(())
+}
+
+/// Keys in their order: with up to 15 bytes and with more, and some with the same first 15.
+const IN_ORDER: &[&[u8]] = &[
+    b"",
+    b"\x00",
+    b"a",
+    b"a\x00",
+    b"fifteen bytes..",
+    b"fifteen bytes..\x00",
+    b"fifteen bytes..\x01",
+    b"sixteen bytes...",
+    b"\xff",
+];
+
+/// One call for the key of a vector.
+fn key_of_vector(alloc: Global, bytes: &[u8]) -> Result<OrderedKey, OutOfMemory> {
+    Ok(OrderedKey::from(Vec::from_slice(alloc, bytes)?))
+}
+
+/// Whether the key is in its place: behind those before it, and before those behind it.
+fn is_in_place(alloc: Global, key: &OrderedKey, place: usize) -> Result<bool, OutOfMemory> {
+    for (other_place, bytes) in IN_ORDER.iter().enumerate() {
+        let other = twice!(key_of_vector(alloc, *bytes), OutOfMemory)?;
+        if key.cmp(&other) != place.cmp(&other_place) {
+            return Ok(false);
+        }
+    }
+    Ok(true)
+}
+
+#[test]
+fn ordered_keys_are_in_the_order_of_their_bytes(rt: HostRuntime) -> Result<(), Fail> {
+    for (place, bytes) in IN_ORDER.iter().enumerate() {
+        let key = twice!(OrderedKey::new(rt.alloc(), *bytes), OutOfMemory)?;
+        assert!(rt; key.as_slice() == *bytes);
+        assert!(rt; is_in_place(rt.alloc(), &key, place)?);
+        assert_copied(&rt, &key, OrderedKey::copy);
+    }
     Ok(())
 }

@@ -5,7 +5,7 @@ mod shared_moves;
 use crate::tests::{Copied, are_alike, copy_of, is_copied, made, marks, request_of_states};
 use dated_owners::OwnerMap;
 use model::Part;
-use mutation::Batch;
+use mutation::{Batch, Stamped};
 use request_builder::{Move, Moves, Record, Request, RequestHeader, Requests, Share, build};
 use std::alloc::{AllocError, Global};
 use std::process::Abort;
@@ -358,9 +358,9 @@ const STAMPING: Given<'static> = Given {
     ..NOTHING
 };
 
-/// Whether the record's second transaction sets `k` to the value with its stamp in.
-fn has_stamp(record: &Record) -> bool {
-    let [_first, second] = record.batch() else {
+/// Whether the second transaction of two sets `k` to the value with its stamp in.
+fn has_stamp(batch: &[Stamped]) -> bool {
+    let [_first, second] = batch else {
         return false;
     };
     let [Change::Set { key, value }] = second.changes() else {
@@ -404,7 +404,7 @@ impl Copied for Record {
 /// Whether a copy of the record has the numbers of these tests and the stamp.
 fn has_right_copy(record: &Record) -> Result<bool, OutOfMemory> {
     let copy = copy_of(record)?;
-    Ok(is_numbered(&copy) && has_stamp(&copy))
+    Ok(is_numbered(&copy) && has_stamp(copy.batch()))
 }
 
 #[test]
@@ -418,7 +418,34 @@ fn a_record_has_its_numbers_and_stamps(rt: HostRuntime) -> Result<(), Fail> {
 #[test]
 fn a_record_of_an_own_batch_has_its_numbers_and_stamps(rt: HostRuntime) -> Result<(), Fail> {
     let record = own_record_of_stamping(rt.alloc())?;
-    assert!(rt; is_numbered(&record) && has_stamp(&record));
+    assert!(rt; is_numbered(&record) && has_stamp(record.batch()));
+    Ok(())
+}
+
+/// One call that takes the transactions of the record.
+fn taken_by_call(alloc: Global, record: &mut Record) -> Result<Items<Stamped>, OutOfMemory> {
+    record.take_batch(alloc)
+}
+
+/// Those transactions, which are taken again after a failed allocation.
+fn taken(alloc: Global, record: &mut Record) -> Result<Items<Stamped>, OutOfMemory> {
+    twice!(taken_by_call(alloc, record), OutOfMemory)
+}
+
+/// Whether a record that is copied gives copies of its transactions, and has them still.
+fn gives_copies(alloc: Global, record: &mut Record) -> Result<bool, OutOfMemory> {
+    let copy = copy_of(record)?;
+    let copied = taken(alloc, record)?;
+    Ok(has_stamp(copied.as_slice()) && has_stamp(record.batch()) && has_stamp(copy.batch()))
+}
+
+#[test]
+fn a_record_gives_its_transactions(rt: HostRuntime) -> Result<(), Fail> {
+    let mut record = record_of_stamping(rt.alloc())?;
+    assert!(rt; gives_copies(rt.alloc(), &mut record)?);
+    let own = taken(rt.alloc(), &mut record)?;
+    assert!(rt; has_stamp(own.as_slice()));
+    assert!(rt; is_numbered(&record) && record.batch().is_empty());
     Ok(())
 }
 

@@ -1,18 +1,23 @@
-//! Tests of metadata: the tags of a Set beside those of its key.
+//! Tests of metadata: the tags of a Set beside those of its key, after changes and after rows of a journal.
 
-use metadata::Metadata;
+use metadata::{JournalFold, Metadata};
+use model::Verdict;
 use std::process::Abort;
 use std::test::Fail;
 use system_keys::{Change, OutOfMemory, Tag};
-use testing::{Step, change};
+use testing::{Joined, Step, change, journal_row};
 
-/// Two servers with their tags, and the rows at `b` and `m`.
-const ROWS: &[Step<'static>] = &[
+/// Two servers with their tags.
+const SERVERS: &[Step<'static>] = &[
     Step::Set(b"\xff/serverTag/server0000000001", b"\x00\x00\x01"),
     Step::Set(b"\xff/serverTag/server0000000002", b"\x00\x00\x02"),
-    Step::Set(b"\xff/keyServers/b", b"\x01server0000000001\x00"),
-    Step::Set(b"\xff/keyServers/m", b"\x01server0000000002\x00"),
 ];
+
+/// The row at `b`.
+const ROW_AT_B: &[Step<'static>] = &[Step::Set(b"\xff/keyServers/b", b"\x01server0000000001\x00")];
+
+/// The row at `m`.
+const ROW_AT_M: &[Step<'static>] = &[Step::Set(b"\xff/keyServers/m", b"\x01server0000000002\x00")];
 
 const TAG_1: Tag = Tag { locality: 0, id: 1 };
 
@@ -41,11 +46,8 @@ fn has_tags(
     Ok(of_set.as_slice() == wanted && of_key.as_slice() == wanted)
 }
 
-/// The rows are put, and each key has its tags.
-fn gives_tags<R: Abort + AllocGlobal>(rt: &R, metadata: &mut Metadata) -> Result<(), Fail> {
-    for step in ROWS {
-        metadata.apply(&change(rt.alloc(), *step)?)?;
-    }
+/// Each key has its tags.
+fn gives_tags<R: Abort + AllocGlobal>(rt: &R, metadata: &Metadata) -> Result<(), Fail> {
     for (key, wanted) in TAGS {
         let set = change(rt.alloc(), Step::Set(*key, b"v"))?;
         assert!(rt; has_tags(metadata, &set, *key, *wanted)?, "at {key:?}");
@@ -53,8 +55,47 @@ fn gives_tags<R: Abort + AllocGlobal>(rt: &R, metadata: &mut Metadata) -> Result
     Ok(())
 }
 
+/// The metadata after the steps.
+fn metadata_after<R: AllocGlobal>(rt: &R, rows: &[&[Step<'static>]]) -> Result<Metadata, Fail> {
+    let mut metadata = Metadata::new(rt.alloc());
+    for steps in rows {
+        for step in *steps {
+            metadata.apply(&change(rt.alloc(), *step)?)?;
+        }
+    }
+    Ok(metadata)
+}
+
 #[test]
 fn a_set_has_the_tags_of_its_key(rt: HostRuntime) -> Result<(), Fail> {
-    let mut metadata = Metadata::new(rt.alloc());
-    gives_tags(&rt, &mut metadata)
+    let metadata = metadata_after(&rt, &[SERVERS, ROW_AT_B, ROW_AT_M])?;
+    gives_tags(&rt, &metadata)
+}
+
+const BOTH: &[Verdict] = &[Verdict::Committed, Verdict::Committed];
+
+const ONE_ALONE: &[Verdict] = &[Verdict::Committed, Verdict::Conflict];
+
+const LOCK: &[Step<'static>] = &[Step::Set(b"\xff/dbLocked", b"l")];
+
+const CLEAR_ALL: &[Step<'static>] = &[Step::Clear(b"\xff", b"\xff\x02")];
+
+/// Rows that put the same rows. Two Clears of all rows are not applied: one of the two resolvers did not
+/// commit the first, and the database is locked when the other comes.
+const JOURNAL: &[(u64, &[Joined<'static>])] = &[
+    (10, &[(BOTH, (SERVERS, false)), (BOTH, (ROW_AT_B, false))]),
+    (
+        20,
+        &[(ONE_ALONE, (CLEAR_ALL, false)), (BOTH, (LOCK, false))],
+    ),
+    (30, &[(BOTH, (CLEAR_ALL, false)), (BOTH, (ROW_AT_M, true))]),
+];
+
+#[test]
+fn the_rows_of_a_journal_are_folded_one_after_another(rt: HostRuntime) -> Result<(), Fail> {
+    let mut folded = JournalFold::new(rt.alloc());
+    for (version, lines) in JOURNAL {
+        folded.apply(journal_row(rt.alloc(), *version, *lines)?)?;
+    }
+    gives_tags(&rt, &folded.into_metadata()?)
 }
