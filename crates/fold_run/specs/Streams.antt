@@ -1,17 +1,11 @@
 -- What is held of the fields of a script while they come (this project's profile).
-use Rattle.std.specs.Prelude.{◌≡◌, ◌+◌, List, codes, Option, Some, None}
+use Rattle.std.specs.Prelude.{◌≡◌, ◌+◌, List, codes, Option}
 use Rattle.serde_json.specs.Data.{Members}
 use Rattle.scripts.specs.Shapes.{bytes_shape, count_members, list_shape, number_shape}
-use Rattle.scripts.specs.Streams.{Slot, one}
+use Rattle.scripts.specs.Streams.{IsFrom, Slot, one}
 use Rattle.fold_run.specs.Shapes.{row_shape}
 use Rattle.fold_run.specs.declared.script.RawRow.{RawRow}
 use Rattle.fold_run.specs.declared.streams.ScriptFields.{ScriptFields}
-
--- nothing was made yet, or something of these rows
-abbrev pub IsFrom : {R : Type 0} → (R → List RawRow → Type 0) → Option R → Option (List RawRow)
-    → Type 0
-IsFrom is_from None raws = raws ≡ None
-IsFrom is_from (Some made) raws = (rows : List RawRow) × (raws ≡ Some rows) × is_from made rows
 
 -- what the fields of a script hold while they come; of the rows, what `is_from` says of them
 abbrev pub HoldsFields : {R : Type 0} → (R → List RawRow → Type 0) → ScriptFields R → Members

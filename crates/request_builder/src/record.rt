@@ -210,9 +210,9 @@ impl Record {
         self.batch.as_slice()
     }
 
-    /// Takes the transactions: the record has none afterwards, or keeps them, copied, if a copy of the
-    /// record shares them; it is otherwise unchanged. Fails only with `OutOfMemory`; the record is then
-    /// unchanged.
+    /// Takes the transactions out of the record, which has none afterwards. If a copy of the record
+    /// shares them, which contracts do not see, both keep them, and copies are returned. The record is
+    /// otherwise unchanged. Fails only with `OutOfMemory`; the record is then unchanged.
     pub fn take_batch(&mut self, alloc: Global) -> Result<Items<Stamped>, OutOfMemory>
         ensures ok { IfOk result (λ batch. batch ≡ self.old.batch) }
         ensures left { (self.new.batch ≡ []) ⊎ (self.new.batch ≡ self.old.batch) }

@@ -63,3 +63,9 @@ abbrev pub TakesField : {X : Type 0} → (Data → Option X) → ℕ
     → List Token → Option X → Option X → List Token → Type 0
 TakesField shape depth old before after new =
     (d : Data) × TakesData depth old d new × Fills shape d before after
+
+-- nothing was made yet of the items of a list, or something that `is_from` says is of these items
+abbrev pub IsFrom : {R X : Type 0} → (R → List X → Type 0) → Option R → Option (List X) → Type 0
+IsFrom is_from None items = items ≡ None
+IsFrom {X = X} is_from (Some made) items =
+    (xs : List X) × (items ≡ Some xs) × is_from made xs

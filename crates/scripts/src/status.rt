@@ -13,8 +13,8 @@ pub enum RunStatus {
     DeviceFailed,
     /// An allocation failed.
     OutOfMemory,
-    /// The cluster refused a batch that it had room and a version for, or what its threads told does not
-    /// fit together, which no run is known to find; nothing was written.
+    /// The cluster refused a call, and not because an allocation failed; or a worker was cut off; or what
+    /// a run of threads found does not fit together, which no run is known to find. Nothing was written.
     ClusterRefused,
 }
 

@@ -9,11 +9,12 @@ use std::cmp::Ordering;
 use std::marker::Model;
 
 /// So many bytes lie in the value itself, and want no block of memory.
-const SHORT_LENGTH: usize = 24;
+pub(crate) const SHORT_LENGTH: usize = 24;
 
-/// Owned bytes: a key, or the value of a row. Up to 24 bytes take no block of memory.
+/// Owned bytes: a key, or the value of a row. Up to 24 bytes lie in the value itself, and take no block
+/// of memory.
 ///
-/// Made from a `Vec<u8>` without allocating.
+/// Made from a `Vec<u8>` without allocating: one with room for more than 24 bytes keeps its block.
 #[derive(Debug, Drop)]
 pub struct Bytes {
     bytes: SmallVec<u8, SHORT_LENGTH>,

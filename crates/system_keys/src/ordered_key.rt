@@ -13,9 +13,9 @@ use std::marker::Model;
 pub const SHORT_KEY: usize = 15;
 
 /// A key that is compared by a number before its bytes: most comparisons look at the numbers alone.
-/// Contracts see its bytes. Up to 15 bytes take no block of memory.
+/// Contracts see its bytes. Up to 15 bytes lie in the key itself, and take no block of memory.
 ///
-/// Made from a `Vec<u8>` without allocating: it keeps the vector's block, also that of a short key.
+/// Made from a `Vec<u8>` without allocating: it keeps the vector's block, which a short key does not read.
 #[derive(Debug, Drop)]
 pub struct OrderedKey {
     /// The first bytes of the key, with zeros past its end, and then how many it has, or 16 if it has

@@ -11,15 +11,11 @@ ghost use Rattle.system_keys.specs.Refusals.{row_fault};
 ghost use Rattle.system_keys.specs.Text.{text_of, byte_text, bytes_of, bytes_read, first_of};
 ghost use Rattle.system_keys.specs.Text.{is_plain, is_escape, is_digit, digit_of, byte_of};
 
-use crate::bytes::Bytes;
+use crate::bytes::{Bytes, SHORT_LENGTH};
 use crate::memory::OutOfMemory;
 use crate::plain::plain_length;
 use crate::refusal::RowFault;
 use std::alloc::Global;
-
-/// Up to how many characters a text gets as much room as it has characters: so many bytes take no block
-/// of memory.
-const SHORT: usize = 24;
 
 /// How many characters are counted at once: as many as fit in a byte.
 const PART: usize = 255;
@@ -151,9 +147,10 @@ fn decode(alloc: Global, text: &[u8]) -> Result<Option<Bytes>, OutOfMemory>
     Ok(Some(bytes))
 }
 
-/// How much room to make for the bytes of the text. It is only a guess: nothing rests on it.
+/// How much room to make for the bytes of the text. It is exact for a long text that stands for bytes, so
+/// that up to 24 bytes take no block of memory; no contract rests on it.
 fn room_for(text: &[u8]) -> usize {
-    if text.len() <= SHORT {
+    if text.len() <= SHORT_LENGTH {
         text.len()
     } else {
         expected_length(text)

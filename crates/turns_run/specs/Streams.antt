@@ -3,7 +3,7 @@
 use Rattle.std.specs.Prelude.{◌≡◌, ◌+◌, List, codes, Option, Some, None}
 use Rattle.serde_json.specs.Data.{Members, no_members, object}
 use Rattle.scripts.specs.Shapes.{bytes_shape, count_members, list_shape, number_shape}
-use Rattle.scripts.specs.Streams.{Slot, one}
+use Rattle.scripts.specs.Streams.{IsFrom, Slot, one}
 use Rattle.turns_run.specs.Shapes.{event_shape}
 use Rattle.turns_run.specs.declared.script.RawEvent.{RawEvent}
 use Rattle.turns_run.specs.declared.streams.TurnsFields.{TurnsFields}
@@ -12,13 +12,6 @@ use Rattle.turns_run.specs.declared.streams.TurnsFields.{TurnsFields}
 abbrev pub Holds : Option RawEvent → Members → Type 0
 Holds None ms = ms ≡ no_members
 Holds (Some event) ms = event_shape (object ms) ≡ Some event
-
--- nothing was made yet, or something of these events
-abbrev pub IsFrom : {E : Type 0} → (E → List RawEvent → Type 0) → Option E → Option (List RawEvent)
-    → Type 0
-IsFrom is_from None raws = raws ≡ None
-IsFrom is_from (Some made) raws = (events : List RawEvent) × (raws ≡ Some events)
-    × is_from made events
 
 -- what the fields of a script hold while they come; of the events, what `is_from` says of them
 abbrev pub HoldsFields : {E : Type 0} → (E → List RawEvent → Type 0) → TurnsFields E → Members

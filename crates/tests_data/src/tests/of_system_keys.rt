@@ -433,9 +433,9 @@ fn bytes_have_one_text(rt: HostRuntime) -> Result<(), Fail> {
     Ok(())
 }
 
-// ---- bytes and keys that are short enough to take no block of memory
+// ---- bytes and keys, short and long
 
-/// As many bytes as lie in the value itself, one more, and one.
+/// No bytes, one, as many as lie in the value itself, and one more.
 const SHORT_AND_LONG: &[&[u8]] = &[
     b"",
     b"a",

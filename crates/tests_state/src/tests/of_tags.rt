@@ -55,10 +55,10 @@ fn gives_tags<R: Abort + AllocGlobal>(rt: &R, metadata: &Metadata) -> Result<(),
     Ok(())
 }
 
-/// The metadata after the steps.
-fn metadata_after<R: AllocGlobal>(rt: &R, rows: &[&[Step<'static>]]) -> Result<Metadata, Fail> {
+/// The metadata after the steps of these lists.
+fn metadata_after<R: AllocGlobal>(rt: &R, lists: &[&[Step<'static>]]) -> Result<Metadata, Fail> {
     let mut metadata = Metadata::new(rt.alloc());
-    for steps in rows {
+    for steps in lists {
         for step in *steps {
             metadata.apply(&change(rt.alloc(), *step)?)?;
         }
@@ -80,8 +80,8 @@ const LOCK: &[Step<'static>] = &[Step::Set(b"\xff/dbLocked", b"l")];
 
 const CLEAR_ALL: &[Step<'static>] = &[Step::Clear(b"\xff", b"\xff\x02")];
 
-/// Rows that put the same rows. Two Clears of all rows are not applied: one of the two resolvers did not
-/// commit the first, and the database is locked when the other comes.
+/// Versions whose state transactions make the same steps. Two Clears of all rows are not applied: one of
+/// the two resolvers did not commit the first, and the database is locked when the other comes.
 const JOURNAL: &[(u64, &[Joined<'static>])] = &[
     (10, &[(BOTH, (SERVERS, false)), (BOTH, (ROW_AT_B, false))]),
     (
