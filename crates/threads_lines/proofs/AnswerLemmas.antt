@@ -6,11 +6,10 @@ use Rattle.model.specs.Stamps.{Given}
 use Rattle.model.specs.declared.outcome.Finished.{Finished}
 use Rattle.agreed_ledger.specs.declared.refusal.Refusal.{Refusal}
 use Rattle.locked_cluster.specs.Answers.{NotedFinishedView}
-use Rattle.threads_lines.specs.Answers.{FinishesBatch, IsEnd, IsLineOf}
+use Rattle.threads_lines.specs.Answers.{FinishesBatch, IsLineOf, SeesEnd}
 use Rattle.threads_lines.specs.Histories.{Known, SeesFinished}
 use Rattle.threads_lines.specs.Lines.{Answer}
 use Rattle.threads_lines.specs.Parts.{GrowsBy}
-use Rattle.threads_lines.proofs.HistoryLemmas.{start_self}
 
 -- the line of a finished batch
 pub finished_line : (config : Config) (rows : ℕ) (p : ℕ) (line : Answer → List ℕ) (batch : List Given) (before after : Known) (noted : NotedFinishedView) (finished : Finished) (old new : List ℕ)
@@ -18,6 +17,6 @@ pub finished_line : (config : Config) (rows : ℕ) (p : ℕ) (line : Answer → 
 finished_line config rows p line batch before after noted finished old new finishes seen same is = (line (Ok finished), (Ok finished, (noted, finishes, seen, same), refl), is)
 
 -- the line of a batch without record
-pub refused_line : (config : Config) (rows : ℕ) (p : ℕ) (line : Answer → List ℕ) (batch : List Given) (known : Known) (refusal : Refusal) (old new : List ℕ)
-    → IsEnd config rows refusal → new ≡ old ++ line (Err refusal) → GrowsBy (IsLineOf config rows p line batch known known) old new
-refused_line config rows p line batch known refusal old new ends is = (line (Err refusal), (Err refusal, record { kept = start_self known.records; ended = ends; counted = refl }, refl), is)
+pub refused_line : (config : Config) (rows : ℕ) (p : ℕ) (line : Answer → List ℕ) (batch : List Given) (before after : Known) (refusal : Refusal) (old new : List ℕ)
+    → SeesEnd config rows refusal before after → new ≡ old ++ line (Err refusal) → GrowsBy (IsLineOf config rows p line batch before after) old new
+refused_line config rows p line batch before after refusal old new ends is = (line (Err refusal), (Err refusal, ends, refl), is)

@@ -1,11 +1,12 @@
 -- Records that are a start of one history.
-use Rattle.std.proofs.Common.{◌≡◌, ◌∙◌, ◌++◌, ◌+◌, ◌-◌, ◌<◌, ◌≤◌, [], ◌∷◌, ℕ, List, refl, sym, ap, subst, drop, take, length, append-nil, append_assoc, inl, inr, arith}
+use Rattle.std.proofs.Common.{◌≡◌, ◌∙◌, ◌++◌, ◌+◌, ◌-◌, ◌<◌, ◌≤◌, [], ◌∷◌, ℕ, suc, List, refl, sym, ap, subst, drop, take, length, append-nil, append_assoc, inl, inr, arith}
 use Rattle.std.specs.Prelude.{◌⊎◌, cond, nat_le, true, slice_get, Some}
 use Rattle.std.proofs.lemmas.Bool.{le-leb}
-use Rattle.facts.specs.Stretches.{Agree, Stretch, StretchesAgree, extended, rest_from}
+use Rattle.facts.specs.Stretches.{Agree, HasAt, Stretch, StretchesAgree, end_of, extended, rest_from}
 use Rattle.model.specs.Configs.{Config}
-use Rattle.model.specs.Records.{Record, IsHistory}
+use Rattle.model.specs.Records.{Record, IsHistory, last_version}
 use Rattle.model.proofs.History.Growth.{push_cases}
+use Rattle.model.proofs.Owners.Moves.{last_version_at}
 use Rattle.locked_cluster.specs.Answers.{NotedFinishedView}
 use Rattle.locked_resolvers.proofs.Lists.{agree_rest, beginning_of, take_all, take_next}
 use Rattle.threads_lines.specs.Histories.{IsStartOf, Joins, Known, SeesFinished}
@@ -147,3 +148,13 @@ pub all_of : {V : Type 0} (records_of : V → List Record) (guards : List V) (k 
     → LearnedFrom records_of (take k guards) first now
     → (place : ℕ) (w : V) → slice_get guards place ≡ Some w → IsStartOf (records_of w) now.records
 all_of {V = V} records_of guards k first now all learned place w at = learned.learned place w (ap (λ (vs : List V). slice_get vs place) (take_all guards k all) ∙ at)
+
+-- ---- the last record
+
+-- the version of the record before the end is the last one
+pub last_of_stretch : (s : Stretch Record) (row : ℕ) (rec : Record) → s.first ≡ 0 → row + 1 ≡ end_of s → HasAt s row rec → rec.version ≡ last_version s.known
+last_of_stretch s row rec first last has =
+    let same : row - s.first ≡ row = omega (arith, first) in
+    let at : slice_get s.known row ≡ Some rec = ap (slice_get s.known) (sym same) ∙ has.1 in
+    let all : length s.known ≤ suc row = omega (arith, first, last) in
+    sym (last_version_at s.known row rec at) ∙ ap (λ (rs : List Record). last_version rs) (take_all s.known (suc row) all)

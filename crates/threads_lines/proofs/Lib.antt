@@ -1,4 +1,5 @@
 pub mod AnswerLemmas
+pub mod CheckLemmas
 pub mod EndLemmas
 pub mod FaultLemmas
 pub mod GuardLemmas

@@ -46,15 +46,16 @@ abbrev pub IsCommitOf :
 IsCommitOf config rows p batch (committed.Finished noted) = FinishesBatch config p batch noted
 IsCommitOf config rows p batch (committed.NoRecord refusal) = IsEnd config rows refusal
 
--- no record can follow some records; no batch was seen finished
+-- no record can follow the records that are known then; no batch was seen finished
 pub record SeesEnd (config : Config) (rows : ℕ) (refusal : Refusal) (before after : Known) :
     Type 0 where
   pub kept : IsStartOf before.records after.records
-  pub ended : IsEnd config rows refusal
+  pub ended : IsEndAfter config rows after.records refusal
   pub counted : after.finished ≡ before.finished
 
 -- The batch of proxy p may be answered so: it is finished by the definition for the last of some
--- records, beyond all that were known, which are known then; or there is no record for it.
+-- records, beyond all that were known, which are known then; or there is no record for it, since none
+-- can follow those that are known then.
 abbrev pub AnswersBatch :
     Config → (rows : ℕ) → ProxyNumber → List Given → (before after : Known) → Answer → Type 0
 AnswersBatch config rows p batch before after (Ok finished) =

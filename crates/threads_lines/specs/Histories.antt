@@ -1,6 +1,6 @@
 -- The history that a run knows, and what is a start of it (this project's profile).
 use Rattle.std.specs.Prelude.{◌≡◌, ◌+◌, ◌≤◌, ℕ, List, [], length, slice_get, take, Some}
-use Rattle.model.specs.Records.{Record}
+use Rattle.model.specs.Records.{Record, last_version, records_of_proxy}
 use Rattle.locked_cluster.specs.Answers.{NotedFinishedView}
 use Rattle.locked_cluster.specs.Proxies.{LockedProxyView}
 use Rattle.locked_resolvers.specs.Resolvers.{LockedResolverView}
@@ -25,8 +25,8 @@ pub record SeesFinished (noted : NotedFinishedView) (before after : Known) : Typ
   pub learned : IsStartOf noted.records after.records
   pub counted : after.finished ≡ before.finished + 1
 
--- What another knew is known then too: the records of both are a start of one history, and the batches
--- that both saw finished are counted.
+-- What another knew is known then too: the records of both are a start of one history, and the numbers
+-- of batches that they saw finished are added.
 pub record Joins (other before after : Known) : Type 0 where
   pub kept : IsStartOf before.records after.records
   pub learned : IsStartOf other.records after.records
@@ -37,6 +37,16 @@ abbrev pub AreOfProxies : (proxies : List LockedProxyView) → (history : List R
 AreOfProxies proxies history =
     (place : ℕ) (v : LockedProxyView) → slice_get proxies place ≡ Some v
     → IsStartOf v.records history
+
+-- the proxy has finished its records of the history: it is at the version of the last of them, or at 0 if
+-- it has none
+abbrev pub HasFinishedAll : (history : List Record) → LockedProxyView → Type 0
+HasFinishedAll history v =
+    v.proxy.version ≡ last_version (records_of_proxy v.proxy.number history)
+
+-- the resolver has judged as many records as the history has
+abbrev pub HasJudgedAll : (history : List Record) → LockedResolverView → Type 0
+HasJudgedAll history w = length w.records ≡ length history
 
 -- the records of each resolver are a start of the history
 abbrev pub AreOfResolvers :

@@ -1,6 +1,6 @@
 -- The definitions, in reading order.
 
--- the history that a run knows
+-- the history that a run knows, and what is a start of it; who has finished or judged all of it
 pub mod Histories
 -- what a batch may be answered, and the texts of such answers
 pub mod Answers
@@ -10,7 +10,7 @@ pub mod Threads
 pub mod Parts
 -- the lines that are printed of batches and closings
 pub mod Lines
--- what the sequencer keeps once it has carried out the moves
+-- what the sequencer keeps once it has carried out the moves, and what records have then
 pub mod Moves
 -- what the guards of all proxies and resolvers show
 pub mod Guards

@@ -1,8 +1,9 @@
--- What the sequencer keeps once it has carried out the moves of a script (this project's profile).
-use Rattle.std.specs.Prelude.{◌≡◌, ◌+◌, ◌<◌, ◌≤◌, ℕ, List, ◌++◌, map, take, slice_get, Some}
+-- What the sequencer keeps once it has carried out the moves of a script, and what records have then
+-- (this project's profile).
+use Rattle.std.specs.Prelude.{◌≡◌, ◌+◌, ◌<◌, ◌≤◌, ℕ, List, ◌++◌, All, map, take, slice_get, Some}
 use Rattle.model.specs.Configs.{Config}
 use Rattle.model.specs.Numbers.{Version}
-use Rattle.model.specs.Records.{last_version}
+use Rattle.model.specs.Records.{Record, last_version}
 use Rattle.model.specs.declared.moves.Move.{Move}
 use Rattle.agreed_ledger.specs.Sequencing.{SequencedView}
 use Rattle.threads_lines.specs.declared.faults.RunFault.{RunFault}
@@ -12,6 +13,10 @@ use Rattle.threads_scripts.specs.declared.script.UndatedMove.{UndatedMove}
 -- a move of a script, with this date
 abbrev pub dated : Version → UndatedMove → Move
 dated date undated = record { range = undated.range; date = date; dest = undated.dest }
+
+-- each record has the moves, and no others, each dated 1: they were made before the first version
+abbrev pub AreAfterMoves : (moves : List UndatedMove) → (history : List Record) → Type 0
+AreAfterMoves moves history = All (λ rec. rec.moves ≡ map (dated 1) moves) history
 
 -- The moves were carried out: they follow the old ones, in order, each dated one above the last
 -- version. The records are the old ones.

@@ -3,7 +3,7 @@
 
 ghost use Rattle.std.specs.Prelude.{◌≡◌, [], length, IfOk, OnOk, string_bytes};
 ghost use Rattle.threads_lines.specs.Answers.{AreBatchLines, IsBatchLine, IsClosingLine};
-ghost use Rattle.threads_lines.specs.Answers.{IsCommitOf, IsLineOf};
+ghost use Rattle.threads_lines.specs.Answers.{IsCommitOf, IsLineOf, SeesEnd};
 ghost use Rattle.threads_lines.specs.Histories.{IsStartOf};
 ghost use Rattle.threads_lines.specs.Lines.{batch_line};
 ghost use Rattle.threads_lines.specs.Parts.{GrowsBy, IsInTurns};
@@ -13,7 +13,7 @@ use crate::lines::{
     print_closing_version, print_finished_batch, print_refused_batch, print_refused_closing,
 };
 use crate::run_history::RunHistory;
-use agreed_ledger::{Naming, Refusal, Sequencer};
+use agreed_ledger::{Ledger, Naming, Refusal, Sequencer};
 use locked_cluster::{Asking, NotedFinished, SharedProxy};
 use model::ProxyNumber;
 use mutation::Batch;
@@ -27,6 +27,8 @@ pub struct Committer<'a, 'l, N: Naming, A: Asking<N>> {
     pub number: ProxyNumber,
     /// The proxy.
     pub proxy: &'a SharedProxy<'l, N>,
+    /// The ledger of its cluster.
+    pub ledger: &'a Ledger<N>,
     /// The sequencer of its cluster.
     pub sequencer: &'a Sequencer<'l, N>,
     /// How it asks the resolvers.
@@ -90,8 +92,9 @@ impl<'a, 'l, N: Naming, A: Asking<N>> Committer<'a, 'l, N, A> {
         Ok(())
     }
 
-    /// Commits a batch, prints its answer, and learns the records up to it. Fails with `Refused` if the
-    /// history knows its row.
+    /// Commits a batch, prints its answer, and learns the records up to it, or all that were given out if
+    /// it is refused. Fails with `Refused` if the history knows its row, or if the batch is refused
+    /// though a record could follow those given out.
     fn print_batch<R: Wait>(
         &self,
         rt: &R,
@@ -111,12 +114,10 @@ impl<'a, 'l, N: Naming, A: Asking<N>> Committer<'a, 'l, N, A> {
                 history.see_finished(&noted)?;
                 print_finished_batch(text, self.number, place, noted.value())?;
             }
-            Committed::NoRecord(refusal) => print_refused_batch(
-                text,
-                self.number,
-                place,
-                &refusal,
-            )?,
+            Committed::NoRecord(refusal) => {
+                self.see_end(rt, history, &refusal)?;
+                print_refused_batch(text, self.number, place, &refusal)?;
+            }
         }
         Ok(())
     }
@@ -142,9 +143,28 @@ impl<'a, 'l, N: Naming, A: Asking<N>> Committer<'a, 'l, N, A> {
                 history.see_finished(&noted)?;
                 print_closing_version(text, self.number, noted.value())?;
             }
-            Committed::NoRecord(refusal) => print_refused_closing(text, self.number, &refusal)?,
+            Committed::NoRecord(refusal) => {
+                self.see_end(rt, history, &refusal)?;
+                print_refused_closing(text, self.number, &refusal)?;
+            }
         }
         Ok(())
+    }
+
+    /// Learns the records that the sequencer has given out, and sees that none can follow them, for the
+    /// reason that the refusal tells.
+    fn see_end<R: Wait>(
+        &self,
+        rt: &R,
+        history: &mut RunHistory<N>,
+        refusal: &Refusal,
+    ) -> Result<(), RunFault>
+        ensures kept { IsStartOf history.old.records history.new.records }
+        ensures seen { OnOk result (SeesEnd N.cells.config (length N.cells.records) refusal.now
+            history.old history.new) }
+    {
+        let sequencer = self.sequencer.lock(rt);
+        history.see_end(self.ledger, &sequencer, refusal)
     }
 
     /// Commits a copy of the batch.

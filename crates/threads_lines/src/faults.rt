@@ -15,7 +15,8 @@ use system_keys::OutOfMemory;
 pub enum RunFault {
     /// An allocation failed, or a thread could not be started.
     OutOfMemory,
-    /// The cluster refused a call, and not because an allocation failed; or a worker was cut off.
+    /// The cluster refused a call, and not because an allocation failed; or a worker was cut off; or what
+    /// the run found does not fit together, which no run is known to find.
     Refused,
 }
 

@@ -1,5 +1,5 @@
-//! The threads that commit batches and those that serve them, and the lines that are written of the
-//! answers, of proxies that meet, and of audits.
+//! The threads that commit batches and those that serve them, the lines that are written of the answers,
+//! of proxies that meet, and of audits, and the history that a run learns and checks.
 //!
 //! Facts cross from a thread to the one that joins it by a promise: what a thread returns is known to
 //! be the lines of answers to the batches that it was given.
@@ -19,7 +19,7 @@ mod run_history;
 mod serving;
 mod threads;
 
-pub use checks::check_answered;
+pub use checks::{check_answered, check_moves, check_proxies, check_resolvers};
 pub use cluster::Cluster;
 pub use committer::{AnsweredLines, Committer};
 pub use faults::{RunFault, status_of};

@@ -1,14 +1,18 @@
 //! The history that a run knows: the records up to its answers, and those that the locks of its cluster
 //! show.
 
-ghost use Rattle.std.specs.Prelude.{◌≡◌, ◌+◌, OnOk};
-ghost use Rattle.model.specs.Records.{IsHistory};
+ghost use Rattle.std.specs.Prelude.{◌≡◌, ◌+◌, ◌<◌, ◌≤◌, length, IfErr, OnOk};
+ghost use Rattle.model.specs.Configs.{version_limit};
+ghost use Rattle.model.specs.Records.{IsHistory, last_version};
+ghost use Rattle.threads_lines.specs.Answers.{IsEndAfter, SeesEnd};
 ghost use Rattle.threads_lines.specs.Histories.{AreOfProxies, AreOfResolvers, IsStartOf};
 ghost use Rattle.threads_lines.specs.Histories.{Joins, SeesFinished, nothing_known};
+ghost use Rattle.threads_lines.specs.declared.faults.RunFault.TheVariants as faults;
 
 use crate::faults::RunFault;
-use agreed_ledger::{Naming, Records};
+use agreed_ledger::{Ledger, Naming, Records, Refusal, SequencerGuard};
 use locked_cluster::{NotedFinished, ProxyGuard, ResolverGuard};
+use model::{VERSION_LIMIT, Version};
 use std::alloc::Global;
 use std::marker::Model;
 use system_keys::OutOfMemory;
@@ -87,6 +91,23 @@ impl<N: Naming> RunHistory<N> {
         Ok(())
     }
 
+    /// Learns the records that the sequencer has given out, and sees that none can follow them, for
+    /// the reason that the refusal tells. Fails with `Refused` if one can, and otherwise only with
+    /// `OutOfMemory`.
+    pub(crate) fn see_end(
+        &mut self,
+        ledger: &Ledger<N>,
+        sequencer: &SequencerGuard<'_, N>,
+        refusal: &Refusal,
+    ) -> Result<(), RunFault>
+        ensures kept { IsStartOf self.old.records self.new.records }
+        ensures seen { OnOk result
+            (SeesEnd N.cells.config (length N.cells.records) refusal.now self.old self.new) }
+    {
+        self.learn(sequencer.records())?;
+        self.check_end(ledger, refusal)
+    }
+
     /// Knows what another one knew too: its records, and the batches that it saw finished. Fails only
     /// with `OutOfMemory`.
     pub(crate) fn join(&mut self, other: &RunHistory<N>) -> Result<(), OutOfMemory>
@@ -135,4 +156,67 @@ impl<N: Naming> RunHistory<N> {
         self.finished = finished;
         Ok(())
     }
+
+    /// No record can follow those that are known, for the reason that the refusal tells. Fails only
+    /// with `Refused`, if one can.
+    fn check_end(&self, ledger: &Ledger<N>, refusal: &Refusal) -> Result<(), RunFault>
+        ensures checked { OnOk result (IsEndAfter N.cells.config (length N.cells.records)
+            self.now.records refusal.now) }
+        ensures err { IfErr result (λ fault. fault ≡ faults.Refused) }
+    {
+        match refusal {
+            Refusal::LedgerFull { rows } => self.check_full(ledger, *rows),
+            Refusal::VersionsEnd => self.check_versions_end(ledger),
+            _ => Err(RunFault::Refused),
+        }
+    }
+
+    /// The ledger has so many rows, and each has a record. Fails only with `Refused`.
+    fn check_full(&self, ledger: &Ledger<N>, rows: usize) -> Result<(), RunFault>
+        ensures checked { OnOk result ((rows ≡ length N.cells.records)
+            × (length N.cells.records ≤ length self.now.records)) }
+        ensures err { IfErr result (λ fault. fault ≡ faults.Refused) }
+    {
+        if rows == ledger.rows() && rows <= self.records.end() {
+            Ok(())
+        } else {
+            Err(RunFault::Refused)
+        }
+    }
+
+    /// The ledger has a row left, and the next version would not be below the limit. Fails only with
+    /// `Refused`.
+    fn check_versions_end(&self, ledger: &Ledger<N>) -> Result<(), RunFault>
+        ensures checked { OnOk result ((length self.now.records < length N.cells.records)
+            × (version_limit ≤ last_version self.now.records + N.cells.config.step)) }
+        ensures err { IfErr result (λ fault. fault ≡ faults.Refused) }
+    {
+        let last = self.last_version(ledger);
+        if self.records.end() < ledger.rows() && greatest_previous(ledger) < last {
+            Ok(())
+        } else {
+            Err(RunFault::Refused)
+        }
+    }
+
+    /// The version of the last record, or 0 if there is none.
+    fn last_version(&self, ledger: &Ledger<N>) -> Version
+        ensures { result ≡ last_version self.now.records }
+    {
+        let Some(last) = self.records.end().checked_sub(1) else {
+            return 0;
+        };
+        match self.records.get(ledger, last) {
+            Some(rec) => rec.version(),
+            None => 0,
+        }
+    }
+}
+
+/// The greatest version that another one can follow.
+fn greatest_previous<N: Naming>(ledger: &Ledger<N>) -> Version
+    ensures { result + N.cells.config.step + 1 ≡ version_limit }
+{
+    let step = ledger.config().step();
+    VERSION_LIMIT - 1 - step
 }

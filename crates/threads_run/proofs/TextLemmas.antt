@@ -1,12 +1,14 @@
 -- The text of a script, from its parts.
 use Rattle.std.proofs.Common.{◌≡◌, ◌∙◌, ◌++◌, ◌+◌, ◌<◌, ◌≤◌, ℕ, zero, suc, List, length, ap, sym, subst, arith}
+use Rattle.std.specs.Prelude.{All}
 use Rattle.model.specs.Configs.{Config}
-use Rattle.model.specs.Records.{Record, IsHistory}
+use Rattle.model.specs.Records.{IsHistory}
 use Rattle.locked_cluster.specs.Proxies.{LockedProxyView}
 use Rattle.locked_resolvers.specs.Resolvers.{LockedResolverView}
 use Rattle.threads_lines.specs.Guards.{AreLockedProxies, AreLockedResolvers}
-use Rattle.threads_lines.specs.Histories.{AreOfProxies, AreOfResolvers, IsStartOf, Known}
+use Rattle.threads_lines.specs.Histories.{AreOfProxies, AreOfResolvers, HasFinishedAll, HasJudgedAll, IsStartOf, Known}
 use Rattle.threads_lines.specs.Meetings.{AreAuditsOf, AreMeetingsOf}
+use Rattle.threads_lines.specs.Moves.{AreAfterMoves}
 use Rattle.threads_lines.specs.Parts.{GrowsBy}
 use Rattle.threads_lines.specs.Threads.{AreAnswerLines}
 use Rattle.threads_lines.proofs.HistoryLemmas.{start_more}
@@ -24,13 +26,14 @@ pub threads_text : (script : ThreadsScript) (config : Config) (rows : ℕ) (know
     → IsStartOf known.records more.records → more.finished ≡ known.finished
     → IsStartOf more.records all.records → all.finished ≡ more.finished
     → IsHistory config all.records → length all.records ≤ rows
-    → all.finished ≡ length all.records
+    → AreAfterMoves script.moves all.records → all.finished ≡ length all.records
     → AreAnswerLines config rows script.work config.proxies known lines
     → AreOfProxies proxies more.records → AreOfResolvers resolvers all.records
     → AreLockedProxies config proxies → AreLockedResolvers config resolvers
+    → All (HasFinishedAll all.records) proxies → All (HasJudgedAll all.records) resolvers
     → GrowsBy (AreProxyTexts script.ask proxies) lines shown → GrowsBy (AreMeetingsOf proxies) shown met → GrowsBy (AreAuditsOf config proxies resolvers) met text
     → IsThreadsText script text
-threads_text script config rows known more all proxies resolvers lines shown met text same_config same_rows first first_count second second_count is fits counted answered of_proxies of_resolvers all_proxies all_resolvers with_proxies with_meetings with_audits =
+threads_text script config rows known more all proxies resolvers lines shown met text same_config same_rows first first_count second second_count is fits moved counted answered of_proxies of_resolvers all_proxies all_resolvers finished judged with_proxies with_meetings with_audits =
     let (routings, routes, routings_last) = with_proxies in
     let (meetings, meets, meetings_last) = with_meetings in
     let (audits, are_audits, audits_last) = with_audits in
@@ -45,6 +48,7 @@ threads_text script config rows known more all proxies resolvers lines shown met
       resolvers = resolvers;
       is_history = subst (λ (c : Config). IsHistory c all.records) (sym same_config) is;
       fits = subst (λ (r : ℕ). length all.records ≤ r) (sym same_rows) fits;
+      moved = moved;
       answered = subst (λ (c : Config). AreAnswerLines c script.rows script.work c.proxies known lines) (sym same_config)
           (subst (λ (r : ℕ). AreAnswerLines config r script.work config.proxies known lines) (sym same_rows) answered);
       of_answers = start_more known.records more.records all.records first second;
@@ -53,6 +57,8 @@ threads_text script config rows known more all proxies resolvers lines shown met
       of_resolvers = of_resolvers;
       all_proxies = subst (λ (c : Config). AreLockedProxies c proxies) (sym same_config) all_proxies;
       all_resolvers = subst (λ (c : Config). AreLockedResolvers c resolvers) (sym same_config) all_resolvers;
+      finished = finished;
+      judged = judged;
       shown = routes;
       met = meets;
       audited = subst (λ (c : Config). AreAuditsOf c proxies resolvers audits) (sym same_config) are_audits;

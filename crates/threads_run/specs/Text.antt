@@ -1,5 +1,5 @@
 -- The text of a threads script: which answers it is of, and their lines (this project's profile).
-use Rattle.std.specs.Prelude.{◌≡◌, ◌≤◌, ℕ, List, ◌++◌, length, slice_get, Some}
+use Rattle.std.specs.Prelude.{◌≡◌, ◌≤◌, ℕ, List, ◌++◌, All, length, slice_get, Some}
 use Rattle.system_keys.specs.Keys.{Key}
 use Rattle.model.specs.Metadata.{metadata}
 use Rattle.model.specs.Numbers.{ProxyNumber}
@@ -8,8 +8,10 @@ use Rattle.cluster_lines.specs.MetadataLines.{metadata_text, proxy_line}
 use Rattle.locked_cluster.specs.Proxies.{LockedProxyView}
 use Rattle.locked_resolvers.specs.Resolvers.{LockedResolverView}
 use Rattle.threads_lines.specs.Guards.{AreLockedProxies, AreLockedResolvers}
-use Rattle.threads_lines.specs.Histories.{AreOfProxies, AreOfResolvers, IsStartOf, Known}
+use Rattle.threads_lines.specs.Histories.{AreOfProxies, AreOfResolvers, HasFinishedAll, HasJudgedAll}
+use Rattle.threads_lines.specs.Histories.{IsStartOf, Known}
 use Rattle.threads_lines.specs.Meetings.{AreAuditsOf, AreMeetingsOf}
+use Rattle.threads_lines.specs.Moves.{AreAfterMoves}
 use Rattle.threads_lines.specs.Parts.{IsInParts}
 use Rattle.threads_lines.specs.Threads.{AreAnswerLines}
 use Rattle.threads_scripts.specs.declared.script.ThreadsScript.{ThreadsScript}
@@ -34,11 +36,11 @@ AreProxyTexts ask proxies text =
 
 -- The text of the script: the lines of answers to its batches, those of answers to one empty batch of
 -- each proxy, those of each proxy, of each two proxies that meet, and of the audit of each proxy. All
--- are of one history, which fits the ledger. Its records are those of the finished batches and closings,
--- as many as these are: so it has no others, and each is of one line. All lines of proxies, meetings and
--- audits are of the same state of the proxies and the resolvers, as their locks keep it; the records
--- that each of them has are a start of the history. Why a batch is refused may be of another history,
--- and the state may be one before the answers.
+-- are of one history, which fits the ledger, and whose records have the moves of the script. Its
+-- records are those of the finished batches and closings, as many as these are: so it has no others,
+-- and each is of one line. The lines of proxies, meetings and audits are all of the same state of the
+-- proxies and the resolvers, as their locks keep it after the answers: each proxy has finished its
+-- records, each resolver has judged all, and those that each of them has are a start of the history.
 pub record IsThreadsText (script : ThreadsScript) (text : List ℕ) : Type 0 where
   pub history : List Record
   pub known : Known
@@ -50,6 +52,7 @@ pub record IsThreadsText (script : ThreadsScript) (text : List ℕ) : Type 0 whe
   pub resolvers : List LockedResolverView
   pub is_history : IsHistory script.config history
   pub fits : length history ≤ script.rows
+  pub moved : AreAfterMoves script.moves history
   pub answered :
       AreAnswerLines script.config script.rows script.work script.config.proxies known answers
   pub of_answers : IsStartOf known.records history
@@ -58,6 +61,8 @@ pub record IsThreadsText (script : ThreadsScript) (text : List ℕ) : Type 0 whe
   pub of_resolvers : AreOfResolvers resolvers history
   pub all_proxies : AreLockedProxies script.config proxies
   pub all_resolvers : AreLockedResolvers script.config resolvers
+  pub finished : All (HasFinishedAll history) proxies
+  pub judged : All (HasJudgedAll history) resolvers
   pub shown : AreProxyTexts script.ask proxies routings
   pub met : AreMeetingsOf proxies meetings
   pub audited : AreAuditsOf script.config proxies resolvers audits

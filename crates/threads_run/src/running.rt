@@ -6,7 +6,7 @@ ghost use Rattle.threads_run.specs.Beside.{lines_beside, was_cut_off, was_refuse
 ghost use Rattle.threads_lines.specs.Parts.{GrowsBy, IsInParts};
 ghost use Rattle.threads_lines.specs.Threads.{AreInPlace};
 
-use agreed_ledger::Naming;
+use agreed_ledger::{Ledger, Naming};
 use inboxes::{Channels, FreshEnd};
 use locked_cluster::SharedResolver;
 use model::{ProxyNumber, ResolverNumber};
@@ -90,9 +90,10 @@ fn were_cut_off<N: Naming, M: Channels>(workers: &[Ended<N, M>]) -> bool
     workers.iter().any(|ended| ended.cut_off())
 }
 
-/// The cluster, and the inboxes of its resolvers as each proxy sends to them.
+/// The cluster with its ledger, and the inboxes of its resolvers as each proxy sends to them.
 #[derive(Drop)]
 pub(crate) struct Running<'a, 'l, N: Naming, M: Channels> {
+    pub(crate) ledger: &'a Ledger<N>,
     pub(crate) cluster: &'a Cluster<'l, N>,
     pub(crate) inboxes: Vec<ProxyInboxes<N, M>>,
     ghost as_many: { length inboxes.items ≡ length cluster.now.proxies.items },
@@ -109,6 +110,7 @@ impl<'a, 'l, N: Naming, M: Channels> Running<'a, 'l, N, M> {
         Committer {
             number,
             proxy: self.cluster.proxy(number),
+            ledger: self.ledger,
             sequencer: &self.cluster.sequencer,
             asking: &self.inboxes[number],
         }

@@ -20,8 +20,8 @@ use std::sync::Wait;
 use std::thread::Threads;
 use system_keys::{Bytes, Items, OutOfMemory};
 use threads_lines::{
-    AnsweredLines, Cluster, RunFault, check_answered, commit_over_workers, print_audits,
-    print_meetings,
+    AnsweredLines, Cluster, RunFault, check_answered, check_moves, check_proxies, check_resolvers,
+    commit_over_workers, print_audits, print_meetings,
 };
 use threads_scripts::ThreadsScript;
 use workers::{AskedRequest, ProxyInboxes};
@@ -32,7 +32,8 @@ use workers::{AskedRequest, ProxyInboxes};
 ///
 /// Fails with `OutOfMemory` if an allocation failed or a thread could not be started, and with
 /// `Refused` if the cluster refuses a call in any other way than by the end of the ledger or of the
-/// versions, or if the lines are found to be of no one history, which no run is known to do.
+/// versions, if a worker was cut off, or if what the run found does not fit together, which no run is
+/// known to find.
 pub(crate) fn threads_text<R: Threads + Wait + Sync>(
     rt: &R,
     alloc: Global,
@@ -85,6 +86,9 @@ fn threads_text_in<N: Naming + Send + Sync, R: Threads + Wait + Sync>(
     history.learn_from_proxies(proxies.as_slice())?;
     history.learn_from_resolvers(resolvers.as_slice())?;
     check_answered(&history)?;
+    check_proxies(&history, &ledger, proxies.as_slice())?;
+    check_resolvers(&history, resolvers.as_slice())?;
+    check_moves(&history, &ledger, script.moves.as_slice())?;
     // (their contracts say that it is a history, which fits the ledger)
     let _end = history.records().end();
     print_proxies(alloc, &mut text, proxies.as_slice(), script.ask.as_slice())?;
@@ -116,6 +120,7 @@ fn answers_over<N: Naming + Send + Sync, M: Channels + Send + Sync, R: Threads +
         resolvers: cluster.resolvers.as_slice(),
     };
     let running = Running {
+        ledger,
         cluster,
         inboxes: inboxes_of(alloc, ledger, senders)?,
     };

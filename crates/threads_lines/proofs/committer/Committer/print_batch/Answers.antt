@@ -19,5 +19,5 @@ returns-in_ok-print_refused_batch-in-NoRecord-clause-line g c =
     let config = g.N.Naming.cells.config in
     let rows = length g.N.Naming.cells.records in
     let p = c.args.self.now.number in
-    refused_line config rows p (batch_line p c.args.place) c.args.batch.now c.args.history.now c.in-NoRecord.refusal (string_bytes c.args.text.now) (string_bytes c.print_refused_batch.new.text)
-    (subst (IsCommitOf config rows p c.args.batch.now) c.in-NoRecord.is c.in_ok-noted.ensures) c.in_ok-print_refused_batch-in-NoRecord.ensures
+    refused_line config rows p (batch_line p c.args.place) c.args.batch.now c.args.history.now c.see_end.new.history c.in-NoRecord.refusal (string_bytes c.args.text.now) (string_bytes c.print_refused_batch.new.text)
+    c.in_ok-see_end-in-NoRecord.ensures.seen c.in_ok-print_refused_batch-in-NoRecord.ensures

@@ -26,9 +26,5 @@ returns-in_ok-print_refused_closing-in-NoRecord-clause-line g c =
     let config = g.N.Naming.cells.config in
     let rows = length g.N.Naming.cells.records in
     let p = c.args.self.now.number in
-    let known = c.args.history.now in
-    let old = string_bytes c.args.text.now in
-    let new = string_bytes c.print_refused_closing.new.text in
-    subst (λ (batch : List Given). GrowsBy (IsLineOf config rows p (closing_line p) batch known known) old new) c.requires
-    (refused_line config rows p (closing_line p) c.args.empty.now known c.in-NoRecord.refusal old new
-    (subst (IsCommitOf config rows p c.args.empty.now) c.in-NoRecord.is c.in_ok-noted.ensures) c.in_ok-print_refused_closing-in-NoRecord.ensures)
+    refused_line config rows p (closing_line p) _ c.args.history.now c.see_end.new.history c.in-NoRecord.refusal (string_bytes c.args.text.now) (string_bytes c.print_refused_closing.new.text)
+    c.in_ok-see_end-in-NoRecord.ensures.seen c.in_ok-print_refused_closing-in-NoRecord.ensures

@@ -1,5 +1,4 @@
 -- The records up to the batch are learned, and it is counted.
-use Rattle.std.proofs.Common.{arith}
 use Rattle.threads_lines.proofs.HistoryLemmas.{told_history}
 use Rattle.threads_lines.proofs.run_history.RunHistory.see_finished.Goals as goal
 
