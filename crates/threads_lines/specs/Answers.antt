@@ -46,7 +46,8 @@ abbrev pub IsCommitOf :
 IsCommitOf config rows p batch (committed.Finished noted) = FinishesBatch config p batch noted
 IsCommitOf config rows p batch (committed.NoRecord refusal) = IsEnd config rows refusal
 
--- no record can follow the records that are known then; no batch was seen finished
+-- no record can follow the records that are known then, which are a history as `RunHistory` keeps them;
+-- no batch was seen finished
 pub record SeesEnd (config : Config) (rows : ℕ) (refusal : Refusal) (before after : Known) :
     Type 0 where
   pub kept : IsStartOf before.records after.records

@@ -134,7 +134,8 @@ pub fn check_moves<N: Naming>(
     let Some(last) = records.end().checked_sub(1) else {
         return Ok(());
     };
-    // (moves are kept and dated, so those of the last record tell those of each)
+    // (its contract says that the step is at least 1: so a move behind a record would be dated above 1,
+    // and the moves of the last record tell those of each)
     let _step = ledger.config().step();
     match records.get(ledger, last) {
         Some(rec) if are_dated(rec.moves(), moves) => Ok(()),
@@ -142,7 +143,7 @@ pub fn check_moves<N: Naming>(
     }
 }
 
-/// Whether these are the moves, each with date 1.
+/// Returns true only if these are the moves, each with date 1.
 fn are_dated(moves: &Moves, undated: &[UndatedMove]) -> bool
     ensures { IsTrue result → moves.now ≡ map (dated 1) undated.now }
 {
@@ -161,14 +162,14 @@ fn are_dated(moves: &Moves, undated: &[UndatedMove]) -> bool
     true
 }
 
-/// Whether this is the move, with date 1.
+/// Returns true only if this is the move, with date 1.
 fn is_dated(one: &Move, undated: &UndatedMove) -> bool
     ensures { IsTrue result → one.now ≡ dated 1 undated.now }
 {
     one.date == 1 && one.dest == undated.dest && are_same(&one.range, &undated.range)
 }
 
-/// Whether the ranges begin and end alike.
+/// Returns true only if the ranges begin and end alike.
 fn are_same(range: &KeyRange, other: &KeyRange) -> bool
     ensures { IsTrue result → range.now ≡ other.now }
 {

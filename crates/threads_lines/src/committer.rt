@@ -93,8 +93,9 @@ impl<'a, 'l, N: Naming, A: Asking<N>> Committer<'a, 'l, N, A> {
     }
 
     /// Commits a batch, prints its answer, and learns the records up to it, or all that were given out if
-    /// it is refused. Fails with `Refused` if the history knows its row, or if the batch is refused
-    /// though a record could follow those given out.
+    /// it gets no record. Fails with `OutOfMemory` if an allocation failed, and with `Refused` if the
+    /// cluster refuses the batch otherwise, if the history knows its row, or if it gets no record though
+    /// one could follow those given out.
     fn print_batch<R: Wait>(
         &self,
         rt: &R,
@@ -122,8 +123,8 @@ impl<'a, 'l, N: Naming, A: Asking<N>> Committer<'a, 'l, N, A> {
         Ok(())
     }
 
-    /// Commits an empty batch, by which the proxy closes, prints its answer, and learns the
-    /// records up to it. Fails with `Refused` as for any batch.
+    /// Commits an empty batch, by which the proxy closes, prints its answer, and learns the records up to
+    /// it, or all that were given out if it gets no record. Fails as for any batch.
     pub fn print_closing<R: Wait>(
         &self,
         rt: &R,

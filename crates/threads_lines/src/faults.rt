@@ -15,8 +15,9 @@ use system_keys::OutOfMemory;
 pub enum RunFault {
     /// An allocation failed, or a thread could not be started.
     OutOfMemory,
-    /// The cluster refused a call, and not because an allocation failed; or a worker was cut off; or what
-    /// the run found does not fit together, which no run is known to find.
+    /// The cluster refused a call, and not because an allocation failed; or a worker was cut off, since
+    /// some proxy did not send its last message; or a check at the end of the run failed, which no run
+    /// is known to do.
     Refused,
 }
 

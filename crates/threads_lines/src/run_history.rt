@@ -91,8 +91,8 @@ impl<N: Naming> RunHistory<N> {
         Ok(())
     }
 
-    /// Learns the records that the sequencer has given out, and sees that none can follow them, for
-    /// the reason that the refusal tells. Fails with `Refused` if one can, and otherwise only with
+    /// Learns the records that the sequencer has given out, and sees that none can follow them. Fails
+    /// with `Refused` unless that is so for the reason that the refusal names, and otherwise only with
     /// `OutOfMemory`.
     pub(crate) fn see_end(
         &mut self,
@@ -157,8 +157,8 @@ impl<N: Naming> RunHistory<N> {
         Ok(())
     }
 
-    /// No record can follow those that are known, for the reason that the refusal tells. Fails only
-    /// with `Refused`, if one can.
+    /// No record can follow those that are known, for the reason that the refusal names. Fails only
+    /// with `Refused`: if one can, or if none can for another reason.
     fn check_end(&self, ledger: &Ledger<N>, refusal: &Refusal) -> Result<(), RunFault>
         ensures checked { OnOk result (IsEndAfter N.cells.config (length N.cells.records)
             self.now.records refusal.now) }

@@ -32,8 +32,8 @@ use workers::{AskedRequest, ProxyInboxes};
 ///
 /// Fails with `OutOfMemory` if an allocation failed or a thread could not be started, and with
 /// `Refused` if the cluster refuses a call in any other way than by the end of the ledger or of the
-/// versions, if a worker was cut off, or if what the run found does not fit together, which no run is
-/// known to find.
+/// versions, if a worker was cut off, since some proxy did not send its last message, or if a check at
+/// the end of the run fails, which no run is known to do.
 pub(crate) fn threads_text<R: Threads + Wait + Sync>(
     rt: &R,
     alloc: Global,
