@@ -20,6 +20,9 @@ import watched
 
 SCRIPT_REFUSED, COMMAND_LINE_REFUSED, DEVICE_FAILED, OUT_OF_MEMORY = 1, 2, 3, 4
 
+# the scripts of tests/worked/turns that are tried as the examples are
+WORKED = ("write_before_a_move.json", "five_batches_told_at_once.json")
+
 # how many read calls a run may make, that which meets the end among them, and how many bytes each asks for
 READ_LIMIT = 1_048_576
 READ_SIZE = 4_096
@@ -72,15 +75,21 @@ class Example(NamedTuple):
 
 
 def examples(root):
-    """The stored examples: those of `fold`, and in folders those of the other modes."""
+    """The stored examples: those of `fold`, and in folders those of the other modes; with those of `turns`, two worked scripts."""
     for folder, words in (("examples", []), *((os.path.join("examples", mode), [mode]) for mode in ("turns", "threads"))):
         for name in sorted(os.listdir(os.path.join(root, folder))):
             if name.endswith(".json"):
-                path = os.path.join(root, folder, name)
-                with open(path, "rb") as script, open(path[:-5] + ".out", "rb") as out:
-                    output = out.read()
-                    refused = output.startswith(b"refused ") and output.count(b"\n") == 1
-                    yield Example(name, words, script.read(), output, SCRIPT_REFUSED if refused else 0)
+                yield example_of(os.path.join(root, folder, name), words)
+        for name in WORKED if words == ["turns"] else ():
+            yield example_of(os.path.join(root, "tests", "worked", "turns", name), words)
+
+
+def example_of(path, words):
+    """The example in this file."""
+    with open(path, "rb") as script, open(path[:-5] + ".out", "rb") as out:
+        output = out.read()
+        refused = output.startswith(b"refused ") and output.count(b"\n") == 1
+        return Example(os.path.basename(path), words, script.read(), output, SCRIPT_REFUSED if refused else 0)
 
 
 class Trial:

@@ -2,6 +2,7 @@
  * holds threads up.
  *
  * REFUSE_GROWTH, REFUSE_READ, REFUSE_WRITE, REFUSE_THREAD: the number of the call that is refused, from 1.
+ * A growth by ASKED bytes is what a test asks for to learn whether a growth was refused before: it is refused then, and else not.
  * REFUSE_ON: where it is set, all calls of that kind from then on are refused, not this one alone.
  * REFUSE_ERROR: the errno of a refused read or write; EIO without it. Of 0 the call answers 0, and not -1.
  * REFUSE_MARK: a file that is made when a call was refused.
@@ -32,13 +33,16 @@
 /* How long a child may take, in seconds. */
 #define CHILD_LIMIT 30
 
+/* How many bytes a test asks for to learn whether a growth was refused (crates/testing/src/again.rt). */
+#define ASKED 1000003
+
 /* Of a thousand calls of a thread that is shaken, how many sleep and how many give way, and how long a sleep is at most. */
 #define SLEEPS 10
 #define YIELDS 50
 #define NANOSECONDS 100000
 
 static long growths, reads, writes, threads;
-static int is_child;
+static int is_child, has_refused;
 
 /* What the variables say; a number is -1 where its variable is not set. */
 struct settings {
@@ -182,6 +186,7 @@ static ssize_t refuse_device(void)
 
 static void *refuse_growth(void)
 {
+    __atomic_store_n(&has_refused, 1, __ATOMIC_SEQ_CST);
     errno = ENOMEM;
     return NULL;
 }
@@ -218,6 +223,8 @@ void *malloc(size_t size)
     if (next == NULL)
         next = dlsym(RTLD_NEXT, "malloc");
     shake();
+    if (size == ASKED)
+        return __atomic_load_n(&has_refused, __ATOMIC_SEQ_CST) ? refuse_growth() : next(size);
     return is_growth_refused() ? refuse_growth() : next(size);
 }
 

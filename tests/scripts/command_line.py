@@ -29,6 +29,9 @@ Arguments:
 
 Options:
   -h, --help  Print help
+
+Example:
+  proxy_run turns < script.json
 """
 
 # what stands after each refusal but a call for help

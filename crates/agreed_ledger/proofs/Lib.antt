@@ -1,3 +1,4 @@
 mod CellLaws
 mod SequenceLaws
 mod StretchLaws
+mod Tickets

@@ -76,3 +76,32 @@ pub record HasMoved
   pub moves :
       after.moves
       ≡ before.moves ++ (record { range = range; date = date; dest = destination }) ∷ []
+
+-- ---- the statements of the law
+
+-- The second ticket is the first one with one more record, which has the moves that stood before the
+-- first one.
+pub record Continues
+    (config : Config) (moves : List Move) (t : TicketView) (p : ProxyNumber) (batch : List Given)
+    (u : TicketView) : Type 0 where
+  pub row : u.row ≡ t.row + 1
+  pub records : u.records ≡ t.records ++ record_after config t.records moves p batch ∷ []
+
+-- of two batches that are sequenced one after the other, the second ticket continues the first one
+abbrev pub TicketsContinue : Type 0
+TicketsContinue =
+    (config : Config) (before between after : SequencedView) (p q : ProxyNumber)
+    (batch next : List Given) (t u : TicketView)
+    → HasSequenced config before p batch between t → HasSequenced config between q next after u
+    → Continues config before.moves t q next u
+
+-- a batch that is sequenced after a move has the moves before it and that one
+abbrev pub BatchesHaveTheMoveBefore : Type 0
+BatchesHaveTheMoveBefore =
+    (config : Config) (before between after : SequencedView) (range : Range)
+    (destination : ResolverNumber) (date : Version) (p : ProxyNumber) (batch : List Given)
+    (t : TicketView)
+    → HasMoved before range destination between date → HasSequenced config between p batch after t
+    → let moves =
+    before.moves ++ (record { range = range; date = date; dest = destination }) ∷ [] in
+    t.records ≡ before.records ++ record_after config before.records moves p batch ∷ []

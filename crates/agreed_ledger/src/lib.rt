@@ -9,6 +9,7 @@
 #![tactic(auto)]
 
 mod column;
+pub mod laws;
 mod ledger;
 mod naming;
 mod notes;

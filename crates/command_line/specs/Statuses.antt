@@ -16,12 +16,7 @@ abbrev pub IfRan : Status → (RunStatus → Type 0) → Type 0
 IfRan (Ran status) property = property status
 IfRan (CommandLineRefused text) property = ⊥
 
--- the command line was refused, or an allocation failed
-abbrev pub IsRejected : Status → Type 0
-IsRejected (Ran status) = status ≡ OutOfMemory
-IsRejected (CommandLineRefused text) = Unit {0}
-
--- the same; the text of a refused command line is this one
-abbrev pub IsRejectedWith : List ℕ → Status → Type 0
-IsRejectedWith expected (Ran status) = status ≡ OutOfMemory
-IsRejectedWith expected (CommandLineRefused text) = string_bytes text ≡ expected
+-- the command line was refused with a text that has this property, or an allocation failed
+abbrev pub IsRejectedWith : (IsText : List ℕ → Type 0) → Status → Type 0
+IsRejectedWith IsText (Ran status) = status ≡ OutOfMemory
+IsRejectedWith IsText (CommandLineRefused text) = IsText (string_bytes text)

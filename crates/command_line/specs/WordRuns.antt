@@ -2,7 +2,8 @@
 use Rattle.std.specs.Prelude.{◌≡◌, ◌≢◌, ◌⊎◌, ℕ, List, [], Option, Some, None}
 use Rattle.clap.specs.Words.{Text, fault_of, matches_of}
 use Rattle.mode_choice.specs.CommandLine.{ModeNames, command_line, mode_of}
-use Rattle.command_line.specs.Statuses.{IsRejected}
+use Rattle.mode_choice.specs.Rejections.{IsTextOf}
+use Rattle.command_line.specs.Statuses.{IsRejectedWith}
 use Rattle.mode_choice.specs.declared.mode.Mode.{Mode}
 use Rattle.mode_choice.specs.declared.mode.Mode.TheVariants.{Fold, Turns, Threads}
 use Rattle.command_line.specs.declared.status.Status.{Status}
@@ -62,12 +63,13 @@ LeavesByStatus (CommandLineRefused text) unchanged leaves = unchanged
 abbrev pub RunsOrRunsOut : Status → Type 0 → Type 0 → Type 0
 RunsOrRunsOut status unchanged runs = ((status ≡ Ran OutOfMemory) × unchanged) ⊎ runs
 
--- what `clap` reads of the words decides the run: if it refuses them, the devices are unchanged;
--- if it takes them, their mode runs, unless an allocation fails before
+-- what `clap` reads of the words decides the run: if it refuses them, the text tells one of its faults,
+-- and the devices are unchanged; if it takes them, their mode runs, unless an allocation fails before
 pub record RunsWords
     (words : List Text) (status : Status) (unchanged : Type 0) (runs : Mode → Type 0) :
     Type 0 where
   pub names : ModeNames
-  pub refused : fault_of (command_line names) words ≢ [] → IsRejected status × unchanged
+  pub refused : fault_of (command_line names) words ≢ []
+      → IsRejectedWith (IsTextOf (fault_of (command_line names) words)) status × unchanged
   pub taken : fault_of (command_line names) words ≡ [] → RunsOrRunsOut status unchanged
       (RunsMode (mode_of (matches_of (command_line names) words)) runs)

@@ -1,10 +1,10 @@
 //! A run of the program by the words after its name.
-ghost use Rattle.std.specs.Prelude.{◌≡◌, ◌-◌, ◌^◌, ◌<◌, map};
+ghost use Rattle.std.specs.Prelude.{◌≡◌, ◌≢◌, ◌-◌, ◌^◌, ◌<◌, [], map};
 ghost use Rattle.fold_run.specs.Text.{fold_text};
 ghost use Rattle.mode_choice.specs.KnownLines.{IsFoldLine, IsRejectedLine, IsThreadsLine};
 ghost use Rattle.mode_choice.specs.KnownLines.{IsTurnsLine};
 ghost use Rattle.mode_choice.specs.declared.mode.Mode.{Mode as TheMode};
-ghost use Rattle.command_line.specs.Statuses.{IfRan, IsRejected};
+ghost use Rattle.command_line.specs.Statuses.{IfRan, IsRejectedWith};
 ghost use Rattle.command_line.specs.WordRuns.{LeavesByStatus, LeavesDevicesIn, RunsBy, RunsIn};
 ghost use Rattle.command_line.specs.WordRuns.{RunsOrRunsOut, RunsWords};
 ghost use Rattle.threads_run.specs.Runs.{RunsThreads};
@@ -43,7 +43,8 @@ pub fn run_words<'a, W: AsStr, R: AllocGlobal + Threads + Wait + Sync, S: Source
         IsThreadsLine (map W.text words.entry.now) → RunsOrRunsOut result unchanged (IfRan result
         (RunsThreads S.Source source.old source.new T.Sink sink.old sink.new)) }
     ensures rejected { let unchanged = (source.new ≡ source.old) × (sink.new ≡ sink.old) in
-        IsRejectedLine (map W.text words.entry.now) → IsRejected result × unchanged }
+        IsRejectedLine (map W.text words.entry.now)
+        → IsRejectedWith (λ text. text ≢ []) result × unchanged }
     ensures devices { let unchanged = (source.new ≡ source.old) × (sink.new ≡ sink.old) in
         LeavesByStatus result unchanged (λ status. (mode : TheMode)
         × LeavesDevicesIn mode S.Source source.old source.new T.Sink sink.old sink.new status) }

@@ -8,5 +8,6 @@ pub mod JoinedStarts
 pub mod AddedOwners
 pub mod MadeMaps
 pub mod CountedPieces
+pub mod OneCount
 pub mod WalkedOwners
 pub mod AskedStarts

@@ -11,7 +11,7 @@ use Rattle.dated_owners.specs.declared.later_owners.LaterOwner.{LaterOwner}
 use Rattle.dated_owners.specs.LaterOwners.{owner_from, with_first, needed}
 use Rattle.dated_owners.specs.Starts.{value_from, AreKept, with_values, joined, moves_from, moves_of}
 use Rattle.dated_owners.specs.MergedOwners.{WalkAlike}
-use Rattle.dated_owners.specs.Answers.{AddsOwner, GainsMove, AsksOneMore, KeepsAsking}
+use Rattle.dated_owners.specs.Answers.{AddsOwner, GainsMove, AsksOneMore, KeepsAsking, WalksAlike}
 use Rattle.dated_owners.proofs.KeyStarts.{value_changed_all}
 use Rattle.dated_owners.proofs.LaterOwnerLaws.{needed_left, with_first_more}
 use Rattle.dated_owners.proofs.JoinedStarts.{Starts, owners_kept, kept_changed_all}
@@ -87,20 +87,25 @@ sweep_asks map next old new moves asks more date is then kept swept = forgetting
 
 -- ---- owners are merged
 
-pub merge_asks : (map next : OwnerMapView) (old new : Starts) → next.oldest ≡ map.oldest → next.last_date ≡ map.last_date → map.moves ≡ moves_of old → next.moves ≡ moves_of new → AreKept old → AreKept new
-    → ((key : Key) → WalkAlike (value_from [] old key) (value_from [] new key)) → KeepsAsking map next
-merge_asks map next old new oldest date is then kept kept_too walks moves asks =
+pub merge_walks : (map next : OwnerMapView) (old new : Starts) → map.moves ≡ moves_of old → next.moves ≡ moves_of new → AreKept old → AreKept new
+    → ((key : Key) → WalkAlike (value_from [] old key) (value_from [] new key)) → WalksAlike map next
+merge_walks map next old new is then kept kept_too walks =
+    record {
+      visits = λ key bound r.
+          ap (walk_visits bound r) (owners_of_map next new key then kept_too)
+          ∙ sym ((walks key).visits bound r)
+          ∙ sym (ap (walk_visits bound r) (owners_of_map map old key is kept));
+      last_owner = λ key r.
+          ap (is_last r) (owners_of_map next new key then kept_too)
+          ∙ sym ((walks key).last r)
+          ∙ sym (ap (is_last r) (owners_of_map map old key is kept));
+    }
+
+pub merge_asks : (map next : OwnerMapView) → next.oldest ≡ map.oldest → next.last_date ≡ map.last_date → WalksAlike map next → KeepsAsking map next
+merge_asks map next oldest date walks moves asks =
     record {
       in_order = asks.in_order;
       last = date ∙ asks.last;
-      visits = λ bound r key above.
-          ap (walk_visits bound r) (owners_of_map next new key then kept_too)
-          ∙ sym ((walks key).visits bound r)
-          ∙ sym (ap (walk_visits bound r) (owners_of_map map old key is kept))
-          ∙ asks.visits bound r key (omega (arith, oldest, above));
-      last_owner = λ r key.
-          ap (is_last r) (owners_of_map next new key then kept_too)
-          ∙ sym ((walks key).last r)
-          ∙ sym (ap (is_last r) (owners_of_map map old key is kept))
-          ∙ asks.last_owner r key;
+      visits = λ bound r key above. walks.visits key bound r ∙ asks.visits bound r key (omega (arith, oldest, above));
+      last_owner = λ r key. walks.last_owner key r ∙ asks.last_owner r key;
     }

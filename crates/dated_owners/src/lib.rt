@@ -10,6 +10,7 @@
 
 mod flags;
 mod later_owners;
+pub mod laws;
 mod merging;
 mod owner_map;
 mod pieces;

@@ -1,11 +1,11 @@
 //! The map of owners, as its callers see it: ranges move, the resolvers asked about a range are
 //! found, and old owners are forgotten.
 
-ghost use Rattle.std.specs.Prelude.{◌≡◌, ◌≤◌, [], max, None, IfOk, OnOk, IfErr, OnErr};
+ghost use Rattle.std.specs.Prelude.{◌≡◌, ◌≤◌, [], max, IfOk, OnOk, IfErr, OnErr};
 ghost use Rattle.model.specs.declared.moves.Move.{Move};
 ghost use Rattle.model.specs.OwnerMaps.{StandsForMoves};
 ghost use Rattle.dated_owners.specs.Pieces.{CountsPieces};
-ghost use Rattle.dated_owners.specs.Answers.{AddsOwner, GainsMove, KeepsMoves, AsksOneMore, KeepsAsking};
+ghost use Rattle.dated_owners.specs.Answers.{AddsOwner, IsMoved, KeepsMoves, KeepsAsking, WalksAlike};
 ghost use Rattle.dated_owners.specs.Answers.{AreReaders, AreWriters};
 ghost use Rattle.dated_owners.specs.Walks.{askers};
 ghost use Rattle.dated_owners.specs.Refusals.{move_fault, refusal_fault};
@@ -120,15 +120,10 @@ impl OwnerMap {
         date: Version,
         dest: ResolverNumber,
     ) -> Result<(), Refusal>
-        ensures ok { OnOk result (move_fault self.old date dest ≡ None) }
+        ensures moved { let m : Move = record { range = range.now; date = date; dest = dest } in
+            OnOk result (IsMoved self.old m self.new) }
         ensures refused { let fault = move_fault self.old date dest in
             IfErr result (λ refusal. refusal_fault refusal ≡ fault) }
-        ensures resolvers { self.new.resolvers ≡ self.old.resolvers }
-        ensures oldest { self.new.oldest ≡ self.old.oldest }
-        ensures stands { let m : Move = record { range = range.now; date = date; dest = dest } in
-            OnOk result (GainsMove self.old m self.new) }
-        ensures asks { let m : Move = record { range = range.now; date = date; dest = dest } in
-            OnOk result (AsksOneMore self.old m self.new) }
         ensures err { OnErr result (self.new ≡ self.old) }
     {
         if self.resolvers <= dest {
@@ -223,6 +218,7 @@ impl OwnerMap {
     pub fn forget(&mut self, oldest: Version)
         ensures resolvers { self.new.resolvers ≡ self.old.resolvers }
         ensures oldest { self.new.oldest ≡ max self.old.oldest oldest }
+        ensures date { self.new.last_date ≡ self.old.last_date }
         ensures stands { KeepsMoves self.old self.new }
         ensures asks { KeepsAsking self.old self.new }
     {
@@ -240,11 +236,13 @@ impl OwnerMap {
     /// owners, but then no longer stands for moves. Without memory for a piece, that one stays as it
     /// is.
     ///
-    /// Of the owners of a key with one date, each resolver is left once, and all but the last of them
-    /// come in the order of their numbers; neighbours with equal owners are joined.
+    /// At each key the last owner stays the same. Which other owners of one date are left, and in which
+    /// order, is free, as long as each walk visits the same resolvers.
     pub fn merge(&mut self)
         ensures resolvers { self.new.resolvers ≡ self.old.resolvers }
         ensures oldest { self.new.oldest ≡ self.old.oldest }
+        ensures date { self.new.last_date ≡ self.old.last_date }
+        ensures walks { WalksAlike self.old self.new }
         ensures asks { KeepsAsking self.old self.new }
     {
         if self.left.max(FEW_OWNERS) <= self.added {

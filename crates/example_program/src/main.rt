@@ -6,9 +6,11 @@
 ghost use Rattle.std.specs.Prelude.{◌≡◌, length, IfOk};
 
 use agreed_ledger::{BlankLedger, Ledger, Naming, Sequencer};
-use model::{Config, Finished, Routing, Version};
 use mutation::{Admitted, Batch, GivenRange, Mutation, Transaction, admit_owned};
-use shared_cluster::{AllResolvers, CommitFault, NotedFinished, SharedProxy, SharedResolver};
+use shared_cluster::{
+    AllResolvers, CommitFault, Config, ConfigRefusal, Finished, NotedFinished, Routing, SharedProxy,
+    SharedResolver, Version,
+};
 use std::alloc::{AllocError, Global};
 use std::marker::Brand;
 use std::sync::Wait;
@@ -26,7 +28,7 @@ const METADATA: [(&[u8], &[u8]); 2] = [
 #[derive(Debug, Drop, Error)]
 enum Fault {
     #[error("the numbers of the cluster: {0}")]
-    Numbers(#[from] model::Refusal),
+    Numbers(#[from] ConfigRefusal),
     #[error("a range of keys: {0}")]
     Range(#[from] system_keys::Refusal),
     #[error("a transaction or a batch: {0}")]

@@ -57,7 +57,8 @@ fn fold_each(
 {
     let mut folded = FoldedRows::new(alloc, resolvers);
     'rows: while !reader.take_end_array() {
-        folded.fold_next(alloc, reader, depth)?;
+        let next = folded.fold_next(alloc, reader, depth)?;
+        folded = next;
     }
     Some(folded)
 }
@@ -75,15 +76,24 @@ impl FoldedRows {
     }
 
     /// Folds the next row of a list.
-    fn fold_next(&mut self, alloc: Global, reader: &mut TokenReader<'_>, depth: usize) -> Option<()>
-        ensures { IfSome result (λ _. (raw : TheRawRow)
+    fn fold_next(
+        self,
+        alloc: Global,
+        reader: &mut TokenReader<'_>,
+        depth: usize,
+    ) -> Option<FoldedRows>
+        ensures { IfSome result (λ next. (raw : TheRawRow)
             × Takes row_shape depth reader.old raw reader.new
-            × IsNextFolded raw self.old self.new) }
+            × IsNextFolded raw self next) }
     {
         let row = self.take_row(alloc, reader, depth)?;
-        self.version = row.version;
+        let version = row.version;
         match self.journal.apply(row) {
-            Ok(()) => Some(()),
+            Ok(journal) => Some(FoldedRows {
+                resolvers: self.resolvers,
+                version,
+                journal,
+            }),
             Err(_) => None,
         }
     }

@@ -1,6 +1,5 @@
 -- Inboxes without names.
-use Rattle.std.specs.Prelude.{◌≡◌, ℕ, List, ◌++◌, ◌∷◌, [], length, slice_get, Some, nat_lt}
-use Rattle.std.specs.Prelude.{if◌then◌else◌}
+use Rattle.std.specs.Prelude.{◌≡◌, ℕ, List, length, slice_get, Some}
 use Rattle.inboxes.specs.Places.{Place}
 use Rattle.inboxes.specs.Ends.{IsEach, ProxyView, fresh_sender}
 

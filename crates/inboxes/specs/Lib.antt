@@ -12,6 +12,8 @@ pub mod Places
 pub mod Ends
 -- what a proxy sends through its ends
 pub mod Sending
+-- edge cases of an ended sender
+pub mod Edges
 -- how many messages were sent and taken
 pub mod Counts
 -- inboxes without names

@@ -1,5 +1,5 @@
 -- What a proxy sends through its ends.
-use Rattle.std.specs.Prelude.{◌≡◌, ◌⊎◌, ℕ, ◌<◌, ◌≤◌, List, [], ◌∷◌, ◌++◌, length, slice_get}
+use Rattle.std.specs.Prelude.{◌≡◌, ◌⊎◌, ℕ, List, [], ◌∷◌, ◌++◌, length, slice_get}
 use Rattle.std.specs.Prelude.{slice_set, Some, Bool, true, false, IsTrue, filter}
 use Rattle.inboxes.specs.declared.tag.Tag.{Tag}
 use Rattle.inboxes.specs.declared.tag.Kind.{Kind}

@@ -15,6 +15,7 @@
 mod blank;
 mod blank_inboxes;
 mod channels;
+mod edges;
 mod ended_sender;
 mod inbox_end;
 mod message;
@@ -28,6 +29,7 @@ mod taker;
 
 pub use blank_inboxes::BlankInboxes;
 pub use channels::Channels;
+pub use edges::ended_sender_edges;
 pub use ended_sender::EndedSender;
 pub use inbox_end::{FreshEnd, InboxEnd};
 pub use message::{Body, Message};
@@ -35,5 +37,6 @@ pub use proxy_senders::ProxySenders;
 pub use question::Question;
 pub use refusal::Refusal;
 pub use room::InboxRoom;
+pub use rule::{InOrder, Inbox};
 pub use tag::{Kind, Tag};
 pub use taker::{Counts, Taker};

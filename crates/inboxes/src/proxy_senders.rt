@@ -56,6 +56,7 @@ impl<N: Naming, C: Question, M: Channels> ProxySenders<N, C, M> {
     pub fn ends(&self) -> usize
         ensures value { result ≡ length self.now.ends }
         ensures all { result ≡ N.cells.config.resolvers }
+        ensures kept { AreSenders self.now.proxy N.cells.config.resolvers self.now.ends }
     {
         self.ends.len()
     }

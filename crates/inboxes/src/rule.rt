@@ -104,7 +104,7 @@ impl<C: Question> Lesson<Message<C>, View> for Compares {
 pub(crate) type Post<C> = RuledSender<Message<C>, View, InOrder>;
 
 /// The receiving end of an inbox.
-pub(crate) type Inbox<C> = RuledReceiver<Message<C>, View, InOrder>;
+pub type Inbox<C> = RuledReceiver<Message<C>, View, InOrder>;
 
 /// A pass of an inbox.
 pub(crate) type Hand<C> = Pass<Message<C>, View>;

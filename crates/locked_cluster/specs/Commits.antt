@@ -1,5 +1,5 @@
 -- What a commit does. *Profile*: all of it.
-use Rattle.std.specs.Prelude.{◌≡◌, List, slice_get, Some, IsFalse}
+use Rattle.std.specs.Prelude.{◌≡◌, List, slice_get, Option, Some, IsFalse}
 use Rattle.model.specs.Numbers.{ProxyNumber, RowNumber}
 use Rattle.model.specs.Configs.{Config}
 use Rattle.model.specs.Records.{Record, MovesFollow}
@@ -56,16 +56,18 @@ WasFinishRefused config p ready refusal =
     × IsFalse (awaits_before v.proxy.begun ready.row) × IsFinishRefusal v ready refusal
 
 -- Each fault of a commit of a proxy returns what its phase was given, the batch or what holds it, and
--- its refusal is one of that phase.
-abbrev pub HandsBack : {N : Type 0} → Cells → ProxyNumber → List Given → CommitFault N → Type 0
-HandsBack cells p batch (faults.Sequencing refusal returned) =
+-- its refusal is one of that phase. (`whose`: whose requests the way to ask takes.)
+abbrev pub HandsBack :
+    {N : Type 0} → Cells → (whose : Option ProxyNumber) → ProxyNumber → List Given
+    → CommitFault N → Type 0
+HandsBack cells whose p batch (faults.Sequencing refusal returned) =
     (returned ≡ batch) × WasSequenceRefused cells p refusal
-HandsBack cells p batch (faults.Beginning refusal ticket) =
+HandsBack cells whose p batch (faults.Beginning refusal ticket) =
     HoldsBatch p ticket.row ticket.records batch
     × WasBeginRefused cells.config p ticket refusal
-HandsBack cells p batch (faults.Resolving refusal begun) =
+HandsBack cells whose p batch (faults.Resolving refusal begun) =
     HoldsBatch p begun.row begun.records batch
-    × IsAskAllRefusal cells.config begun.requests refusal
-HandsBack cells p batch (faults.Finishing refusal ready) =
+    × IsAskAllRefusal cells.config whose begun.requests refusal
+HandsBack cells whose p batch (faults.Finishing refusal ready) =
     HoldsBatch p ready.row ready.records batch
     × WasFinishRefused cells.config p ready refusal

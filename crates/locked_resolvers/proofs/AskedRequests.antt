@@ -1,5 +1,5 @@
 -- Requests that are asked one after another, of resolvers in the order of their numbers.
-use Rattle.std.proofs.Common.{◌≡◌, sym, ap, ◌∙◌, subst, ℕ, ◌+◌, ◌<◌, ◌⊎◌, inl, inr, List, [], ◌∷◌, ◌++◌, length, take, slice_get, Some, length-append, arith}
+use Rattle.std.proofs.Common.{◌≡◌, sym, ap, ◌∙◌, subst, ℕ, ◌+◌, ◌<◌, ◌⊎◌, inl, inr, List, [], ◌∷◌, ◌++◌, length, take, slice_get, Option, None, Some, length-append, arith}
 use Rattle.std.proofs.lemmas.Option.{slice_get_within}
 use Rattle.model.specs.Configs.{Config}
 use Rattle.model.specs.Shares.{each_below}
@@ -7,7 +7,7 @@ use Rattle.model.proofs.History.Growth.{push_cases}
 use Rattle.model.proofs.Journals.ReplyRows.{length-each_below, slice_get-each_below}
 use Rattle.locked_resolvers.specs.Requests.{RequestView}
 use Rattle.locked_resolvers.specs.NotedReplies.{NotedReplyView, IsReplyToRequest}
-use Rattle.locked_resolvers.specs.Asking.{AreRepliesInOrder, IsAskAllRefusal, IsAskRefusal}
+use Rattle.locked_resolvers.specs.Asking.{AreRepliesInOrder, AreTaken, IsAskAllRefusal, IsAskRefusal}
 use Rattle.locked_resolvers.specs.declared.refusal.Refusal.{Refusal}
 use Rattle.locked_resolvers.proofs.Lists.{take_next}
 
@@ -30,9 +30,13 @@ order_next requests k q replies noted at so_far to = subst (λ (qs : List Reques
         by place p n (inr sooner_q) (inr sooner_n) = so_far.each place p n sooner_q.1 sooner_n.1
 
 -- what refuses one of the requests refuses them all
-pub one_refused : (config : Config) (requests : List RequestView) (k : ℕ) (q : RequestView) (refusal : Refusal) → slice_get requests k ≡ Some q → IsAskRefusal config q refusal → IsAskAllRefusal config requests refusal
-one_refused config requests k q refusal at (inl memory) = inl memory
-one_refused config requests k q refusal at (inr refused) = inr (k, q, at, refused)
+pub one_refused : (config : Config) (whose : Option ℕ) (requests : List RequestView) (k : ℕ) (q : RequestView) (refusal : Refusal) → AreTaken whose requests → slice_get requests k ≡ Some q → IsAskRefusal config q refusal → IsAskAllRefusal config whose requests refusal
+one_refused config whose requests k q refusal taken at (inl memory) = inr (taken, inl memory)
+one_refused config whose requests k q refusal taken at (inr refused) = inr (taken, inr (k, q, at, refused))
+
+-- a way to ask that takes the requests of every proxy takes these
+pub all_taken : (requests : List RequestView) → AreTaken None requests
+all_taken requests place q at = tt
 
 -- ---- the numbers of all resolvers
 

@@ -1,9 +1,8 @@
 //! Asking resolvers one after another, by entering each.
 
 ghost use Rattle.std.specs.Prelude.{◌≡◌, IfErr, IfOk, MatchResult};
-ghost use Rattle.model.specs.Configs.{IsConfig};
 ghost use Rattle.model.specs.Shares.{each_below};
-ghost use Rattle.locked_resolvers.specs.Asking.{IsAskRefusal};
+ghost use Rattle.locked_resolvers.specs.Asking.{AreNotAll, IsAskRefusal};
 ghost use Rattle.locked_resolvers.specs.NotedReplies.{IsReplyToRequest};
 ghost use Rattle.locked_resolvers.specs.declared.refusal.Refusal.TheVariants as refusals;
 
@@ -25,15 +24,13 @@ pub struct AllResolvers<'a, 'l, N: Naming> {
 }
 
 impl<'a, 'l, N: Naming> AllResolvers<'a, 'l, N> {
-    /// Takes all resolvers of the cluster in the order of their numbers; otherwise fails with
-    /// `WrongResolver`. Does not allocate.
-    // (that the numbers of the cluster are within their limits is known to whoever has the ledger)
+    /// Takes all resolvers of the cluster in the order of their numbers. Fails with `WrongResolver`
+    /// exactly if the list is another. Does not allocate.
     pub fn new(resolvers: &'a [SharedResolver<'l, N>]) -> Result<AllResolvers<'a, 'l, N>, Refusal>
         ensures { MatchResult result
             (λ _. resolvers.now ≡ each_below N.cells.config.resolvers)
             (λ refusal. (refusal ≡ refusals.WrongResolver)
-            × (IsConfig N.cells.config
-            → resolvers.now ≡ each_below N.cells.config.resolvers → ⊥)) }
+            × AreNotAll N.cells.config resolvers.now) }
     {
         if resolvers.is_empty() {
             return Err(Refusal::WrongResolver);
@@ -70,6 +67,10 @@ impl<'a, 'l, N: Naming> AllResolvers<'a, 'l, N> {
 }
 
 impl<N: Naming> Asking<N> for AllResolvers<'_, '_, N> {
+    ghost use Rattle.std.specs.Prelude.{None};
+
+    ghost takes = { λ _. None };
+
     fn ask_all<R: Wait>(
         &self,
         rt: &R,

@@ -1,6 +1,6 @@
 //! The resolver that threads share.
 
-ghost use Rattle.std.specs.Prelude.{◌≡◌, ◌<◌, ◌≤◌, length, IfOk, IfErr, MatchResult};
+ghost use Rattle.std.specs.Prelude.{◌≡◌, ◌<◌, ◌≤◌, length, IfOk, IfErr, IsTrue, MatchResult};
 ghost use Rattle.state_memory.specs.Answers.{IsRememberedCount};
 ghost use Rattle.locked_resolvers.specs.Resolvers.{HasOffered, IsLockedResolver, IsOfferRefusal};
 ghost use Rattle.locked_resolvers.specs.Resolvers.{IsResolveRefusal, ShowsReply, TellsTaken};
@@ -138,9 +138,18 @@ impl<'l, N: Naming> SharedResolver<'l, N> {
         }
     }
 
-    /// Closes the resolver: calls that wait and later ones fail with `Closed`.
-    pub fn close<R: Wait>(&self, rt: &R) {
-        self.lock(rt).close();
+    /// Closes the resolver: calls that wait and later ones fail with `Closed`. Returns the resolver,
+    /// still locked, which shows that it is closed.
+    pub fn close<R: Wait>(&self, rt: &R) -> ResolverGuard<'_, N>
+        ensures kept { IsLockedResolver N.cells.config result }
+        ensures number { result.memory.number ≡ self.now }
+        ensures closed { IsTrue result.closed }
+    {
+        let mut guard = self.lock(rt);
+        guard.close();
+        // (its contract says what the type keeps)
+        let _number = guard.number();
+        guard
     }
 }
 

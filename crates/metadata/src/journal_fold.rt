@@ -1,6 +1,6 @@
 //! Rows of a journal, folded one after another.
 
-ghost use Rattle.std.specs.Prelude.{◌≡◌, [], IfOk, OnOk};
+ghost use Rattle.std.specs.Prelude.{◌≡◌, [], IfOk};
 ghost use Rattle.model.specs.Metadata.{after_journal_row};
 
 use crate::kept_entries::KeptEntries;
@@ -36,13 +36,15 @@ impl JournalFold {
         }
     }
 
-    /// Applies the next row, whose keys and values are moved, and not copied. Fails only with
-    /// `OutOfMemory`; a part of the row may then be applied.
-    pub fn apply(&mut self, row: JournalRow) -> Result<(), OutOfMemory>
-        ensures { OnOk result (self.new ≡ after_journal_row self.old row) }
+    /// Returns what is left after the next row, whose keys and values are moved, and not copied.
+    /// Fails only with `OutOfMemory`; what the rows before left is then dropped.
+    pub fn apply(self, row: JournalRow) -> Result<JournalFold, OutOfMemory>
+        ensures { IfOk result (λ folded. folded ≡ after_journal_row self row) }
     {
-        let locked = self.entries.is_locked();
-        self.entries.apply_own_states(locked, row.states)
+        let mut entries = self.entries;
+        let locked = entries.is_locked();
+        entries.apply_own_states(locked, row.states)?;
+        Ok(JournalFold { entries })
     }
 
     /// The metadata that the rows leave. Fails only with `OutOfMemory`.

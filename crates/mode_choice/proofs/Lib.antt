@@ -1,3 +1,4 @@
 pub mod GivenValue
 pub mod KnownWords
 pub mod OfferedModes
+pub mod Endings

@@ -19,3 +19,16 @@ IsThreadsLine words = words ≡ codes "threads" ∷ []
 abbrev pub IsRejectedLine : List Text → Type 0
 IsRejectedLine words = (words ≡ codes "Threads" ∷ [])
     ⊎ (words ≡ codes "--help" ∷ []) ⊎ (words ≡ codes "-h" ∷ [])
+
+-- which command lines of one word fold, carry out events, commit in threads, or are rejected; no words
+-- fold
+pub record KnownLinesAreThese : Type 0 where
+  pub no_words : IsFoldLine []
+  pub fold : IsFoldLine (codes "fold" ∷ [])
+  pub turns : IsTurnsLine (codes "turns" ∷ [])
+  pub threads : IsThreadsLine (codes "threads" ∷ [])
+  pub other_letters : IsRejectedLine (codes "Threads" ∷ [])
+  pub help : IsRejectedLine (codes "--help" ∷ []) × IsRejectedLine (codes "-h" ∷ [])
+  pub turns_is_no_fold : IsFoldLine (codes "turns" ∷ []) → ⊥
+  pub twice_is_no_fold : IsFoldLine (codes "fold" ∷ codes "fold" ∷ []) → ⊥
+  pub fold_is_no_rejection : IsRejectedLine (codes "fold" ∷ []) → ⊥

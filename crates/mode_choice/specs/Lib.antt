@@ -2,6 +2,8 @@
 
 -- the postcondition of a choice
 pub mod Choices
+-- how words that are refused are answered
+pub mod Rejections
 -- what the words are to `clap`
 pub mod CommandLine
 -- command lines that are written out

@@ -1,15 +1,17 @@
 //! The choice of a mode: what `clap` reads from the words, or the text of its refusal.
-ghost use Rattle.std.specs.Prelude.{◌≡◌, map};
+ghost use Rattle.std.specs.Prelude.{◌≡◌, IfOk, map, string_bytes};
 ghost use Rattle.clap.specs.Words.{kind_of};
 ghost use Rattle.clap.specs.declared.error.kind.ErrorKind.TheVariants as kinds;
 ghost use Rattle.mode_choice.specs.Choices.{ChoosesMode};
+ghost use Rattle.mode_choice.specs.Rejections.{DisplaysThen, TellsKind, ending_of};
 
 use crate::mode::Mode;
 use crate::reading::read_mode;
 use clap::Error;
 use clap::error::ErrorKind;
-use std::alloc::Global;
+use std::alloc::{AllocError, Global};
 use std::convert::AsStr;
+use std::fmt::Display;
 
 /// Why words choose no mode.
 #[derive(Debug, Drop)]
@@ -32,20 +34,44 @@ pub fn choose_mode<'a, W: AsStr>(alloc: Global, words: &'a [W]) -> Result<Mode, 
     }
 }
 
-// Follows the text of a refused command line, unless it asks for help: its words may name a file.
+// Follows the text of a refused command line, whose words may name a file.
 const HINT: &str = "hint: the script is read on standard input: proxy_run < script.json\n";
+
+// Follows the help.
+const EXAMPLE: &str = "\nExample:\n  proxy_run turns < script.json\n";
 
 // What follows from an error of `clap`.
 fn rejection_of(alloc: Global, error: &Error) -> Rejection
-    ensures { kind_of error.now ≡ kinds.OutOfMemory → result ≡ Rejection.OutOfMemory }
+    ensures memory { kind_of error.now ≡ kinds.OutOfMemory → result ≡ Rejection.OutOfMemory }
+    ensures told { TellsKind (kind_of error.now) result }
 {
-    let hint = match error.kind() {
-        ErrorKind::OutOfMemory => return Rejection::OutOfMemory,
-        ErrorKind::DisplayHelp => "",
-        _ => HINT,
-    };
-    match format!(in alloc; "{error}{hint}") {
+    let kind = error.kind();
+    if kind == ErrorKind::OutOfMemory {
+        return Rejection::OutOfMemory;
+    }
+    match displayed_then(alloc, error, ending_of(kind)) {
         Ok(text) => Rejection::Words(text),
         Err(_) => Rejection::OutOfMemory,
     }
+}
+
+// What the program adds to the text of an error of this kind.
+#[tactic(auto, using(crate::proofs::Endings::of_no_help))]
+fn ending_of(kind: ErrorKind) -> &'static str
+    ensures { result.now ≡ ending_of kind }
+{
+    match kind {
+        ErrorKind::DisplayHelp => EXAMPLE,
+        _ => HINT,
+    }
+}
+
+// What the value displays, and then the ending.
+fn displayed_then<E: Display>(alloc: Global, value: &E, ending: &str) -> Result<String, AllocError>
+    ensures { IfOk result (λ text.
+        DisplaysThen (E.output value.now) ending.now (string_bytes text)) }
+{
+    let mut text = value.to_string(alloc)?;
+    text.push_str(ending)?;
+    Ok(text)
 }

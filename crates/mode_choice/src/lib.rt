@@ -4,8 +4,10 @@
 #![tactic(auto)]
 
 mod choosing;
+mod known_lines;
 mod mode;
 mod reading;
 
 pub use choosing::{Rejection, choose_mode};
+pub use known_lines::known_lines_scenarios;
 pub use mode::Mode;

@@ -2,6 +2,10 @@
 //!
 //! Release 7.1, `Resolver.actor.cpp`, resolveBatch, and the ConflictSet of `SkipList.cpp`.
 
+ghost use Rattle.std.specs.Prelude.{◌≡◌, Ok};
+
+use system_keys::OutOfMemory;
+
 /// The verdict of a resolver, in the order Conflict, Too old, Committed.
 #[derive(Clone, Copy, Debug, PartialEq, Eq, PartialOrd, Ord)]
 pub enum Verdict {
@@ -13,4 +17,13 @@ pub enum Verdict {
     TooOld,
     /// Neither of these.
     Committed,
+}
+
+impl Verdict {
+    /// Returns a copy. Never fails.
+    pub fn copy(&self) -> Result<Verdict, OutOfMemory>
+        ensures { result ≡ Ok self.now }
+    {
+        Ok(*self)
+    }
 }

@@ -2,12 +2,11 @@
 //! standard output.
 #![tactic(auto)]
 
-ghost use Rattle.std.specs.Prelude.{codes};
+ghost use Rattle.std.specs.Prelude.{◌≡◌, codes};
 ghost use Rattle.scripts.specs.Lines.{line};
 ghost use Rattle.command_line.specs.Statuses.{IsRejectedWith};
 
-use command_line::{Status, run_words};
-use scripts::{Reader, RunStatus, Writer};
+use command_line::{Reader, RunStatus, Status, Writer, run_words};
 use std::alloc::Global;
 use std::env;
 use std::io::ErrorKind;
@@ -47,7 +46,7 @@ fn words(rt: &HostRuntime) -> Result<Vec<String>, Status> {
 // Refuses a command line with a word that is not UTF-8: `clap` takes text alone.
 fn words_are_no_text(alloc: Global) -> Status
     ensures { let text = line (codes "error: a word of the command line is not UTF-8") in
-        IsRejectedWith text result }
+        IsRejectedWith (λ told. told ≡ text) result }
 {
     match String::from_str(alloc, "error: a word of the command line is not UTF-8\n") {
         Ok(text) => Status::CommandLineRefused(text),

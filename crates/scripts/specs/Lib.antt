@@ -30,3 +30,5 @@ pub mod BatchScripts
 pub mod BatchShapes
 -- the first fault of a batch
 pub mod BatchChecks
+-- what a run writes, on small values
+pub mod Edges

@@ -5,6 +5,7 @@ pub mod KeptWrites
 pub mod Listed
 pub mod MapCalls
 pub mod MapStarts
+pub mod OneCount
 pub mod Overwritten
 pub mod Puts
 pub mod Reached

@@ -1,12 +1,13 @@
 -- What a history of writes answers, over every list of shares that it stands for, and why nothing
 -- was judged.
-use Rattle.std.specs.Prelude.{◌≡◌, ℕ, suc, ◌-◌, max, min, List, [], ◌∷◌, ◌++◌, length, IsTrue}
+use Rattle.std.specs.Prelude.{◌≡◌, ℕ, suc, ◌-◌, max, min, List, [], ◌∷◌, ◌++◌, length, IsTrue, codes}
 use Rattle.system_keys.specs.Keys.{Key, holds, is_key_below}
 use Rattle.system_keys.specs.Limits.{key_space_end}
 use Rattle.model.specs.Numbers.{Version}
 use Rattle.model.specs.declared.verdict.Verdict.{Verdict}
 use Rattle.model.specs.Verdicts.{judged_at, verdicts_after}
 use Rattle.model.specs.WriteHistories.{WriteHistoryView, ShareAt, all_judged, StandsForShares}
+use Rattle.model.specs.WriteHistories.{Write, last_at}
 use Rattle.share_judge.specs.declared.not_judged.NotJudged.{NotJudged}
 use Rattle.share_judge.specs.declared.not_judged.NotJudged.TheVariants.{OutOfMemory, NotKept}
 
@@ -70,3 +71,21 @@ pub record IsCount (last : Key → Version) (count : ℕ) : Type 0 where
   pub nexts : List Key
   pub steps : AreSteps last [] nexts
   pub counted : count ≡ suc (length nexts)
+
+-- ---- the statements of the law
+
+-- last versions have one count of steps
+abbrev pub StepsHaveOneCount : Type 0
+StepsHaveOneCount =
+    (last : Key → Version) (m n : ℕ) → IsCount last m → IsCount last n → m ≡ n
+
+-- the keys from `b` up to `d` are written at version 10
+abbrev pub b_to_d : Write
+b_to_d = record { range = record { begin = codes "b"; end = codes "d" }; version = 10 }
+
+-- before any write there is one step; one write inside the key space makes three, which is no other
+-- number
+pub record AWriteMakesThreeSteps : Type 0 where
+  pub none : IsCount (last_at []) 1
+  pub three : IsCount (last_at (b_to_d ∷ [])) 3
+  pub no_other : (n : ℕ) → IsCount (last_at (b_to_d ∷ [])) n → n ≡ 3

@@ -11,7 +11,7 @@ ghost use Rattle.share_judge.specs.Judged.{bound_of, verdict_by_steps, committed
 
 use crate::step_key::StepKey;
 use crate::step_map::StepMap;
-use crate::verdicts::{Verdicts, copy_verdicts};
+use crate::verdicts::Verdicts;
 use model::{Part, Verdict, Version};
 use system_keys::{Items, KeyRange, OutOfMemory};
 
@@ -48,7 +48,7 @@ pub(crate) fn judge_with_copy(
 {
     let (verdicts, listed) = judge_parts(steps, judging, parts)?;
     let verdicts = Items::from(verdicts);
-    let copy = copy_verdicts(&verdicts)?;
+    let copy = verdicts.copy()?;
     Ok((verdicts, copy, listed))
 }
 

@@ -9,6 +9,7 @@
 #![tactic(auto)]
 
 mod judging;
+pub mod laws;
 mod not_judged;
 mod step;
 mod step_key;

@@ -8,7 +8,7 @@ use Rattle.model.specs.declared.verdict.Verdict.{Verdict}
 use Rattle.model.specs.Requests.{Request, request_reply, request_verdicts, remembered_requests}
 use Rattle.model.specs.Offers.{OfferAnswer, OfferFault, answer_to}
 use Rattle.model.specs.Offers as offers
-use Rattle.model.specs.ResolverMemory.{ResolverView, StandsForRequests, Course as Way}
+use Rattle.model.specs.ResolverMemory.{ResolverView, StandsForRequests, Course as Way, course}
 use Rattle.model.specs.ResolverMemory as way
 use Rattle.model.specs.WriteHistories.{StandsForShares, shares_of}
 use Rattle.state_memory.specs.declared.answer.Answer.{Answer}
@@ -63,6 +63,17 @@ AnswersAfterJudged before q result =
     → IsAsSpecified fault_of answer_of result
     (answer_to before.number (length before.proxies) before.written.window judged q)
 
+-- what an answer tells of the course: the request was judged, or this reply was given again
+abbrev pub way_of : Answer → Way
+way_of (answers.Judged reply) = way.Judge
+way_of (answers.Again reply) = way.GiveAgain reply
+
+-- What the resolver keeps says by itself which fault the request has, and otherwise whether it is
+-- judged or gets a reply again, and which. Out of memory comes only for a request without a fault.
+abbrev pub TakesCourse :
+    (before : ResolverView) (q : Request) (result : Result Answer Refusal) → Type 0
+TakesCourse before q result = IsAsSpecified fault_of way_of result (course before q)
+
 -- whatever requests the resolver stood for, it stands for this one too
 abbrev pub GainsRequest : (before : ResolverView) (q : Request) (after : ResolverView) → Type 0
 GainsRequest before q after =
@@ -86,11 +97,27 @@ abbrev pub IsAfterAnswer : (before : ResolverView) (q : Request) (after : Resolv
 IsAfterAnswer before q after (answers.Judged reply) = GainsRequest before q after
 IsAfterAnswer before q after (answers.Again reply) = after ≡ before
 
+-- the resolver has come to the version of a request that was judged, and a repeat leaves its version
+abbrev pub ComesTo : (before : ResolverView) (q : Request) (after : ResolverView) → Answer → Type 0
+ComesTo before q after (answers.Judged reply) = after.version ≡ q.version
+ComesTo before q after (answers.Again reply) = after.version ≡ before.version
+
 -- whatever requests the resolver stands for, this is the reply to the next one
 abbrev pub RepliesAfterJudged : (before : ResolverView) (q : Request) (reply : Reply) → Type 0
 RepliesAfterJudged before q reply =
     (judged : List Request) → StandsForRequests before judged
     → reply ≡ request_reply before.written.window judged q
+
+-- the request was judged, and this is its reply
+pub record IsJudged
+    (before : ResolverView) (q : Request) (reply : Reply) (after : ResolverView) : Type 0 where
+  pub replied : RepliesAfterJudged before q reply
+  pub gains : GainsRequest before q after
+  pub forgets : ForgetsOldWrites before q after
+  pub version : after.version ≡ q.version
+  pub number : after.number ≡ before.number
+  pub proxies : length after.proxies ≡ length before.proxies
+  pub window : after.written.window ≡ before.written.window
 
 -- whatever requests the resolver stands for, these are the verdicts on the next one
 abbrev pub AreVerdictsAfterJudged :

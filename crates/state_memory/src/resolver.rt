@@ -5,10 +5,9 @@ ghost use Rattle.std.specs.Prelude.{OnOk, OnErr, None, Some, MatchOption, IsTrue
 ghost use Rattle.system_keys.specs.AsSpecified.{IsAsSpecified};
 ghost use Rattle.model.specs.ResolverMemory.{StandsForRequests, course};
 ghost use Rattle.model.specs.ResolverMemory as way;
-ghost use Rattle.state_memory.specs.Answers.{AnswersAfterJudged, IsAfterAnswer, GainsRequest};
-ghost use Rattle.state_memory.specs.Answers.{RepliesAfterJudged, IsRememberedCount, course_of};
-ghost use Rattle.state_memory.specs.Answers.{fault_of, ForgetsOldWrites, ForgetsIfJudged};
-ghost use Rattle.state_memory.specs.Answers.{AreVerdictsAfterJudged};
+ghost use Rattle.state_memory.specs.Answers.{AnswersAfterJudged, TakesCourse, IsAfterAnswer};
+ghost use Rattle.state_memory.specs.Answers.{ComesTo, ForgetsIfJudged, IsJudged, IsRememberedCount};
+ghost use Rattle.state_memory.specs.Answers.{fault_of, course_of, AreVerdictsAfterJudged};
 ghost use Rattle.share_judge.specs.Answers.{IfNotKept, IfOutOfMemory};
 ghost use Rattle.state_memory.specs.Kept.{AreNew, HasRoom, AllIncrease, HasNoted, all_kept, reply_of};
 ghost use Rattle.state_memory.specs.Kept.{kept_reply, IsPrepared};
@@ -149,6 +148,8 @@ impl Resolver {
     /// request's version.
     pub fn offer(&mut self, request: &Request) -> Result<Answer, Refusal>
         ensures answer { AnswersAfterJudged self.old request.now result }
+        ensures course { TakesCourse self.old request.now result }
+        ensures version { IfOk result (λ answer. ComesTo self.old request.now self.new answer) }
         ensures after { IfOk result (λ answer. IsAfterAnswer self.old request.now self.new answer) }
         ensures forgets { IfOk result (λ answer. ForgetsIfJudged self.old request.now self.new answer) }
         ensures number { self.new.number ≡ self.old.number }
@@ -177,13 +178,9 @@ impl Resolver {
     ) -> Result<(Reply, K), NotJudged<E, F>>
         requires next { course self.old request.now ≡ Ok way.Judge }
         requires callable { F.IsAlwaysCallable keep }
-        ensures reply { IfOk result (λ made. RepliesAfterJudged self.old request.now made.0) }
+        ensures judged { IfOk result
+            (λ made. IsJudged self.old request.now made.0 self.new) }
         ensures kept { IfOk result (λ made. F.post keep made.0.verdicts (Ok made.1)) }
-        ensures gains { IfOk result (λ made. GainsRequest self.old request.now self.new) }
-        ensures forgets { IfOk result (λ made. ForgetsOldWrites self.old request.now self.new) }
-        ensures number { self.new.number ≡ self.old.number }
-        ensures proxies { length self.new.proxies ≡ length self.old.proxies }
-        ensures window { self.new.written.window ≡ self.old.written.window }
         ensures err { OnErr result (self.new ≡ self.old) }
         ensures why { IfErr result (λ error. IfNotKept error (λ reason. (verdicts : _)
             × AreVerdictsAfterJudged self.old request.now verdicts
@@ -260,12 +257,7 @@ impl Resolver {
     /// Judges the request, which comes next, and returns the reply.
     fn judge(&mut self, request: &Request) -> Result<Reply, OutOfMemory>
         requires { course self.old request.now ≡ Ok way.Judge }
-        ensures reply { IfOk result (λ reply. RepliesAfterJudged self.old request.now reply) }
-        ensures gains { IfOk result (λ reply. GainsRequest self.old request.now self.new) }
-        ensures forgets { IfOk result (λ reply. ForgetsOldWrites self.old request.now self.new) }
-        ensures number { self.new.number ≡ self.old.number }
-        ensures proxies { length self.new.proxies ≡ length self.old.proxies }
-        ensures window { self.new.written.window ≡ self.old.written.window }
+        ensures judged { IfOk result (λ reply. IsJudged self.old request.now reply self.new) }
         ensures err { OnErr result (self.new ≡ self.old) }
     {
         match self.judge_with(request, |_verdicts| Ok::<(), Infallible>(())) {

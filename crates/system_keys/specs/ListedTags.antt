@@ -1,7 +1,7 @@
 -- Lists of tags in the value of a keyServers row: one spelling of each, and reading them from the
 -- front with the first fault met (this project's profile).
 use Rattle.std.specs.Prelude.{ℕ, zero, suc, ◌*◌, List, [], ◌∷◌, ◌++◌, length, drop, Bool, true}
-use Rattle.std.specs.Prelude.{◌&&◌, not, nat_lt, if◌then◌else◌, Option, Some, None, Result, Err}
+use Rattle.std.specs.Prelude.{◌≡◌, ◌<◌, ◌⊎◌, ◌&&◌, not, nat_lt, if◌then◌else◌, Option, Some, None, Result, Err}
 use Rattle.std.specs.List.{flat_map}
 use Rattle.std.specs.Option.{option_or}
 use Rattle.std.specs.declared.cmp.Ordering.{Ordering}
@@ -35,6 +35,10 @@ listed_tags_value tags = 0 ∷ 0 ∷ counted_tags tags.sources ++ counted_tags t
 -- the order of tags: by their locality, and then by their id
 abbrev pub tag_cmp : (a b : Tag) → Ordering
 tag_cmp a b = ordering_then (nat_cmp a.locality b.locality) (nat_cmp a.id b.id)
+
+-- the first tag is below the second: its locality is less, or that is the same and its id is less
+abbrev pub IsTagBelow : (a b : Tag) → Type 0
+IsTagBelow a b = (a.locality < b.locality) ⊎ ((a.locality ≡ b.locality) × (a.id < b.id))
 
 -- the tag is above the one before it, if there is one
 abbrev pub is_tag_above : Option Tag → Tag → Bool

@@ -1,7 +1,8 @@
 //! A list that contracts see as the list of its elements.
 
-ghost use Rattle.std.specs.Prelude.{◌≡◌};
+ghost use Rattle.std.specs.Prelude.{◌≡◌, IfOk};
 
+use crate::memory::OutOfMemory;
 use std::marker::Model;
 
 /// Owned elements in order. Converts from and into a `Vec<T>` without allocating.
@@ -24,6 +25,17 @@ impl<T> Items<T> {
         ensures { result.now ≡ self.now }
     {
         self.items.as_slice()
+    }
+}
+
+impl<T: Copy> Items<T> {
+    /// Returns a copy. Fails only with `OutOfMemory`.
+    pub fn copy(&self) -> Result<Items<T>, OutOfMemory>
+        ensures { IfOk result (λ copy. copy ≡ self.now) }
+    {
+        Ok(Items {
+            items: Vec::from_slice(*self.items.allocator(), &self.items)?,
+        })
     }
 }
 

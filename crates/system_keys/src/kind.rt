@@ -1,7 +1,9 @@
 //! The kinds of keys.
 
-ghost use Rattle.std.specs.Prelude.{◌≡◌};
+ghost use Rattle.std.specs.Prelude.{◌≡◌, Ok};
 ghost use Rattle.system_keys.specs.Families.{is_in, is_kept, kind_of, server_keys_family};
+
+use crate::memory::OutOfMemory;
 
 /// What a key is to the metadata (release 7.1; that the four families are all that is kept is this
 /// project's profile).
@@ -24,6 +26,15 @@ pub enum RowKind {
     NonMetadata,
     /// A key that does not start with `\xff`.
     Normal,
+}
+
+impl RowKind {
+    /// Returns a copy. Never fails.
+    pub fn copy(&self) -> Result<RowKind, OutOfMemory>
+        ensures { result ≡ Ok self.now }
+    {
+        Ok(*self)
+    }
 }
 
 /// How the keys of keyServers rows begin.

@@ -12,7 +12,8 @@ ghost use Rattle.system_keys.specs.Keys.{Key};
 ghost use Rattle.system_keys.specs.Families.{kind_of, is_of_kind};
 ghost use Rattle.system_keys.specs.Rows.{Servers, HaveSpelling, is_of_rows, key_servers_value};
 ghost use Rattle.system_keys.specs.Rows.{servers_at, tag_value, tag_at, AreBytes};
-ghost use Rattle.system_keys.specs.ListedTags.{ListedTags, listed_tags_value};
+ghost use Rattle.system_keys.specs.ListedTags.{ListedTags, listed_tags_value, tag_cmp, IsTagBelow};
+ghost use Rattle.std.specs.declared.cmp.Ordering.TheVariants.{Less, Equal, Greater};
 ghost use Rattle.system_keys.specs.Locations.{location_value, location_at, behind_zeros, HasValue};
 ghost use Rattle.system_keys.specs.Text.{text_of, bytes_of};
 
@@ -61,6 +62,13 @@ pub fn location_law()
     ensures first { (bytes more : List ℕ) (fault : RowFault)
         → location_at bytes ≡ Err fault → fault ≢ faults.Truncated
         → location_at (bytes ++ more) ≡ Err fault }
+{}
+
+/// Tags are ordered by their locality and then by their id. Two that compare as equal are one tag.
+pub fn tag_order_law()
+    ensures less { (a b : Tag) → (tag_cmp a b ≡ Less) ↔ IsTagBelow a b }
+    ensures greater { (a b : Tag) → (tag_cmp a b ≡ Greater) ↔ IsTagBelow b a }
+    ensures equal { (a b : Tag) → (tag_cmp a b ≡ Equal) ↔ (a ≡ b) }
 {}
 
 /// Each byte string has exactly one text.

@@ -34,7 +34,7 @@ pub use kind::{
     KEY_SERVERS_PREFIX, LOCKED_KEY, METADATA_VERSION_KEY, RowKind, SERVER_ID_LENGTH,
     SERVER_KEYS_PREFIX, SERVER_TAG_PREFIX, classify, is_kept,
 };
-pub use laws::{kind_law, location_law, row_law, text_law};
+pub use laws::{kind_law, location_law, row_law, tag_order_law, text_law};
 pub use limits::{END_LIMIT, KEY_LIMIT, KEY_SPACE_END, VALUE_LIMIT, check_range, check_set};
 pub use location::{Location, decode_location};
 pub use memory::OutOfMemory;

@@ -2,7 +2,8 @@
 //! transactions, batches, parts of shares, replies and rows of a journal. It stands in no program.
 //!
 //! What these functions take memory for is not taken again if it is refused: a test that wants
-//! memory for its data ends with that error. The calls that are tested are made again, by `twice`.
+//! memory for its data ends with that error. The calls that are tested are made again, by `twice`, if
+//! `tests/memory` made an allocation fail.
 #![tactic(auto)]
 
 mod again;
@@ -14,6 +15,7 @@ mod shares;
 mod texts;
 mod transactions;
 
+pub use again::is_memory_refused;
 pub use key_ranges::{Ends, given_range, given_ranges, range, ranges};
 pub use lists::{bytes, list, none, one, repeated, room};
 pub use random::Random;

@@ -11,6 +11,7 @@ mod of_mutation;
 mod of_refusals;
 mod of_scripts;
 mod of_system_keys;
+mod of_testing;
 
 use std::alloc::{AllocError, Global};
 use std::fmt::Debug;
@@ -32,8 +33,8 @@ fn printed<T: Debug>(alloc: Global, value: &T) -> Result<String, AllocError> {
 
 /// The two are equal: in all that is printed for debugging, which is every field.
 fn assert_alike<T: Debug>(rt: &(impl Abort + AllocGlobal), made: &T, expected: &T) {
-    let made = twice!(printed(rt.alloc(), made), _).expect(rt, "a text");
-    let expected = twice!(printed(rt.alloc(), expected), _).expect(rt, "a text");
+    let made = twice!(rt.alloc(); printed(rt.alloc(), made), _).expect(rt, "a text");
+    let expected = twice!(rt.alloc(); printed(rt.alloc(), expected), _).expect(rt, "a text");
     assert_eq!(rt; made, expected);
 }
 
@@ -45,6 +46,6 @@ fn assert_copied<T: Debug + Drop, F: Fn(&T) -> Result<T, OutOfMemory>>(
 )
     requires { F.IsAlwaysCallable copy }
 {
-    let copied = twice!(copy(value), OutOfMemory).expect(rt, "a copy");
+    let copied = twice!(rt.alloc(); copy(value), OutOfMemory).expect(rt, "a copy");
     assert_alike(rt, &copied, value);
 }

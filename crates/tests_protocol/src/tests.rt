@@ -36,8 +36,8 @@ pub(crate) trait Copied: Drop {
 }
 
 /// The copy, which is made again after a failed allocation.
-pub(crate) fn copy_of<T: Copied>(original: &T) -> Result<T, OutOfMemory> {
-    twice!(original.copied(), OutOfMemory)
+pub(crate) fn copy_of<T: Copied>(alloc: Global, original: &T) -> Result<T, OutOfMemory> {
+    twice!(alloc; original.copied(), OutOfMemory)
 }
 
 /// Whether a copy holds the same.
@@ -45,7 +45,7 @@ pub(crate) fn is_copied<T: Copied + Debug>(
     alloc: Global,
     original: &T,
 ) -> Result<bool, OutOfMemory> {
-    let copy = copy_of(original)?;
+    let copy = copy_of(alloc, original)?;
     Ok(are_alike(alloc, original, &copy)?)
 }
 

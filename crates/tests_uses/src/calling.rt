@@ -4,6 +4,7 @@ mod asking;
 mod committing;
 mod comparing;
 mod from_nothing;
+mod promising;
 mod sequencing;
 mod stories;
 mod values;

@@ -7,7 +7,7 @@ use Rattle.std.proofs.lemmas.Bool.Decides.{eqb_tells}
 use lib.Dec.{eqb}
 use Rattle.std.proofs.lemmas.List.{map-append}
 use Rattle.std.proofs.lemmas.List.Elements.{All-cons, All-head, All-nil, All-push, All-same, All-tail, filter-append}
-use Rattle.std.proofs.lemmas.Option.{same_Some, slice_get-get_or}
+use Rattle.std.proofs.lemmas.Option.{get_or_from_slice_get, same_Some, slice_get-get_or, slice_get_within}
 use Rattle.facts.specs.Stretches.{HasAt, Lacks, Stretch}
 use Rattle.model.specs.Configs.{Config}
 use Rattle.model.specs.Records.{Record, IsHistory, last_version, records_of_proxy}
@@ -77,6 +77,9 @@ all_next P xs k x at is all = All-same P (take (k + 1) xs) (take k xs ++ x ∷ [
 
 pub all_taken : {X : Type 0} (P : X → Type 0) (xs : List X) (k : ℕ) → length xs ≤ k → All P (take k xs) → All P xs
 all_taken P xs k whole all = All-same P xs (take k xs) (sym (take_all xs k whole)) all
+
+pub all_at : {X : Type 0} (P : X → Type 0) (xs : List X) (k : ℕ) (x : X) → All P xs → slice_get xs k ≡ Some x → P x
+all_at P xs k x all at = subst P (get_or_from_slice_get xs k x x at) (all k x (slice_get_within xs k x at))
 
 -- ---- moves
 

@@ -64,9 +64,9 @@ end_of_sequence cells p refusals.CellTaken printed was is = absurd (cc)
 end_of_sequence cells p refusals.OutOfMemory printed was is = absurd (cc)
 
 -- a commit whose fault is printed got no record
-pub end_of_commit : {N : Type 0} (cells : Cells) (p : ℕ) (batch : List Given) (fault : CommitFault N) (printed : Refusal)
-    → HandsBack cells p batch fault → printed_refusal fault ≡ Ok printed → IsEnd cells.config (length cells.records) printed
-end_of_commit cells p batch (phases.Sequencing refusal returned) printed back is = end_of_sequence cells p refusal printed back.1 is
-end_of_commit cells p batch (phases.Beginning refusal ticket) printed back is = absurd (cc)
-end_of_commit cells p batch (phases.Resolving refusal begun) printed back is = absurd (cc)
-end_of_commit cells p batch (phases.Finishing refusal ready) printed back is = absurd (cc)
+pub end_of_commit : {N : Type 0} (cells : Cells) (whose : Option ℕ) (p : ℕ) (batch : List Given) (fault : CommitFault N) (printed : Refusal)
+    → HandsBack cells whose p batch fault → printed_refusal fault ≡ Ok printed → IsEnd cells.config (length cells.records) printed
+end_of_commit cells whose p batch (phases.Sequencing refusal returned) printed back is = end_of_sequence cells p refusal printed back.1 is
+end_of_commit cells whose p batch (phases.Beginning refusal ticket) printed back is = absurd (cc)
+end_of_commit cells whose p batch (phases.Resolving refusal begun) printed back is = absurd (cc)
+end_of_commit cells whose p batch (phases.Finishing refusal ready) printed back is = absurd (cc)

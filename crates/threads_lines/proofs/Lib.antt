@@ -8,3 +8,4 @@ pub mod MeetingLemmas
 pub mod MoveLemmas
 pub mod PartLemmas
 pub mod ThreadLemmas
+pub mod LawLemmas

@@ -26,13 +26,20 @@ pub record FinishesBatch
   pub is : IsNotedFinished config noted
   pub holds : HoldsBatch p noted.finished.row noted.records batch
 
--- Why no record can follow these: they fill the ledger, whose rows the refusal names; or the ledger
--- has a row left, but the next version would not be below the limit.
-abbrev pub IsEndAfter : Config → (rows : ℕ) → List Record → Refusal → Type 0
-IsEndAfter config rows records (refusals.LedgerFull named) =
-    (named ≡ rows) × (rows ≤ length records)
-IsEndAfter config rows records refusals.VersionsEnd =
+-- the records fill the ledger, which has as many rows as are named
+abbrev pub IsFull : (rows : ℕ) → List Record → (named : ℕ) → Type 0
+IsFull rows records named = (named ≡ rows) × (rows ≤ length records)
+
+-- the ledger has a row left, but the next version would not be below the limit
+abbrev pub AreVersionsEnded : Config → (rows : ℕ) → List Record → Type 0
+AreVersionsEnded config rows records =
     (length records < rows) × (version_limit ≤ last_version records + config.step)
+
+-- why no record can follow these: they fill the ledger, whose rows the refusal names; or the versions
+-- have ended
+abbrev pub IsEndAfter : Config → (rows : ℕ) → List Record → Refusal → Type 0
+IsEndAfter config rows records (refusals.LedgerFull named) = IsFull rows records named
+IsEndAfter config rows records refusals.VersionsEnd = AreVersionsEnded config rows records
 IsEndAfter config rows records refusal = ⊥
 
 -- no record can follow some records, which are a history

@@ -1,6 +1,6 @@
 -- How a run fails by the faults of its commits, and which refusals are printed (this project's
 -- profile).
-use Rattle.std.specs.Prelude.{⊤, ℕ, List, [], ◌∷◌, ◌++◌, Bool, true, false}
+use Rattle.std.specs.Prelude.{◌≡◌, ⊤, ℕ, List, [], ◌∷◌, ◌++◌, Bool, true, false}
 use Rattle.std.specs.Prelude.{Option, Some, None, Result, Ok, Err}
 use Rattle.agreed_ledger.specs.declared.refusal.Refusal.{Refusal as LedgerRefusal}
 use Rattle.agreed_ledger.specs.declared.refusal.Refusal.TheVariants as ledger
@@ -94,3 +94,7 @@ printed_refusal (phases.Sequencing refusal batch) = printed_of_ledger refusal
 printed_refusal (phases.Beginning refusal ticket) = Err (cluster_fault refusal)
 printed_refusal (phases.Resolving refusal begun) = Err (cluster_fault refusal)
 printed_refusal (phases.Finishing refusal ready) = Err (cluster_fault refusal)
+
+-- a run fails so by a check that this holds: with `Refused`, and it does not hold
+abbrev pub FailsCheckOf : Type 0 → RunFault → Type 0
+FailsCheckOf Holds fault = (fault ≡ faults.Refused) × ¬ Holds

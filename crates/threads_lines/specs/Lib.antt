@@ -18,3 +18,5 @@ pub mod Guards
 pub mod Meetings
 -- how a run fails, and which refusals are printed
 pub mod Faults
+-- what the end of a ledger and the line of an audit say
+pub mod Laws

@@ -3,6 +3,7 @@
 
 ghost use Rattle.std.specs.Prelude.{◌≡◌, ◌-◌, length, map, Some, All, IsTrue, IfErr, OnOk};
 ghost use Rattle.model.specs.Records.{last_version, records_of_proxy};
+ghost use Rattle.threads_lines.specs.Faults.{FailsCheckOf};
 ghost use Rattle.threads_lines.specs.Histories.{HasFinishedAll, HasJudgedAll};
 ghost use Rattle.threads_lines.specs.Moves.{AreAfterMoves, dated};
 ghost use Rattle.threads_lines.specs.declared.faults.RunFault.TheVariants as faults;
@@ -16,11 +17,11 @@ use request_builder::{Moves, Record};
 use system_keys::KeyRange;
 use threads_scripts::UndatedMove;
 
-/// Each record of the history is of a batch that was seen finished: there are as many. Fails only with
-/// `Refused`.
+/// Each record of the history is of a batch that was seen finished: there are as many. Fails exactly if
+/// that is not so, with `Refused`.
 pub fn check_answered<N: Naming>(history: &RunHistory<N>) -> Result<(), RunFault>
     ensures checked { OnOk result (history.now.finished ≡ length history.now.records) }
-    ensures err { IfErr result (λ fault. fault ≡ faults.Refused) }
+    ensures err { IfErr result (FailsCheckOf (history.now.finished ≡ length history.now.records)) }
 {
     if history.finished() == history.records().end() {
         Ok(())
@@ -29,14 +30,14 @@ pub fn check_answered<N: Naming>(history: &RunHistory<N>) -> Result<(), RunFault
     }
 }
 
-/// Each proxy has finished its records of the history. Fails only with `Refused`.
+/// Each proxy has finished its records of the history. Fails exactly if one has not, with `Refused`.
 pub fn check_proxies<N: Naming>(
     history: &RunHistory<N>,
     ledger: &Ledger<N>,
     proxies: &[ProxyGuard<'_, N>],
 ) -> Result<(), RunFault>
     ensures checked { OnOk result (All (HasFinishedAll history.now.records) proxies.now) }
-    ensures err { IfErr result (λ fault. fault ≡ faults.Refused) }
+    ensures err { IfErr result (FailsCheckOf (All (HasFinishedAll history.now.records) proxies.now)) }
 {
     for proxy in proxies {
         check_proxy(history, ledger, proxy)?;
@@ -44,14 +45,14 @@ pub fn check_proxies<N: Naming>(
     Ok(())
 }
 
-/// The proxy has finished its records of the history. Fails only with `Refused`.
+/// The proxy has finished its records of the history. Fails exactly if it has not, with `Refused`.
 fn check_proxy<N: Naming>(
     history: &RunHistory<N>,
     ledger: &Ledger<N>,
     proxy: &ProxyGuard<'_, N>,
 ) -> Result<(), RunFault>
     ensures checked { OnOk result (HasFinishedAll history.now.records proxy.now) }
-    ensures err { IfErr result (λ fault. fault ≡ faults.Refused) }
+    ensures err { IfErr result (FailsCheckOf (HasFinishedAll history.now.records proxy.now)) }
 {
     let last = last_version_of(history, ledger, proxy.number());
     if proxy.version() == last {
@@ -61,13 +62,14 @@ fn check_proxy<N: Naming>(
     }
 }
 
-/// Each resolver has judged as many records as the history has. Fails only with `Refused`.
+/// Each resolver has judged as many records as the history has. Fails exactly if one has not, with
+/// `Refused`.
 pub fn check_resolvers<N: Naming>(
     history: &RunHistory<N>,
     resolvers: &[ResolverGuard<'_, N>],
 ) -> Result<(), RunFault>
     ensures checked { OnOk result (All (HasJudgedAll history.now.records) resolvers.now) }
-    ensures err { IfErr result (λ fault. fault ≡ faults.Refused) }
+    ensures err { IfErr result (FailsCheckOf (All (HasJudgedAll history.now.records) resolvers.now)) }
 {
     for resolver in resolvers {
         check_resolver(history, resolver)?;
@@ -75,13 +77,14 @@ pub fn check_resolvers<N: Naming>(
     Ok(())
 }
 
-/// The resolver has judged as many records as the history has. Fails only with `Refused`.
+/// The resolver has judged as many records as the history has. Fails exactly if it has not, with
+/// `Refused`.
 fn check_resolver<N: Naming>(
     history: &RunHistory<N>,
     resolver: &ResolverGuard<'_, N>,
 ) -> Result<(), RunFault>
     ensures checked { OnOk result (HasJudgedAll history.now.records resolver.now) }
-    ensures err { IfErr result (λ fault. fault ≡ faults.Refused) }
+    ensures err { IfErr result (FailsCheckOf (HasJudgedAll history.now.records resolver.now)) }
 {
     if resolver.records().end() == history.records().end() {
         Ok(())

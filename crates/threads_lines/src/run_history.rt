@@ -4,10 +4,10 @@
 ghost use Rattle.std.specs.Prelude.{◌≡◌, ◌+◌, ◌<◌, ◌≤◌, length, IfErr, OnOk};
 ghost use Rattle.model.specs.Configs.{version_limit};
 ghost use Rattle.model.specs.Records.{IsHistory, last_version};
-ghost use Rattle.threads_lines.specs.Answers.{IsEndAfter, SeesEnd};
+ghost use Rattle.threads_lines.specs.Answers.{AreVersionsEnded, IsEndAfter, IsFull, SeesEnd};
+ghost use Rattle.threads_lines.specs.Faults.{FailsCheckOf};
 ghost use Rattle.threads_lines.specs.Histories.{AreOfProxies, AreOfResolvers, IsStartOf};
 ghost use Rattle.threads_lines.specs.Histories.{Joins, SeesFinished, nothing_known};
-ghost use Rattle.threads_lines.specs.declared.faults.RunFault.TheVariants as faults;
 
 use crate::faults::RunFault;
 use agreed_ledger::{Ledger, Naming, Records, Refusal, SequencerGuard};
@@ -157,12 +157,13 @@ impl<N: Naming> RunHistory<N> {
         Ok(())
     }
 
-    /// No record can follow those that are known, for the reason that the refusal names. Fails only
-    /// with `Refused`: if one can, or if none can for another reason.
+    /// No record can follow those that are known, for the reason that the refusal names. Fails exactly if
+    /// one can, or if none can for another reason, with `Refused`.
     fn check_end(&self, ledger: &Ledger<N>, refusal: &Refusal) -> Result<(), RunFault>
         ensures checked { OnOk result (IsEndAfter N.cells.config (length N.cells.records)
             self.now.records refusal.now) }
-        ensures err { IfErr result (λ fault. fault ≡ faults.Refused) }
+        ensures err { IfErr result (FailsCheckOf (IsEndAfter N.cells.config
+            (length N.cells.records) self.now.records refusal.now)) }
     {
         match refusal {
             Refusal::LedgerFull { rows } => self.check_full(ledger, *rows),
@@ -171,11 +172,11 @@ impl<N: Naming> RunHistory<N> {
         }
     }
 
-    /// The ledger has so many rows, and each has a record. Fails only with `Refused`.
+    /// The ledger has so many rows, and each has a record. Fails exactly if that is not so, with `Refused`.
     fn check_full(&self, ledger: &Ledger<N>, rows: usize) -> Result<(), RunFault>
-        ensures checked { OnOk result ((rows ≡ length N.cells.records)
-            × (length N.cells.records ≤ length self.now.records)) }
-        ensures err { IfErr result (λ fault. fault ≡ faults.Refused) }
+        ensures checked { OnOk result (IsFull (length N.cells.records) self.now.records rows) }
+        ensures err { IfErr result (FailsCheckOf
+            (IsFull (length N.cells.records) self.now.records rows)) }
     {
         if rows == ledger.rows() && rows <= self.records.end() {
             Ok(())
@@ -184,12 +185,13 @@ impl<N: Naming> RunHistory<N> {
         }
     }
 
-    /// The ledger has a row left, and the next version would not be below the limit. Fails only with
-    /// `Refused`.
+    /// The ledger has a row left, and the next version would not be below the limit. Fails exactly if
+    /// that is not so, with `Refused`.
     fn check_versions_end(&self, ledger: &Ledger<N>) -> Result<(), RunFault>
-        ensures checked { OnOk result ((length self.now.records < length N.cells.records)
-            × (version_limit ≤ last_version self.now.records + N.cells.config.step)) }
-        ensures err { IfErr result (λ fault. fault ≡ faults.Refused) }
+        ensures checked { OnOk result (AreVersionsEnded N.cells.config (length N.cells.records)
+            self.now.records) }
+        ensures err { IfErr result (FailsCheckOf (AreVersionsEnded N.cells.config
+            (length N.cells.records) self.now.records)) }
     {
         let last = self.last_version(ledger);
         if self.records.end() < ledger.rows() && greatest_previous(ledger) < last {

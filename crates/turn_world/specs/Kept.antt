@@ -9,7 +9,7 @@ use Rattle.model.specs.ResolverMemory.{ResolverView}
 use Rattle.model.specs.Finishing.{ProxyView}
 use Rattle.model.specs.World.{World}
 use Rattle.model.specs.Turns.{AreInStep}
-use Rattle.turn_world.specs.KeptRequests.{AreKeptOf}
+use Rattle.turn_world.specs.KeptRequests.{AreKeptOf, HaveNumbersAlone}
 use Rattle.turn_world.specs.declared.kept_record.KeptRecord.{KeptRecord}
 
 -- the records of some rows
@@ -39,12 +39,15 @@ AreRequestsKept judged_counts rows =
     (row : ℕ) (one : KeptRecord) → slice_get rows row ≡ Some one
     → AreKeptOf judged_counts row one.sent.known one.kept.requests.items
 
--- the parts of the requests for this row are dropped, which contracts do not see, and which is right
--- once each resolver has judged the row
+-- The parts of the requests for this row are dropped. The world does not see it, and what is kept is
+-- right once each resolver has judged the row.
 pub record HasDroppedParts (row : ℕ) (before after : List KeptRecord) : Type 0 where
   pub records : records_of after ≡ records_of before
   pub received : map (λ (x : KeptRecord). x.received) after ≡ map (λ (x : KeptRecord). x.received) before
   pub sent : requests_of after ≡ requests_of before
+  pub bare :
+      (old new : KeptRecord) → slice_get before row ≡ Some old → slice_get after row ≡ Some new
+      → HaveNumbersAlone old.kept.requests.items new.kept.requests.items
   pub kept :
       (judged_counts : List ℕ) → ((r : ℕ) → r < length judged_counts → row < slice_index judged_counts r)
       → AreRequestsKept judged_counts before → AreRequestsKept judged_counts after

@@ -1,5 +1,5 @@
 -- What is kept of the requests that a proxy sent.
-use Rattle.std.specs.Prelude.{◌≡◌, ℕ, ◌≤◌, ◌<◌, List, length, slice_get, slice_index, Some}
+use Rattle.std.specs.Prelude.{◌≡◌, ℕ, ◌≤◌, ◌<◌, List, [], length, slice_get, slice_index, Some}
 use Rattle.model.specs.Requests.{Request}
 
 -- the request has the numbers of the one that was sent
@@ -11,10 +11,18 @@ pub record HasNumbersOf (sent q : Request) : Type 0 where
   pub version : q.version ≡ sent.version
   pub last_received : q.last_received ≡ sent.last_received
 
--- and so has each of these requests
-pub record HaveNumbersOf (sent kept : List Request) : Type 0 where
+-- these numbers are all that is left of the request: it has no parts and no marks
+pub record HasNumbersAlone (sent q : Request) : Type 0 where
+  pub numbers : HasNumbersOf sent q
+  pub share : q.share ≡ []
+  pub states : q.states ≡ []
+
+-- and so of each of these requests
+pub record HaveNumbersAlone (sent kept : List Request) : Type 0 where
   pub count : length kept ≡ length sent
-  pub each : (r : ℕ) (s q : Request) → slice_get sent r ≡ Some s → slice_get kept r ≡ Some q → HasNumbersOf s q
+  pub each :
+      (r : ℕ) (s q : Request) → slice_get sent r ≡ Some s → slice_get kept r ≡ Some q
+      → HasNumbersAlone s q
 
 -- What is kept of a request for this row, by how many rows its resolver has judged: its numbers, and
 -- the whole of it until the row is judged.

@@ -3,7 +3,7 @@
 ghost use Rattle.std.specs.Prelude.{◌≡◌, List};
 ghost use base.Fml.{ftrue};
 ghost use Rattle.model.specs.Requests.{Request as TheRequest};
-ghost use Rattle.turn_world.specs.KeptRequests.{HasNumbersOf, HaveNumbersOf};
+ghost use Rattle.turn_world.specs.KeptRequests.{HasNumbersAlone, HaveNumbersAlone};
 
 use request_builder::{Request, RequestHeader, Share};
 use std::alloc::Global;
@@ -19,8 +19,9 @@ pub(crate) struct SentRequests {
 impl SentRequests {
     /// Drops the parts and the marks of the requests: what is left of each are its numbers. Does not
     /// allocate.
+    #[tactic(auto, using(crate::proofs::KeptNumbers::none_dropped, crate::proofs::KeptNumbers::one_dropped, crate::proofs::KeptNumbers::all_dropped))]
     pub(crate) fn drop_parts(&mut self, alloc: Global)
-        ensures { HaveNumbersOf self.old.requests.items self.new.requests.items }
+        ensures { HaveNumbersAlone self.old.requests.items self.new.requests.items }
     {
         for place in 0..self.requests.len() {
             drop_parts(alloc, &mut self.requests[place]);
@@ -30,7 +31,7 @@ impl SentRequests {
 
 /// Drops the parts and the marks of the request.
 fn drop_parts(alloc: Global, request: &mut Request)
-    ensures { HasNumbersOf request.old request.new }
+    ensures { HasNumbersAlone request.old request.new }
 {
     let header = RequestHeader {
         resolver: request.resolver(),
@@ -41,9 +42,10 @@ fn drop_parts(alloc: Global, request: &mut Request)
         last_received: request.last_received(),
     };
     let share = Share::new(Items::from(Vec::new(alloc)));
-    if let Some(bare) = Request::new(header, share, Items::from(Vec::new(alloc))) {
-        *request = bare;
-    }
+    let Some(bare) = Request::new(header, share, Items::from(Vec::new(alloc))) else {
+        unreachable!();
+    };
+    *request = bare;
 }
 
 /// Requests of which contracts know, and of which nothing is kept. They take no memory.

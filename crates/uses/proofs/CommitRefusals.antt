@@ -1,6 +1,6 @@
 -- Why a batch was not committed, from what its phases say.
 use Rattle.std.proofs.Common.{◌≡◌, sym, ap, ◌∙◌, subst, ℕ, List, inl, inr}
-use Rattle.std.specs.Prelude.{Result, Err, IfErr}
+use Rattle.std.specs.Prelude.{Option, Result, Err, IfErr}
 use Rattle.model.specs.Stamps.{Given}
 use Rattle.model.specs.Finishing.{ProxyView}
 use Rattle.agreed_ledger.specs.Cells.{Cells}
@@ -19,11 +19,11 @@ pub if_err : {T E : Type 0} (P : E → Type 0) (result : Result T E) (e : E) →
 if_err {T} {E} P result e is holds = subst (λ (r : Result T E). IfErr r P) (sym is) holds
 
 -- the fault of a commit is why its batch was not committed
-pub not_committed : {N : Type 0} (cells : Cells) (p : ℕ) (batch : List Given) (fault : CommitFault N) → KeepsReturned cells.config fault → HandsBack cells p batch fault → WasNotCommitted cells p batch (cause_of fault)
-not_committed cells p batch (faults.Sequencing refusal returned) kept is = is.1
-not_committed cells p batch (faults.Beginning refusal ticket) kept is = inl (ticket, kept, is.0, is.1)
-not_committed cells p batch (faults.Resolving refusal begun) kept is = inr (inl (begun, kept, is.0, is.1))
-not_committed cells p batch (faults.Finishing refusal ready) kept is =
+pub not_committed : {N : Type 0} (cells : Cells) (whose : Option ℕ) (p : ℕ) (batch : List Given) (fault : CommitFault N) → KeepsReturned cells.config fault → HandsBack cells whose p batch fault → WasNotCommitted cells p batch (cause_of fault)
+not_committed cells whose p batch (faults.Sequencing refusal returned) kept is = is.1
+not_committed cells whose p batch (faults.Beginning refusal ticket) kept is = inl (ticket, kept, is.0, is.1)
+not_committed cells whose p batch (faults.Resolving refusal begun) kept is = inr (inl (begun, whose, kept, is.0, is.1))
+not_committed cells whose p batch (faults.Finishing refusal ready) kept is =
     let was = is.1 in inr (inr (ready, kept, is.0, (was.0, was.1, was.2, was.4)))
 
 -- so is the refusal of a finish

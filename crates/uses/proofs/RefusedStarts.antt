@@ -120,9 +120,10 @@ missing_proxy number proxies window judged q answered = own (nat_eq q.resolver n
     own true is = known (nat_le proxies q.proxy) refl is
     own false is = absurd (cc)
 
-never_asked : (cells : Cells) (p : ℕ) (begun : BegunView) (batch : List Given) → p < cells.config.proxies → IsBegun cells.config begun → HoldsBatch p begun.row begun.records batch → IsAskAllRefusal cells.config begun.requests refusals.NoSuchProxy → ⊥
-never_asked cells p begun batch there kept holds (inl same) = cc
-never_asked cells p begun batch there kept holds (inr asked) =
+never_asked : (cells : Cells) (whose : Option ℕ) (p : ℕ) (begun : BegunView) (batch : List Given) → p < cells.config.proxies → IsBegun cells.config begun → HoldsBatch p begun.row begun.records batch → IsAskAllRefusal cells.config whose begun.requests refusals.NoSuchProxy → ⊥
+never_asked cells whose p begun batch there kept holds (inl (same, foreign)) = absurd (cc)
+never_asked cells whose p begun batch there kept holds (inr (taken, inl same)) = cc
+never_asked cells whose p begun batch there kept holds (inr (taken, inr asked)) =
     let q = asked.1 in
     let refuses = asked.3.1 in
     let v = refuses.0 in
@@ -138,7 +139,7 @@ never_asked cells p begun batch there kept holds (inr asked) =
 -- no batch of a proxy that is there is refused so
 commit_never : (cells : Cells) (p : ℕ) (batch : List Given) → p < cells.config.proxies → WasNotCommitted cells p batch (ByCluster refusals.NoSuchProxy) → ⊥
 commit_never cells p batch there (inl begins) = begins.3.3.2
-commit_never cells p batch there (inr (inl resolves)) = never_asked cells p resolves.0 batch there resolves.1 resolves.2 resolves.3
+commit_never cells p batch there (inr (inl resolves)) = never_asked cells resolves.1 p resolves.0 batch there resolves.2 resolves.3 resolves.4
 commit_never cells p batch there (inr (inr finishes)) = finishes.3.3
 
 -- ---- starts

@@ -1,12 +1,12 @@
 -- The replies of all resolvers to a record that was begun.
 use Rattle.std.specs.Prelude.{◌≡◌, ◌⊎◌, List, length, slice_get, Some}
 use Rattle.model.specs.Numbers.{ResolverNumber}
-use Rattle.model.specs.Configs.{Config, IsConfig}
+use Rattle.model.specs.Configs.{Config}
 use Rattle.model.specs.Records.{Record}
 use Rattle.model.specs.Shares.{each_below}
 use Rattle.model.specs.declared.reply.Reply.{Reply}
 use Rattle.locked_cluster.specs.Begun.{BegunView}
-use Rattle.locked_resolvers.specs.Asking.{IsAskAllRefusal}
+use Rattle.locked_resolvers.specs.Asking.{AreNotAll, IsAskedRefusal}
 use Rattle.locked_resolvers.specs.NotedReplies.{NotedReplyView}
 use Rattle.locked_resolvers.specs.declared.refusal.Refusal.{Refusal}
 use Rattle.locked_resolvers.specs.declared.refusal.Refusal.TheVariants as refusals
@@ -32,6 +32,5 @@ pub record HaveAllReplied (config : Config) (begun : BegunView) (replies : List 
 -- they are, and asking them was refused.
 abbrev pub IsAskEachRefusal : Config → List ResolverNumber → BegunView → Refusal → Type 0
 IsAskEachRefusal config numbers begun refusal =
-    ((refusal ≡ refusals.WrongResolver)
-    × (IsConfig config → numbers ≡ each_below config.resolvers → ⊥))
-    ⊎ ((numbers ≡ each_below config.resolvers) × IsAskAllRefusal config begun.requests refusal)
+    ((refusal ≡ refusals.WrongResolver) × AreNotAll config numbers)
+    ⊎ ((numbers ≡ each_below config.resolvers) × IsAskedRefusal config begun.requests refusal)

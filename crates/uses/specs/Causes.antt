@@ -31,13 +31,14 @@ CouldNotBegin cells p batch refusal =
     × HoldsBatch p ticket.row ticket.records batch
     × WasBeginRefused cells.config p ticket refusal
 
--- There are requests as p sends them for some record of p with the batch: a resolver that one of them
--- names, in some state that its type allows, refuses this one so; or an allocation failed.
+-- There are requests as p sends them for some record of p with the batch, and a way to ask: it takes
+-- those of another proxy alone, or a resolver that one of them names, in some state that its type
+-- allows, refuses this one so, or an allocation failed.
 abbrev pub CouldNotResolve : Cells → ProxyNumber → (batch : List Given) → Refusal → Type 0
 CouldNotResolve cells p batch refusal =
-    (begun : BegunView) × IsBegun cells.config begun
+    (begun : BegunView) × (whose : Option ProxyNumber) × IsBegun cells.config begun
     × HoldsBatch p begun.row begun.records batch
-    × IsAskAllRefusal cells.config begun.requests refusal
+    × IsAskAllRefusal cells.config whose begun.requests refusal
 
 -- There are replies as all resolvers give them to some record of p with the batch, and p, in some state
 -- that its type allows, refuses to finish this record so.

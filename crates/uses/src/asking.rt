@@ -44,7 +44,7 @@ pub fn resolve_again<N: Naming, R: Wait, A: Asking<N>>(
     ensures row { IfOk result (λ ready. ready.row ≡ begun.row) }
     ensures records { IfOk result (λ ready. ready.records ≡ begun.records) }
     ensures refused { IfErr result (λ refused.
-        IsAskAllRefusal N.cells.config begun.requests refused.0) }
+        IsAskAllRefusal N.cells.config (A.takes asking.now) begun.requests refused.0) }
     ensures back { IfErr result (λ refused. refused.1 ≡ begun) }
 {
     match proxy.resolve_all(rt, asking, begun) {

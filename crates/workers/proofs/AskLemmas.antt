@@ -1,22 +1,25 @@
 -- Requests that are asked, and what is answered to them.
-use Rattle.std.proofs.Common.{◌≡◌, refl, sym, ap, ◌∙◌, subst, ℕ, zero, suc, ◌+◌, ◌<◌, ◌⊎◌, inl, inr, List, [], ◌∷◌, ◌++◌, length, take, slice_get, Some, length-append, Bool, eqb, eq-eqb, ne_eqb, arith}
-use Rattle.std.specs.Prelude.{IfOk, MatchBool, Result, Ok, Err}
+use Rattle.std.proofs.Common.{◌≡◌, refl, sym, ap, ◌∙◌, subst, ℕ, zero, suc, ◌+◌, ◌<◌, ◌⊎◌, inl, inr, List, [], ◌∷◌, ◌++◌, length, set, take, slice_get, Some, length-append, append_assoc, Bool, eqb, eq-eqb, ne_eqb, arith}
+use Rattle.std.specs.Prelude.{IfOk, IsTrue, MatchBool, Result, Ok, Err}
 use Rattle.std.proofs.lemmas.Bool.{cases_eq}
+use Rattle.std.proofs.lemmas.Option.{same_Some}
 use Rattle.facts.specs.Stretches.{Agree}
-use Rattle.model.specs.Configs.{Config, IsConfig}
+use Rattle.model.specs.Configs.{Config}
 use Rattle.model.specs.Requests.{Request, request}
 use Rattle.model.proofs.History.Growth.{push_cases}
 use Rattle.locked_resolvers.specs.Requests.{RequestView, IsRequestFor}
 use Rattle.locked_resolvers.specs.NotedReplies.{NotedReplyView, IsReplyToRequest}
-use Rattle.locked_resolvers.specs.Asking.{AreRepliesInOrder, IsAskAllRefusal, IsAskRefusal}
+use Rattle.locked_resolvers.specs.Asking.{AreRepliesInOrder, IsAskRefusal}
 use Rattle.locked_resolvers.specs.Resolvers.{IsResolveRefusal}
 use Rattle.locked_resolvers.specs.declared.refusal.Refusal.{Refusal}
-use Rattle.locked_resolvers.specs.declared.refusal.Refusal.TheVariants as refusals
-use Rattle.inboxes.specs.Ends.{ProxyView}
-use Rattle.workers.specs.Asking.{AreRequestsSent, Gives, IsRequestSent}
+use Rattle.inboxes.specs.declared.tag.Tag.{Tag}
+use Rattle.inboxes.specs.Ends.{AreSenders, ProxyView, SenderView}
+use Rattle.inboxes.specs.Sending.{AreSent, ChangesEnd, IsSent, IsSentTo, with_gone, with_sent}
+use Rattle.inboxes.specs.Tags.{close_tag, request_tag}
+use Rattle.inboxes.proofs.Sent.{to_proxy}
+use Rattle.workers.specs.Asking.{AreAllSent, AreRequestsSent, Gives, HasBeenSent, HasClosed, IsRequestSent}
 use Rattle.workers.specs.declared.answer.Answer.{Answer}
 use Rattle.workers.specs.declared.answer.Answer.TheVariants as answers
-use Rattle.workers.proofs.RefusedLemmas.{closed_refuses}
 
 pub take_next : {X : Type 0} (xs : List X) (k : ℕ) (x : X) → slice_get xs k ≡ Some x → take (k + 1) xs ≡ take k xs ++ x ∷ []
 take_next [] k x at = absurd (cc)
@@ -43,22 +46,108 @@ order_next requests k q replies noted at so_far to = subst (λ (qs : List Reques
           each = λ place p n at_p at_n. by place p n (push_cases (take k requests) q place p at_p) (push_cases replies noted place n at_n);
         }
 
--- some resolver of the cluster that is closed refuses one of the requests
-pub one_closed : (config : Config) (requests : List RequestView) (k : ℕ) (q : RequestView) → slice_get requests k ≡ Some q → IsConfig config → q.plain.resolver < config.resolvers
-    → IsAskAllRefusal config requests refusals.Closed
-one_closed config requests k q at limits there = inr (k, q, at, closed_refuses config q.plain limits there)
-
--- what refuses one of the requests refuses them all
-pub one_refused : (config : Config) (requests : List RequestView) (k : ℕ) (q : RequestView) (refusal : Refusal) → slice_get requests k ≡ Some q → IsAskRefusal config q refusal → IsAskAllRefusal config requests refusal
-one_refused config requests k q refusal at (inl memory) = inl memory
-one_refused config requests k q refusal at (inr refused) = inr (k, q, at, refused)
-
 -- ---- requests that are sent
 
 -- one request more was sent
 pub sent_more : (sent : List RequestView) (q : RequestView) (first before after : ProxyView) → AreRequestsSent sent first before → IsRequestSent q.plain before after → AreRequestsSent (sent ++ q ∷ []) first after
 sent_more [] q first before after none more = (after, subst (λ (v : ProxyView). IsRequestSent q.plain v after) none more, refl)
 sent_more (p ∷ sent) q first before after (between, one, others) more = (between, one, sent_more sent q between before after others more)
+
+-- ---- what was sent is among what was sent through an end
+
+-- the message was sent to the resolver, or its worker's end is gone
+Sent : (to : ℕ) (message : Tag) (v : ProxyView) → Type 0
+Sent to message v = (e : SenderView) × (slice_get v.ends to ≡ Some e) × HasBeenSent message e
+
+set_here : {X : Type 0} (xs : List X) (i : ℕ) (a x : X) → slice_get xs i ≡ Some x → slice_get (set xs i a) i ≡ Some a
+set_here [] i a x at = absurd (cc)
+set_here (y ∷ ys) zero a x at = refl
+set_here (y ∷ ys) (suc i) a x at = set_here ys i a x at
+
+set_other : {X : Type 0} (xs : List X) (i k : ℕ) (a : X) → (k ≡ i → ⊥) → slice_get (set xs i a) k ≡ slice_get xs k
+set_other [] i k a apart = refl
+set_other (x ∷ xs) zero zero a apart = absurd (apart refl)
+set_other (x ∷ xs) zero (suc k) a apart = refl
+set_other (x ∷ xs) (suc i) zero a apart = refl
+set_other (x ∷ xs) (suc i) (suc k) a apart = set_other xs i k a (λ same. apart (ap (λ (n : ℕ). suc n) same))
+
+one_more : (message other : Tag) (e : SenderView) → HasBeenSent message e → HasBeenSent message (with_sent other e)
+one_more message other e (inl (before, after, is)) =
+    inl (before, after ++ other ∷ [], ap (λ (ms : List Tag). ms ++ other ∷ []) is ∙ append_assoc before (message ∷ after) (other ∷ []))
+one_more message other e (inr gone) = inr gone
+
+still_gone : (message : Tag) (e : SenderView) → HasBeenSent message e → HasBeenSent message (with_gone e)
+still_gone message e sent = inr refl
+
+-- what was sent was sent still, whatever is sent then to whatever resolver
+changed_still : (to r : ℕ) (message : Tag) (change : SenderView → SenderView) (before after : ProxyView) → ((e : SenderView) → HasBeenSent message e → HasBeenSent message (change e))
+    → ChangesEnd r change before after → Sent to message before → Sent to message after
+unfolding Sent
+changed_still to r message change before after keeps changes (e, at, sent) = by (cases_eq to r)
+  where
+    here : to ≡ r → Sent to message after
+    here same =
+        let there : slice_get before.ends to ≡ Some changes.sender = ap (λ (k : ℕ). slice_get before.ends k) same ∙ changes.there in
+        let one : e ≡ changes.sender = same_Some e changes.sender (sym at ∙ there) in (
+          change changes.sender,
+          ap (λ (es : List SenderView). slice_get es to) changes.ends ∙ ap (λ (k : ℕ). slice_get (set before.ends k (change changes.sender)) to) (sym same)
+              ∙ set_here before.ends to (change changes.sender) e at,
+          keeps changes.sender (subst (HasBeenSent message) one sent),
+        )
+
+    by : (to ≡ r) ⊎ (to ≡ r → ⊥) → Sent to message after
+    by (inl same) = here same
+    by (inr apart) = (e, ap (λ (es : List SenderView). slice_get es to) changes.ends ∙ set_other before.ends r to (change changes.sender) apart ∙ at, sent)
+
+sent_still : (to r : ℕ) (message other : Tag) (before after : ProxyView) → IsSentTo r other before after → Sent to message before → Sent to message after
+sent_still to r message other before after (inl sent) was = changed_still to r message (with_sent other) before after (one_more message other) sent was
+sent_still to r message other before after (inr gone) was = changed_still to r message with_gone before after (still_gone message) gone was
+
+sent_now : (r : ℕ) (message : Tag) (before after : ProxyView) → IsSentTo r message before after → Sent r message after
+unfolding Sent
+sent_now r message before after (inl sent) = (
+  with_sent message sent.sender,
+  ap (λ (es : List SenderView). slice_get es r) sent.ends ∙ set_here before.ends r (with_sent message sent.sender) sent.sender sent.there,
+  inl (sent.sender.put, [], refl),
+)
+sent_now r message before after (inr gone) = (
+  with_gone gone.sender,
+  ap (λ (es : List SenderView). slice_get es r) gone.ends ∙ set_here before.ends r (with_gone gone.sender) gone.sender gone.there,
+  inr refl,
+)
+
+all_still : (to : ℕ) (message : Tag) (requests : List RequestView) (before after : ProxyView) → AreRequestsSent requests before after → Sent to message before → Sent to message after
+all_still to message [] before after none was = subst (Sent to message) (sym none) was
+all_still to message (q ∷ requests) before after (between, one, others) was =
+    all_still to message requests between after others (sent_still to q.plain.resolver message (request_tag before.proxy q.plain.resolver q.plain.row) before between one was)
+
+same_proxy : (requests : List RequestView) (before after : ProxyView) → AreRequestsSent requests before after → after.proxy ≡ before.proxy
+same_proxy [] before after none = ap (λ (v : ProxyView). v.proxy) none
+same_proxy (q ∷ requests) before after (between, one, others) = same_proxy requests between after others ∙ to_proxy q.plain.resolver (request_tag before.proxy q.plain.resolver q.plain.row) before between one
+
+pub all_sent : (requests : List RequestView) (before after : ProxyView) → AreRequestsSent requests before after → AreAllSent requests after
+unfolding Sent
+all_sent [] before after none place q at = absurd (cc)
+all_sent (p ∷ requests) before after (between, one, others) zero q at =
+    let same : p ≡ q = same_Some p q at in
+    let of : after.proxy ≡ before.proxy = same_proxy (p ∷ requests) before after (between, one, others) in
+    subst (λ (r : RequestView). Sent r.plain.resolver (request_tag after.proxy r.plain.resolver r.plain.row) after) same
+    (subst (λ (proxy : ℕ). Sent p.plain.resolver (request_tag proxy p.plain.resolver p.plain.row) after) (sym of)
+    (all_still p.plain.resolver (request_tag before.proxy p.plain.resolver p.plain.row) requests between after others (sent_now p.plain.resolver (request_tag before.proxy p.plain.resolver p.plain.row) before between one)))
+all_sent (p ∷ requests) before after (between, one, others) (suc place) q at = all_sent requests between after others place q at
+
+-- ---- a Close through each end
+
+pub has_closed : (resolvers : ℕ) (before after : ProxyView) → after.proxy ≡ before.proxy → AreSent (close_tag before.proxy) before.ends after.ends → AreSenders after.proxy resolvers after.ends → HasClosed resolvers after
+has_closed resolvers before after same sent senders =
+    record {
+      senders = senders;
+      each = λ k e at. let own = sent.each k e at in by own.0 e own.2;
+    }
+  where
+    by : (old e : SenderView) → IsSent (close_tag before.proxy) old e → ((ms : List Tag) × (e.put ≡ ms ++ close_tag after.proxy ∷ [])) ⊎ IsTrue e.gone
+    by old e (inl is) = inl (old.put, ap (λ (s : SenderView). s.put) is ∙ ap (λ (p : ℕ). old.put ++ close_tag p ∷ []) (sym same))
+    by old e (inr is) = inr (ap (λ (s : SenderView). s.gone) is)
 
 -- ---- a request that came back
 

@@ -1,20 +1,20 @@
 -- What a worker keeps serving.
-use Rattle.std.proofs.Common.{◌≡◌, ◌≢◌, refl, sym, ap, ◌∙◌, subst, ℕ, zero, suc, ◌+◌, ◌<◌, ◌⊎◌, inl, inr, List, [], ◌∷◌, ◌++◌, length, slice_get, Some, Bool, true, ◌||◌, get_or, length-append, arith}
+use Rattle.std.proofs.Common.{◌≡◌, ◌≢◌, refl, sym, ap, ◌∙◌, subst, ℕ, zero, suc, ◌+◌, ◌<◌, ◌⊎◌, inl, inr, List, [], ◌∷◌, ◌++◌, length, slice_get, Some, Bool, true, false, ◌||◌, get_or, length-append, arith}
 use Rattle.std.specs.Prelude.{IsFalse, IsTrue, remove}
 use Rattle.std.proofs.lemmas.Bool.{cases_eq}
 use Rattle.facts.specs.Stretches.{end_of}
 use Rattle.model.specs.Configs.{Config}
-use Rattle.model.specs.Offers.{OfferFault}
-use Rattle.model.specs.Offers as offers
 use Rattle.model.specs.Requests.{Request}
 use Rattle.agreed_ledger.specs.Cells.{ColumnView}
 use Rattle.locked_resolvers.specs.Requests.{RequestView}
 use Rattle.locked_resolvers.specs.NotedReplies.{NotedReplyView}
-use Rattle.locked_resolvers.specs.Resolvers.{HasOffered, HasJudged, HasRepeated, IsFault, IsLockedResolver, IsNotEarly, IsOfferRefusal, LockedResolverView, after_refusal}
+use Rattle.locked_resolvers.specs.Resolvers.{HasOffered, HasJudged, HasRepeated, IsLockedResolver, IsNotEarly, IsOfferRefusal, LockedResolverView, after_refusal}
 use Rattle.locked_resolvers.specs.declared.refusal.Refusal.{Refusal}
 use Rattle.locked_resolvers.specs.declared.refusal.Refusal.TheVariants as refusals
-use Rattle.workers.specs.Desks.{ClosesByCause, DeskView, HasLetGo, HasRow, IsNoneDue, IsNotGivenUp, IsSettled, KeepsServing, OnlyFails, Serves, has_failed, next_row}
-use Rattle.workers.specs.Refusing.{IsToldRefusal}
+use Rattle.workers.specs.declared.answer.Answer.{Answer}
+use Rattle.workers.specs.declared.answer.Answer.TheVariants as answers
+use Rattle.workers.specs.Desks.{ClosesByCause, DeskView, HasLetGo, HasRow, IsClosing, IsNoneDue, IsSettled, KeepsServing, OnlyFails, Serves, has_failed, next_row}
+use Rattle.workers.specs.Refusing.{IsAnswerOf, IsClosedWith, IsSameOrClosed, IsToldOf, IsToldRefusal, told_by}
 
 -- ---- one after another
 
@@ -184,29 +184,67 @@ number_refused v refusals.CellTaken = refl
 number_refused v refusals.Closed = refl
 number_refused v refusals.OutOfMemory = refl
 
+-- ---- a resolver that is the same, or the same but closed
+
+pub same_number : (before after : LockedResolverView) → IsSameOrClosed before after → after.memory.number ≡ before.memory.number
+same_number before after (inl same) = ap (λ (v : LockedResolverView). v.memory.number) same
+same_number before after (inr closed) = ap (λ (v : LockedResolverView). v.memory.number) closed
+
+pub same_column : (before after : LockedResolverView) → IsSameOrClosed before after → after.column ≡ before.column
+same_column before after (inl same) = ap (λ (v : LockedResolverView). v.column) same
+same_column before after (inr closed) = ap (λ (v : LockedResolverView). v.column) closed
+
+pub stays_closed : (before after : LockedResolverView) → IsSameOrClosed before after → IsTrue before.closed → IsTrue after.closed
+stays_closed before after (inl same) was = ap (λ (v : LockedResolverView). v.closed) same ∙ was
+stays_closed before after (inr closed) was = ap (λ (v : LockedResolverView). v.closed) closed
+
+pub with_worker : (closed : Bool) (before after : LockedResolverView) → IsClosedWith closed before after → IsSameOrClosed before after
+with_worker true before after is = inr is
+with_worker false before after is = inl is
+
+pub with_closed : (closed : Bool) (before after : LockedResolverView) → IsClosedWith closed before after → IsTrue closed → IsTrue after.closed
+with_closed true before after is was = ap (λ (v : LockedResolverView). v.closed) is
+with_closed false before after is was = absurd (cc)
+
 -- what a worker that closes was closed by
 pub closed_for : (asked : LockedResolverView) (q : Request) (refusal : Refusal) (was is : Bool) → IsOfferRefusal asked q refusal → (refusal ≡ refusals.OutOfMemory → is ≡ was)
     → ((acknowledged : ℕ) → refusal ≡ refusals.GivenUp acknowledged → is ≡ was) → IsTrue is
-    → IsTrue was ⊎ (IsTrue (after_refusal asked refusal).closed ⊎ ((fault : OfferFault) × IsNotGivenUp fault × IsFault asked q fault))
-closed_for asked q (refusals.Early version) was is refused memory given_up closed = inr (inr (offers.Early version, tt, refused))
+    → IsTrue was ⊎ ((given : Refusal) × IsClosing given × IsOfferRefusal asked q given)
+closed_for asked q (refusals.Early version) was is refused memory given_up closed = inr (refusals.Early version, tt, refused)
 closed_for asked q (refusals.GivenUp acknowledged) was is refused memory given_up closed = inl (sym (given_up acknowledged refl) ∙ closed)
-closed_for asked q refusals.NoSuchProxy was is refused memory given_up closed = inr (inr (offers.NoSuchProxy, tt, refused))
-closed_for asked q refusals.WrongResolver was is refused memory given_up closed = inr (inr (offers.WrongResolver, tt, refused))
-closed_for asked q (refusals.OutsideChain version) was is refused memory given_up closed = inr (inr (offers.OutsideChain version, tt, refused))
+closed_for asked q refusals.NoSuchProxy was is refused memory given_up closed = inr (refusals.NoSuchProxy, tt, refused)
+closed_for asked q refusals.WrongResolver was is refused memory given_up closed = inr (refusals.WrongResolver, tt, refused)
+closed_for asked q (refusals.OutsideChain version) was is refused memory given_up closed = inr (refusals.OutsideChain version, tt, refused)
 closed_for asked q refusals.NotMine was is refused memory given_up closed = absurd refused
 closed_for asked q (refusals.OutOfOrder expected) was is refused memory given_up closed = absurd refused
 closed_for asked q (refusals.OutOfTurn expected) was is refused memory given_up closed = absurd refused
 closed_for asked q (refusals.NotReached version) was is refused memory given_up closed = absurd refused
-closed_for asked q refusals.CellTaken was is refused memory given_up closed = inr (inl refl)
-closed_for asked q refusals.Closed was is refused memory given_up closed = inr (inl refused)
+closed_for asked q refusals.CellTaken was is refused memory given_up closed = inr (refusals.CellTaken, tt, refused)
+closed_for asked q refusals.Closed was is refused memory given_up closed = inr (refusals.Closed, tt, refused)
 closed_for asked q refusals.OutOfMemory was is refused memory given_up closed = inl (sym (memory refl) ∙ closed)
+
+-- a worker that closes has closed its resolver
+pub closed_both : (asked left : LockedResolverView) (q : Request) (was : Bool) → IsTrue left.closed → IsTrue was ⊎ ((given : Refusal) × IsClosing given × IsOfferRefusal asked q given)
+    → IsTrue was ⊎ (IsTrue left.closed × ((given : Refusal) × IsClosing given × IsOfferRefusal asked q given))
+closed_both asked left q was shut (inl before) = inl before
+closed_both asked left q was shut (inr cause) = inr (shut, cause)
 
 -- of a desk that was as open before, and the same request
 pub cause_moved : (a b after : DeskView) (q r : RequestView) (asked left : LockedResolverView) → a.closed ≡ b.closed → q ≡ r
     → ClosesByCause a after q.plain asked left → ClosesByCause b after r.plain asked left
 cause_moved a b after q r asked left open_alike same cause closed =
-    subst (λ (t : Bool). IsTrue t ⊎ (IsTrue left.closed ⊎ ((fault : OfferFault) × IsNotGivenUp fault × IsFault asked r.plain fault))) open_alike
-    (subst (λ (s : RequestView). IsTrue a.closed ⊎ (IsTrue left.closed ⊎ ((fault : OfferFault) × IsNotGivenUp fault × IsFault asked s.plain fault))) same (cause closed))
+    subst (λ (t : Bool). IsTrue t ⊎ (IsTrue left.closed × ((given : Refusal) × IsClosing given × IsOfferRefusal asked r.plain given))) open_alike
+    (subst (λ (s : RequestView). IsTrue a.closed ⊎ (IsTrue left.closed × ((given : Refusal) × IsClosing given × IsOfferRefusal asked s.plain given))) same (cause closed))
+
+-- a resolver that refused as closed is closed
+pub refused_closed : (asked : LockedResolverView) (q : Request) (refusal : Refusal) → IsOfferRefusal asked q refusal → refusal ≡ refusals.Closed → IsTrue (after_refusal asked refusal).closed
+refused_closed asked q refusal refused is =
+    subst (λ (r : Refusal). IsTrue (after_refusal asked r).closed) (sym is) (subst (IsOfferRefusal asked q) is refused)
+
+-- what an answer tells is what was told of the offer
+pub told_of : {N : Type 0} (asked : LockedResolverView) (request : RequestView) (left : LockedResolverView) (answer : Answer N) → IsAnswerOf asked request left answer → IsToldOf asked request left (told_by answer)
+told_of asked request left (answers.Replied noted) is = (noted, is)
+told_of asked request left (answers.Refused refused) is = (is.1, is.2)
 
 -- a refusal is not that of an early request, or is
 late_or_early : (refusal : Refusal) → IsNotEarly refusal ⊎ ((version : ℕ) × (refusal ≡ refusals.Early version))

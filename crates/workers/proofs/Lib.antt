@@ -1,5 +1,6 @@
 mod AskLemmas
 mod DeskLemmas
+mod EdgeCases
 mod GivenUpLemmas
 mod RefusedLemmas
 mod WorkerLemmas

@@ -1,41 +1,16 @@
 -- What a proxy's inboxes send, take up and refuse. *Profile*: all of it.
-use Rattle.std.specs.Prelude.{◌≡◌, ◌≢◌, ◌⊎◌, ℕ, List, [], ◌∷◌, slice_get, Option, None, Some}
-use Rattle.std.specs.Prelude.{Result, Ok, Err}
-use Rattle.model.specs.Numbers.{ProxyNumber}
-use Rattle.model.specs.Configs.{Config}
+use Rattle.std.specs.Prelude.{◌≡◌, ◌≢◌, ◌⊎◌, ℕ, List, [], ◌∷◌, ◌++◌, slice_get, Option, None}
+use Rattle.std.specs.Prelude.{Some, Result, Ok, Err, IsTrue}
 use Rattle.model.specs.Requests.{Request}
-use Rattle.inboxes.specs.Ends.{ProxyView}
+use Rattle.inboxes.specs.declared.tag.Tag.{Tag}
+use Rattle.inboxes.specs.Ends.{AreSenders, ProxyView, SenderView}
 use Rattle.inboxes.specs.Sending.{IsSentTo}
-use Rattle.inboxes.specs.Tags.{request_tag}
+use Rattle.inboxes.specs.Tags.{close_tag, request_tag}
 use Rattle.locked_resolvers.specs.NotedReplies.{NotedReplyView, IsReplyToRequest}
 use Rattle.locked_resolvers.specs.Requests.{RequestView}
-use Rattle.locked_resolvers.specs.Asking.{IsAskAllRefusal}
 use Rattle.locked_resolvers.specs.declared.refusal.Refusal.{Refusal}
-use Rattle.locked_resolvers.specs.declared.refusal.Refusal.TheVariants as refusals
 use Rattle.workers.specs.declared.answer.Answer.{Answer}
 use Rattle.workers.specs.declared.answer.Answer.TheVariants as answers
-
--- each request is of the proxy
-abbrev pub AreOwn : ProxyNumber → List RequestView → Type 0
-AreOwn p requests =
-    (place : ℕ) (q : RequestView) → slice_get requests place ≡ Some q → q.plain.proxy ≡ p
-
--- the request at this place is of another proxy
-abbrev pub IsOtherAt : ProxyNumber → List RequestView → (place : ℕ) → Type 0
-IsOtherAt p requests place =
-    (q : RequestView) × (slice_get requests place ≡ Some q) × (q.plain.proxy ≢ p)
-
--- one of the requests is of another proxy
-abbrev pub HasOthers : ProxyNumber → List RequestView → Type 0
-HasOthers p requests = (place : ℕ) × IsOtherAt p requests place
-
--- One of the requests is of another proxy, and is refused as such. Or each is of the proxy, and an
--- allocation failed; or a resolver of the number that one of them names, in some state that its
--- lock may keep, refuses that request so.
-abbrev pub IsInboxRefusal : Config → ProxyNumber → List RequestView → Refusal → Type 0
-IsInboxRefusal config p requests refusal =
-    (HasOthers p requests × (refusal ≡ refusals.NotMine))
-    ⊎ (AreOwn p requests × IsAskAllRefusal config requests refusal)
 
 -- the request was sent to its resolver, as one of the proxy whose ends these are
 abbrev pub IsRequestSent : Request → (before after : ProxyView) → Type 0
@@ -48,6 +23,26 @@ AreRequestsSent [] before after = after ≡ before
 AreRequestsSent (q ∷ requests) before after =
     (between : ProxyView)
     × IsRequestSent q.plain before between × AreRequestsSent requests between after
+
+-- the message is among those that were sent through the end, or the worker's end is gone
+abbrev pub HasBeenSent : Tag → SenderView → Type 0
+HasBeenSent message e =
+    ((before after : List Tag) × (e.put ≡ before ++ message ∷ after)) ⊎ IsTrue e.gone
+
+-- each of the requests was sent to its resolver, as one of the proxy whose ends these are
+abbrev pub AreAllSent : List RequestView → ProxyView → Type 0
+AreAllSent requests v =
+    (place : ℕ) (q : RequestView) → slice_get requests place ≡ Some q
+    → (e : SenderView) × (slice_get v.ends q.plain.resolver ≡ Some e)
+    × HasBeenSent (request_tag v.proxy q.plain.resolver q.plain.row) e
+
+-- The ends are those to so many resolvers, and through each the proxy's Close was sent last, or the
+-- worker's end is gone.
+pub record HasClosed (resolvers : ℕ) (v : ProxyView) : Type 0 where
+  pub senders : AreSenders v.proxy resolvers v.ends
+  pub each :
+      (k : ℕ) (e : SenderView) → slice_get v.ends k ≡ Some e
+      → ((before : List Tag) × (e.put ≡ before ++ close_tag v.proxy ∷ [])) ⊎ IsTrue e.gone
 
 -- What an answer gives to the request: the reply if it is to the request, the refusal if this request
 -- was refused, and otherwise nothing.

@@ -1,14 +1,14 @@
 -- What a resolver's worker keeps of the requests that it took. *Profile*: all of it.
 use Rattle.std.specs.Prelude.{◌≡◌, ◌⊎◌, ℕ, ◌<◌, ◌≤◌, max, List, [], ◌∷◌, ◌++◌, length, slice_get}
-use Rattle.std.specs.Prelude.{Some, Bool, true, false, ◌||◌, IsFalse, IsTrue}
+use Rattle.std.specs.Prelude.{Option, None, Some, Bool, true, false, ◌||◌, IsFalse, IsTrue}
 use Rattle.facts.specs.Stretches.{end_of, extended}
 use Rattle.model.specs.Numbers.{ResolverNumber, RowNumber}
-use Rattle.model.specs.Offers.{OfferFault}
-use Rattle.model.specs.Offers as offers
 use Rattle.model.specs.Requests.{Request}
 use Rattle.agreed_ledger.specs.Cells.{ColumnView, with_rows}
 use Rattle.locked_resolvers.specs.Requests.{RequestView}
-use Rattle.locked_resolvers.specs.Resolvers.{LockedResolverView, IsFault}
+use Rattle.locked_resolvers.specs.Resolvers.{LockedResolverView, IsOfferRefusal}
+use Rattle.locked_resolvers.specs.declared.refusal.Refusal.{Refusal}
+use Rattle.locked_resolvers.specs.declared.refusal.Refusal.TheVariants as refusals
 
 -- The verdict cells of the rows that the resolver judged, as far as the worker knows them; the
 -- requests that it holds back; whether it is closed; and whether it was refused memory.
@@ -90,10 +90,12 @@ wanting_memory v = record v { wanted = true }
 abbrev pub OnlyWantsMemory : (before after : DeskView) → Type 0
 OnlyWantsMemory before after = (after ≡ before) ⊎ (after ≡ wanting_memory before)
 
--- the request is held back after the others, or nothing changes but that memory was refused
-abbrev pub HasHeldBack : RequestView → (before after : DeskView) → Type 0
-HasHeldBack q before after =
-    (after ≡ record before { held = before.held ++ q ∷ [] }) ⊎ (after ≡ wanting_memory before)
+-- The request is held back after the others, and nobody is told anything of it; or nothing changes but
+-- that memory was refused, and whoever asked is told so.
+abbrev pub IsHeldOrTold : RequestView → (before after : DeskView) → Option (Option Refusal) → Type 0
+IsHeldOrTold q before after None = after ≡ record before { held = before.held ++ q ∷ [] }
+IsHeldOrTold q before after (Some told) =
+    (after ≡ wanting_memory before) × (told ≡ Some refusals.OutOfMemory)
 
 -- the worker's column, and then what the other has from its end on
 abbrev pub caught_up : DeskView → (other : ColumnView) → DeskView
@@ -120,18 +122,19 @@ pub record HasLetGo (before after : DeskView) : Type 0 where
   pub failed : IsFalse (has_failed after) → IsFalse (has_failed before)
   pub same : before.held ≡ [] → after ≡ before
 
--- the fault is not that of a repeat that was given up
-abbrev pub IsNotGivenUp : OfferFault → Type 0
-IsNotGivenUp (offers.GivenUp acknowledged) = ⊥
-IsNotGivenUp fault = Unit {0}
+-- The refusal closes the worker: it is neither want of memory nor that of a repeat that was given up.
+-- (Of a request to its resolver whose turn has come it is then Closed or CellTaken.)
+abbrev pub IsClosing : Refusal → Type 0
+IsClosing (refusals.GivenUp acknowledged) = ⊥
+IsClosing refusals.OutOfMemory = ⊥
+IsClosing refusal = Unit {0}
 
--- An offer leaves the worker closed only if it was closed before, or the resolver is closed
--- afterwards, or the resolver was open and the definition refuses the request, but not as a repeat
--- that was given up.
+-- An offer leaves the worker closed only if it was closed before, or the resolver gave it a refusal that
+-- closes it, and is closed too afterwards.
 abbrev pub ClosesByCause :
     (before after : DeskView) → Request → (asked left : LockedResolverView) → Type 0
 ClosesByCause before after q asked left =
     IsTrue after.closed
     → IsTrue before.closed
     ⊎ (IsTrue left.closed
-    ⊎ ((fault : OfferFault) × IsNotGivenUp fault × IsFault asked q fault))
+    × ((refusal : Refusal) × IsClosing refusal × IsOfferRefusal asked q refusal))

@@ -8,5 +8,7 @@ pub mod Refusing
 pub mod Desks
 -- what a worker serves of the messages that it took
 pub mod Workers
+-- edge cases of a worker that has ended
+pub mod Edges
 -- what a proxy's inboxes send, take up and refuse
 pub mod Asking

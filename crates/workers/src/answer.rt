@@ -3,6 +3,7 @@
 ghost use Rattle.std.specs.Prelude.{◌≡◌};
 ghost use Rattle.locked_resolvers.specs.Asking.{IsAskRefusal};
 ghost use Rattle.locked_resolvers.specs.declared.refusal.Refusal.TheVariants as refusals;
+ghost use Rattle.workers.specs.Refusing.{told_by};
 
 use agreed_ledger::Naming;
 use locked_resolvers::{NotedReply, Refusal, Request};
@@ -16,6 +17,18 @@ pub(crate) enum Answer<N: Naming> {
     Replied(NotedReply<N>),
     /// Why there is none.
     Refused(RefusedRequest<N>),
+}
+
+impl<N: Naming> Answer<N> {
+    /// The refusal, or `None` if it is a reply.
+    pub(crate) fn refusal(&self) -> Option<Refusal>
+        ensures { result ≡ told_by self.now }
+    {
+        match self {
+            Answer::Replied(_noted) => None,
+            Answer::Refused(refused) => Some(refused.refusal()),
+        }
+    }
 }
 
 /// Why a request got no reply, and the request.

@@ -4,12 +4,12 @@ ghost use Rattle.std.specs.Prelude.{◌≡◌, ◌≢◌, ◌<◌, ◌≤◌, �
 ghost use Rattle.std.specs.Prelude.{[], true, IsTrue, MatchOption};
 ghost use Rattle.facts.specs.Stretches.{end_of};
 ghost use Rattle.model.specs.Numbers.{RowNumber, Version};
-ghost use Rattle.workers.specs.Desks.{ClosesByCause, HasCaughtUp, HasHeldBack, HasLetGo};
-ghost use Rattle.workers.specs.Desks.{HasReached, HasRow, IsDueAt, IsEmptyIfClosed};
+ghost use Rattle.workers.specs.Desks.{ClosesByCause, HasCaughtUp, HasLetGo, HasReached, HasRow};
+ghost use Rattle.workers.specs.Desks.{IsClosing, IsDueAt, IsEmptyIfClosed, IsHeldOrTold};
 ghost use Rattle.workers.specs.Desks.{IsNoneDue, IsSettled, KeepsServing, OnlyFails};
 ghost use Rattle.workers.specs.Desks.{OnlyWantsMemory, Serves, has_failed, new_desk};
 ghost use Rattle.workers.specs.Desks.{next_row, wanting_memory};
-ghost use Rattle.workers.specs.Refusing.{IsAnswerOf};
+ghost use Rattle.workers.specs.Refusing.{IsAnswerOf, IsClosedWith, IsToldOf, told_by};
 ghost use Rattle.locked_resolvers.specs.Requests.{RequestView};
 ghost use Rattle.locked_resolvers.specs.Resolvers.{closed_resolver};
 ghost use Rattle.locked_resolvers.specs.declared.refusal.Refusal.TheVariants as refusals;
@@ -19,9 +19,10 @@ use crate::answer::{Answer, RefusedRequest};
 use crate::asked_request::AskedRequest;
 use crate::gate::{Gate, Place};
 use crate::refusing::{refused_as_closed, refused_by_offer};
+use crate::telling::{Told, tell};
 use agreed_ledger::{Column, Naming};
 use crossbeam_channel::{SendError, Sender};
-use locked_resolvers::{Refusal, Request, ResolverGuard, SharedResolver};
+use locked_resolvers::{Refusal, Request, ResolverGuard};
 use model::{ResolverNumber, RowNumber};
 use std::alloc::Global;
 use std::marker::Model;
@@ -64,17 +65,18 @@ impl<N: Naming> Desk<N> {
         }
     }
 
-    /// Serves a request: holds it back, and offers each request whose turn has come.
+    /// Serves a request under the guard of the worker's resolver: holds it back, and offers each request
+    /// whose turn has come. If the worker is closed afterwards, so is the resolver.
     ///
     /// A request to another resolver is not served: whoever asked sees that no answer will come.
     pub(crate) fn take<R: Wait, G: Gate>(
         &mut self,
         rt: &R,
-        shared: &SharedResolver<'_, N>,
+        guard: &mut ResolverGuard<'_, N>,
         gate: &G,
         held: AskedRequest<N>,
     )
-        requires own { self.old.column.resolver ≡ shared.now }
+        requires own { self.old.column.resolver ≡ guard.old.memory.number }
         requires settled { IsSettled self.old }
         requires emptied { IsEmptyIfClosed self.old }
         ensures keeps { KeepsServing self.old self.new }
@@ -84,33 +86,24 @@ impl<N: Naming> Desk<N> {
             → Serves self.new held.plain.row }
         ensures other { held.plain.resolver ≢ self.old.column.resolver → self.new ≡ self.old }
         ensures late { IsTrue self.old.closed → OnlyWantsMemory self.old self.new }
+        ensures closed { held.plain.resolver ≡ self.old.column.resolver → IsTrue self.new.closed
+            → IsTrue guard.new.closed }
     {
         if held.request.resolver() != self.column.resolver() {
             return;
         }
         if self.closed {
-            self.refuse(rt, &shared.lock(rt), held);
+            guard.close();
+            let _told = self.refuse(rt, guard, held);
             return;
         }
-        self.hold(rt, held);
-        self.settle(rt, shared, gate);
+        let _told = self.hold(rt, held);
+        self.offer_due(rt, guard, gate);
     }
 
-    /// Closes the resolver, and answers all requests that are held back, and those that come later,
-    /// that it is closed.
-    pub(crate) fn close<R: Wait>(&mut self, rt: &R, shared: &SharedResolver<'_, N>)
-        ensures column { self.new.column ≡ self.old.column }
-        ensures held { self.new.held ≡ [] }
-        ensures closed { self.new.closed ≡ true }
-        ensures wanted { IsTrue self.old.wanted → IsTrue self.new.wanted }
-        ensures none_held { self.old.held ≡ [] → self.new.wanted ≡ self.old.wanted }
-    {
-        self.close_under(rt, &mut shared.lock(rt));
-    }
-
-    /// Closes the resolver under the guard, and answers all requests that are held back that it is
-    /// closed.
-    fn close_under<R: Wait>(&mut self, rt: &R, guard: &mut ResolverGuard<'_, N>)
+    /// Closes the resolver under the guard, and answers all requests that are held back, and those that
+    /// come later, that it is closed.
+    pub(crate) fn close<R: Wait>(&mut self, rt: &R, guard: &mut ResolverGuard<'_, N>)
         ensures resolver { guard.new ≡ closed_resolver guard.old }
         ensures column { self.new.column ≡ self.old.column }
         ensures held { self.new.held ≡ [] }
@@ -123,12 +116,26 @@ impl<N: Naming> Desk<N> {
         self.let_go(rt, guard);
     }
 
-    /// Answers all requests that are held back that the resolver is closed.
-    pub(crate) fn let_go<R: Wait>(&mut self, rt: &R, guard: &ResolverGuard<'_, N>)
+    /// Ends the serving. If requests are still held back, closes the resolver under the guard, and
+    /// answers each that it is closed.
+    pub(crate) fn end<R: Wait>(&mut self, rt: &R, guard: &mut ResolverGuard<'_, N>)
+        ensures desk { HasLetGo self.old self.new }
+        ensures closed { self.old.held ≢ [] → guard.new ≡ closed_resolver guard.old }
+    {
+        if self.held.is_empty() {
+            return;
+        }
+        guard.close();
+        self.let_go(rt, guard);
+    }
+
+    /// Answers all requests that are held back that the resolver is closed, as the guard shows.
+    fn let_go<R: Wait>(&mut self, rt: &R, guard: &ResolverGuard<'_, N>)
+        requires { IsTrue guard.now.closed }
         ensures { HasLetGo self.old self.new }
     {
         while let Some(held) = self.held.pop() {
-            self.refuse(rt, guard, held);
+            let _told = self.refuse(rt, guard, held);
         }
     }
 
@@ -148,12 +155,15 @@ impl<N: Naming> Desk<N> {
     }
 
     /// Sends the answer. If whoever asked has gone, the answer is dropped.
-    fn tell<R: Wait>(&mut self, rt: &R, reply: &Sender<Answer<N>>, answer: Answer<N>)
+    fn tell<R: Wait>(&mut self, rt: &R, reply: Sender<Answer<N>>, answer: Answer<N>) -> Told
+        ensures told { result ≡ told_by answer }
         ensures fails { OnlyFails self.old self.new }
         ensures closed { self.new.closed ≡ self.old.closed }
         ensures wants { OnlyWantsMemory self.old self.new }
     {
-        self.note(reply.send(rt, answer));
+        let (told, sent) = tell(rt, reply, answer);
+        self.note(sent);
+        told
     }
 
     /// Takes up how the sending of an answer ended: nothing changes unless memory was refused.
@@ -172,8 +182,15 @@ impl<N: Naming> Desk<N> {
         }
     }
 
-    /// Answers that the resolver is closed.
-    fn refuse<R: Wait>(&mut self, rt: &R, guard: &ResolverGuard<'_, N>, held: AskedRequest<N>)
+    /// Answers that the resolver is closed, as the guard shows.
+    fn refuse<R: Wait>(
+        &mut self,
+        rt: &R,
+        guard: &ResolverGuard<'_, N>,
+        held: AskedRequest<N>,
+    ) -> Told
+        requires { IsTrue guard.now.closed }
+        ensures told { result ≡ Some refusals.Closed }
         ensures fails { OnlyFails self.old self.new }
         ensures closed { self.new.closed ≡ self.old.closed }
         ensures wants { OnlyWantsMemory self.old self.new }
@@ -181,44 +198,35 @@ impl<N: Naming> Desk<N> {
         let (request, reply) = held.into_parts();
         self.tell(
             rt,
-            &reply,
+            reply,
             Answer::Refused(refused_as_closed(guard, request)),
-        );
+        )
     }
 
     /// Appends the request to those that are held back. If the allocation fails, answers it with
-    /// `OutOfMemory`.
-    fn hold<R: Wait>(&mut self, rt: &R, held: AskedRequest<N>)
+    /// `OutOfMemory`, and returns what was told.
+    fn hold<R: Wait>(&mut self, rt: &R, held: AskedRequest<N>) -> Option<Told>
         ensures keeps { KeepsServing self.old self.new }
         ensures closed { self.new.closed ≡ self.old.closed }
         ensures held { IsFalse (has_failed self.new) → HasRow self.new.held held.plain.row }
-        ensures back { HasHeldBack held self.old self.new }
+        ensures told { IsHeldOrTold held self.old self.new result }
     {
         let Err(failed) = self.held.push(held) else {
-            return;
+            return None;
         };
         self.wanted = true;
         let (request, reply) = failed.value.into_parts();
-        self.tell(
+        let told = self.tell(
             rt,
-            &reply,
+            reply,
             Answer::Refused(RefusedRequest::out_of_memory(request)),
         );
-    }
-
-    /// Offers each request whose turn has come, until there is none.
-    fn settle<R: Wait, G: Gate>(&mut self, rt: &R, shared: &SharedResolver<'_, N>, gate: &G)
-        requires { self.old.column.resolver ≡ shared.now }
-        ensures keeps { KeepsServing self.old self.new }
-        ensures settled { IsSettled self.new }
-        ensures emptied { IsEmptyIfClosed self.new }
-    {
-        self.offer_due(rt, &mut shared.lock(rt), gate);
+        Some(told)
     }
 
     /// Offers each request whose turn has come, until there is none. None is left over where an
     /// allocation failed either: what comes next is what the resolver has judged, not only what the
-    /// worker's column has.
+    /// worker's column has. If the worker is closed then, so is the resolver.
     fn offer_due<R: Wait, G: Gate>(&mut self, rt: &R, guard: &mut ResolverGuard<'_, N>, gate: &G)
         requires { self.old.column.resolver ≡ guard.old.memory.number }
         ensures keeps { KeepsServing self.old self.new }
@@ -226,10 +234,11 @@ impl<N: Naming> Desk<N> {
         ensures emptied { IsEmptyIfClosed self.new }
         ensures none_due { IsNoneDue self.new (next_row self.new guard.new) }
         ensures reached { HasReached guard.new self.new }
+        ensures closed { IsTrue self.new.closed → IsTrue guard.new.closed }
     {
         self.catch_up(guard.column());
         while let Some(place) = self.due(self.next_row(guard)) {
-            self.judge_at(rt, guard, gate, place);
+            let _told = self.judge_at(rt, guard, gate, place);
         }
         self.let_go_if_closed(rt, guard);
     }
@@ -253,14 +262,15 @@ impl<N: Naming> Desk<N> {
         None
     }
 
-    /// Enters the gate, offers the request at this place to the resolver, and answers it.
+    /// Enters the gate, offers the request at this place to the resolver, and answers it. Returns what
+    /// was told.
     fn judge_at<R: Wait, G: Gate>(
         &mut self,
         rt: &R,
         guard: &mut ResolverGuard<'_, N>,
         gate: &G,
         place: usize,
-    )
+    ) -> Told
         requires due { IsDueAt self.old (next_row self.old guard.old) place }
         requires own { self.old.column.resolver ≡ guard.old.memory.number }
         ensures keeps { KeepsServing self.old self.new }
@@ -269,6 +279,8 @@ impl<N: Naming> Desk<N> {
         ensures reached { HasReached guard.new self.new }
         ensures closed { (q : RequestView) → slice_get self.old.held place ≡ Some q
             → ClosesByCause self.old self.new q.plain guard.old guard.new }
+        ensures told { (q : RequestView) → slice_get self.old.held place ≡ Some q
+            → IsToldOf guard.old q guard.new result }
         ensures entered { (q : RequestView) → slice_get self.old.held place ≡ Some q
             → G.has_entered gate.now
             (record { resolver = guard.old.memory.number; row = q.plain.row }) }
@@ -278,17 +290,17 @@ impl<N: Naming> Desk<N> {
             resolver: guard.number(),
             row: request.row(),
         });
-        self.offer(rt, guard, request, &reply);
+        self.offer(rt, guard, request, reply)
     }
 
-    /// Offers the request to the resolver, and answers it.
+    /// Offers the request to the resolver, and answers it. Returns what was told.
     fn offer<R: Wait>(
         &mut self,
         rt: &R,
         guard: &mut ResolverGuard<'_, N>,
         request: Request<N>,
-        reply: &Sender<Answer<N>>,
-    )
+        reply: Sender<Answer<N>>,
+    ) -> Told
         requires { self.old.column.resolver ≡ guard.old.memory.number }
         ensures keeps { KeepsServing self.old self.new }
         ensures held { self.new.held ≡ self.old.held }
@@ -297,12 +309,14 @@ impl<N: Naming> Desk<N> {
         ensures own { guard.new.memory.number ≡ guard.old.memory.number }
         ensures reached { HasReached guard.new self.new }
         ensures closed { ClosesByCause self.old self.new request.plain guard.old guard.new }
+        ensures told { IsToldOf guard.old request guard.new result }
     {
         let answer = self.offered(guard, request);
-        self.tell(rt, reply, answer);
+        self.tell(rt, reply, answer)
     }
 
-    /// Offers the request to the resolver. Returns the answer: the reply, or why there is none.
+    /// Offers the request to the resolver. Returns the answer: the reply, or why there is none. If that
+    /// closes the worker, so it does the resolver.
     fn offered(&mut self, guard: &mut ResolverGuard<'_, N>, request: Request<N>) -> Answer<N>
         requires { self.old.column.resolver ≡ guard.old.memory.number }
         ensures keeps { KeepsServing self.old self.new }
@@ -325,6 +339,7 @@ impl<N: Naming> Desk<N> {
             Err(refused) => {
                 self.catch_up(guard.column());
                 self.fail(refused.refusal, refused.request.row());
+                self.close_with(guard);
                 Answer::Refused(refused_by_offer(guard, refused))
             }
         }
@@ -348,8 +363,8 @@ impl<N: Naming> Desk<N> {
     }
 
     /// Takes up a refused offer of a request of this row. `OutOfMemory` is an allocation that failed,
-    /// and with `GivenUp` nothing changes, since the row was judged before. `Closed` and `CellTaken`
-    /// close the worker, as any other refusal would, but none comes.
+    /// and with `GivenUp` nothing changes, since the row was judged before. Any other refusal closes the
+    /// worker; it is `Closed` or `CellTaken`.
     fn fail(&mut self, refusal: Refusal, row: RowNumber)
         ensures fails { OnlyFails self.old self.new }
         ensures served { IsFalse (has_failed self.new) → row < end_of self.new.column.rows }
@@ -358,8 +373,7 @@ impl<N: Naming> Desk<N> {
         ensures given_up { (acknowledged : Version) → refusal ≡ refusals.GivenUp acknowledged
             → IsTrue self.old.wanted ⊎ (row < end_of self.old.column.rows)
             → self.new ≡ self.old }
-        ensures closed { refusal ≡ refusals.Closed → IsTrue self.new.closed }
-        ensures taken { refusal ≡ refusals.CellTaken → IsTrue self.new.closed }
+        ensures closed { IsClosing refusal → IsTrue self.new.closed }
     {
         match refusal {
             Refusal::OutOfMemory => self.wanted = true,
@@ -368,8 +382,17 @@ impl<N: Naming> Desk<N> {
         }
     }
 
-    /// If the worker is closed, answers so to all requests that are held back.
-    fn let_go_if_closed<R: Wait>(&mut self, rt: &R, guard: &ResolverGuard<'_, N>)
+    /// If the worker is closed, closes the resolver.
+    fn close_with(&self, guard: &mut ResolverGuard<'_, N>)
+        ensures { IsClosedWith self.now.closed guard.old guard.new }
+    {
+        if self.closed {
+            guard.close();
+        }
+    }
+
+    /// If the worker is closed, closes the resolver, and answers so to all requests that are held back.
+    fn let_go_if_closed<R: Wait>(&mut self, rt: &R, guard: &mut ResolverGuard<'_, N>)
         ensures keeps { KeepsServing self.old self.new }
         ensures settled { IsSettled self.old → IsSettled self.new }
         ensures none_due { (next : RowNumber) → IsNoneDue self.old next → IsNoneDue self.new next }
@@ -377,10 +400,12 @@ impl<N: Naming> Desk<N> {
         ensures column { self.new.column ≡ self.old.column }
         ensures open { IsFalse self.old.closed → self.new ≡ self.old }
         ensures closed { self.new.closed ≡ self.old.closed }
+        ensures resolver { IsClosedWith self.old.closed guard.old guard.new }
     {
         if !self.closed {
             return;
         }
+        guard.close();
         self.let_go(rt, guard);
     }
 }

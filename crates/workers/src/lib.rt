@@ -9,15 +9,18 @@
 mod answer;
 mod asked_request;
 mod desk;
+mod edges;
 mod ended;
 mod gate;
 mod proxy_inboxes;
 mod refusing;
+mod telling;
 mod waiting;
 mod worker;
 
 pub use asked_request::AskedRequest;
+pub use edges::ended_worker_edges;
 pub use ended::EndedWorker;
 pub use gate::{Gate, Open, Place};
-pub use proxy_inboxes::ProxyInboxes;
+pub use proxy_inboxes::{ProxyInboxes, SendersGuard};
 pub use worker::ResolverWorker;

@@ -1,13 +1,13 @@
 //! How a proxy asks the workers of all resolvers.
 
-ghost use Rattle.std.specs.Prelude.{◌≡◌, ◌<◌, ◌≤◌, [], length, IfErr, IfOk};
+ghost use Rattle.std.specs.Prelude.{◌≡◌, ◌<◌, ◌≤◌, [], length, IfErr, IfOk, Some};
 ghost use Rattle.model.specs.Configs.{IsConfig};
 ghost use Rattle.inboxes.specs.Ends.{AreSenders};
 ghost use Rattle.inboxes.specs.Sending.{AreEndedSenders, AreSent, IsSentTo};
 ghost use Rattle.inboxes.specs.Tags.{close_tag, request_tag};
-ghost use Rattle.locked_resolvers.specs.Asking.{AreOfOneRecord, AreRepliesInOrder, IsAskAllRefusal};
-ghost use Rattle.locked_resolvers.specs.declared.refusal.Refusal.TheVariants as refusals;
-ghost use Rattle.workers.specs.Asking.{AreOwn, AreRequestsSent, HasOthers, IsInboxRefusal};
+ghost use Rattle.locked_resolvers.specs.Asking.{AreOfOneRecord, AreRepliesInOrder, AreTaken};
+ghost use Rattle.locked_resolvers.specs.Asking.{IsAskAllRefusal, IsAskedRefusal};
+ghost use Rattle.workers.specs.Asking.{AreAllSent, AreRequestsSent, HasClosed};
 
 use crate::asked_request::AskedRequest;
 use crate::waiting::{Prepared, collect, other_at, prepare};
@@ -17,7 +17,7 @@ use locked_resolvers::{Asking, NotedReply, Refusal, Request};
 use model::ProxyNumber;
 use std::alloc::Global;
 use std::marker::Model;
-use std::sync::{Mutex, Wait};
+use std::sync::{Mutex, MutexGuard, Wait};
 
 /// A proxy's sending ends of all inboxes, under a lock. The proxy asks through them, and closes the
 /// resolvers. Contracts see it as the number of the proxy.
@@ -74,9 +74,10 @@ impl<N: Naming, M: Channels> ProxyInboxes<N, M> {
         alloc: Global,
         requests: &[Request<N>],
     ) -> Result<Vec<NotedReply<N>>, Refusal>
-        ensures own { IfOk result (λ replies. AreOwn self.now requests.now) }
+        ensures taken { IfOk result (λ _. AreTaken (Some self.now) requests.now) }
         ensures replied { IfOk result (λ replies. AreRepliesInOrder requests.now replies.items) }
-        ensures refused { IfErr result (IsInboxRefusal N.cells.config self.now requests.now) }
+        ensures refused { IfErr result
+            (IsAskAllRefusal N.cells.config (Some self.now) requests.now) }
     {
         if let Some(_place) = other_at(self.proxy, requests) {
             return Err(Refusal::NotMine);
@@ -96,29 +97,16 @@ impl<N: Naming, M: Channels> ProxyInboxes<N, M> {
         senders.into_ended(rt)
     }
 
-    /// Tells the worker of each resolver to close it.
-    pub fn close<R: Wait>(&self, rt: &R) {
-        send_closes(rt, &mut self.lock.lock(rt));
-    }
-
-    /// Asks each resolver its request. If one is of another proxy, fails with `Closed` before
-    /// anything is sent.
-    fn asked<R: Wait>(
-        &self,
-        rt: &R,
-        alloc: Global,
-        requests: &[Request<N>],
-    ) -> Result<Vec<NotedReply<N>>, Refusal>
-        ensures replied { IfOk result (λ replies. AreRepliesInOrder requests.now replies.items) }
-        ensures refused { IfErr result (IsAskAllRefusal N.cells.config requests.now) }
-        ensures others { HasOthers self.now requests.now → result ≡ Err refusals.Closed }
+    /// Tells the worker of each resolver to close it. Returns the sending ends, still locked, which
+    /// show what was sent through them.
+    pub fn close<R: Wait>(&self, rt: &R) -> SendersGuard<'_, N, M>
+        ensures { HasClosed N.cells.config.resolvers result }
     {
-        if let Some(place) = other_at(self.proxy, requests) {
-            // (its contract says that the cluster has the resolver)
-            let _plain = requests[place].plain();
-            return Err(Refusal::Closed);
-        }
-        self.ask_own(rt, alloc, requests)
+        let mut guard = self.lock.lock(rt);
+        send_closes(rt, &mut guard);
+        // (its contract says what the type keeps)
+        let _ends = guard.ends();
+        SendersGuard { guard }
     }
 
     /// Asks each resolver its request, which is of this proxy.
@@ -128,9 +116,9 @@ impl<N: Naming, M: Channels> ProxyInboxes<N, M> {
         alloc: Global,
         requests: &[Request<N>],
     ) -> Result<Vec<NotedReply<N>>, Refusal>
-        requires { AreOwn self.now requests.now }
+        requires { AreTaken (Some self.now) requests.now }
         ensures replied { IfOk result (λ replies. AreRepliesInOrder requests.now replies.items) }
-        ensures refused { IfErr result (IsAskAllRefusal N.cells.config requests.now) }
+        ensures refused { IfErr result (IsAskedRefusal N.cells.config requests.now) }
     {
         // (reading it tells what the type keeps)
         let _proxy = self.proxy;
@@ -142,29 +130,49 @@ impl<N: Naming, M: Channels> ProxyInboxes<N, M> {
             waiting,
             replies,
         } = prepared;
-        self.send_all(rt, messages);
+        drop(self.send_all(rt, messages));
         collect(rt, requests, &waiting, replies)
     }
 
-    /// Sends the requests, which are of this proxy.
-    fn send_all<R: Wait>(&self, rt: &R, messages: Vec<AskedRequest<N>>)
-        requires { AreOwn self.now messages.items }
+    /// Sends the requests, which are of this proxy. Returns the sending ends, still locked, which show
+    /// what was sent through them.
+    fn send_all<R: Wait>(&self, rt: &R, messages: Vec<AskedRequest<N>>) -> SendersGuard<'_, N, M>
+        requires { AreTaken (Some self.now) messages.items }
+        ensures { AreAllSent messages.items result }
     {
-        send_requests(rt, &mut self.lock.lock(rt), messages);
+        let mut guard = self.lock.lock(rt);
+        send_requests(rt, &mut guard, messages);
+        SendersGuard { guard }
     }
 }
 
 impl<N: Naming, M: Channels> Asking<N> for ProxyInboxes<N, M> {
-    // (no refusal of all ways to ask says that a request is another proxy's: here it counts as refused
-    // by a closed resolver, before anything is sent)
+    ghost use Rattle.std.specs.Prelude.{Some};
+
+    ghost takes = { λ proxy. Some proxy };
+
     fn ask_all<R: Wait>(
         &self,
         rt: &R,
         alloc: Global,
         requests: &[Request<N>],
     ) -> Result<Vec<NotedReply<N>>, Refusal> {
-        self.asked(rt, alloc, requests)
+        self.ask(rt, alloc, requests)
     }
+}
+
+/// A proxy's sending ends of all inboxes, locked. Contracts see what was sent through them.
+#[derive(Drop)]
+pub struct SendersGuard<'a, N: Naming, M: Channels> {
+    guard: MutexGuard<'a, ProxySenders<N, AskedRequest<N>, M>>,
+}
+
+impl<'a, N: Naming, M: Channels> Model for SendersGuard<'a, N, M> {
+    ghost use Rattle.inboxes.specs.Ends.{ProxyView};
+
+    ghost Value = { ProxyView };
+
+    ghost view = { λ g. g.guard.value };
 }
 
 /// Returns once the ends are those of this proxy, as they always are. (No type says so of what is
@@ -221,7 +229,8 @@ fn send_closes<N: Naming, M: Channels, R: Wait>(
     rt: &R,
     senders: &mut ProxySenders<N, AskedRequest<N>, M>,
 )
-    ensures { AreSent (close_tag senders.old.proxy) senders.old.ends senders.new.ends }
+    ensures proxy { senders.new.proxy ≡ senders.old.proxy }
+    ensures sent { AreSent (close_tag senders.old.proxy) senders.old.ends senders.new.ends }
 {
     for resolver in 0..senders.ends() {
         let message = Message::close(senders.proxy());

@@ -1,11 +1,12 @@
 //! Prepares the requests of one record, and waits for their answers.
 
 ghost use Rattle.std.specs.Prelude.{◌≡◌, ◌≢◌, ◌≤◌, [], length, IfErr, IfOk, IfSome, MatchBool};
-ghost use Rattle.std.specs.Prelude.{MatchOption, vec_capacity};
+ghost use Rattle.std.specs.Prelude.{MatchOption, Some, vec_capacity};
 ghost use Rattle.model.specs.Configs.{IsConfig};
-ghost use Rattle.locked_resolvers.specs.Asking.{AreRepliesInOrder, IsAskAllRefusal, IsAskRefusal};
+ghost use Rattle.locked_resolvers.specs.Asking.{AreRepliesInOrder, AreTaken, IsAskRefusal};
+ghost use Rattle.locked_resolvers.specs.Asking.{IsAskedRefusal, IsForeignAt};
 ghost use Rattle.locked_resolvers.specs.NotedReplies.{IsReplyToRequest};
-ghost use Rattle.workers.specs.Asking.{AreOwn, Gives, IsOtherAt};
+ghost use Rattle.workers.specs.Asking.{Gives};
 
 use crate::answer::{Answer, RefusedRequest};
 use crate::asked_request::AskedRequest;
@@ -20,7 +21,7 @@ use system_keys::OutOfMemory;
 /// The place of a request of another proxy, if there is one.
 pub(crate) fn other_at<N: Naming>(proxy: ProxyNumber, requests: &[Request<N>]) -> Option<usize>
     ensures { MatchOption result
-        (AreOwn proxy requests.now) (IsOtherAt proxy requests.now) }
+        (AreTaken (Some proxy) requests.now) (IsForeignAt (Some proxy) requests.now) }
 {
     for (place, request) in requests.iter().enumerate() {
         if request.proxy() != proxy {
@@ -78,7 +79,7 @@ pub(crate) fn collect<N: Naming, R: Wait>(
     requires room { length requests.now ≤ vec_capacity replies }
     requires none { replies.items ≡ [] }
     ensures replied { IfOk result (λ replies. AreRepliesInOrder requests.now replies.items) }
-    ensures refused { IfErr result (IsAskAllRefusal N.cells.config requests.now) }
+    ensures refused { IfErr result (IsAskedRefusal N.cells.config requests.now) }
 {
     let mut replies = replies;
     for place in 0..requests.len() {

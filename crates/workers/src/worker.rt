@@ -79,8 +79,8 @@ impl<'a, 'l, N: Naming, M: Channels, G: Gate + Drop> ResolverWorker<'a, 'l, N, M
     }
 
     /// Takes messages and serves them, until it has taken the last message of each proxy, or until
-    /// nobody is left who could send one: then the last message of some proxy is missing. Requests that
-    /// are then still held back are answered that the resolver is closed. If it was closed, refused
+    /// nobody is left who could send one: then the last message of some proxy is missing. If requests
+    /// are then still held back, it closes the resolver, and answers each so. If it was closed, refused
     /// memory or cut off before, it ends so.
     pub fn run<R: Wait>(self, rt: &R) -> EndedWorker<N, M, G>
         ensures taken { HasTakenMore self.entry.taken result.taken }
@@ -122,14 +122,17 @@ impl<'a, 'l, N: Naming, M: Channels, G: Gate + Drop> ResolverWorker<'a, 'l, N, M
             return;
         };
         match message.into_body() {
-            Body::Request(held) => self.desk.take(rt, self.shared, &self.gate, held),
-            Body::Close => self.desk.close(rt, self.shared),
+            Body::Request(held) => {
+                self.desk
+                    .take(rt, &mut self.shared.lock(rt), &self.gate, held)
+            }
+            Body::Close => self.desk.close(rt, &mut self.shared.lock(rt)),
             Body::End => self.proxies_left -= 1,
         }
     }
 
-    /// Ends the worker, which takes no more. Answers the requests that are still held back that the
-    /// resolver is closed; if memory is refused for that, it ends as one that was refused memory.
+    /// Ends the worker, which takes no more. If requests are still held back, closes the resolver, and
+    /// answers each so; if memory is refused for that, it ends as one that was refused memory.
     fn ended<R: Wait>(self, rt: &R) -> EndedWorker<N, M, G>
         requires { (self.proxies_left ≡ 0) ⊎ IsTrue self.cut_off }
         ensures taken { result.taken ≡ self.entry.taken }
@@ -149,7 +152,7 @@ impl<'a, 'l, N: Naming, M: Channels, G: Gate + Drop> ResolverWorker<'a, 'l, N, M
             cut_off,
         } = self;
         let mut desk = desk;
-        desk.let_go(rt, &shared.lock(rt));
+        desk.end(rt, &mut shared.lock(rt));
         let (column, closed, wanted) = desk.into_parts();
         EndedWorker::of(end.into_taker(), column, closed, wanted, cut_off, gate)
     }

@@ -2,6 +2,8 @@
 //! records.
 
 ghost use Rattle.std.specs.Prelude.{◌≡◌, ◌<◌, ◌≤◌, IfOk, IfErr, MatchBool, MatchResult, OnErr};
+ghost use Rattle.std.specs.Prelude.{Option};
+ghost use Rattle.model.specs.Numbers.{ProxyNumber};
 ghost use Rattle.model.specs.Metadata.{metadata as metadata_of};
 ghost use Rattle.proxy_state.specs.Beginning.{rows_up_to};
 ghost use Rattle.locked_cluster.specs.Audits.{IsConfirmed};
@@ -107,7 +109,8 @@ impl<'l, N: Naming> SharedProxy<'l, N> {
     /// Asks all resolvers for the record that was begun, and collects their replies. Does not take
     /// the lock of the proxy.
     ///
-    /// Each failure returns the requests. A resolver that has replied then replies the same again.
+    /// Fails with `NotMine` exactly if `asking` takes the requests of another proxy alone. Each failure
+    /// returns the requests. A resolver that has replied then replies the same again.
     pub fn resolve_all<R: Wait, A: Asking<N>>(
         &self,
         rt: &R,
@@ -117,7 +120,7 @@ impl<'l, N: Naming> SharedProxy<'l, N> {
         ensures row { IfOk result (λ ready. ready.row ≡ begun.row) }
         ensures records { IfOk result (λ ready. ready.records ≡ begun.records) }
         ensures refused { IfErr result (λ refused.
-            IsAskAllRefusal N.cells.config begun.requests refused.0) }
+            IsAskAllRefusal N.cells.config (A.takes asking.now) begun.requests refused.0) }
         ensures back { IfErr result (λ refused. refused.1 ≡ begun) }
     {
         let replies = match asking.ask_all(rt, begun.alloc(), begun.requests()) {
@@ -149,7 +152,7 @@ impl<'l, N: Naming> SharedProxy<'l, N> {
     ) -> Result<(NotedFinished<N>, ProxyGuard<'_, N>), CommitFault<N>>
         ensures { MatchResult result
             (λ made. IsCommitted self.now batch made.0 made.1)
-            (HandsBack N.cells self.now batch) }
+            (HandsBack N.cells (A.takes asking.now) self.now batch) }
     {
         let begun = self.begin_batch(rt, sequencer, batch)?;
         let ready = match self.resolve_all(rt, asking, begun) {
@@ -171,7 +174,8 @@ impl<'l, N: Naming> SharedProxy<'l, N> {
     ) -> Result<Begun<N>, CommitFault<N>>
         ensures { MatchResult result
             (λ begun. HoldsBatch self.now begun.row begun.records batch)
-            (HandsBack N.cells self.now batch) }
+            (λ fault. (whose : Option ProxyNumber)
+            → HandsBack N.cells whose self.now batch fault) }
     {
         let mut guard = self.lock(rt);
         let ticket = match sequenced(rt, sequencer, self.number, batch) {

@@ -17,7 +17,8 @@ use Rattle.model.specs.Verdicts.{JudgedPart, has_some, is_too_old, is_after_snap
 use Rattle.model.specs.Metadata.{is_locked, metadata}
 use Rattle.model.specs.Journal.{history_verdicts, history_verdict_in_row, journal}
 use Rattle.model.specs.Outcomes.{joined_verdict, outcome_by, outcome}
-use Rattle.model.specs.Serial.{Place, IsBetween, IsCommitted, IsSerial, seen_at, verdict_at_place}
+use Rattle.model.specs.Serial.{Place, IsBetween, IsCommitted, seen_at, verdict_at_place}
+use Rattle.model.specs.Laws.Serializability.{HistoriesAreSerial}
 use Rattle.model.proofs.History.Growth.{Has-each_below}
 use Rattle.model.proofs.Owners.FiniteTests.{asks_write_iff, asks_read_iff}
 use Rattle.model.proofs.Owners.Moves.{grows}
@@ -151,7 +152,7 @@ refused config h p limits history (inr later) =
     go r there last (inl met) = refused_by_owner config h p r history there last met
     go r there last (inr old) = refused_by_age config h p limits history old
 
-pub history_is_serial : (config : Config) (h : List Record) → IsConfig config → IsHistory config h → IsSerial config h
+pub history_is_serial : HistoriesAreSerial
 history_is_serial config h limits history a b committed_a committed_b between write read write_in read_in overlap =
     let both = and_parts (holds write overlap.key) (holds read overlap.key) overlap.shared in
     refused config h (record { a = a; b = b; committed_a = committed_a; committed_b = committed_b; between = between; write = write; read = read; write_in = write_in; read_in = read_in; key = overlap.key; inside_write = both.0; inside_read = both.1 }) limits history between

@@ -33,7 +33,7 @@ fn told(reply: &Reply) -> Told {
 }
 
 /// Waits with the request for its turn.
-fn resolved<N: Naming, R: Wait>(
+fn resolved<N: Naming, R: AllocGlobal + Wait>(
     rt: &R,
     resolver: &SharedResolver<'_, N>,
     request: Request<N>,
@@ -45,7 +45,7 @@ fn resolved<N: Naming, R: Wait>(
 }
 
 /// Brings the request, which does not wait.
-fn offered<N: Naming, R: Wait>(
+fn offered<N: Naming, R: AllocGlobal + Wait>(
     rt: &R,
     resolver: &SharedResolver<'_, N>,
     request: Request<N>,
@@ -57,7 +57,7 @@ fn offered<N: Naming, R: Wait>(
 }
 
 /// Brings a copy of the request, which waits its turn or does not.
-fn answer_once<N: Naming, R: Wait>(
+fn answer_once<N: Naming, R: AllocGlobal + Wait>(
     rt: &R,
     resolver: &SharedResolver<'_, N>,
     waits: bool,
@@ -74,7 +74,7 @@ fn answer_once<N: Naming, R: Wait>(
 
 /// The answer to the request for the record of a row to the resolver of its number, which is brought
 /// once more after a failed allocation.
-pub(crate) fn answer<N: Naming, R: Wait>(
+pub(crate) fn answer<N: Naming, R: AllocGlobal + Wait>(
     rt: &R,
     resolver: &SharedResolver<'_, N>,
     waits: bool,
@@ -82,6 +82,7 @@ pub(crate) fn answer<N: Naming, R: Wait>(
     row: usize,
 ) -> Answer {
     twice!(
+        rt.alloc();
         answer_once(rt, resolver, waits, rows, row),
         Refusal::OutOfMemory
     )

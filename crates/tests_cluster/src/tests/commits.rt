@@ -8,6 +8,7 @@ use model::{Finished, Outcome};
 use mutation::Batch;
 use std::sync::Wait;
 use system_keys::Tag;
+use testing::is_memory_refused;
 
 /// What a test compares of a commit: its version and that of the proxy then shown, the outcomes of the
 /// first two transactions, how many mutations there are, and the tag of the last one if it has a single
@@ -34,7 +35,7 @@ fn last_tag(finished: &Finished) -> Option<Tag> {
 }
 
 /// Commits a batch by asking in this way, and lets the proxy go.
-pub(crate) fn commit_once<N: Naming, A: Asking<N>, R: Wait>(
+pub(crate) fn commit_once<N: Naming, A: Asking<N>, R: AllocGlobal + Wait>(
     rt: &R,
     cluster: &Cluster<'_, N>,
     asking: &A,
@@ -48,7 +49,7 @@ pub(crate) fn commit_once<N: Naming, A: Asking<N>, R: Wait>(
 }
 
 /// Goes through the phases that are left.
-fn go_on<N: Naming, R: Wait>(
+fn go_on<N: Naming, R: AllocGlobal + Wait>(
     rt: &R,
     cluster: &Cluster<'_, N>,
     proxy: &SharedProxy<'_, N>,
@@ -63,8 +64,9 @@ fn go_on<N: Naming, R: Wait>(
     }
 }
 
-/// Goes on once from what a failure left.
-fn go_on_after<N: Naming, A: Asking<N>, R: Wait>(
+/// Goes on once from what a failure left, which is that of an allocation. With ample memory there is
+/// none.
+fn go_on_after<N: Naming, A: Asking<N>, R: AllocGlobal + Wait>(
     rt: &R,
     cluster: &Cluster<'_, N>,
     asking: &A,
@@ -75,6 +77,7 @@ fn go_on_after<N: Naming, A: Asking<N>, R: Wait>(
         CommitFault::Sequencing { refusal, batch } => {
             return sequence_again(rt, cluster, asking, proxy, batch, refusal.number());
         }
+        _ if !is_memory_refused(rt.alloc()) => return Err(0),
         CommitFault::Beginning { refusal: _, ticket } => Phase::Sequenced(ticket),
         CommitFault::Resolving { refusal: _, begun } => Phase::Begun(begun),
         CommitFault::Finishing { refusal: _, ready } => Phase::Ready(ready),
@@ -83,7 +86,7 @@ fn go_on_after<N: Naming, A: Asking<N>, R: Wait>(
 }
 
 /// Commits the batch once more if it was refused with no number.
-fn sequence_again<N: Naming, A: Asking<N>, R: Wait>(
+fn sequence_again<N: Naming, A: Asking<N>, R: AllocGlobal + Wait>(
     rt: &R,
     cluster: &Cluster<'_, N>,
     asking: &A,
@@ -93,6 +96,7 @@ fn sequence_again<N: Naming, A: Asking<N>, R: Wait>(
 ) -> Commit {
     match refusal {
         Some(number) => Err(number),
+        None if !is_memory_refused(rt.alloc()) => Err(0),
         None => match commit_once(rt, cluster, asking, proxy, batch) {
             Ok(seen) => Ok(seen),
             Err(_fault) => Err(0),
@@ -100,7 +104,7 @@ fn sequence_again<N: Naming, A: Asking<N>, R: Wait>(
     }
 }
 
-fn commit_by<N: Naming, A: Asking<N>, R: Wait>(
+fn commit_by<N: Naming, A: Asking<N>, R: AllocGlobal + Wait>(
     rt: &R,
     cluster: &Cluster<'_, N>,
     asking: &A,
@@ -114,7 +118,7 @@ fn commit_by<N: Naming, A: Asking<N>, R: Wait>(
 }
 
 /// Commits a batch of the proxy of this number. After a failure goes on once from what it left.
-pub(crate) fn commit<N: Naming, R: Wait>(
+pub(crate) fn commit<N: Naming, R: AllocGlobal + Wait>(
     rt: &R,
     cluster: &Cluster<'_, N>,
     number: usize,

@@ -67,7 +67,7 @@ const WANTED: [Commit; 3] = [
 ];
 
 /// Moves the keys from `m` on to the last of so many resolvers.
-fn move_keys<N: Naming, R: Wait>(
+fn move_keys<N: Naming, R: AllocGlobal + Wait>(
     rt: &R,
     alloc: Global,
     cluster: &Cluster<'_, N>,
@@ -80,7 +80,7 @@ fn move_keys<N: Naming, R: Wait>(
 }
 
 /// Commits the batches, one after the other.
-fn commit_each<N: Naming, R: Abort + Wait>(
+fn commit_each<N: Naming, R: Abort + AllocGlobal + Wait>(
     rt: &R,
     alloc: Global,
     cluster: &Cluster<'_, N>,
@@ -93,7 +93,7 @@ fn commit_each<N: Naming, R: Abort + Wait>(
 }
 
 /// Moves keys to the last of so many resolvers, and commits the batches.
-pub(crate) fn commit_in_order<N: Naming, R: Abort + Wait>(
+pub(crate) fn commit_in_order<N: Naming, R: Abort + AllocGlobal + Wait>(
     rt: &R,
     alloc: Global,
     cluster: &Cluster<'_, N>,

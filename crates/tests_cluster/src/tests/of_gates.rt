@@ -18,7 +18,7 @@ use workers::{Gate, Place};
 
 /// How often the gate looks before it gives up. Then the test fails, unless resolver 1 was refused
 /// memory, which nobody can see before resolver 0 has answered.
-const TURNS: usize = 1_000_000;
+const TURNS: usize = 10_000_000;
 
 /// Holds resolver 0 back until resolver 1 has judged row 0.
 #[derive(Drop)]
@@ -67,6 +67,7 @@ fn has_judged<N: Naming>(ledger: &Ledger<N>, resolver: usize) -> bool {
 const ONE_BATCH: Plan = Plan {
     closes: 0,
     batches: 1,
+    own: 0,
     messages: 2,
     rows: 1,
 };
@@ -75,7 +76,7 @@ const ONE_BATCH: Plan = Plan {
 pub(crate) fn hold_back<
     N: Naming + Send + Sync,
     M: Channels + Send + Sync,
-    R: Abort + Threads + Wait + Sync,
+    R: Abort + AllocGlobal + Threads + Wait + Sync,
 >(rt: &R, alloc: Global, cluster: &Cluster<'_, N>, inboxes: Inboxes<N, M>) -> Result<(), Fail> {
     let gate = Looks {
         ledger: cluster.ledger,

@@ -8,6 +8,7 @@ use agreed_ledger::Naming;
 use locked_cluster::{
     BehindBy, Meeting, Refusal, SharedProxy, SharedResolver, audit, meet, metadata_of_two,
 };
+use model::JournalRow;
 use proxy_state::Metadata;
 use std::alloc::Global;
 use std::process::Abort;
@@ -44,9 +45,10 @@ const FINISH_LATER: &[Step] = &[(1, 1, None)];
 /// Proxy 0 finishes its record.
 const FINISH_EARLIER: &[Step] = &[(0, 0, None)];
 
-/// How proxy 0 meets proxy 1, and proxy 1 proxy 0 and itself; and the audits of proxy 1 by both
-/// resolvers, and by the first and one of number 1 that was never asked.
-type Look = ([Meeting; 3], [Result<(), BehindBy>; 2]);
+/// How proxy 0 meets proxy 1, and proxy 1 proxy 0 and itself; the audits of proxy 0 and of proxy 1 by
+/// both resolvers, and of proxy 1 by the first and one of number 1 that was never asked; and whether the
+/// journal of proxy 0 begins that of proxy 1.
+type Look = ([Meeting; 3], [Result<(), BehindBy>; 3], bool);
 
 /// The two proxies.
 fn two<'c, 'l, N: Naming>(
@@ -55,7 +57,7 @@ fn two<'c, 'l, N: Naming>(
     Some((cluster.proxy(0)?, cluster.proxy(1)?))
 }
 
-fn audit_by<N: Naming, R: Wait>(
+fn audit_by<N: Naming, R: AllocGlobal + Wait>(
     rt: &R,
     proxy: &SharedProxy<'_, N>,
     first: &SharedResolver<'_, N>,
@@ -65,7 +67,7 @@ fn audit_by<N: Naming, R: Wait>(
 }
 
 /// How the proxies meet.
-fn meetings<N: Naming, R: Wait>(
+fn meetings<N: Naming, R: AllocGlobal + Wait>(
     rt: &R,
     zero: &SharedProxy<'_, N>,
     one: &SharedProxy<'_, N>,
@@ -75,7 +77,7 @@ fn meetings<N: Naming, R: Wait>(
     [meet(&zero, &one), meet(&one, &zero), meet(&one, &one)]
 }
 
-fn look<N: Naming, R: Wait>(
+fn look<N: Naming, R: AllocGlobal + Wait>(
     rt: &R,
     cluster: &Cluster<'_, N>,
     other: &SharedResolver<'_, N>,
@@ -84,14 +86,42 @@ fn look<N: Naming, R: Wait>(
     let first = cluster.resolvers().first()?;
     let second = cluster.resolvers().get(1)?;
     let audits = [
+        audit_by(rt, zero, first, second),
         audit_by(rt, one, first, second),
         audit_by(rt, one, first, other),
     ];
-    Some((meetings(rt, zero, one), audits))
+    let begins = begins(zero.lock(rt).journal(), one.lock(rt).journal());
+    Some((meetings(rt, zero, one), audits, begins))
+}
+
+/// Whether both are of one version and have the same verdicts on as many state transactions.
+fn is_same_row(one: &JournalRow, other: &JournalRow) -> bool {
+    let states = other.states.as_slice();
+    if one.version != other.version || one.states.as_slice().len() != states.len() {
+        return false;
+    }
+    for (state, wanted) in one.states.as_slice().iter().zip(states) {
+        if state.verdicts.as_slice() != wanted.verdicts.as_slice()
+            || state.mutations.as_slice().len() != wanted.mutations.as_slice().len()
+        {
+            return false;
+        }
+    }
+    true
+}
+
+/// Whether the one journal begins the other.
+fn begins(journal: &[JournalRow], other: &[JournalRow]) -> bool {
+    for (row, wanted) in journal.iter().zip(other) {
+        if !is_same_row(row, wanted) {
+            return false;
+        }
+    }
+    journal.len() <= other.len()
 }
 
 /// Whether each of the two proxies confirms its own answer, and that of the other.
-fn confirm<N: Naming, R: Wait>(
+fn confirm<N: Naming, R: AllocGlobal + Wait>(
     rt: &R,
     cluster: &Cluster<'_, N>,
     rows: &[Phase<N>],
@@ -118,7 +148,7 @@ fn has_rows(metadata: &Metadata) -> [bool; 2] {
 }
 
 /// Which of these rows the two proxies have.
-fn rows_of_two<N: Naming, R: Wait>(
+fn rows_of_two<N: Naming, R: AllocGlobal + Wait>(
     rt: &R,
     cluster: &Cluster<'_, N>,
     rows: &[Phase<N>],
@@ -131,22 +161,24 @@ fn rows_of_two<N: Naming, R: Wait>(
     Some([has_rows(first), has_rows(second)])
 }
 
-const AT_THE_START: Look = ([Meeting::Same; 3], [Ok(()); 2]);
+const AT_THE_START: Look = ([Meeting::Same; 3], [Ok(()); 3], true);
 
 /// Proxy 1 is at version 20, and proxy 0 at 0 or at 10.
 const LATER: Look = (
     [Meeting::Behind, Meeting::Ahead, Meeting::Same],
     [
         Ok(()),
+        Ok(()),
         Err(BehindBy {
             resolver: 1,
             version: 0,
         }),
     ],
+    true,
 );
 
 /// After the steps the proxies look so.
-fn look_so_after<N: Naming, R: Abort + Wait>(
+fn look_so_after<N: Naming, R: Abort + AllocGlobal + Wait>(
     rt: &R,
     cluster: &Cluster<'_, N>,
     other: &SharedResolver<'_, N>,
@@ -160,7 +192,7 @@ fn look_so_after<N: Naming, R: Abort + Wait>(
 }
 
 /// The proxies look as they are to look at the start, after one has finished and after the other.
-fn look_three_times<N: Naming, R: Abort + Wait>(
+fn look_three_times<N: Naming, R: Abort + AllocGlobal + Wait>(
     rt: &R,
     cluster: &Cluster<'_, N>,
     other: &SharedResolver<'_, N>,
@@ -174,7 +206,7 @@ fn look_three_times<N: Naming, R: Abort + Wait>(
 const TOO_EARLY: Refusal = Refusal::NotReached { version: 20 };
 
 /// The last routings of both proxies, and those of proxy 1 at an earlier version and at a later one.
-fn are_routed<N: Naming, R: Abort + Wait>(rt: &R, cluster: &Cluster<'_, N>) {
+fn are_routed<N: Naming, R: Abort + AllocGlobal + Wait>(rt: &R, cluster: &Cluster<'_, N>) {
     assert!(rt; routed_at(rt, cluster, 0, None) == Ok((10, false, 1, 1)));
     assert!(rt; routed_at(rt, cluster, 1, None) == Ok((20, false, 2, 1)));
     assert!(rt; routed_at(rt, cluster, 1, Some(19)) == Ok((19, false, 1, 1)));
@@ -183,7 +215,11 @@ fn are_routed<N: Naming, R: Abort + Wait>(rt: &R, cluster: &Cluster<'_, N>) {
 }
 
 /// Both have finished: their answers are confirmed, and their rows and routings are there.
-fn are_confirmed<N: Naming, R: Abort + Wait>(rt: &R, cluster: &Cluster<'_, N>, rows: &[Phase<N>]) {
+fn are_confirmed<N: Naming, R: Abort + AllocGlobal + Wait>(
+    rt: &R,
+    cluster: &Cluster<'_, N>,
+    rows: &[Phase<N>],
+) {
     assert!(rt; confirm(rt, cluster, rows) == Some([true, true, false, true]));
     let found = rows_of_two(rt, cluster, rows);
     assert!(rt; found == Some([[true, false], [true, true]]));
@@ -191,7 +227,7 @@ fn are_confirmed<N: Naming, R: Abort + Wait>(rt: &R, cluster: &Cluster<'_, N>, r
 }
 
 /// Two proxies meet before and after each has finished its record.
-pub(crate) fn meet_twice<N: Naming, R: Abort + Wait>(
+pub(crate) fn meet_twice<N: Naming, R: Abort + AllocGlobal + Wait>(
     rt: &R,
     alloc: Global,
     cluster: &Cluster<'_, N>,

@@ -39,7 +39,7 @@ fn version<N: Naming>(rows: &[Phase<N>], row: usize) -> Option<u64> {
 }
 
 /// Calls the phases of the records in this order.
-pub(crate) fn go_in_odd_order<N: Naming, R: Abort + Wait>(
+pub(crate) fn go_in_odd_order<N: Naming, R: Abort + AllocGlobal + Wait>(
     rt: &R,
     alloc: Global,
     cluster: &Cluster<'_, N>,

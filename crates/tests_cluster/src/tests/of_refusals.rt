@@ -39,7 +39,7 @@ fn misplaced<N: Naming, M: Channels>(
 }
 
 /// What proxy 0 is refused with that asks all resolvers for the record by the inboxes of another proxy.
-fn foreign_all<N: Naming, M: Channels, R: Wait>(
+fn foreign_all<N: Naming, M: Channels, R: AllocGlobal + Wait>(
     rt: &R,
     cluster: &Cluster<'_, N>,
     side: &ProxyInboxes<N, M>,
@@ -51,7 +51,7 @@ fn foreign_all<N: Naming, M: Channels, R: Wait>(
 }
 
 /// Both ways to ask by the inboxes of another proxy are refused.
-fn are_refused<N: Naming, M: Channels, R: Abort + Wait>(
+fn are_refused<N: Naming, M: Channels, R: Abort + AllocGlobal + Wait>(
     rt: &R,
     alloc: Global,
     cluster: &Cluster<'_, N>,
@@ -66,7 +66,7 @@ fn are_refused<N: Naming, M: Channels, R: Abort + Wait>(
 }
 
 /// Ends come to another resolver, and requests are asked by another proxy.
-pub(crate) fn misplace<N: Naming, M: Channels, R: Abort + Wait>(
+pub(crate) fn misplace<N: Naming, M: Channels, R: Abort + AllocGlobal + Wait>(
     rt: &R,
     alloc: Global,
     cluster: &Cluster<'_, N>,

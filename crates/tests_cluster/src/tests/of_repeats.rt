@@ -18,6 +18,7 @@ use workers::Open;
 const NOTHING_ELSE: Plan = Plan {
     closes: 0,
     batches: 0,
+    own: 0,
     messages: 3,
     rows: 1,
 };
@@ -26,7 +27,7 @@ const NOTHING_ELSE: Plan = Plan {
 pub(crate) fn repeat<
     N: Naming + Send + Sync,
     M: Channels + Send + Sync,
-    R: Abort + Threads + Wait + Sync,
+    R: Abort + AllocGlobal + Threads + Wait + Sync,
 >(rt: &R, alloc: Global, cluster: &Cluster<'_, N>, inboxes: Inboxes<N, M>) -> Result<(), Fail> {
     let rows = rows_after(rt, alloc, cluster, ONE, BEGIN_ONE)?;
     let requests = requests(rows.as_slice());

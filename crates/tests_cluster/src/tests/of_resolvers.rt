@@ -38,7 +38,7 @@ const CONFLICT_AT_20: Answer = Ok((20, Some(Verdict::Conflict), 1));
 // ---- numbers
 
 /// The number of the resolver of this number, and the number of what it locks.
-fn numbers<N: Naming, R: Wait>(
+fn numbers<N: Naming, R: AllocGlobal + Wait>(
     rt: &R,
     alloc: Global,
     ledger: &Ledger<N>,
@@ -50,7 +50,7 @@ fn numbers<N: Naming, R: Wait>(
 }
 
 /// Resolvers of three numbers are made, the last of which is too large.
-pub(crate) fn are_numbered<N: Naming, R: Abort + Wait>(
+pub(crate) fn are_numbered<N: Naming, R: Abort + AllocGlobal + Wait>(
     rt: &R,
     alloc: Global,
     cluster: &Cluster<'_, N>,
@@ -95,7 +95,7 @@ const BY_TWO: &[Ask] = &[
 ];
 
 /// Each request is answered as it is to be.
-fn ask_each<N: Naming, R: Abort + Wait>(
+fn ask_each<N: Naming, R: Abort + AllocGlobal + Wait>(
     rt: &R,
     cluster: &Cluster<'_, N>,
     rows: &[Phase<N>],
@@ -111,7 +111,7 @@ fn ask_each<N: Naming, R: Abort + Wait>(
 }
 
 /// Brings the requests for two records that are begun.
-pub(crate) fn ask_by_hand<N: Naming, R: Abort + Wait>(
+pub(crate) fn ask_by_hand<N: Naming, R: Abort + AllocGlobal + Wait>(
     rt: &R,
     alloc: Global,
     cluster: &Cluster<'_, N>,

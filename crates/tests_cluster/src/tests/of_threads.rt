@@ -1,23 +1,23 @@
 //! Tests of resolvers and proxies that threads share.
 
 use crate::tests::answers::{Answer, answer};
-use crate::tests::commits::{Commit, commit};
+use crate::tests::commits::{Commit, Seen, commit};
 use crate::tests::of_resolvers::{BEGIN, LINES};
 use crate::tests::phases::Phase;
-use crate::tests::routings::routed_at;
+use crate::tests::routings::{routed_at, routing_text};
 use crate::tests::starting::{Cluster, blank, resolver, rows_after};
 use crate::tests::stories::{Story, tell};
 use agreed_ledger::Naming;
 use locked_cluster::{Refusal, SharedResolver};
 use model::Outcome;
-use mutation::{Admitted, Batch, admit};
+use mutation::Batch;
 use std::alloc::Global;
 use std::process::Abort;
 use std::sync::Wait;
 use std::test::Fail;
 use std::thread::{Threads, join};
 use system_keys::Tag;
-use testing::{Step, batch, batch_of, room, transaction_of};
+use testing::{Given, NOTHING, Step, batch, room};
 
 // ---- closing
 
@@ -25,7 +25,7 @@ use testing::{Step, batch, batch_of, room, transaction_of};
 const LOOKS: usize = 10_000;
 
 /// Looks at the resolver, so that another thread waits by then, and closes it.
-fn close_later<N: Naming, R: Wait>(rt: &R, resolver: &SharedResolver<'_, N>) {
+fn close_later<N: Naming, R: AllocGlobal + Wait>(rt: &R, resolver: &SharedResolver<'_, N>) {
     for _look in 0..LOOKS {
         let _version = resolver.lock(rt).version();
     }
@@ -34,7 +34,7 @@ fn close_later<N: Naming, R: Wait>(rt: &R, resolver: &SharedResolver<'_, N>) {
 
 /// The answers to a request that waits in one thread, while another closes the resolver, and to
 /// requests that come later.
-fn answer_while_closing<N: Naming + Send + Sync, R: Threads + Wait + Sync>(
+fn answer_while_closing<N: Naming + Send + Sync, R: AllocGlobal + Threads + Wait + Sync>(
     rt: &R,
     resolver: &SharedResolver<'_, N>,
     rows: &[Phase<N>],
@@ -52,11 +52,10 @@ fn answer_while_closing<N: Naming + Send + Sync, R: Threads + Wait + Sync>(
 }
 
 /// A resolver is closed while a thread waits for its turn.
-pub(crate) fn close_on_waiting<N: Naming + Send + Sync, R: Abort + Threads + Wait + Sync>(
-    rt: &R,
-    alloc: Global,
-    cluster: &Cluster<'_, N>,
-) -> Result<(), Fail> {
+pub(crate) fn close_on_waiting<
+    N: Naming + Send + Sync,
+    R: Abort + AllocGlobal + Threads + Wait + Sync,
+>(rt: &R, alloc: Global, cluster: &Cluster<'_, N>) -> Result<(), Fail> {
     let closed = resolver(alloc, cluster.ledger, 0)?;
     let rows = rows_after(rt, alloc, cluster, LINES, BEGIN)?;
     let answers = answer_while_closing(rt, &closed, rows.as_slice());
@@ -84,32 +83,38 @@ const TAG: Tag = Tag { locality: 0, id: 1 };
 /// The server has this tag.
 const TAGGED: Step<'static> = Step::Set(b"\xff/serverTag/server0000000001", b"\x00\x00\x01");
 
-/// The server has the keys from that of the row on.
-fn placed(row: &[u8]) -> Step<'_> {
-    Step::Set(row, b"\x01server0000000001\x00")
+/// How many batches each of the three proxies commits.
+pub(crate) const OF_EACH: usize = 9;
+
+/// The last digit of a number.
+fn digit(number: usize) -> u8 {
+    *b"0123456789".get(number % 10).unwrap_or(&b'0')
 }
 
-/// The transaction of this mutation alone.
-fn alone(alloc: Global, step: Step<'_>) -> Result<Admitted, Fail> {
-    Ok(admit(alloc, &transaction_of(alloc, step)?)?)
+/// The batch of this number among the 27 of three proxies: it gives the server the keys from that of a
+/// row of its own on, and writes at that row. The first one gives the server its tag, too.
+pub(crate) fn own_batch(alloc: Global, number: usize) -> Result<Batch, Fail> {
+    let mut row = *b"\xff/keyServers/k..";
+    row[14] = digit(number / 10);
+    row[15] = digit(number);
+    let mut end = *b"\xff/keyServers/k..\x00";
+    end[14] = row[14];
+    end[15] = row[15];
+    let steps = [Step::Set(&row, b"\x01server0000000001\x00"), TAGGED];
+    let mutations = if number == 0 { &steps[..] } else { &steps[..1] };
+    let given = Given {
+        writes: &[(&row, &end)],
+        mutations,
+        ..NOTHING
+    };
+    batch(alloc, &[given])
 }
 
-/// A batch of two transactions: a server has a tag, and the keys from that of the row on.
-fn work(alloc: Global, row: &[u8]) -> Result<Batch, Fail> {
-    let mut two = room(alloc, 2)?;
-    two.push(alone(alloc, TAGGED)?)?;
-    two.push(alone(alloc, placed(row))?)?;
-    batch_of(two)
-}
-
-/// The nine batches of a proxy, none of which gives the keys that another gives.
-fn nine(alloc: Global, proxy: u8) -> Result<Vec<Batch>, Fail> {
-    let mut batches = room(alloc, 9)?;
-    for number in b"012345678" {
-        let mut row = *b"\xff/keyServers/k..";
-        row[14] = proxy;
-        row[15] = *number;
-        batches.push(work(alloc, &row)?)?;
+/// The nine batches of a proxy.
+fn nine(alloc: Global, proxy: usize) -> Result<Vec<Batch>, Fail> {
+    let mut batches = room(alloc, OF_EACH)?;
+    for number in 0..OF_EACH {
+        batches.push(own_batch(alloc, OF_EACH.saturating_mul(proxy).saturating_add(number))?)?;
     }
     Ok(batches)
 }
@@ -117,16 +122,24 @@ fn nine(alloc: Global, proxy: u8) -> Result<Vec<Batch>, Fail> {
 /// What a test compares of the commits of a proxy: a bit for each row, that of row 0 being bit 1.
 type Rows = Option<u64>;
 
-/// The rows with that of a batch, if the batch comes to what it is to come to, and to a later row than
-/// those before.
-fn with_row(rows: u64, commit: Commit) -> Rows {
+/// Whether the batch of this number comes to what it is to come to. The server has its tag once the first
+/// one is committed, which the batches of the same proxy follow.
+fn is_own_commit(number: usize, seen: Seen) -> bool {
+    let ((version, shown), outcomes, mutations, tag) = seen;
+    let committed = Some(Outcome::Committed { version, number: 0 });
+    let may_lack_tag = OF_EACH <= number && tag.is_none();
+    shown == version
+        && outcomes == [committed, None]
+        && mutations == if number == 0 { 2 } else { 1 }
+        && (tag == Some(TAG) || may_lack_tag)
+}
+
+/// The rows with that of the batch of this number, if it comes to what it is to come to, and to a later
+/// row than those before.
+fn with_row(rows: u64, number: usize, commit: Commit) -> Rows {
     let seen = commit.ok()?;
-    let version = seen.0.0;
-    let first = Some(Outcome::Committed { version, number: 0 });
-    let second = Some(Outcome::Committed { version, number: 1 });
-    let wanted = ((version, version), [first, second], 2, Some(TAG));
-    let row = 1u64.wrapping_shl(u32::try_from(version / 10).ok()?);
-    if seen == wanted && rows < row {
+    let row = 1u64.wrapping_shl(u32::try_from(seen.0.0 / 10).ok()?);
+    if is_own_commit(number, seen) && rows < row {
         Some(rows | row)
     } else {
         None
@@ -134,29 +147,30 @@ fn with_row(rows: u64, commit: Commit) -> Rows {
 }
 
 /// Commits the batches of a proxy, and returns its rows. Returns `None` if one is not as it is to be.
-fn commit_all<N: Naming, R: Wait>(
+fn commit_all<N: Naming, R: AllocGlobal + Wait>(
     rt: &R,
     cluster: &Cluster<'_, N>,
-    number: usize,
+    proxy: usize,
     batches: Vec<Batch>,
 ) -> Rows {
     let mut rows = Some(0);
-    for batch in batches {
-        let committed = commit(rt, cluster, number, batch);
-        rows = rows.and_then(|rows| with_row(rows, committed));
+    for (place, batch) in batches.into_iter().enumerate() {
+        let committed = commit(rt, cluster, proxy, batch);
+        let number = OF_EACH.saturating_mul(proxy).saturating_add(place);
+        rows = rows.and_then(|rows| with_row(rows, number, committed));
     }
     rows
 }
 
 /// Commits nine batches of each of three proxies, each in a thread of its own.
-fn commit_by_three<N: Naming + Send + Sync, R: Threads + Wait + Sync>(
+fn commit_by_three<N: Naming + Send + Sync, R: AllocGlobal + Threads + Wait + Sync>(
     rt: &R,
     alloc: Global,
     cluster: &Cluster<'_, N>,
 ) -> Result<[Rows; 3], Fail> {
-    let one = nine(alloc, b'0')?;
-    let two = nine(alloc, b'1')?;
-    let three = nine(alloc, b'2')?;
+    let one = nine(alloc, 0)?;
+    let two = nine(alloc, 1)?;
+    let three = nine(alloc, 2)?;
     let (first, (second, third)) = join(
         rt,
         || commit_all(rt, cluster, 0, one),
@@ -185,7 +199,7 @@ fn closed(version: u64) -> Commit {
 }
 
 /// Each proxy commits an empty batch, which comes to what is wanted.
-fn close_each<N: Naming, R: Abort + Wait>(
+fn close_each<N: Naming, R: Abort + AllocGlobal + Wait>(
     rt: &R,
     alloc: Global,
     cluster: &Cluster<'_, N>,
@@ -198,21 +212,26 @@ fn close_each<N: Naming, R: Abort + Wait>(
     Ok(())
 }
 
-/// So many proxies have the routing of the 27 rows, each at the version of the first closing.
-fn are_routed<N: Naming, R: Abort + Wait>(rt: &R, cluster: &Cluster<'_, N>, proxies: usize) {
+/// So many proxies have the routing of the 27 rows at the version of the first closing, and all the same
+/// one.
+fn are_routed<N: Naming, R: Abort + AllocGlobal + Wait>(
+    rt: &R,
+    cluster: &Cluster<'_, N>,
+    proxies: usize,
+) {
     for proxy in 0..proxies {
         let routed = routed_at(rt, cluster, proxy, Some(280));
         assert!(rt; routed == Ok((280, false, 27, 27)));
+        let whole = routing_text(rt, cluster, proxy, 280);
+        assert!(rt; whole.is_ok() && whole == routing_text(rt, cluster, 0, 280));
     }
 }
 
 /// Three threads commit, and then each proxy closes, the last one with this answer.
-pub(crate) fn commit_and_close<N: Naming + Send + Sync, R: Abort + Threads + Wait + Sync>(
-    rt: &R,
-    alloc: Global,
-    cluster: &Cluster<'_, N>,
-    last: Commit,
-) -> Result<(), Fail> {
+pub(crate) fn commit_and_close<
+    N: Naming + Send + Sync,
+    R: Abort + AllocGlobal + Threads + Wait + Sync,
+>(rt: &R, alloc: Global, cluster: &Cluster<'_, N>, last: Commit) -> Result<(), Fail> {
     assert!(rt; are_all(commit_by_three(rt, alloc, cluster)?));
     close_each(rt, alloc, cluster, [closed(280), closed(290), last])?;
     are_routed(rt, cluster, if last.is_ok() { 3 } else { 2 });

@@ -1,5 +1,6 @@
 //! Runs with several proxies and workers in threads, and tests of them.
 
+use crate::tests::of_threads::{OF_EACH, own_batch};
 use crate::tests::serving::{Parts, commit_or_close, serve};
 use crate::tests::starting::{Cluster, Inboxes, blank};
 use crate::tests::stories::{InboxStory, Story, tell};
@@ -8,6 +9,7 @@ use agreed_ledger::Naming;
 use inboxes::{Channels, FreshEnd};
 use locked_cluster::{NotedReply, Refusal, Request, SharedResolver};
 use model::Reply;
+use mutation::Batch;
 use std::alloc::Global;
 use std::process::Abort;
 use std::sync::Wait;
@@ -22,6 +24,7 @@ use workers::{AskedRequest, Gate, Open, ProxyInboxes, ResolverWorker};
 struct Planned<'a, 'l, N: Naming, M: Channels, G: Gate + Drop> {
     cluster: &'a Cluster<'l, N>,
     plan: &'a Plan,
+    own: &'a [Batch],
     asked: &'a [Request<N>],
     gate: G,
     left: &'a Left<N, M, G>,
@@ -31,7 +34,12 @@ impl<'a, 'l, N: Naming, M: Channels, G: Gate + Copy + Drop> Parts<
     FreshEnd<N, AskedRequest<N>, M>,
     ProxyInboxes<N, M>,
 > for Planned<'a, 'l, N, M, G> {
-    fn work<R: Wait>(&self, rt: &R, alloc: Global, end: FreshEnd<N, AskedRequest<N>, M>) {
+    fn work<R: AllocGlobal + Wait>(
+        &self,
+        rt: &R,
+        alloc: Global,
+        end: FreshEnd<N, AskedRequest<N>, M>,
+    ) {
         let Some(resolver) = self.cluster.resolvers().get(end.resolver()) else {
             return;
         };
@@ -41,7 +49,7 @@ impl<'a, 'l, N: Naming, M: Channels, G: Gate + Copy + Drop> Parts<
         }
     }
 
-    fn commit<R: Wait>(&self, rt: &R, alloc: Global, side: &ProxyInboxes<N, M>) {
+    fn commit<R: AllocGlobal + Wait>(&self, rt: &R, alloc: Global, side: &ProxyInboxes<N, M>) {
         for _close in 0..self.plan.closes {
             side.close(rt);
         }
@@ -52,7 +60,7 @@ impl<'a, 'l, N: Naming, M: Channels, G: Gate + Copy + Drop> Parts<
         self.commit_batches(rt, alloc, side);
     }
 
-    fn end<R: Wait>(&self, rt: &R, side: ProxyInboxes<N, M>) {
+    fn end<R: AllocGlobal + Wait>(&self, rt: &R, side: ProxyInboxes<N, M>) {
         for sender in side.end(rt) {
             let _ = self.left.senders.lock(rt).push(sender);
         }
@@ -60,17 +68,34 @@ impl<'a, 'l, N: Naming, M: Channels, G: Gate + Copy + Drop> Parts<
 }
 
 impl<'a, 'l, N: Naming, M: Channels, G: Gate + Copy + Drop> Planned<'a, 'l, N, M, G> {
-    fn commit_batches<R: Wait>(&self, rt: &R, alloc: Global, side: &ProxyInboxes<N, M>) {
-        for _batch in 0..self.plan.batches {
-            let committed = commit_or_close(rt, alloc, self.cluster, side);
+    fn commit_batches<R: AllocGlobal + Wait>(
+        &self,
+        rt: &R,
+        alloc: Global,
+        side: &ProxyInboxes<N, M>,
+    ) {
+        for place in 0..self.plan.batches {
+            let committed = match self.batch(alloc, side.proxy(), place) {
+                Some(batch) => commit_or_close(rt, self.cluster, side, batch),
+                None => Err(0),
+            };
             let _ = self.left.calls.lock(rt).push(committed);
+        }
+    }
+
+    /// The batch of a proxy at this place: a copy of one of its own, or an empty one.
+    fn batch(&self, alloc: Global, proxy: usize, place: usize) -> Option<Batch> {
+        let number = self.plan.own.saturating_mul(proxy).saturating_add(place);
+        match self.own.get(number) {
+            Some(batch) if place < self.plan.own => batch.copy().ok(),
+            _ => Batch::new(Vec::new(alloc)).ok(),
         }
     }
 }
 
 /// How many of the requests get the same replies if they are asked again, or the number of the
 /// refusal.
-fn ask_twice<N: Naming, M: Channels, R: Wait>(
+fn ask_twice<N: Naming, M: Channels, R: AllocGlobal + Wait>(
     rt: &R,
     alloc: Global,
     requests: &[Request<N>],
@@ -82,7 +107,7 @@ fn ask_twice<N: Naming, M: Channels, R: Wait>(
     }
 }
 
-fn asked_twice<N: Naming, M: Channels, R: Wait>(
+fn asked_twice<N: Naming, M: Channels, R: AllocGlobal + Wait>(
     rt: &R,
     alloc: Global,
     requests: &[Request<N>],
@@ -111,12 +136,21 @@ fn are_alike(one: &Reply, other: &Reply) -> bool {
         && one.verdicts.as_slice() == other.verdicts.as_slice()
 }
 
+/// The own batches of three proxies, so many of each.
+fn own_batches(alloc: Global, of_each: usize) -> Result<Vec<Batch>, Fail> {
+    let mut batches = Vec::new(alloc);
+    for number in 0..of_each.saturating_mul(3) {
+        batches.push(own_batch(alloc, number)?)?;
+    }
+    Ok(batches)
+}
+
 /// Runs the threads, and sums up what is left of them. Fails if an allocation failed.
 pub(crate) fn sum_of_run<
     N: Naming + Send + Sync,
     M: Channels + Send + Sync,
     G: Gate + Copy + Drop + Send + Sync,
-    R: Threads + Wait + Sync,
+    R: AllocGlobal + Threads + Wait + Sync,
 >(
     rt: &R,
     alloc: Global,
@@ -127,9 +161,11 @@ pub(crate) fn sum_of_run<
     gate: G,
 ) -> Result<Summary, Fail> {
     let left = Left::new(alloc)?;
+    let own = own_batches(alloc, plan.own)?;
     let planned = Planned {
         cluster,
         plan,
+        own: &own,
         asked,
         gate,
         left: &left,
@@ -145,7 +181,10 @@ pub(crate) fn sum_of_run<
 }
 
 /// How many of the resolvers are closed.
-fn closed_among<N: Naming, R: Wait>(rt: &R, resolvers: &[SharedResolver<'_, N>]) -> usize {
+fn closed_among<N: Naming, R: AllocGlobal + Wait>(
+    rt: &R,
+    resolvers: &[SharedResolver<'_, N>],
+) -> usize {
     let mut closed = 0_usize;
     for resolver in resolvers {
         let is_closed = resolver.lock(rt).is_closed();
@@ -166,7 +205,7 @@ pub(crate) struct Trial {
 pub(crate) fn try_out<
     N: Naming + Send + Sync,
     M: Channels + Send + Sync,
-    R: Abort + Threads + Wait + Sync,
+    R: Abort + AllocGlobal + Threads + Wait + Sync,
 >(
     rt: &R,
     alloc: Global,
@@ -190,11 +229,13 @@ fn of(trial: &'static Trial) -> Story {
     Story::OfInboxes(InboxStory::Planned(trial))
 }
 
-/// Three proxies commit ten batches each.
+/// Three proxies commit nine batches each, of which none gives the keys that another gives, and then an
+/// empty one.
 const THREE: Trial = Trial {
     plan: Plan {
         closes: 0,
         batches: 10,
+        own: OF_EACH,
         messages: 11,
         rows: 30,
     },
@@ -222,6 +263,7 @@ const FULL: Trial = Trial {
     plan: Plan {
         closes: 70,
         batches: 1,
+        own: 0,
         messages: 72,
         rows: 0,
     },
@@ -250,6 +292,7 @@ const EARLY: Trial = Trial {
     plan: Plan {
         closes: 0,
         batches: 2,
+        own: 0,
         messages: 3,
         rows: 6,
     },

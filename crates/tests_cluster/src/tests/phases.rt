@@ -5,6 +5,7 @@ use agreed_ledger::{Naming, Ticket};
 use locked_cluster::{AllResolvers, Asking, Begun, NotedFinished, Ready, Refusal, SharedProxy};
 use std::mem;
 use std::sync::Wait;
+use testing::is_memory_refused;
 
 /// How far the commit of a record has come, with what its next phase is given.
 #[derive(Drop)]
@@ -19,14 +20,18 @@ pub(crate) enum Phase<N: Naming> {
 /// Why a phase was refused, if it was, and what comes next.
 pub(crate) type Stepped<N> = (Option<Refusal>, Phase<N>);
 
-fn begin<N: Naming, R: Wait>(rt: &R, proxy: &SharedProxy<'_, N>, ticket: Ticket<N>) -> Stepped<N> {
+fn begin<N: Naming, R: AllocGlobal + Wait>(
+    rt: &R,
+    proxy: &SharedProxy<'_, N>,
+    ticket: Ticket<N>,
+) -> Stepped<N> {
     match proxy.lock(rt).begin(ticket) {
         Ok(begun) => (None, Phase::Begun(begun)),
         Err((refusal, back)) => (Some(refusal), Phase::Sequenced(back)),
     }
 }
 
-fn resolve<N: Naming, A: Asking<N>, R: Wait>(
+fn resolve<N: Naming, A: Asking<N>, R: AllocGlobal + Wait>(
     rt: &R,
     asking: &A,
     proxy: &SharedProxy<'_, N>,
@@ -39,7 +44,7 @@ fn resolve<N: Naming, A: Asking<N>, R: Wait>(
 }
 
 /// Asks all resolvers in this way, if the record is begun.
-pub(crate) fn resolve_begun<N: Naming, A: Asking<N>, R: Wait>(
+pub(crate) fn resolve_begun<N: Naming, A: Asking<N>, R: AllocGlobal + Wait>(
     rt: &R,
     asking: &A,
     proxy: &SharedProxy<'_, N>,
@@ -51,7 +56,7 @@ pub(crate) fn resolve_begun<N: Naming, A: Asking<N>, R: Wait>(
     }
 }
 
-fn resolve_by_all<N: Naming, R: Wait>(
+fn resolve_by_all<N: Naming, R: AllocGlobal + Wait>(
     rt: &R,
     cluster: &Cluster<'_, N>,
     proxy: &SharedProxy<'_, N>,
@@ -63,7 +68,11 @@ fn resolve_by_all<N: Naming, R: Wait>(
     }
 }
 
-fn finish<N: Naming, R: Wait>(rt: &R, proxy: &SharedProxy<'_, N>, ready: Ready<N>) -> Stepped<N> {
+fn finish<N: Naming, R: AllocGlobal + Wait>(
+    rt: &R,
+    proxy: &SharedProxy<'_, N>,
+    ready: Ready<N>,
+) -> Stepped<N> {
     match proxy.lock(rt).finish(ready) {
         Ok(noted) => (None, Phase::Finished(noted)),
         Err((refusal, back)) => (Some(refusal), Phase::Ready(back)),
@@ -71,7 +80,7 @@ fn finish<N: Naming, R: Wait>(rt: &R, proxy: &SharedProxy<'_, N>, ready: Ready<N
 }
 
 /// Goes through the next phase by this proxy, once.
-pub(crate) fn step_once<N: Naming, R: Wait>(
+pub(crate) fn step_once<N: Naming, R: AllocGlobal + Wait>(
     rt: &R,
     cluster: &Cluster<'_, N>,
     proxy: &SharedProxy<'_, N>,
@@ -87,7 +96,7 @@ pub(crate) fn step_once<N: Naming, R: Wait>(
 
 /// Goes through the next phase of what the slot holds by this proxy, and returns why that is refused,
 /// if it is.
-fn step<N: Naming, R: Wait>(
+fn step<N: Naming, R: AllocGlobal + Wait>(
     rt: &R,
     cluster: &Cluster<'_, N>,
     proxy: &SharedProxy<'_, N>,
@@ -104,7 +113,7 @@ pub(crate) type Step = (usize, usize, Option<Refusal>);
 
 /// Goes on with the record of the row by the proxy, once more after a failed allocation. Returns why
 /// that is refused, if it is.
-fn go<N: Naming, R: Wait>(
+fn go<N: Naming, R: AllocGlobal + Wait>(
     rt: &R,
     cluster: &Cluster<'_, N>,
     rows: &mut Vec<Phase<N>>,
@@ -115,13 +124,15 @@ fn go<N: Naming, R: Wait>(
         return Some(Refusal::NoSuchProxy);
     };
     match step(rt, cluster, proxy, slot) {
-        Some(Refusal::OutOfMemory) => step(rt, cluster, proxy, slot),
+        Some(Refusal::OutOfMemory) if is_memory_refused(rt.alloc()) => {
+            step(rt, cluster, proxy, slot)
+        }
         refusal => refusal,
     }
 }
 
 /// The place of the first step that is not answered as it is to be.
-pub(crate) fn first_wrong<N: Naming, R: Wait>(
+pub(crate) fn first_wrong<N: Naming, R: AllocGlobal + Wait>(
     rt: &R,
     cluster: &Cluster<'_, N>,
     rows: &mut Vec<Phase<N>>,

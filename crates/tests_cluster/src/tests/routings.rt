@@ -26,7 +26,7 @@ fn routed(routing: &Routing) -> (u64, bool, usize, usize) {
     (routing.version, routing.locked, routes.len(), first)
 }
 
-fn routed_once<N: Naming, R: Wait>(
+fn routed_once<N: Naming, R: AllocGlobal + Wait>(
     rt: &R,
     proxy: &SharedProxy<'_, N>,
     version: Option<u64>,
@@ -40,7 +40,7 @@ fn routed_once<N: Naming, R: Wait>(
 }
 
 /// The routing of a proxy at a version, or at its own.
-pub(crate) fn routed_at<N: Naming, R: Wait>(
+pub(crate) fn routed_at<N: Naming, R: AllocGlobal + Wait>(
     rt: &R,
     cluster: &Cluster<'_, N>,
     proxy: usize,
@@ -49,5 +49,31 @@ pub(crate) fn routed_at<N: Naming, R: Wait>(
     let Some(proxy) = cluster.proxy(proxy) else {
         return Err(Refusal::NoSuchProxy);
     };
-    twice!(routed_once(rt, proxy, version), Refusal::OutOfMemory)
+    twice!(rt.alloc(); routed_once(rt, proxy, version), Refusal::OutOfMemory)
+}
+
+fn text_once<N: Naming, R: AllocGlobal + Wait>(
+    rt: &R,
+    proxy: &SharedProxy<'_, N>,
+    version: u64,
+) -> Result<String, Refusal> {
+    let noted = proxy.lock(rt).routing_at(version)?;
+    let routing = noted.value();
+    match format!(in rt.alloc(); "{routing:?}") {
+        Ok(text) => Ok(text),
+        Err(_) => Err(Refusal::OutOfMemory),
+    }
+}
+
+/// The whole routing of a proxy at a version, as it is printed for debugging.
+pub(crate) fn routing_text<N: Naming, R: AllocGlobal + Wait>(
+    rt: &R,
+    cluster: &Cluster<'_, N>,
+    proxy: usize,
+    version: u64,
+) -> Result<String, Refusal> {
+    let Some(proxy) = cluster.proxy(proxy) else {
+        return Err(Refusal::NoSuchProxy);
+    };
+    twice!(rt.alloc(); text_once(rt, proxy, version), Refusal::OutOfMemory)
 }

@@ -16,13 +16,13 @@ use workers::ProxyInboxes;
 /// What the threads of a test do: `E` is what the worker of a resolver gets, and `S` what a proxy gets.
 pub(crate) trait Parts<E, S> {
     /// Serves the inbox of a resolver.
-    fn work<R: Wait>(&self, rt: &R, alloc: Global, end: E);
+    fn work<R: AllocGlobal + Wait>(&self, rt: &R, alloc: Global, end: E);
 
     /// Commits by a proxy.
-    fn commit<R: Wait>(&self, rt: &R, alloc: Global, side: &S);
+    fn commit<R: AllocGlobal + Wait>(&self, rt: &R, alloc: Global, side: &S);
 
     /// Ends a proxy.
-    fn end<R: Wait>(&self, rt: &R, side: S);
+    fn end<R: AllocGlobal + Wait>(&self, rt: &R, side: S);
 }
 
 /// Runs a thread for each worker, and one for each proxy, and then ends the proxies. Returns when all
@@ -31,7 +31,7 @@ pub(crate) fn serve<
     E: Send + Drop,
     S: Sync + Drop,
     P: Parts<E, S> + Sync,
-    R: Threads + Wait + Sync,
+    R: AllocGlobal + Threads + Wait + Sync,
 >(rt: &R, alloc: Global, parts: &P, ends: Vec<E>, sides: Vec<S>) -> bool {
     thread::scope(thread::scope_env(), rt, |scope| {
         let served = start_workers(scope, rt, alloc, parts, ends);
@@ -51,7 +51,7 @@ fn start_workers<
     E: Send + Drop + 's,
     S: 's,
     P: Parts<E, S> + Sync,
-    R: Threads + Wait + Sync,
+    R: AllocGlobal + Threads + Wait + Sync,
 >(scope: &'s Scope<'s, X>, rt: &'s R, alloc: Global, parts: &'s P, ends: Vec<E>) -> bool {
     let mut all = true;
     for end in ends {
@@ -62,7 +62,7 @@ fn start_workers<
 }
 
 /// Runs a thread for each proxy. Returns when these have ended: whether each was started.
-fn commit_in_threads<E, S: Sync, P: Parts<E, S> + Sync, R: Threads + Wait + Sync>(
+fn commit_in_threads<E, S: Sync, P: Parts<E, S> + Sync, R: AllocGlobal + Threads + Wait + Sync>(
     rt: &R,
     alloc: Global,
     parts: &P,
@@ -73,13 +73,14 @@ fn commit_in_threads<E, S: Sync, P: Parts<E, S> + Sync, R: Threads + Wait + Sync
     })
 }
 
-fn start_proxies<'s, X, E: 's, S: Sync + 's, P: Parts<E, S> + Sync, R: Threads + Wait + Sync>(
-    scope: &'s Scope<'s, X>,
-    rt: &'s R,
-    alloc: Global,
-    parts: &'s P,
-    sides: &'s [S],
-) -> bool {
+fn start_proxies<
+    's,
+    X,
+    E: 's,
+    S: Sync + 's,
+    P: Parts<E, S> + Sync,
+    R: AllocGlobal + Threads + Wait + Sync,
+>(scope: &'s Scope<'s, X>, rt: &'s R, alloc: Global, parts: &'s P, sides: &'s [S]) -> bool {
     let mut all = true;
     for side in sides {
         let started = scope.spawn(move || parts.commit(rt, alloc, side));
@@ -91,36 +92,35 @@ fn start_proxies<'s, X, E: 's, S: Sync + 's, P: Parts<E, S> + Sync, R: Threads +
 /// The number of the refusal of a closed resolver.
 pub(crate) const CLOSED: u32 = 60;
 
-/// Commits an empty batch, and returns its version, or the number of the refusal. If it is refused
+/// Commits a batch, and returns its version, or the number of the refusal. If it is refused
 /// otherwise than by a closed resolver, closes all resolvers: nobody waits for the row then.
-pub(crate) fn commit_or_close<N: Naming, M: Channels, R: Wait>(
+pub(crate) fn commit_or_close<N: Naming, M: Channels, R: AllocGlobal + Wait>(
     rt: &R,
-    alloc: Global,
     cluster: &Cluster<'_, N>,
     side: &ProxyInboxes<N, M>,
+    batch: Batch,
 ) -> Called {
-    let committed = commit_empty(rt, alloc, cluster, side);
+    let committed = commit(rt, cluster, side, batch);
     match committed {
         Ok(_) | Err(CLOSED) => {}
-        Err(_) => side.close(rt),
+        Err(_) => {
+            side.close(rt);
+        }
     }
     committed
 }
 
-/// Commits an empty batch, and returns its version, or the number of the refusal.
-fn commit_empty<N: Naming, M: Channels, R: Wait>(
+/// Commits a batch, and returns its version, or the number of the refusal.
+fn commit<N: Naming, M: Channels, R: AllocGlobal + Wait>(
     rt: &R,
-    alloc: Global,
     cluster: &Cluster<'_, N>,
     side: &ProxyInboxes<N, M>,
+    batch: Batch,
 ) -> Called {
     let Some(proxy) = cluster.proxy(side.proxy()) else {
         return Err(32);
     };
-    let Ok(empty) = Batch::new(Vec::new(alloc)) else {
-        return Err(0);
-    };
-    match commit_once(rt, cluster, side, proxy, empty) {
+    match commit_once(rt, cluster, side, proxy, batch) {
         Ok(((version, _), ..)) => Ok(version),
         Err(fault) => Err(number(&fault)),
     }

@@ -23,6 +23,7 @@ pub(crate) fn blank(
 ) -> Result<BlankLedger, Fail> {
     let config = Config::new(proxies, resolvers, 1000, 10)?;
     let made = twice!(
+        alloc;
         Ledger::new(alloc, rows, config),
         agreed_ledger::Refusal::OutOfMemory
     );
@@ -83,6 +84,7 @@ pub(crate) fn resolver<'l, N: Naming>(
     number: usize,
 ) -> Result<SharedResolver<'l, N>, Refusal> {
     twice!(
+        alloc;
         SharedResolver::new(alloc, ledger, number),
         Refusal::OutOfMemory
     )
@@ -147,7 +149,7 @@ fn sides<N: Naming, M: Channels>(
 pub(crate) type Line<'a> = (usize, &'a [Given<'a>]);
 
 /// The ticket of a batch.
-fn ticket<N: Naming, R: Wait>(
+fn ticket<N: Naming, R: AllocGlobal + Wait>(
     rt: &R,
     alloc: Global,
     cluster: &Cluster<'_, N>,
@@ -161,7 +163,7 @@ fn ticket<N: Naming, R: Wait>(
 }
 
 /// The tickets of these batches, in the order of the rows.
-pub(crate) fn tickets<N: Naming, R: Wait>(
+pub(crate) fn tickets<N: Naming, R: AllocGlobal + Wait>(
     rt: &R,
     alloc: Global,
     cluster: &Cluster<'_, N>,
@@ -175,7 +177,7 @@ pub(crate) fn tickets<N: Naming, R: Wait>(
 }
 
 /// Goes through the steps, each of which is to be answered as it says.
-pub(crate) fn go_through<N: Naming, R: Wait>(
+pub(crate) fn go_through<N: Naming, R: AllocGlobal + Wait>(
     rt: &R,
     cluster: &Cluster<'_, N>,
     rows: &mut Vec<Phase<N>>,
@@ -188,7 +190,7 @@ pub(crate) fn go_through<N: Naming, R: Wait>(
 }
 
 /// The records of these batches, after the steps.
-pub(crate) fn rows_after<N: Naming, R: Wait>(
+pub(crate) fn rows_after<N: Naming, R: AllocGlobal + Wait>(
     rt: &R,
     alloc: Global,
     cluster: &Cluster<'_, N>,

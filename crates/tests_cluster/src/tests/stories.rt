@@ -58,7 +58,7 @@ pub(crate) enum InboxStory {
 }
 
 /// Tells the story of a new cluster over the ledger, with resolvers of these numbers.
-pub(crate) fn tell<R: Abort + Threads + Wait + Sync>(
+pub(crate) fn tell<R: Abort + AllocGlobal + Threads + Wait + Sync>(
     rt: &R,
     alloc: Global,
     blank: BlankLedger,
@@ -69,7 +69,7 @@ pub(crate) fn tell<R: Abort + Threads + Wait + Sync>(
 }
 
 /// Names the ledger, makes the cluster, and tells the story.
-fn tell_over<N: Naming + Send + Sync, R: Abort + Threads + Wait + Sync>(
+fn tell_over<N: Naming + Send + Sync, R: Abort + AllocGlobal + Threads + Wait + Sync>(
     rt: &R,
     alloc: Global,
     blank: BlankLedger,
@@ -84,7 +84,7 @@ fn tell_over<N: Naming + Send + Sync, R: Abort + Threads + Wait + Sync>(
 }
 
 /// Tells the story of the cluster.
-fn tell_of<N: Naming + Send + Sync, R: Abort + Threads + Wait + Sync>(
+fn tell_of<N: Naming + Send + Sync, R: Abort + AllocGlobal + Threads + Wait + Sync>(
     rt: &R,
     alloc: Global,
     cluster: &Cluster<'_, N>,
@@ -106,7 +106,7 @@ fn tell_of<N: Naming + Send + Sync, R: Abort + Threads + Wait + Sync>(
 }
 
 /// Makes the inboxes of the cluster, and tells the story.
-fn tell_with_inboxes<N: Naming + Send + Sync, R: Abort + Threads + Wait + Sync>(
+fn tell_with_inboxes<N: Naming + Send + Sync, R: Abort + AllocGlobal + Threads + Wait + Sync>(
     rt: &R,
     alloc: Global,
     cluster: &Cluster<'_, N>,
@@ -117,7 +117,11 @@ fn tell_with_inboxes<N: Naming + Send + Sync, R: Abort + Threads + Wait + Sync>(
 }
 
 /// Names the inboxes, and tells the story.
-fn tell_with<N: Naming + Send + Sync, M: Channels + Send + Sync, R: Abort + Threads + Wait + Sync>(
+fn tell_with<
+    N: Naming + Send + Sync,
+    M: Channels + Send + Sync,
+    R: Abort + AllocGlobal + Threads + Wait + Sync,
+>(
     rt: &R,
     alloc: Global,
     cluster: &Cluster<'_, N>,

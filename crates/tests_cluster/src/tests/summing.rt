@@ -14,8 +14,10 @@ use workers::{AskedRequest, EndedWorker, Gate};
 pub(crate) struct Plan {
     /// How often it closes all resolvers.
     pub(crate) closes: usize,
-    /// How many empty batches it then commits.
+    /// How many batches it then commits.
     pub(crate) batches: usize,
+    /// How many of these are its own among the 27 of three proxies. The others are empty.
+    pub(crate) own: usize,
     /// How many messages it has sent to each resolver, if that has a worker.
     pub(crate) messages: u64,
     /// How many rows the column of each worker has.

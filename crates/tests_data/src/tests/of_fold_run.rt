@@ -12,7 +12,7 @@ use std::io::ErrorKind;
 use std::process::Abort;
 use std::test::Fail;
 use system_keys::{Change, OutOfMemory};
-use testing::{Step, bytes, journal_row, list, one, repeated, twice};
+use testing::{Step, bytes, is_memory_refused, journal_row, list, one, repeated, twice};
 
 /// 37 bytes.
 const SCRIPT: &[u8] = br#"{"resolvers":1,"rows":[],"ask":["a"]}"#;
@@ -95,7 +95,7 @@ fn run_once(alloc: Global, trial: Trial<'_>) -> Ended {
 fn run(alloc: Global, trial: Trial<'_>) -> Ended {
     let ended = run_once(alloc, trial);
     match ended.status {
-        RunStatus::OutOfMemory => run_once(alloc, trial),
+        RunStatus::OutOfMemory if is_memory_refused(alloc) => run_once(alloc, trial),
         _ => ended,
     }
 }
@@ -260,7 +260,8 @@ fn reads_ask_for_4_096_bytes_up_to_a_limit_on_reads(rt: HostRuntime) -> Result<(
 
 /// Reads the script by its tokens, at the second try if an allocation failed at the first.
 fn is_streamed(alloc: Global, script: &[u8]) -> bool {
-    stream_script(alloc, script).is_some() || stream_script(alloc, script).is_some()
+    stream_script(alloc, script).is_some()
+        || is_memory_refused(alloc) && stream_script(alloc, script).is_some()
 }
 
 /// Right scripts, with their fields in any order and each form of a field.
@@ -311,6 +312,7 @@ const READ_AS_A_TREE: &[u8] = br#"{"resolvers":2,"resolvers":1,"ask":["a","m","z
 #[test]
 fn a_script_is_read_as_a_tree_where_a_field_stands_twice(rt: HostRuntime) -> Result<(), Fail> {
     let script = twice!(
+        rt.alloc();
         read_script(rt.alloc(), READ_AS_A_TREE),
         ScriptFault::OutOfMemory
     )?;
@@ -371,7 +373,7 @@ fn is_fold_script(script: &FoldScript) -> bool {
 #[test]
 fn fold_scripts_are_copied(rt: HostRuntime) -> Result<(), Fail> {
     let script = fold_script(rt.alloc())?;
-    let copied = twice!(script.copy(), OutOfMemory)?;
+    let copied = twice!(rt.alloc(); script.copy(), OutOfMemory)?;
     assert!(rt; is_fold_script(&script) && is_fold_script(&copied));
     Ok(())
 }
@@ -387,6 +389,7 @@ const THREE_ROWS: &[u8] = br#"{"resolvers":3,"ask":["a","n"],"rows":[
 #[test]
 fn a_fold_script_of_three_rows_is_copied(rt: HostRuntime) -> Result<(), Fail> {
     let script = twice!(
+        rt.alloc();
         read_script(rt.alloc(), THREE_ROWS),
         ScriptFault::OutOfMemory
     )?;
@@ -432,6 +435,7 @@ fn count_states(script: &FoldScript) -> usize {
 fn a_long_fold_script_is_read(rt: HostRuntime) -> Result<(), Fail> {
     let text = long_script(rt.alloc(), END)?;
     let script = twice!(
+        rt.alloc();
         read_script(rt.alloc(), text.as_bytes()),
         ScriptFault::OutOfMemory
     )?;
@@ -447,7 +451,9 @@ fn fault_at_once(alloc: Global, script: &str) -> Option<ScriptFault> {
 fn a_long_fold_script_with_a_fault_is_refused(rt: HostRuntime) -> Result<(), Fail> {
     let text = long_script(rt.alloc(), WRONG_END)?;
     let fault = match fault_at_once(rt.alloc(), text.as_str()) {
-        Some(ScriptFault::OutOfMemory) => fault_at_once(rt.alloc(), text.as_str()),
+        Some(ScriptFault::OutOfMemory) if is_memory_refused(rt.alloc()) => {
+            fault_at_once(rt.alloc(), text.as_str())
+        }
         fault => fault,
     };
     assert!(rt; fault == Some(ScriptFault::BadShape));

@@ -8,7 +8,7 @@ use mutation::{
 use std::alloc::Global;
 use std::test::Fail;
 use system_keys::{Change, KeyRange};
-use testing::{Given, NOTHING, Step, admitted, batch, transaction, transaction_of};
+use testing::{Given, NOTHING, Step, admitted, batch, repeated, room, transaction, transaction_of};
 
 /// A value that waits for its stamp at the offset 2.
 const AT_TWO: &[u8] = b"ab0123456789\x02\x00\x00\x00";
@@ -90,17 +90,97 @@ fn an_owned_transaction_is_admitted_as_a_lent_one(rt: HostRuntime) -> Result<(),
     Ok(())
 }
 
+/// A value whose stamp would end one byte past it.
+const AT_THREE: &[u8] = b"ab0123456789\x03\x00\x00\x00";
+
+/// The metadata version, ten bytes and the offset 1.
+const VERSION_AT_ONE: Step<'static> = Step::SetStamped(
+    b"\xff/metadataVersion",
+    b"\x00\x00\x00\x00\x00\x00\x00\x00\x00\x00\x01\x00\x00\x00",
+);
+
+/// Transactions, and the first fault of each: reads come before writes, and these before mutations.
+const FAULTY: &[(Given<'static>, Refusal)] = &[
+    (
+        Given {
+            reads: &[(b"b", b"a")],
+            mutations: &[Step::Set(b"\xff\xff", b"v")],
+            ..NOTHING
+        },
+        Refusal::Key(system_keys::Refusal::EmptyRange),
+    ),
+    (
+        Given {
+            writes: &[(b"b", b"b")],
+            mutations: &[Step::SetStamped(b"n", b"v")],
+            ..ONE_EACH
+        },
+        Refusal::Key(system_keys::Refusal::EmptyRange),
+    ),
+    (
+        Given {
+            mutations: &[VERSION_AT_ONE],
+            ..NOTHING
+        },
+        Refusal::BadStamp,
+    ),
+    (
+        Given {
+            mutations: &[Step::SetStamped(b"k", AT_THREE)],
+            ..NOTHING
+        },
+        Refusal::BadStamp,
+    ),
+    (
+        Given {
+            mutations: &[Step::SetStamped(b"\xff/serverTag/server0000000001", b"\x00\x00\x01")],
+            ..NOTHING
+        },
+        Refusal::Key(system_keys::Refusal::BadRow),
+    ),
+];
+
 #[test]
-fn the_first_fault_of_an_owned_transaction_is_told(rt: HostRuntime) -> Result<(), Fail> {
-    let faulty = Given {
-        writes: &[(b"b", b"b")],
-        mutations: &[Step::SetStamped(b"n", b"v")],
-        ..ONE_EACH
+fn the_first_fault_of_a_transaction_is_told(rt: HostRuntime) -> Result<(), Fail> {
+    for (faulty, refused) in FAULTY {
+        let given = transaction(rt.alloc(), *faulty)?;
+        assert!(rt; matches!(admit(rt.alloc(), &given), Err(refusal) if refusal == *refused));
+        assert!(rt; matches!(admit_owned(rt.alloc(), given), Err(refusal) if refusal == *refused));
+    }
+    Ok(())
+}
+
+/// So many transactions with nothing in them.
+fn many(alloc: Global, count: usize) -> Result<Vec<Admitted>, Fail> {
+    let mut transactions = room(alloc, count)?;
+    for _ in 0..count {
+        transactions.push(admitted(alloc, NOTHING)?)?;
+    }
+    Ok(transactions)
+}
+
+#[test]
+fn a_batch_has_at_most_1024_transactions_and_more_come_back(rt: HostRuntime) -> Result<(), Fail> {
+    let Ok(batch) = Batch::new(many(rt.alloc(), 1_024)?) else {
+        return Err(Fail::new("the batch is refused"));
     };
-    let refused = Refusal::Key(system_keys::Refusal::EmptyRange);
-    let given = transaction(rt.alloc(), faulty)?;
-    assert!(rt; matches!(admit(rt.alloc(), &given), Err(refusal) if refusal == refused));
-    assert!(rt; matches!(admit_owned(rt.alloc(), given), Err(refusal) if refusal == refused));
+    assert!(rt; batch.transactions().len() == 1_024);
+    let Err((refusal, back)) = Batch::new(many(rt.alloc(), 1_025)?) else {
+        return Err(Fail::new("the batch is not refused"));
+    };
+    assert!(rt; refusal == Refusal::BatchTooLarge && back.len() == 1_025);
+    Ok(())
+}
+
+#[test]
+fn a_key_has_at_most_10000_bytes(rt: HostRuntime) -> Result<(), Fail> {
+    let key = repeated(rt.alloc(), b'k', 10_000)?;
+    let fits = transaction_of(rt.alloc(), Step::Set(key.as_slice(), b"v"))?;
+    assert!(rt; admit(rt.alloc(), &fits)?.mutations().len() == 1);
+    let key = repeated(rt.alloc(), b'k', 10_001)?;
+    let long = transaction_of(rt.alloc(), Step::Set(key.as_slice(), b"v"))?;
+    let refused = Refusal::Key(system_keys::Refusal::KeyTooLong);
+    assert!(rt; matches!(admit(rt.alloc(), &long), Err(refusal) if refusal == refused));
     Ok(())
 }
 

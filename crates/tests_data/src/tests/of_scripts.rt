@@ -7,7 +7,7 @@ use scripts::{RawChange, RunStatus, ScriptFault, read_batch, stream_batch};
 use std::alloc::Global;
 use std::test::Fail;
 use system_keys::OutOfMemory;
-use testing::{Given, NOTHING, Step, are_shown_as, batch, bytes, twice};
+use testing::{Given, NOTHING, Step, are_shown_as, batch, bytes, is_memory_refused, twice};
 
 /// Each fault in words; those of a key, a transaction or a batch are shown alone.
 const WORDS: &[(ScriptFault, &str)] = &[
@@ -70,7 +70,10 @@ const SNAPSHOT_TWICE: &[u8] =
 
 /// The batch, read by its tokens alone, at the second try if an allocation failed at the first.
 fn streamed(alloc: Global, text: &[u8]) -> Option<Batch> {
-    stream_batch(alloc, text).or_else(|| stream_batch(alloc, text))
+    match stream_batch(alloc, text) {
+        None if is_memory_refused(alloc) => stream_batch(alloc, text),
+        streamed => streamed,
+    }
 }
 
 /// Right batches.
@@ -93,6 +96,7 @@ fn every_field_of_a_batch_is_read_by_its_tokens(rt: HostRuntime) -> Result<(), F
     let found = streamed(rt.alloc(), TWO_TRANSACTIONS).expect(&rt, "a batch");
     assert_alike(&rt, &found, &expected);
     let read = twice!(
+        rt.alloc();
         read_batch(rt.alloc(), TWO_TRANSACTIONS),
         ScriptFault::OutOfMemory
     )?;
@@ -104,6 +108,7 @@ fn every_field_of_a_batch_is_read_by_its_tokens(rt: HostRuntime) -> Result<(), F
 fn a_batch_is_read_as_a_tree_where_a_field_stands_twice(rt: HostRuntime) -> Result<(), Fail> {
     let expected = batch(rt.alloc(), &[NOTHING])?;
     let read = twice!(
+        rt.alloc();
         read_batch(rt.alloc(), SNAPSHOT_TWICE),
         ScriptFault::OutOfMemory
     )?;
@@ -133,13 +138,13 @@ fn raw_changes_are_copied(rt: HostRuntime) -> Result<(), Fail> {
         key: bytes(rt.alloc(), b"k")?,
         value: bytes(rt.alloc(), b"v")?,
     };
-    let copied = twice!(set.copy(), OutOfMemory)?;
+    let copied = twice!(rt.alloc(); set.copy(), OutOfMemory)?;
     assert!(rt; is_raw_set(&set) && is_raw_set(&copied));
     let clear = RawChange::Clear {
         begin: bytes(rt.alloc(), b"t")?,
         end: bytes(rt.alloc(), b"m")?,
     };
-    let copied = twice!(clear.copy(), OutOfMemory)?;
+    let copied = twice!(rt.alloc(); clear.copy(), OutOfMemory)?;
     assert!(rt; is_raw_clear(&clear) && is_raw_clear(&copied));
     Ok(())
 }

@@ -188,11 +188,11 @@ fn many_teams(alloc: Global) -> Result<Teams, Fail> {
 }
 
 fn encoded(alloc: Global, teams: &Teams) -> Result<Vec<u8>, OutOfMemory> {
-    twice!(encode_key_servers(alloc, teams), OutOfMemory)
+    twice!(alloc; encode_key_servers(alloc, teams), OutOfMemory)
 }
 
 fn decoded(alloc: Global, value: &[u8]) -> Result<Teams, RowFault> {
-    twice!(decode_key_servers(alloc, value), RowFault::OutOfMemory)
+    twice!(alloc; decode_key_servers(alloc, value), RowFault::OutOfMemory)
 }
 
 #[test]
@@ -287,11 +287,11 @@ fn many_listed(alloc: Global) -> Result<TagTeams, Fail> {
 }
 
 fn encoded_tags(alloc: Global, teams: &TagTeams) -> Result<Vec<u8>, OutOfMemory> {
-    twice!(encode_tag_teams(alloc, teams), OutOfMemory)
+    twice!(alloc; encode_tag_teams(alloc, teams), OutOfMemory)
 }
 
 fn located(alloc: Global, value: &[u8]) -> Result<Location, RowFault> {
-    twice!(decode_location(alloc, value), RowFault::OutOfMemory)
+    twice!(alloc; decode_location(alloc, value), RowFault::OutOfMemory)
 }
 
 #[test]
@@ -405,7 +405,7 @@ const TAGS: &[(Tag, &[u8])] = &[
 #[test]
 fn tags_are_those_of_the_vectors(rt: HostRuntime) -> Result<(), Fail> {
     for (tag, expected) in TAGS {
-        let value = twice!(encode_tag(rt.alloc(), tag), OutOfMemory)?;
+        let value = twice!(rt.alloc(); encode_tag(rt.alloc(), tag), OutOfMemory)?;
         assert!(rt; value.as_slice() == *expected && decode_tag(*expected) == Ok(*tag));
     }
     assert!(rt; decode_tag(b"\x00\x00") == Err(RowFault::Truncated));
@@ -424,9 +424,9 @@ const TEXTS: &[(&[u8], &str)] = &[
 #[test]
 fn bytes_have_one_text(rt: HostRuntime) -> Result<(), Fail> {
     for (bytes, text) in TEXTS {
-        let printed = twice!(print_bytes(rt.alloc(), *bytes), OutOfMemory)?;
+        let printed = twice!(rt.alloc(); print_bytes(rt.alloc(), *bytes), OutOfMemory)?;
         assert!(rt; printed.as_str() == *text);
-        let read = twice!(read_bytes(rt.alloc(), *text), RowFault::OutOfMemory)?;
+        let read = twice!(rt.alloc(); read_bytes(rt.alloc(), *text), RowFault::OutOfMemory)?;
         assert!(rt; read.as_slice() == *bytes);
     }
     assert!(rt; read_bytes(rt.alloc(), "\\xFF").err() == Some(RowFault::BadText));
@@ -456,9 +456,9 @@ fn vector_of_vector(alloc: Global, bytes: &[u8]) -> Result<Vec<u8>, OutOfMemory>
 #[test]
 fn bytes_are_given_back_as_a_vector(rt: HostRuntime) -> Result<(), Fail> {
     for bytes in SHORT_AND_LONG {
-        let copied = twice!(vector_by_calls(rt.alloc(), *bytes), OutOfMemory)?;
+        let copied = twice!(rt.alloc(); vector_by_calls(rt.alloc(), *bytes), OutOfMemory)?;
         assert!(rt; copied.as_slice() == *bytes);
-        let given = twice!(vector_of_vector(rt.alloc(), *bytes), OutOfMemory)?;
+        let given = twice!(rt.alloc(); vector_of_vector(rt.alloc(), *bytes), OutOfMemory)?;
         assert!(rt; given.as_slice() == *bytes);
     }
     Ok(())
@@ -485,7 +485,7 @@ fn key_of_vector(alloc: Global, bytes: &[u8]) -> Result<OrderedKey, OutOfMemory>
 /// Whether the key is in its place: behind those before it, and before those behind it.
 fn is_in_place(alloc: Global, key: &OrderedKey, place: usize) -> Result<bool, OutOfMemory> {
     for (other_place, bytes) in IN_ORDER.iter().enumerate() {
-        let other = twice!(key_of_vector(alloc, *bytes), OutOfMemory)?;
+        let other = twice!(alloc; key_of_vector(alloc, *bytes), OutOfMemory)?;
         if key.cmp(&other) != place.cmp(&other_place) {
             return Ok(false);
         }
@@ -496,7 +496,7 @@ fn is_in_place(alloc: Global, key: &OrderedKey, place: usize) -> Result<bool, Ou
 #[test]
 fn ordered_keys_are_in_the_order_of_their_bytes(rt: HostRuntime) -> Result<(), Fail> {
     for (place, bytes) in IN_ORDER.iter().enumerate() {
-        let key = twice!(OrderedKey::new(rt.alloc(), *bytes), OutOfMemory)?;
+        let key = twice!(rt.alloc(); OrderedKey::new(rt.alloc(), *bytes), OutOfMemory)?;
         assert!(rt; key.as_slice() == *bytes);
         assert!(rt; is_in_place(rt.alloc(), &key, place)?);
         assert_copied(&rt, &key, OrderedKey::copy);

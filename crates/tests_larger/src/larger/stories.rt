@@ -1,9 +1,10 @@
-//! What the tests do with a new cluster of four proxies and three resolvers.
+//! What the tests do with a new cluster, of four proxies and three resolvers if its size is not told.
 
 ghost use Rattle.std.specs.Prelude.{◌≡◌};
 
 use crate::larger::beginning::{begin_three, leave_one_out};
 use crate::larger::committing::commit_over_three;
+use crate::larger::sizes::{ask_all_once, move_often, repeat_the_last};
 use agreed_ledger::{BlankLedger, Naming};
 use std::alloc::Global;
 use std::marker::Brand;
@@ -21,11 +22,28 @@ pub(crate) enum Story {
     BegunThree,
     /// A proxy leaves out a record.
     LeftOut,
+    /// Many moves are made.
+    Moved,
+    /// All resolvers are asked at once.
+    AskedAtOnce,
+    /// The last row is asked twice.
+    RepeatedLast,
 }
 
 /// Tells the story of a new cluster.
 pub(crate) fn tell<R: Abort + Wait>(rt: &R, alloc: Global, story: Story) -> Result<(), Fail> {
-    let blank = blank(alloc, 3, 4, 3)?;
+    tell_of_size(rt, alloc, (3, 4, 3), story)
+}
+
+/// Tells the story of a new cluster of so many rows, proxies and resolvers.
+pub(crate) fn tell_of_size<R: Abort + Wait>(
+    rt: &R,
+    alloc: Global,
+    size: (usize, usize, usize),
+    story: Story,
+) -> Result<(), Fail> {
+    let (rows, proxies, resolvers) = size;
+    let blank = blank(alloc, rows, proxies, resolvers)?;
     tell_over::<Brand, _>(rt, alloc, blank, story)
 }
 
@@ -44,5 +62,8 @@ fn tell_over<N: Naming, R: Abort + Wait>(
         Story::Commits => commit_over_three(rt, alloc, &cluster),
         Story::BegunThree => begin_three(rt, alloc, &cluster),
         Story::LeftOut => leave_one_out(rt, alloc, &cluster),
+        Story::Moved => move_often(rt, alloc, &cluster),
+        Story::AskedAtOnce => ask_all_once(rt, alloc, &cluster),
+        Story::RepeatedLast => repeat_the_last(rt, alloc, &cluster),
     }
 }

@@ -17,7 +17,7 @@ fn given_moves_are_copied(rt: HostRuntime) -> Result<(), Fail> {
         range: given_range(rt.alloc(), b"m", b"t")?,
         dest: 3,
     };
-    let copied = twice!(given.copy(), OutOfMemory)?;
+    let copied = twice!(rt.alloc(); given.copy(), OutOfMemory)?;
     assert!(rt; is_given_move(&given) && is_given_move(&copied));
     Ok(())
 }

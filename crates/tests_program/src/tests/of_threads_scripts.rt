@@ -8,7 +8,7 @@ use scripts::ScriptFault;
 use std::alloc::Global;
 use std::test::Fail;
 use system_keys::{Items, OutOfMemory};
-use testing::{batch, bytes, one, range, twice};
+use testing::{batch, bytes, is_memory_refused, one, range, twice};
 use threads_scripts::{ThreadsScript, UndatedMove, read_threads, stream_threads};
 
 /// Right scripts: two moves and three batches, fields in any order, and each form of a move and of a
@@ -80,7 +80,8 @@ fn is_streamed_at_once(alloc: Global, script: &[u8]) -> bool {
 
 /// Reads the script by its tokens, at the second try if an allocation failed at the first.
 fn is_streamed(alloc: Global, script: &[u8]) -> bool {
-    is_streamed_at_once(alloc, script) || is_streamed_at_once(alloc, script)
+    is_streamed_at_once(alloc, script)
+        || is_memory_refused(alloc) && is_streamed_at_once(alloc, script)
 }
 
 fn fault_at_once(alloc: Global, script: &[u8]) -> Option<ScriptFault> {
@@ -90,7 +91,7 @@ fn fault_at_once(alloc: Global, script: &[u8]) -> Option<ScriptFault> {
 /// Why the script is refused, if it is, at the second try if an allocation failed at the first.
 fn fault_of(alloc: Global, script: &[u8]) -> Option<ScriptFault> {
     match fault_at_once(alloc, script) {
-        Some(ScriptFault::OutOfMemory) => fault_at_once(alloc, script),
+        Some(ScriptFault::OutOfMemory) if is_memory_refused(alloc) => fault_at_once(alloc, script),
         answer => answer,
     }
 }
@@ -144,7 +145,7 @@ fn is_undated_move(undated: &UndatedMove) -> bool {
 #[test]
 fn undated_moves_are_copied(rt: HostRuntime) -> Result<(), Fail> {
     let undated = undated_move(rt.alloc())?;
-    let copied = twice!(undated.copy(), OutOfMemory)?;
+    let copied = twice!(rt.alloc(); undated.copy(), OutOfMemory)?;
     assert!(rt; is_undated_move(&undated) && is_undated_move(&copied));
     Ok(())
 }
@@ -193,7 +194,7 @@ fn is_threads_script(script: &ThreadsScript) -> bool {
 #[test]
 fn threads_scripts_are_copied(rt: HostRuntime) -> Result<(), Fail> {
     let script = threads_script(rt.alloc())?;
-    let copied = twice!(script.copy(), OutOfMemory)?;
+    let copied = twice!(rt.alloc(); script.copy(), OutOfMemory)?;
     assert!(rt; is_threads_script(&script) && is_threads_script(&copied));
     Ok(())
 }

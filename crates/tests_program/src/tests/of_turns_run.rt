@@ -7,7 +7,7 @@ use scripts::ScriptFault;
 use std::alloc::{AllocError, Global};
 use std::test::Fail;
 use system_keys::{Items, OutOfMemory};
-use testing::{batch, bytes, one, range, room, twice};
+use testing::{batch, bytes, is_memory_refused, one, range, room, twice};
 use turn_world::Event;
 use turns_run::{TurnsScript, read_turns, stream_turns};
 
@@ -93,7 +93,8 @@ fn is_streamed_at_once(alloc: Global, script: &[u8]) -> bool {
 
 /// Reads the script by its tokens, at the second try if an allocation failed at the first.
 fn is_streamed(alloc: Global, script: &[u8]) -> bool {
-    is_streamed_at_once(alloc, script) || is_streamed_at_once(alloc, script)
+    is_streamed_at_once(alloc, script)
+        || is_memory_refused(alloc) && is_streamed_at_once(alloc, script)
 }
 
 fn fault_at_once(alloc: Global, script: &[u8]) -> Option<ScriptFault> {
@@ -103,7 +104,7 @@ fn fault_at_once(alloc: Global, script: &[u8]) -> Option<ScriptFault> {
 /// Why the script is refused, if it is, at the second try if an allocation failed at the first.
 fn fault_of(alloc: Global, script: &[u8]) -> Option<ScriptFault> {
     match fault_at_once(alloc, script) {
-        Some(ScriptFault::OutOfMemory) => fault_at_once(alloc, script),
+        Some(ScriptFault::OutOfMemory) if is_memory_refused(alloc) => fault_at_once(alloc, script),
         answer => answer,
     }
 }
@@ -211,7 +212,7 @@ fn is_turns_script(script: &TurnsScript) -> bool {
 #[test]
 fn turns_scripts_are_copied(rt: HostRuntime) -> Result<(), Fail> {
     let script = turns_script(rt.alloc())?;
-    let copied = twice!(script.copy(), OutOfMemory)?;
+    let copied = twice!(rt.alloc(); script.copy(), OutOfMemory)?;
     assert!(rt; is_turns_script(&script) && is_turns_script(&copied));
     Ok(())
 }
@@ -238,10 +239,11 @@ fn are_alike(alloc: Global, one: &TurnsScript, other: &TurnsScript) -> Result<bo
 #[test]
 fn a_turns_script_that_asks_two_keys_is_copied(rt: HostRuntime) -> Result<(), Fail> {
     let script = twice!(
+        rt.alloc();
         read_turns(rt.alloc(), TWO_KEYS.as_bytes()),
         ScriptFault::OutOfMemory
     )?;
-    let copied = twice!(script.copy(), OutOfMemory)?;
+    let copied = twice!(rt.alloc(); script.copy(), OutOfMemory)?;
     assert!(rt; are_alike(rt.alloc(), &script, &copied)?);
     Ok(())
 }
@@ -276,6 +278,7 @@ fn long_script(alloc: Global, end: &str) -> Result<String, AllocError> {
 fn a_long_turns_script_is_read(rt: HostRuntime) -> Result<(), Fail> {
     let text = long_script(rt.alloc(), END)?;
     let script = twice!(
+        rt.alloc();
         read_turns(rt.alloc(), text.as_bytes()),
         ScriptFault::OutOfMemory
     )?;

@@ -42,7 +42,7 @@ fn moved(
     dest: usize,
 ) -> Result<Option<Refusal>, Fail> {
     let range = range(alloc, ends.0, ends.1)?;
-    let moved = twice!(move_by_call(map, &range, date, dest), Refusal::OutOfMemory);
+    let moved = twice!(alloc; move_by_call(map, &range, date, dest), Refusal::OutOfMemory);
     Ok(moved.err())
 }
 
@@ -78,7 +78,7 @@ fn asks(
     asked: &[usize],
 ) -> Result<bool, Fail> {
     let range = range(alloc, ends.0, ends.1)?;
-    Ok(twice!(asks_by_call(map, &range, snapshot, asked), OutOfMemory)?)
+    Ok(twice!(alloc; asks_by_call(map, &range, snapshot, asked), OutOfMemory)?)
 }
 
 /// Whether the call returns what it should.
@@ -114,7 +114,7 @@ fn map_by_call(alloc: Global) -> Result<OwnerMap, OutOfMemory> {
 }
 
 fn new_map(alloc: Global) -> Result<OwnerMap, OutOfMemory> {
-    twice!(map_by_call(alloc), OutOfMemory)
+    twice!(alloc; map_by_call(alloc), OutOfMemory)
 }
 
 /// The calls return what they should, after those of the two moves.
@@ -296,7 +296,7 @@ fn forgets_beside_copy<R: Abort + AllocGlobal>(
 /// Many moves are made, and then forgotten beside a copy.
 fn forgets_many<R: Abort + AllocGlobal>(rt: &R, map: &mut OwnerMap) -> Result<(), Fail> {
     move_often(rt.alloc(), map)?;
-    let mut copy = copy_of(map)?;
+    let mut copy = copy_of(rt.alloc(), map)?;
     forgets_beside_copy(rt, map, &mut copy)
 }
 

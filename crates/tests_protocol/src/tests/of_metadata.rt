@@ -89,7 +89,7 @@ impl Applied for JournalRow {
 }
 
 /// Applies this to metadata with the entries and tags of `before`. A failed allocation leaves those.
-fn apply_after<R: Abort, A: Applied>(
+fn apply_after<R: Abort + AllocGlobal, A: Applied>(
     rt: &R,
     metadata: &mut Metadata,
     before: &Metadata,
@@ -99,12 +99,12 @@ fn apply_after<R: Abort, A: Applied>(
 }
 
 /// Applies this. A failed allocation leaves the metadata unchanged.
-fn apply<R: Abort, A: Applied>(
+fn apply<R: Abort + AllocGlobal, A: Applied>(
     rt: &R,
     metadata: &mut Metadata,
     applied: &A,
 ) -> Result<(), OutOfMemory> {
-    let before = copy_of(metadata)?;
+    let before = copy_of(rt.alloc(), metadata)?;
     apply_after(rt, metadata, &before, applied)
 }
 
@@ -233,7 +233,7 @@ fn pass_stages_alone<R: Abort + AllocGlobal>(
 /// A copy is made of two servers, and then the metadata changes alone.
 fn changes_alone<R: Abort + AllocGlobal>(rt: &R, metadata: &mut Metadata) -> Result<(), Fail> {
     apply_all(rt, metadata, TWO_SERVERS)?;
-    let copy = copy_of(metadata)?;
+    let copy = copy_of(rt.alloc(), metadata)?;
     pass_stages_alone(rt, metadata, &copy)
 }
 
@@ -266,9 +266,9 @@ fn has_tags(metadata: &Metadata, change: &Change, wanted: &[Tag]) -> Result<bool
 
 /// `b` has no tags, and a Clear over its row has those of the row before it alone.
 fn has_no_tags_at_b<R: Abort + AllocGlobal>(rt: &R, metadata: &Metadata) -> Result<(), Fail> {
-    assert!(rt; twice!(has_tags_at(metadata, b"b", &[]), OutOfMemory)?);
+    assert!(rt; twice!(rt.alloc(); has_tags_at(metadata, b"b", &[]), OutOfMemory)?);
     let change = change(rt.alloc(), Step::Clear(b"a", b"c"))?;
-    assert!(rt; twice!(has_tags(metadata, &change, &[TAG_1]), OutOfMemory)?);
+    assert!(rt; twice!(rt.alloc(); has_tags(metadata, &change, &[TAG_1]), OutOfMemory)?);
     Ok(())
 }
 
@@ -315,10 +315,10 @@ fn gives_copies<R: Abort + AllocGlobal>(rt: &R, metadata: &mut Metadata) -> Resu
     apply_step(rt, metadata, Step::Set(TAG_ROW_1, b"\x00\x00\x01"))?;
     for set in SETS {
         let change = change(rt.alloc(), Step::Set(set.0, set.1))?;
-        assert!(rt; twice!(has_copy(metadata, &change, *set), OutOfMemory)?);
+        assert!(rt; twice!(rt.alloc(); has_copy(metadata, &change, *set), OutOfMemory)?);
     }
     let cleared = change(rt.alloc(), Step::Clear(TAG_ROW_1, TAG_ROW_2))?;
-    assert!(rt; twice!(metadata.private_of(&cleared), OutOfMemory)?.is_none());
+    assert!(rt; twice!(rt.alloc(); metadata.private_of(&cleared), OutOfMemory)?.is_none());
     Ok(())
 }
 
@@ -412,6 +412,48 @@ fn pass_rows<R: Abort + AllocGlobal>(rt: &R, metadata: &mut Metadata) -> Result<
         );
     }
     Ok(())
+}
+
+/// Rows that give a server all keys, its tag, `m` to it and to another server, and that one's tag; and
+/// the tags that are kept after each.
+const TAGS_AFTER_KEYS: &[(Step<'static>, Cached)] = &[
+    (Step::Set(ROW_OF_ALL, SERVER_1), &[Some(&[]), None]),
+    (
+        Step::Set(TAG_ROW_1, b"\x00\x00\x01"),
+        &[Some(&[TAG_1]), None],
+    ),
+    (
+        Step::Set(
+            b"\xff/keyServers/m",
+            b"\x01server0000000001\x01server0000000002",
+        ),
+        &[Some(&[TAG_1]), Some(&[TAG_1]), None],
+    ),
+    (
+        Step::Set(TAG_ROW_2, b"\x00\x00\x00"),
+        &[Some(&[TAG_1]), Some(&[TAG_0, TAG_1]), None],
+    ),
+    (
+        Step::Clear(b"\xff/serverTag/", b"\xff/serverTag0"),
+        &[Some(&[]), Some(&[]), None],
+    ),
+];
+
+fn pass_tags_after_keys<R: Abort + AllocGlobal>(
+    rt: &R,
+    metadata: &mut Metadata,
+) -> Result<(), Fail> {
+    for (place, (step, cached)) in TAGS_AFTER_KEYS.iter().enumerate() {
+        apply_states(rt, metadata, &[(&[COMMITTED], (&[*step], false))])?;
+        assert!(rt; has_cached(metadata, *cached), "the tags after row {place}");
+    }
+    Ok(())
+}
+
+#[test]
+fn tags_that_are_set_after_their_rows_are_kept_beside_them(rt: HostRuntime) -> Result<(), Fail> {
+    let mut metadata = Metadata::new(rt.alloc());
+    pass_tags_after_keys(&rt, &mut metadata)
 }
 
 #[test]

@@ -39,7 +39,7 @@ fn two_of_each() -> Result<Config, Fail>
 
 fn no_replies(alloc: Global) -> Result<Replies, Fail> {
     let config = two_of_each()?;
-    Ok(twice!(Replies::new(alloc, &config), OutOfMemory)?)
+    Ok(twice!(alloc; Replies::new(alloc, &config), OutOfMemory)?)
 }
 
 /// Puts the replies, of which those of the carriers have the content of state transactions.

@@ -47,7 +47,7 @@ fn record_by_call(alloc: Global, moves: &Moves, batch: &Batch) -> Result<Record,
 
 /// That record, which is made again after a failed allocation.
 fn record(alloc: Global, moves: &Moves, batch: &Batch) -> Result<Record, OutOfMemory> {
-    twice!(record_by_call(alloc, moves, batch), OutOfMemory)
+    twice!(alloc; record_by_call(alloc, moves, batch), OutOfMemory)
 }
 
 /// One call for the requests of the record.
@@ -67,7 +67,7 @@ fn requests_for(
     owners: &OwnerMap,
     oldest: u64,
 ) -> Result<Requests, OutOfMemory> {
-    twice!(requests_by_call(alloc, record, owners, oldest), OutOfMemory)
+    twice!(alloc; requests_by_call(alloc, record, owners, oldest), OutOfMemory)
 }
 
 /// The requests for the record of the batch.
@@ -230,6 +230,26 @@ fn whole_ranges_go_to_those_who_are_asked(rt: HostRuntime) -> Result<(), Fail> {
     go_to_asked(&rt, &mut moved)
 }
 
+/// Reads of `n` before the date of a move of `[m, t)`, at it, and later.
+const ABOUT_A_MOVE: &[PartLine<'static>] = &[
+    (20, &[(b"n", b"n\0")], &[]),
+    (21, &[(b"n", b"n\0")], &[]),
+    (30, &[(b"n", b"n\0")], &[]),
+];
+
+/// Whether those reads ask both owners up to the date, and then the new one alone.
+fn ask_about_a_move(alloc: Global, moved: &mut Moved) -> Result<bool, Fail> {
+    moved.add(alloc, (b"m", b"t"), 21, 1)?;
+    are_built(alloc, moved, 0, ABOUT_A_MOVE, &[&[0, 1], &[0, 1], &[1]])
+}
+
+#[test]
+fn a_read_at_the_date_of_a_move_asks_the_owner_before(rt: HostRuntime) -> Result<(), Fail> {
+    let mut moved = Moved::new(rt.alloc(), OwnerMap::new(rt.alloc(), 2)?);
+    assert!(rt; ask_about_a_move(rt.alloc(), &mut moved)?);
+    Ok(())
+}
+
 /// Two reads and two writes of all keys.
 const OF_ALL: PartLine<'static> = (
     0,
@@ -383,7 +403,7 @@ fn own_record_by_call(alloc: Global, batch: &Batch) -> Result<Record, OutOfMemor
 /// That record, which is made again after a failed allocation.
 fn own_record_of_stamping(alloc: Global) -> Result<Record, Fail> {
     let batch = batch(alloc, &[NOTHING, STAMPING])?;
-    Ok(twice!(own_record_by_call(alloc, &batch), OutOfMemory)?)
+    Ok(twice!(alloc; own_record_by_call(alloc, &batch), OutOfMemory)?)
 }
 
 /// Whether the record has the numbers of these tests.
@@ -402,8 +422,8 @@ impl Copied for Record {
 }
 
 /// Whether a copy of the record has the numbers of these tests and the stamp.
-fn has_right_copy(record: &Record) -> Result<bool, OutOfMemory> {
-    let copy = copy_of(record)?;
+fn has_right_copy(alloc: Global, record: &Record) -> Result<bool, OutOfMemory> {
+    let copy = copy_of(alloc, record)?;
     Ok(is_numbered(&copy) && has_stamp(copy.batch()))
 }
 
@@ -411,7 +431,7 @@ fn has_right_copy(record: &Record) -> Result<bool, OutOfMemory> {
 fn a_record_has_its_numbers_and_stamps(rt: HostRuntime) -> Result<(), Fail> {
     let record = record_of_stamping(rt.alloc())?;
     assert!(rt; is_copied(rt.alloc(), &record)?);
-    assert!(rt; has_right_copy(&record)?);
+    assert!(rt; has_right_copy(rt.alloc(), &record)?);
     Ok(())
 }
 
@@ -429,12 +449,12 @@ fn taken_by_call(alloc: Global, record: &mut Record) -> Result<Items<Stamped>, O
 
 /// Those transactions, which are taken again after a failed allocation.
 fn taken(alloc: Global, record: &mut Record) -> Result<Items<Stamped>, OutOfMemory> {
-    twice!(taken_by_call(alloc, record), OutOfMemory)
+    twice!(alloc; taken_by_call(alloc, record), OutOfMemory)
 }
 
 /// Whether a record that is copied gives copies of its transactions, and has them still.
 fn gives_copies(alloc: Global, record: &mut Record) -> Result<bool, OutOfMemory> {
-    let copy = copy_of(record)?;
+    let copy = copy_of(alloc, record)?;
     let copied = taken(alloc, record)?;
     Ok(has_stamp(copied.as_slice()) && has_stamp(record.batch()) && has_stamp(copy.batch()))
 }

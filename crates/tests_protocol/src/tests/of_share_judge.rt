@@ -20,11 +20,12 @@ fn history_by_call(alloc: Global, window: u64) -> Result<WriteHistory, OutOfMemo
 }
 
 fn new_history(alloc: Global, window: u64) -> Result<WriteHistory, OutOfMemory> {
-    twice!(history_by_call(alloc, window), OutOfMemory)
+    twice!(alloc; history_by_call(alloc, window), OutOfMemory)
 }
 
 /// Whether the history gives just these verdicts on the share. The version must be above the last.
 fn gives(
+    alloc: Global,
     history: &mut WriteHistory,
     version: u64,
     share: &Share,
@@ -33,7 +34,7 @@ fn gives(
     if version <= history.last() {
         return Ok(false);
     }
-    let given = twice!(history.judge(version, share), OutOfMemory)?;
+    let given = twice!(alloc; history.judge(version, share), OutOfMemory)?;
     Ok(given.as_slice() == verdicts)
 }
 
@@ -46,7 +47,7 @@ fn gives_on(
     verdicts: &[Verdict],
 ) -> Result<bool, Fail> {
     let share = Share::new(parts(alloc, lines)?);
-    Ok(gives(history, version, &share, verdicts)?)
+    Ok(gives(alloc, history, version, &share, verdicts)?)
 }
 
 const B: Ends<'static> = (b"b", b"b\0");
@@ -113,20 +114,27 @@ const NARROW: &[PartLine<'static>] = &[(0, &[], &[(b"m", b"n")])];
 const READ: &[PartLine<'static>] = &[(20, &[(b"m", b"m\0")], &[])];
 
 /// The versions, rows and verdicts that are judged with a window of 10; up to where is forgotten after
-/// each, and how many steps there are then.
-const NESTED: &[(u64, &[PartLine<'static>], &[Verdict], u64, usize)] = &[
-    (5, WIDE, COMMITTED, 0, 3),
-    (10, NARROW, COMMITTED, 0, 5),
-    (20, &[], &[], 5, 3),
-    (21, &[], &[], 50, 1),
-    (30, READ, COMMITTED, 0, 1),
+/// each, one after the other, and how many steps there are then.
+const NESTED: &[(u64, &[PartLine<'static>], &[Verdict], &[(u64, usize)])] = &[
+    (5, WIDE, COMMITTED, &[(0, 3)]),
+    (10, NARROW, COMMITTED, &[(0, 5)]),
+    (20, &[], &[], &[(5, 3), (50, 1)]),
+    (30, READ, COMMITTED, &[(0, 1)]),
 ];
 
-fn forgets_nested<R: Abort + AllocGlobal>(rt: &R, history: &mut WriteHistory) -> Result<(), Fail> {
-    for (version, lines, verdicts, oldest, steps) in NESTED {
-        let is_right = gives_on(rt.alloc(), history, *version, *lines, *verdicts)?;
+/// After each forgetting there are so many steps.
+fn forgets_to<R: Abort>(rt: &R, history: &mut WriteHistory, forgettings: &[(u64, usize)]) {
+    for (oldest, steps) in forgettings {
         history.forget(*oldest);
-        assert!(rt; is_right && history.steps() == *steps, "after {version}");
+        assert!(rt; history.steps() == *steps, "after what is before {oldest}");
+    }
+}
+
+fn forgets_nested<R: Abort + AllocGlobal>(rt: &R, history: &mut WriteHistory) -> Result<(), Fail> {
+    for (version, lines, verdicts, forgettings) in NESTED {
+        let is_right = gives_on(rt.alloc(), history, *version, *lines, *verdicts)?;
+        assert!(rt; is_right, "at {version}");
+        forgets_to(rt, history, *forgettings);
     }
     Ok(())
 }
@@ -137,6 +145,41 @@ fn forgotten_steps_become_none(rt: HostRuntime) -> Result<(), Fail> {
     forgets_nested(&rt, &mut history)
 }
 
+const A: Ends<'static> = (b"a", b"a\0");
+
+/// At version 140 with a window of 100: a read at the oldest snapshot, one before it, and a write.
+const ABOUT_THE_WINDOW: &[PartLine<'static>] = &[(40, &[A], &[]), (39, &[A], &[]), (0, &[], &[B])];
+
+/// A write and a read of `a` in one batch, and a read and a write of `b` in the next one.
+const WRITE_FIRST: &[PartLine<'static>] = &[(0, &[], &[A]), (0, &[A], &[])];
+
+const READ_FIRST: &[PartLine<'static>] = &[(10, &[B], &[]), (10, &[], &[B])];
+
+/// The versions, rows and verdicts of histories with a window of 100.
+const WITHIN_A_BATCH: &[&[(u64, &[PartLine<'static>], &[Verdict])]] = &[
+    &[(
+        140,
+        ABOUT_THE_WINDOW,
+        &[Verdict::Committed, Verdict::TooOld, Verdict::Committed],
+    )],
+    &[
+        (10, WRITE_FIRST, &[Verdict::Committed, Verdict::Conflict]),
+        (20, READ_FIRST, &[Verdict::Committed, Verdict::Committed]),
+    ],
+];
+
+#[test]
+fn a_batch_is_judged_by_its_window_and_in_its_order(rt: HostRuntime) -> Result<(), Fail> {
+    for rows in WITHIN_A_BATCH {
+        let mut history = new_history(rt.alloc(), 100)?;
+        for (version, lines, verdicts) in *rows {
+            let is_right = gives_on(rt.alloc(), &mut history, *version, *lines, *verdicts)?;
+            assert!(rt; is_right, "at {version}");
+        }
+    }
+    Ok(())
+}
+
 impl Copied for WriteHistory {
     fn copied(&self) -> Result<WriteHistory, OutOfMemory> {
         self.copy()
@@ -145,7 +188,7 @@ impl Copied for WriteHistory {
 
 /// Whether a copy gives this verdict on a read of `b` at snapshot 9.
 fn copy_gives(alloc: Global, history: &WriteHistory, verdicts: &[Verdict]) -> Result<bool, Fail> {
-    let mut copy = copy_of(history)?;
+    let mut copy = copy_of(alloc, history)?;
     gives_on(alloc, &mut copy, 20, &[(9, &[B], &[])], verdicts)
 }
 
@@ -201,7 +244,13 @@ fn gives_on_many(
     for number in 0..MANY {
         parts.push(own_part(alloc, number, is_read)?)?;
     }
-    Ok(gives(history, version, &Share::new(Items::from(parts)), verdicts)?)
+    Ok(gives(
+        alloc,
+        history,
+        version,
+        &Share::new(Items::from(parts)),
+        verdicts,
+    )?)
 }
 
 /// A write of `b`, and reads of it and of `c` at snapshots past the version, the greatest one among them.

@@ -121,13 +121,13 @@ fn answer_by_call(resolver: &mut Resolver, request: &Request) -> Result<Answer, 
 }
 
 /// What the request is answered, which comes next if it is judged.
-fn offered<R: Abort>(
+fn offered<R: Abort + AllocGlobal>(
     rt: &R,
     resolver: &mut Resolver,
     request: &Request,
 ) -> Result<Answer, Refusal> {
     let comes_next = resolver.comes_next(request);
-    let answer = twice!(answer_by_call(resolver, request), Refusal::OutOfMemory);
+    let answer = twice!(rt.alloc(); answer_by_call(resolver, request), Refusal::OutOfMemory);
     assert!(rt;
         comes_next == is_judged(&answer),
         "at version {}",
@@ -180,7 +180,7 @@ fn resolver_by_call(alloc: Global, number: usize) -> Result<Resolver, OutOfMemor
 }
 
 fn new_resolver(alloc: Global, number: usize) -> Result<Resolver, OutOfMemory> {
-    twice!(resolver_by_call(alloc, number), OutOfMemory)
+    twice!(alloc; resolver_by_call(alloc, number), OutOfMemory)
 }
 
 // ---- two proxies
@@ -309,7 +309,7 @@ fn goes_beside_copy<R: Abort + AllocGlobal>(
 #[test]
 fn a_copy_goes_its_own_way(rt: HostRuntime) -> Result<(), Fail> {
     let mut resolver = judged_two(&rt)?;
-    let mut copy = copy_of(&resolver)?;
+    let mut copy = copy_of(rt.alloc(), &resolver)?;
     goes_beside_copy(&rt, &mut resolver, &mut copy)
 }
 

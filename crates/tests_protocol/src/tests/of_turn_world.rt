@@ -6,7 +6,7 @@ use std::alloc::Global;
 use std::process::Abort;
 use std::test::Fail;
 use system_keys::OutOfMemory;
-use testing::{Given, NOTHING, range, room, twice};
+use testing::{Given, NOTHING, is_memory_refused, range, room, twice};
 use turn_world::{Answer, Config, Event, OfferAnswer, Refusal, Stopped, TurnWorld};
 
 /// One call for a cluster.
@@ -17,7 +17,7 @@ fn cluster_by_call(alloc: Global, config: &Config) -> Result<TurnWorld, OutOfMem
 /// Two proxies and two resolvers, with versions 10 apart.
 fn cluster(alloc: Global) -> Result<TurnWorld, Fail> {
     let config = Config::new(2, 2, 100, 10)?;
-    Ok(twice!(cluster_by_call(alloc, &config), OutOfMemory)?)
+    Ok(twice!(alloc; cluster_by_call(alloc, &config), OutOfMemory)?)
 }
 
 // ---- events
@@ -128,28 +128,32 @@ fn step_by_call(world: &mut TurnWorld, event: &Event) -> Result<Answer, Refusal>
 }
 
 /// What is told of a copy of the answer.
-fn told_by_copy(answer: &Answer) -> Result<Told, OutOfMemory> {
-    let copy = copy_of(answer)?;
+fn told_by_copy(alloc: Global, answer: &Answer) -> Result<Told, OutOfMemory> {
+    let copy = copy_of(alloc, answer)?;
     Ok(Ok(version_of(&copy)))
 }
 
 /// What is told of a copy of the event's answer.
-fn carry_out(world: &mut TurnWorld, event: &Event) -> Result<Told, OutOfMemory> {
-    match twice!(step_by_call(world, event), Refusal::OutOfMemory) {
-        Ok(answer) => told_by_copy(&answer),
+fn carry_out(alloc: Global, world: &mut TurnWorld, event: &Event) -> Result<Told, OutOfMemory> {
+    match twice!(alloc; step_by_call(world, event), Refusal::OutOfMemory) {
+        Ok(answer) => told_by_copy(alloc, &answer),
         Err(refusal) => Ok(Err(refusal)),
     }
 }
 
 /// What is told where a copy of the event is carried out.
-fn carry_out_copy(world: &mut TurnWorld, event: &Event) -> Result<Told, OutOfMemory> {
-    let copy = copy_of(event)?;
-    carry_out(world, &copy)
+fn carry_out_copy(
+    alloc: Global,
+    world: &mut TurnWorld,
+    event: &Event,
+) -> Result<Told, OutOfMemory> {
+    let copy = copy_of(alloc, event)?;
+    carry_out(alloc, world, &copy)
 }
 
 fn carry_out_step(alloc: Global, world: &mut TurnWorld, step: Step) -> Result<Told, Fail> {
     let event = event_of(alloc, step)?;
-    Ok(carry_out_copy(world, &event)?)
+    Ok(carry_out_copy(alloc, world, &event)?)
 }
 
 fn tells<R: Abort + AllocGlobal>(rt: &R, world: &mut TurnWorld, story: Story) -> Result<(), Fail> {
@@ -174,8 +178,8 @@ fn own_step_by_call(world: &mut TurnWorld, event: &Event) -> Result<Answer, Refu
 }
 
 /// What is told of the answer to a copy of the event.
-fn carry_out_own(world: &mut TurnWorld, event: &Event) -> Result<Told, OutOfMemory> {
-    match twice!(own_step_by_call(world, event), Refusal::OutOfMemory) {
+fn carry_out_own(alloc: Global, world: &mut TurnWorld, event: &Event) -> Result<Told, OutOfMemory> {
+    match twice!(alloc; own_step_by_call(world, event), Refusal::OutOfMemory) {
         Err(Refusal::OutOfMemory) => Err(OutOfMemory),
         answer => Ok(told(&answer)),
     }
@@ -188,7 +192,7 @@ fn own_step_tells(
     wanted: Told,
 ) -> Result<bool, Fail> {
     let event = event_of(alloc, step)?;
-    Ok(carry_out_own(world, &event)? == wanted)
+    Ok(carry_out_own(alloc, world, &event)? == wanted)
 }
 
 fn own_steps_tell<R: Abort + AllocGlobal>(
@@ -246,7 +250,8 @@ fn results_of(
 ) -> Result<Results, OutOfMemory> {
     match world.run(alloc, events) {
         Ok(results) => Ok(results),
-        Err(stopped) => with_rest(alloc, world, events, stopped),
+        Err(stopped) if is_memory_refused(alloc) => with_rest(alloc, world, events, stopped),
+        Err(_stopped) => Err(OutOfMemory),
     }
 }
 

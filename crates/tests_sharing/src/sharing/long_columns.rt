@@ -15,8 +15,8 @@ use system_keys::Items;
 use testing::list;
 use testing_cluster::blank;
 
-/// How many rows the ledger has.
-const ROWS: usize = 40;
+/// How many rows the longest ledger has.
+const ROWS: usize = 4_096;
 
 /// The verdicts of a row: as many as come after a multiple of three.
 fn verdicts(row: usize) -> &'static [Verdict] {

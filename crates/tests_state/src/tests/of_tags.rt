@@ -95,7 +95,7 @@ const JOURNAL: &[(u64, &[Joined<'static>])] = &[
 fn the_rows_of_a_journal_are_folded_one_after_another(rt: HostRuntime) -> Result<(), Fail> {
     let mut folded = JournalFold::new(rt.alloc());
     for (version, lines) in JOURNAL {
-        folded.apply(journal_row(rt.alloc(), *version, *lines)?)?;
+        folded = folded.apply(journal_row(rt.alloc(), *version, *lines)?)?;
     }
     gives_tags(&rt, &folded.into_metadata()?)
 }

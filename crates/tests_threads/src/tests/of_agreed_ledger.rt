@@ -21,7 +21,7 @@ const LOOKS: usize = 1_000;
 /// A ledger of two proxies and two resolvers, made once more after a failed allocation.
 fn blank(alloc: Global, rows: usize, step: u64) -> Result<BlankLedger, Fail> {
     let config = Config::new(2, 2, 100, step)?;
-    Ok(twice!(Ledger::new(alloc, rows, config), Refusal::OutOfMemory)?)
+    Ok(twice!(alloc; Ledger::new(alloc, rows, config), Refusal::OutOfMemory)?)
 }
 
 /// What a ticket tells: its row, the version of the row's record and the number of its moves, and
@@ -77,6 +77,7 @@ fn sequence<N: Naming, R: Wait>(
     proxy: usize,
 ) -> Result<Option<Told>, Refusal> {
     twice!(
+        alloc;
         sequence_once(rt, alloc, ledger, sequencer, proxy),
         Refusal::OutOfMemory
     )
@@ -257,7 +258,7 @@ fn sequence_in_order<N: Naming, R: Wait + Abort>(
     assert!(rt; sequence(rt, alloc, ledger, sequencer, 2) == no_such_proxy);
     let full = Err(Refusal::LedgerFull { rows: 3 });
     assert!(rt; sequence(rt, alloc, ledger, sequencer, 0) == full);
-    let of_second = twice!(answer_of_second(rt, alloc, ledger), Refusal::OutOfMemory);
+    let of_second = twice!(alloc; answer_of_second(rt, alloc, ledger), Refusal::OutOfMemory);
     assert!(rt; of_second == Err(Refusal::CellTaken));
 }
 
@@ -272,7 +273,7 @@ fn look_at_ledger<N: Naming + Send + Sync, R: Wait + Abort>(
     let sequencer = Sequencer::new(alloc, &ledger)?;
     sequence_in_order(rt, alloc, &ledger, &sequencer);
     let guard = sequencer.lock(rt);
-    stretches::look_at_records(rt, &ledger, guard.records());
+    stretches::look_at_records(rt, alloc, &ledger, guard.records());
     stretches::look_at_verdicts(rt, alloc, &ledger);
     Ok(())
 }
@@ -281,6 +282,32 @@ fn look_at_ledger<N: Naming + Send + Sync, R: Wait + Abort>(
 fn each_cell_of_a_ledger_is_set_once(rt: HostRuntime) -> Result<(), Fail> {
     let alloc = rt.alloc();
     look_at_ledger::<Brand, _>(&rt, alloc, blank(alloc, 3, 10)?)
+}
+
+/// Half of all versions.
+const HALF: u64 = 4_611_686_018_427_387_904;
+
+/// The first batch gets half of all versions, and for the second none is left.
+fn sequence_to_the_end<N: Naming + Send + Sync, R: Wait + Abort>(
+    rt: &R,
+    alloc: Global,
+    blank: BlankLedger,
+) -> Result<(), Fail>
+    requires { blank ≡ N.cells }
+{
+    let ledger = blank.named::<N>();
+    let sequencer = Sequencer::new(alloc, &ledger)?;
+    let first = sequence(rt, alloc, &ledger, &sequencer, 0);
+    assert!(rt; first == Ok(Some((0, HALF, 0, 1))));
+    let second = sequence(rt, alloc, &ledger, &sequencer, 1);
+    assert!(rt; second == Err(Refusal::VersionsEnd));
+    Ok(())
+}
+
+#[test]
+fn a_batch_past_the_last_version_is_refused(rt: HostRuntime) -> Result<(), Fail> {
+    let alloc = rt.alloc();
+    sequence_to_the_end::<Brand, _>(&rt, alloc, blank(alloc, 3, HALF)?)
 }
 
 /// Why there is no ledger of so many rows.

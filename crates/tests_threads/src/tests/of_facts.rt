@@ -5,6 +5,7 @@ ghost use Rattle.once_cell.specs.Once.{cell_name};
 
 use facts::{Fact, Stretch, Unset};
 use once_cell::race::OnceBox;
+use std::alloc::Global;
 use std::test::Fail;
 use std::thread::join;
 use testing::twice;
@@ -37,8 +38,13 @@ fn set_once(rows: &mut Stretch<u64>, cell: &OnceBox<u64>, value: u64) -> Result<
 }
 
 /// Sets the cell of the stretch's next row, and again after a failed allocation.
-fn set(rows: &mut Stretch<u64>, cell: &OnceBox<u64>, value: u64) -> Result<(), Refused> {
-    twice!(set_once(rows, cell, value), (false, _))
+fn set(
+    alloc: Global,
+    rows: &mut Stretch<u64>,
+    cell: &OnceBox<u64>,
+    value: u64,
+) -> Result<(), Refused> {
+    twice!(alloc; set_once(rows, cell, value), (false, _))
 }
 
 /// Sets the cell of the stretch's next row with a copy, and returns where the copy begins and ends.
@@ -58,11 +64,12 @@ fn copy_once(
 
 /// Sets the cell of the stretch's next row with a copy, and again after a failed allocation.
 fn set_and_copy(
+    alloc: Global,
     rows: &mut Stretch<u64>,
     cell: &OnceBox<u64>,
     value: u64,
 ) -> Result<(usize, usize), Refused> {
-    twice!(copy_once(rows, cell, value), (false, _))
+    twice!(alloc; copy_once(rows, cell, value), (false, _))
 }
 
 /// A fact about the cell, if it holds a value.
@@ -104,8 +111,8 @@ fn values_once_set(cell: &OnceBox<u64>, value: Box<u64>) -> Option<(u64, u64, u6
 fn facts_of_two_threads_have_one_value(rt: HostRuntime) -> Result<(), Fail> {
     let cell = OnceBox::new(rt.alloc());
     assert!(&rt; values(&cell).is_none());
-    let five = twice!(Box::new(rt.alloc(), 5u64), _)?;
-    let six = twice!(Box::new(rt.alloc(), 6u64), _)?;
+    let five = twice!(rt.alloc(); Box::new(rt.alloc(), 5u64), _)?;
+    let six = twice!(rt.alloc(); Box::new(rt.alloc(), 6u64), _)?;
     let (one, other) = join(
         &rt,
         || values_once_set(&cell, five),
@@ -120,17 +127,17 @@ fn facts_of_two_threads_have_one_value(rt: HostRuntime) -> Result<(), Fail> {
 fn a_cell_is_set_once_and_a_refused_value_comes_back(rt: HostRuntime) {
     let cell = OnceBox::new(rt.alloc());
     let mut rows = Stretch::new(rt.alloc());
-    assert!(&rt; set(&mut rows, &cell, 7) == Ok(()));
-    assert!(&rt; set(&mut rows, &cell, 8) == Err((true, 8)));
+    assert!(&rt; set(rt.alloc(), &mut rows, &cell, 7) == Ok(()));
+    assert!(&rt; set(rt.alloc(), &mut rows, &cell, 8) == Err((true, 8)));
     assert!(&rt; values(&cell) == Some((7, 7, 7)));
     assert!(&rt; ends(&rows) == (0, 1));
     assert!(&rt; rows.get(0).is_some());
     assert!(&rt; rows.get(1).is_none());
     let second = OnceBox::new(rt.alloc());
-    assert!(&rt; set(&mut rows, &second, 9) == Ok(()));
+    assert!(&rt; set(rt.alloc(), &mut rows, &second, 9) == Ok(()));
     let third = OnceBox::new(rt.alloc());
-    assert!(&rt; set_and_copy(&mut rows, &third, 11) == Ok((0, 3)));
-    assert!(&rt; set_and_copy(&mut rows, &third, 12) == Err((true, 12)));
+    assert!(&rt; set_and_copy(rt.alloc(), &mut rows, &third, 11) == Ok((0, 3)));
+    assert!(&rt; set_and_copy(rt.alloc(), &mut rows, &third, 12) == Err((true, 12)));
     assert!(&rt; values(&third) == Some((11, 11, 11)));
     assert!(&rt; ends(&rows) == (0, 3));
 }

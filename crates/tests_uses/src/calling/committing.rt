@@ -11,7 +11,7 @@ use std::process::Abort;
 use std::sync::Wait;
 use std::test::Fail;
 use testing::batch;
-use testing_cluster::{Cluster, blank};
+use testing_cluster::{Cluster, blank, number};
 use uses::{Refused, commit_or_go_on, commit_two, tags_after};
 
 /// Commits both batches of proxy 0.
@@ -55,6 +55,24 @@ fn commit<N: Naming, A: Asking<N>, R: Wait>(
     Ok(seen_by(&noted))
 }
 
+/// Commits the batch of the proxy by a single call, which does not fail with ample memory, and looks at its
+/// answer. Otherwise returns the number of the refusal.
+fn commit_at_once<N: Naming, A: Asking<N>, R: Wait>(
+    rt: &R,
+    cluster: &Cluster<'_, N>,
+    asking: &A,
+    proxy: usize,
+    batch: Batch,
+) -> Result<Seen, u32> {
+    let Ok(proxy) = cluster.proxy(proxy) else {
+        return Err(32);
+    };
+    match proxy.commit(rt, &cluster.sequencer, asking, batch) {
+        Ok((noted, _guard)) => Ok(seen_by(&noted)),
+        Err(fault) => Err(number(&fault)),
+    }
+}
+
 /// Whether the metadata of proxy 2 gives the key of `WRITE` the tag of the first server.
 fn is_tagged<N: Naming, R: Wait>(
     rt: &R,
@@ -79,7 +97,7 @@ pub(crate) fn commit_in_each_way<N: Naming, R: Abort + Wait>(
     assert!(rt; both == Ok(((10, 2, true), (20, 1, true))));
     let gone_on = commit(rt, cluster, &failing, 1, batch(alloc, WRITE)?);
     assert!(rt; gone_on == Ok((30, 1, true)));
-    let at_once = commit(rt, cluster, &asking, 2, batch(alloc, WRITE)?);
+    let at_once = commit_at_once(rt, cluster, &asking, 2, batch(alloc, WRITE)?);
     assert!(rt; at_once == Ok((40, 1, true)));
     let full = agreed_ledger::Refusal::LedgerFull { rows: 4 };
     let refused = commit(rt, cluster, &asking, 2, batch(alloc, WRITE)?);

@@ -5,6 +5,7 @@ ghost use Rattle.std.specs.Prelude.{◌≡◌};
 use crate::calling::asking::ask_in_each_way;
 use crate::calling::committing::commit_in_each_way;
 use crate::calling::comparing::compare_routings;
+use crate::calling::promising::take_promises;
 use crate::calling::sequencing::sequence_in_each_way;
 use agreed_ledger::{BlankLedger, Naming};
 use std::alloc::Global;
@@ -25,6 +26,8 @@ pub(crate) enum Story {
     Comparing,
     /// Resolvers are asked.
     Asking,
+    /// What is promised is taken.
+    Promising,
 }
 
 /// Tells the story of a new cluster over the ledger.
@@ -53,5 +56,6 @@ fn tell_over<N: Naming, R: Abort + Wait>(
         Story::Committing => commit_in_each_way(rt, alloc, &cluster),
         Story::Comparing => compare_routings(rt, alloc, &cluster),
         Story::Asking => ask_in_each_way(rt, alloc, &cluster),
+        Story::Promising => take_promises(rt, alloc, &cluster),
     }
 }

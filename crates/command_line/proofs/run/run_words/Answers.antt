@@ -1,5 +1,8 @@
 use Rattle.std.proofs.Common.{rules, ◌≡◌, ◌∙◌, Option, Some, ap, inl, inr, refl, subst, sym}
 use Rattle.command_line.specs.WordRuns.{RunsMode}
+use Rattle.std.specs.Prelude.{Err}
+use Rattle.mode_choice.specs.Rejections.{RejectsBy}
+use Rattle.mode_choice.specs.declared.choosing.Rejection.{Rejection}
 use Rattle.mode_choice.specs.declared.mode.Mode.{Mode}
 use Rattle.mode_choice.specs.declared.mode.Mode.TheVariants.{Fold, Turns, Threads}
 use Rattle.command_line.proofs.KnownRuns.{fold_line_folds, rejected_line_rejected, threads_line_commits, turns_line_plays}
@@ -43,7 +46,7 @@ returns-in-Err-Words-clause-mode g c =
     let chosen = c.in-Err-Words.ensures in
     record {
       names = chosen.names;
-      refused = λ _. (search rules, (refl, refl));
+      refused = λ some. (subst (λ (r : Rejection). RejectsBy _ (Err r)) c.in-Err-Words.field-0-is (chosen.told some), (refl, refl));
       taken = λ none. let bad = chosen.taken none in cc;
     }
 
@@ -73,6 +76,9 @@ returns-in-Ok-Threads-clause-devices g c = (Threads, (c.run_threads.ensures.answ
 
 pub returns-in-Ok-Turns-clause-threads : goal.returns-in-Ok-Turns-clause-threads
 returns-in-Ok-Turns-clause-threads g c = threads_line_commits _ _ _ _ (returns-in-Ok-Turns-clause-mode g c)
+
+pub returns-in-Err-Words-clause-rejected : goal.returns-in-Err-Words-clause-rejected
+returns-in-Err-Words-clause-rejected g c = rejected_line_rejected _ _ _ _ (returns-in-Err-Words-clause-mode g c)
 
 pub returns-in-Err-Words-clause-threads : goal.returns-in-Err-Words-clause-threads
 returns-in-Err-Words-clause-threads g c = threads_line_commits _ _ _ _ (returns-in-Err-Words-clause-mode g c)

@@ -12,19 +12,19 @@ rows-init c = ([], [], so_far_start row_shape c.args.depth c.args.reader.now, fo
 pub rows-smaller : goal.rows-smaller
 rows-smaller c =
     let going : c.take_end_array.new.self ≡ c.rows.reader = grind arith in
-    let next = c.in_ok-fold_next.ensures in
+    let next = c.in_ok-next.ensures in
     taken_shorter row_shape c.args.depth c.rows.reader c.fold_next.new.reader next.0 (rw going at next.1)
 
 pub rows-preserved : goal.rows-preserved
 rows-preserved c =
     let l = c.rows in
-    let next = c.in_ok-fold_next.ensures in
+    let next = c.in_ok-next.ensures in
     let so_far = l.invariant in
     let going : (after_end_array l.reader ≡ None) × (c.take_end_array.new.self ≡ l.reader) = grind arith in (
       so_far.0 ++ next.0 ∷ [],
       so_far.1 ++ next.2.row ∷ [],
       so_far_turn row_shape c.args.depth c.args.reader.now l.reader c.fold_next.new.reader so_far.0 next.0 so_far.2 going.0 (rw going.1 at next.1),
-      fold_turn so_far.0 so_far.1 next.0 next.2.row l.folded c.fold_next.new.self so_far.3 next.2.next next.2.checked next.2.folded,
+      fold_turn so_far.0 so_far.1 next.0 next.2.row l.folded c.in_ok-next.next so_far.3 next.2.next next.2.checked next.2.folded,
     )
 
 pub returns : goal.returns

@@ -116,7 +116,7 @@ impl Copied for Replies {
 /// A copy is filled alone, and the replies after it.
 fn fills_alone<R: Abort + AllocGlobal>(rt: &R, replies: &mut Replies) -> Result<(), Fail> {
     put_each(rt, replies, FIRST);
-    let mut copy = copy_of(replies)?;
+    let mut copy = copy_of(rt.alloc(), replies)?;
     put_each(rt, &mut copy, REST);
     put_each(rt, replies, REST);
     Ok(())

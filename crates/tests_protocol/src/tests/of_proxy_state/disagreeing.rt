@@ -199,7 +199,7 @@ fn refuses<R: Abort + AllocGlobal>(
     refusal: Refusal,
 ) -> Result<(), Fail> {
     let replies = replies_of(rt.alloc(), carriers, lines)?;
-    let given = copy_of(&replies)?;
+    let given = copy_of(rt.alloc(), &replies)?;
     let Err((found, back)) = tested.finish(rt, replies) else {
         return Err(Fail::from("the replies are not refused"));
     };
@@ -253,9 +253,23 @@ fn reaches_by_right_replies<R: Abort + AllocGlobal>(
 ) -> Result<(), Fail> {
     tested.begin_contents(rt.alloc(), 0, 0, 0, &[TAGS])?;
     refuses(rt, tested, &[0], OF_TWO_VERSIONS, AT_10)?;
-    assert!(rt; has_entries(&tested.proxy, 10, Err(Refusal::NotReached { version: 0 })));
+    assert!(rt;
+        has_entries(
+            rt.alloc(),
+            &tested.proxy,
+            10,
+            Err(Refusal::NotReached { version: 0 })
+        )
+    );
     finishes(rt, tested, REPLIES_TO_ROW_0)?;
-    assert!(rt; has_entries(&tested.proxy, 10, Ok([true, false, false, false])));
+    assert!(rt;
+        has_entries(
+            rt.alloc(),
+            &tested.proxy,
+            10,
+            Ok([true, false, false, false])
+        )
+    );
     assert!(rt; entries_by_call(&tested.proxy, 0) == Ok([false; 4]));
     Ok(())
 }

@@ -9,6 +9,7 @@ use model::Tagged;
 use mutation::Batch;
 use proxy_state::{Finished, Outcome, Proxy, Refusal, Verdict};
 use request_builder::Requests;
+use std::alloc::Global;
 use std::process::Abort;
 use std::test::Fail;
 use system_keys::{OutOfMemory, Tag};
@@ -26,15 +27,18 @@ pub(crate) fn entries_by_call(proxy: &Proxy, version: u64) -> Entries {
 }
 
 /// Whether those are the entries at the version.
-pub(crate) fn has_entries(proxy: &Proxy, version: u64, entries: Entries) -> bool {
-    let found = twice!(entries_by_call(proxy, version), Refusal::OutOfMemory);
+pub(crate) fn has_entries(alloc: Global, proxy: &Proxy, version: u64, entries: Entries) -> bool {
+    let found = twice!(alloc; entries_by_call(proxy, version), Refusal::OutOfMemory);
     found == entries
 }
 
 /// The metadata at each version is of the rows up to it.
-fn has_each_version<R: Abort>(rt: &R, proxy: &Proxy, versions: &[(u64, Entries)]) {
+fn has_each_version<R: Abort + AllocGlobal>(rt: &R, proxy: &Proxy, versions: &[(u64, Entries)]) {
     for (version, entries) in versions {
-        assert!(rt; has_entries(proxy, *version, *entries), "at {version}");
+        assert!(rt;
+            has_entries(rt.alloc(), proxy, *version, *entries),
+            "at {version}"
+        );
     }
 }
 
@@ -44,7 +48,7 @@ const OF_NEW: &[(u64, Entries)] = &[
     (1, Err(Refusal::NotReached { version: 0 })),
 ];
 
-fn is_new<R: Abort>(rt: &R, proxy: &Proxy) {
+fn is_new<R: Abort + AllocGlobal>(rt: &R, proxy: &Proxy) {
     assert!(rt; is_seen(proxy, (0, 0, 0, [false; 4])));
     has_each_version(rt, proxy, OF_NEW);
 }
@@ -285,7 +289,7 @@ fn finishes_both<R: Abort + AllocGlobal>(rt: &R, tested: &mut Tested) -> Result<
     tested.begin_contents(rt.alloc(), 0, 0, 0, &[SPLIT])?;
     tested.begin_contents(rt.alloc(), 2, 20, 10, &[WITHOUT_TAG_2, LOCKS])?;
     finishes_row_0(rt, tested)?;
-    let copy = copy_of(&tested.proxy)?;
+    let copy = copy_of(rt.alloc(), &tested.proxy)?;
     finishes_alone(rt, tested, &copy)
 }
 

@@ -63,7 +63,7 @@ impl Tested {
     /// Proxy 0 of two, with two resolvers. It has begun nothing.
     pub(crate) fn new(alloc: Global) -> Result<Tested, Fail> {
         let config = two_of_each()?;
-        let proxy = twice!(Proxy::new(alloc, 0, &config), OutOfMemory)?;
+        let proxy = twice!(alloc; Proxy::new(alloc, 0, &config), OutOfMemory)?;
         Ok(Tested { proxy })
     }
 
@@ -93,7 +93,7 @@ impl Tested {
             &moves,
             batch,
         )?;
-        Ok(twice!(self.proxy.begin(&rec), Refusal::OutOfMemory))
+        Ok(twice!(alloc; self.proxy.begin(&rec), Refusal::OutOfMemory))
     }
 
     /// Begins the record of a batch of these contents, in this row of this proxy.

@@ -48,8 +48,8 @@ fn push_copy(moves: &mut Moves, one: &Move) -> Result<(), OutOfMemory> {
 }
 
 /// Adds the move to both.
-fn push(moves: &mut Moves, plain: &mut Vec<Move>, one: Move) -> Result<(), Fail> {
-    twice!(push_copy(moves, &one), OutOfMemory)?;
+fn push(alloc: Global, moves: &mut Moves, plain: &mut Vec<Move>, one: Move) -> Result<(), Fail> {
+    twice!(alloc; push_copy(moves, &one), OutOfMemory)?;
     plain.push(one)?;
     Ok(())
 }
@@ -63,7 +63,7 @@ fn push_all(
 ) -> Result<Vec<Record>, Fail> {
     let mut records = room(alloc, MANY)?;
     for date in 0..MANY as u64 {
-        push(moves, plain, move_at(alloc, date)?)?;
+        push(alloc, moves, plain, move_at(alloc, date)?)?;
         records.push(record(alloc, moves, batch)?)?;
     }
     Ok(records)
@@ -76,8 +76,8 @@ impl Copied for Moves {
 }
 
 /// A copy of the moves, which end here.
-fn copy_alone(moves: Moves) -> Result<Moves, OutOfMemory> {
-    copy_of(&moves)
+fn copy_alone(alloc: Global, moves: Moves) -> Result<Moves, OutOfMemory> {
+    copy_of(alloc, &moves)
 }
 
 /// Each record has the moves that were made before it.
@@ -94,7 +94,7 @@ fn records_share_the_moves_before_them(rt: HostRuntime) -> Result<(), Fail> {
     let mut plain = room(rt.alloc(), MANY)?;
     let mut moves = Moves::new(rt.alloc());
     let records = push_all(rt.alloc(), &batch, &mut moves, &mut plain)?;
-    let copy = copy_alone(moves)?;
+    let copy = copy_alone(rt.alloc(), moves)?;
     assert!(rt; are_moves(&copy, &plain));
     have_moves(&rt, &records, &plain);
     Ok(())

@@ -105,7 +105,7 @@ fn gives_back(resolver: &mut Resolver, request: &Request) -> Result<bool, OutOfM
 /// Whether the verdicts of the next request come back, and the resolver is at version 20 as before.
 fn judges_in_vain(resolver: &mut Resolver, alloc: Global) -> Result<bool, Fail> {
     let request = request(alloc, 0, NEXT, BODY)?;
-    let is_given_back = twice!(gives_back(resolver, &request), OutOfMemory)?;
+    let is_given_back = twice!(alloc; gives_back(resolver, &request), OutOfMemory)?;
     Ok(is_given_back && resolver.version() == 20)
 }
 
@@ -136,7 +136,7 @@ fn is_kept(alloc: Global, resolver: &Resolver, reply: &Reply) -> Result<bool, Fa
 /// Whether the next request is judged with its reply and verdicts, and the reply is kept.
 fn judges_and_keeps(resolver: &mut Resolver, alloc: Global) -> Result<bool, Fail> {
     let request = request(alloc, 0, NEXT, BODY)?;
-    match twice!(judged(resolver, &request), OutOfMemory)? {
+    match twice!(alloc; judged(resolver, &request), OutOfMemory)? {
         Some(reply) => is_kept(alloc, resolver, &reply),
         None => Ok(false),
     }

@@ -55,6 +55,7 @@ fn set<N: Naming>(
     verdicts: &[Verdict],
 ) -> Result<(), (Refusal, usize)> {
     twice!(
+        alloc;
         set_once(alloc, ledger, column, verdicts),
         (Refusal::OutOfMemory, _)
     )
@@ -148,7 +149,7 @@ fn copied<N: Naming>(
     verdicts: &[Verdict],
 ) -> (Result<bool, Option<bool>>, usize) {
     let mut column = Column::new(alloc, 0);
-    let answer = twice!(copy_once(alloc, ledger, &mut column, verdicts), None);
+    let answer = twice!(alloc; copy_once(alloc, ledger, &mut column, verdicts), None);
     (answer, column.end())
 }
 
@@ -196,6 +197,7 @@ fn extended_by_part<N: Naming>(
 /// Whether the part of the column that is extended from another part, again after a failed
 /// allocation, comes to this.
 fn extends<N: Naming>(
+    alloc: Global,
     ledger: &Ledger<N>,
     column: &Column<N>,
     rows: (usize, usize),
@@ -203,6 +205,7 @@ fn extends<N: Naming>(
     expected: (usize, usize, bool),
 ) -> bool {
     twice!(
+        alloc;
         extended_by_part(ledger, column, rows, of_other),
         OutOfMemory
     ) == Ok(expected)
@@ -224,11 +227,11 @@ pub(crate) fn look_at_verdicts<N: Naming, R: Abort>(rt: &R, alloc: Global, ledge
     look_at_notes(rt, ledger);
     assert!(rt; copied(alloc, ledger, &[Conflict, TooOld]) == (Ok(true), 1));
     assert!(rt; copied(alloc, ledger, &[Committed]) == (Err(Some(true)), 0));
-    assert!(rt; extends(ledger, &column, (0, 1), (2, 9), (0, 1, false)));
-    assert!(rt; extends(ledger, &column, (2, 9), (0, 1), (2, 3, false)));
-    assert!(rt; extends(ledger, &column, (0, 1), (0, 3), (0, 3, true)));
-    assert!(rt; extends(ledger, &column, (0, 3), (0, 1), (0, 3, true)));
-    assert!(rt; twice!(is_copied(ledger, &column), OutOfMemory) == Ok(true));
+    assert!(rt; extends(alloc, ledger, &column, (0, 1), (2, 9), (0, 1, false)));
+    assert!(rt; extends(alloc, ledger, &column, (2, 9), (0, 1), (2, 3, false)));
+    assert!(rt; extends(alloc, ledger, &column, (0, 1), (0, 3), (0, 3, true)));
+    assert!(rt; extends(alloc, ledger, &column, (0, 3), (0, 1), (0, 3, true)));
+    assert!(rt; twice!(alloc; is_copied(ledger, &column), OutOfMemory) == Ok(true));
 }
 
 // ---- records
@@ -274,6 +277,7 @@ fn extended_by_records<N: Naming>(
 /// Whether the part of the records that is extended from another part, again after a failed
 /// allocation, comes to this.
 fn extends_records<N: Naming>(
+    alloc: Global,
     ledger: &Ledger<N>,
     records: &Records<N>,
     rows: (usize, usize),
@@ -281,6 +285,7 @@ fn extends_records<N: Naming>(
     expected: (usize, usize, u64),
 ) -> bool {
     twice!(
+        alloc;
         extended_by_records(ledger, records, rows, of_other),
         OutOfMemory
     ) == Ok(expected)
@@ -289,17 +294,18 @@ fn extends_records<N: Naming>(
 /// Looks at the records of three rows.
 pub(crate) fn look_at_records<N: Naming, R: Abort>(
     rt: &R,
+    alloc: Global,
     ledger: &Ledger<N>,
     records: &Records<N>,
 ) {
     assert!(rt; ends_and_version(ledger, records, 0) == (0, 3, 10));
     assert!(rt; ends_and_version(ledger, records, 1) == (0, 3, 20));
-    assert!(rt; extends_records(ledger, records, (0, 1), (2, 9), (0, 1, 0)));
-    assert!(rt; extends_records(ledger, records, (2, 9), (0, 1), (2, 3, 30)));
-    assert!(rt; extends_records(ledger, records, (0, 1), (0, 3), (0, 3, 30)));
-    assert!(rt; extends_records(ledger, records, (0, 3), (0, 1), (0, 3, 30)));
-    assert!(rt; extends_records(ledger, records, (1, 2), (0, 1), (1, 2, 0)));
-    assert!(rt; extends_records(ledger, records, (1, 9), (0, 1), (1, 3, 30)));
-    assert!(rt; extends_records(ledger, records, (2, 1), (0, 1), (2, 2, 0)));
-    assert!(rt; extends_records(ledger, records, (7, 9), (0, 1), (3, 3, 0)));
+    assert!(rt; extends_records(alloc, ledger, records, (0, 1), (2, 9), (0, 1, 0)));
+    assert!(rt; extends_records(alloc, ledger, records, (2, 9), (0, 1), (2, 3, 30)));
+    assert!(rt; extends_records(alloc, ledger, records, (0, 1), (0, 3), (0, 3, 30)));
+    assert!(rt; extends_records(alloc, ledger, records, (0, 3), (0, 1), (0, 3, 30)));
+    assert!(rt; extends_records(alloc, ledger, records, (1, 2), (0, 1), (1, 2, 0)));
+    assert!(rt; extends_records(alloc, ledger, records, (1, 9), (0, 1), (1, 3, 30)));
+    assert!(rt; extends_records(alloc, ledger, records, (2, 1), (0, 1), (2, 2, 0)));
+    assert!(rt; extends_records(alloc, ledger, records, (7, 9), (0, 1), (3, 3, 0)));
 }

@@ -1,9 +1,11 @@
 -- The requests are of one record, and so are the replies.
-use Rattle.std.proofs.Common.{◌≡◌, sym, subst, List, inl, inr, rules}
+use Rattle.std.proofs.Common.{◌≡◌, sym, subst, List, None, inl, inr, rules}
 use Rattle.std.specs.Prelude.{Err}
 use Rattle.std.proofs.lemmas.Result.{IfErr-weaker, IfOk-weaker}
+use Rattle.model.specs.Configs.{Config}
+use Rattle.locked_resolvers.specs.declared.refusal.Refusal.{Refusal}
 use Rattle.locked_resolvers.specs.Requests.{RequestView}
-use Rattle.locked_resolvers.specs.Asking.{AreOfOneRecord, AreRepliesInOrder, IsAskAllRefusal}
+use Rattle.locked_resolvers.specs.Asking.{AreOfOneRecord, AreRepliesInOrder, IsAskAllRefusal, IsAskedRefusal}
 use Rattle.uses.specs.Asking.{HaveAllReplied, IsAskEachRefusal}
 use Rattle.uses.proofs.AskedAll.{all_replied, of_one_record}
 use Rattle.uses.proofs.CommitRefusals.{if_err}
@@ -30,6 +32,10 @@ pub returns-clause-refused : goal.returns-clause-refused
 returns-clause-refused g c =
     let config = g.N.Naming.cells.config in
     let begun = c.args.begun.now in
-    IfErr-weaker c.ask_all.result (IsAskAllRefusal config c.requests.result.now) (IsAskEachRefusal config c.args.resolvers.now begun)
-    (λ refusal refused. inr (c.in_ok-asking.ensures, subst (λ (qs : List RequestView). IsAskAllRefusal config qs refusal) c.requests.ensures.value refused))
+    IfErr-weaker c.ask_all.result (IsAskAllRefusal config None c.requests.result.now) (IsAskEachRefusal config c.args.resolvers.now begun)
+    (λ refusal refused. inr (c.in_ok-asking.ensures, subst (λ (qs : List RequestView). IsAskedRefusal config qs refusal) c.requests.ensures.value (asked config c.requests.result.now refusal refused)))
     c.ask_all.ensures.refused
+  where
+    asked : (config : Config) (requests : List RequestView) (refusal : Refusal) → IsAskAllRefusal config None requests refusal → IsAskedRefusal config requests refusal
+    asked config requests refusal (inl (same, foreign)) = let (place, q, at, apart) = foreign in absurd (apart tt)
+    asked config requests refusal (inr (taken, refused)) = refused

@@ -10,4 +10,4 @@ returns-in-Ok-clause-refused g c = λ batch holds.
     c.finish.ensures.refused batch (holds_still c.args.proxy.now begun.row ready.row begun.records ready.records batch c.in-Ok.ensures.row c.in-Ok.ensures.records holds)
 
 pub returns-in-Err-clause-refused : goal.returns-in-Err-clause-refused
-returns-in-Err-clause-refused g c = λ batch holds. inr (inl (c.args.begun, c.row-row.ensures.kept, holds, c.in-Err.ensures.refused))
+returns-in-Err-clause-refused g c = λ batch holds. inr (inl (c.args.begun, g.A.Asking.takes c.args.asking.now, c.row-row.ensures.kept, holds, c.in-Err.ensures.refused))

@@ -1,9 +1,9 @@
 -- One request more has its reply, or was refused.
-use Rattle.std.proofs.Common.{◌+◌, sym, subst, List, take, arith, rules}
+use Rattle.std.proofs.Common.{◌+◌, sym, subst, List, take, None, arith, rules}
 use Rattle.locked_resolvers.specs.NotedReplies.{NotedReplyView}
 use Rattle.locked_resolvers.specs.Asking.{AreRepliesInOrder}
 use Rattle.locked_resolvers.proofs.Lists.{got}
-use Rattle.locked_resolvers.proofs.AskedRequests.{one_refused, order_next}
+use Rattle.locked_resolvers.proofs.AskedRequests.{all_taken, one_refused, order_next}
 use Rattle.locked_resolvers.proofs.all_resolvers.AllResolversAsking.ask_all.Goals as goal
 
 pub loop-request-preserved : goal.loop-request-preserved
@@ -21,5 +21,5 @@ returns-in_err-ask-clause-refused g c =
     let requests = c.args.requests.now in
     let k = c.loop-request.request-index in
     let at = got requests k c.request-item.result (omega arith) c.request-item.is in
-    let refused = one_refused g.N.Naming.cells.config requests k c.request-item.result c.in_err-ask.field-0.0 at c.in_err-ask.ensures.refused in
+    let refused = one_refused g.N.Naming.cells.config None requests k c.request-item.result c.in_err-ask.field-0.0 (all_taken requests) at c.in_err-ask.ensures.refused in
     search rules

@@ -46,57 +46,57 @@ invariant_of-self-2 g c =
           (order_after c.self.inside.version c.reached_by_all.result c.self.inside.rows.items c.push_back_reserved.new.self.items c.forget_rows.new.rows.items (all_kept c.prepare.new.proxies.items) (all_kept c.note_reply.new.proxies.items) found.0 c.args.request.now (record { version = c.version-2.result; states = c.from.result }) c.reply-noted.result order new c.version-2.ensures (ap (λ (r : Reply). r.version) c.reply-noted.ensures) (c.push_back_reserved.ensures.items ∙ ap (λ rows. rows ++ (record { version = c.version-2.result; states = c.from.result }) ∷ []) c.prepare.ensures.rows) c.forget_rows.ensures found.1 (c.note_reply.ensures found.0 found.1)),
     )
 
-pub returns-clause-proxies : goal.returns-clause-proxies
-returns-clause-proxies g c =
-    let found = next_there c.args.self.now c.args.request.now c.prepare.new.proxies.items c.requires.next (c.prepare.ensures.proxies ∙ ap (λ (v : ResolverView). v.proxies) c.self.view_is) in
-    noted_count (all_kept c.prepare.new.proxies.items) (all_kept c.note_reply.new.proxies.items) found.0 c.args.request.now c.reply-noted.result (c.note_reply.ensures found.0 found.1) ∙ ap length (c.prepare.ensures.proxies ∙ ap (λ (v : ResolverView). v.proxies) c.self.view_is)
-
-pub returns-clause-reply : goal.returns-clause-reply
-returns-clause-reply g c = λ judged stands.
-    let kept = ap (λ (v : ResolverView). v.proxies) c.self.view_is in
-    let history = ap (λ (v : ResolverView). v.written) c.self.view_is in
-    let found = next_there c.args.self.now c.args.request.now c.self.inside.proxies.items c.requires.next kept in
-    let one = found.0 in
-    let here = found.1 in
-    let at = ap (λ xs. slice_get xs c.args.request.now.proxy) (sym kept) ∙ here in
-    let s_is : (record { version = c.version.result; parts = c.share.result.now }) ≡ share_of c.args.request.now = λ k. record { version = c.version.ensures k; parts = c.share.ensures.value k } in
-    let are = subst (λ s. AreVerdicts c.args.self.now.written s c.in_ok-verdicts.verdicts) s_is (subst (λ w. AreVerdicts w (record { version = c.version.result; parts = c.share.result.now }) c.in_ok-verdicts.verdicts) history c.in_ok-verdicts.ensures.verdicts) in
-    let told = c.in-Ok.ensures.made.unseen one here ∙ ap (rows_above one.last) (ap (λ (v : ResolverView). v.rows) c.self.view_is) in
-    c.reply.ensures ∙ judged_reply c.args.self.now one judged c.args.request.now c.in_ok-verdicts.verdicts c.in-Ok.field-0.unseen stands at are told
-
-pub returns-clause-gains : goal.returns-clause-gains
-returns-clause-gains g c = λ judged stands.
-    let kept = ap (λ (v : ResolverView). v.proxies) c.self.view_is in
-    let history = ap (λ (v : ResolverView). v.written) c.self.view_is in
-    let found = next_there c.args.self.now c.args.request.now c.self.inside.proxies.items c.requires.next kept in
-    let one = found.0 in
-    let here = found.1 in
-    let at = ap (λ xs. slice_get xs c.args.request.now.proxy) (sym kept) ∙ here in
-    let s_is : (record { version = c.version.result; parts = c.share.result.now }) ≡ share_of c.args.request.now = λ k. record { version = c.version.ensures k; parts = c.share.ensures.value k } in
-    let are = subst (λ s. AreVerdicts c.args.self.now.written s c.in_ok-verdicts.verdicts) s_is (subst (λ w. AreVerdicts w (record { version = c.version.result; parts = c.share.result.now }) c.in_ok-verdicts.verdicts) history c.in_ok-verdicts.ensures.verdicts) in
-    let gains = subst (λ s. GainsShare c.args.self.now.written s c.judge_with.new.self) s_is (subst (λ w. GainsShare w (record { version = c.version.result; parts = c.share.result.now }) c.judge_with.new.self) history c.in_ok-verdicts.ensures.stands) in
-    let rows = ap (λ (v : ResolverView). v.rows) c.self.view_is in
-    let told = c.in-Ok.ensures.made.unseen one here ∙ ap (rows_above one.last) rows in
-    let row_is = row_made c.args.request.now c.in_ok-verdicts.verdicts c.version-2.result c.from.result c.version-2.ensures (c.from.ensures ∙ c.judge_states.ensures ∙ ap (λ vs. map (reply_state_of_mark c.args.request.now.share vs) c.args.request.now.states) c.as_slice-2.ensures) in
-    let many = as_many_verdicts c.args.self.now judged c.args.request.now c.in_ok-verdicts.verdicts stands are in
-    let reply_is = c.reply-noted.ensures ∙ (λ k. reply_of c.args.request.now ((c.from-2.ensures ∙ c.copy_verdicts.ensures (c.in-Ok.ensures.made.places ∙ sym many ∙ ap length (sym c.as_slice.ensures)) ∙ c.as_slice.ensures) k) ((c.in-Ok.ensures.made.copy ∙ told) k)) in
-    judged_memory c.args.self.now _ one judged c.args.request.now c.in_ok-verdicts.verdicts c.reply-noted.result (record { version = c.version-2.result; states = c.from.result }) c.judge_with.new.self _ stands c.requires.next at are gains c.forget.ensures.stands
-    (c.forget.ensures.window ∙ c.in_ok-verdicts.ensures.window ∙ ap (λ (w : WriteHistoryView). w.window) history)
-    (ap (λ (v : ResolverView). v.number) c.self.view_is) c.version-self-inside.ensures row_is reply_is
-    (c.note_reply.ensures one (ap (λ xs. slice_get xs c.args.request.now.proxy) c.prepare.ensures.proxies ∙ here) ∙ ap (λ xs. slice_set xs c.args.request.now.proxy (proxy_after one c.args.request.now c.reply-noted.result)) (c.prepare.ensures.proxies ∙ kept))
-    (c.forget_rows.ensures ∙ (λ k. rows_above ((c.reached_by_all.ensures ∙ ap (λ raw. reached_by_all (all_kept raw)) c.deref.ensures.value) k) ((c.push_back_reserved.ensures.items ∙ ap (λ xs. xs ++ (record { version = c.version-2.result; states = c.from.result }) ∷ []) (c.prepare.ensures.rows ∙ rows)) k)))
-
-pub returns-clause-forgets : goal.returns-clause-forgets
-returns-clause-forgets g c = λ judged stands.
-    let history = ap (λ (v : ResolverView). v.written) c.self.view_is in
-    let s_is : (record { version = c.version.result; parts = c.share.result.now }) ≡ share_of c.args.request.now = λ k. record { version = c.version.ensures k; parts = c.share.ensures.value k } in
-    let gains = subst (λ s. GainsShare c.args.self.now.written s c.judge_with.new.self) s_is (subst (λ w. GainsShare w (record { version = c.version.result; parts = c.share.result.now }) c.judge_with.new.self) history c.in_ok-verdicts.ensures.stands) in
-    let above = version_above c.args.self.now c.args.request.now c.self.inside.version c.self.inside.history.last c.requires.next (ap (λ (v : ResolverView). v.version) c.self.view_is) c.self.invariant.0 in
-    let last = ap (λ (w : WriteHistoryView). w.last) history in
-    judged_forgets c.args.self.now judged c.args.request.now c.judge_with.new.self _ _ stands gains c.forget.ensures.stands (omega (arith, above, last)) c.version-3.ensures
-    (c.in_ok-verdicts.ensures.last ∙ c.version.ensures)
-    (c.in_ok-verdicts.ensures.window ∙ ap (λ (w : WriteHistoryView). w.window) history)
-    c.forget.ensures.window
+pub returns-clause-judged : goal.returns-clause-judged
+returns-clause-judged g c =
+    record {
+      replied = λ judged stands.
+          let kept = ap (λ (v : ResolverView). v.proxies) c.self.view_is in
+          let history = ap (λ (v : ResolverView). v.written) c.self.view_is in
+          let found = next_there c.args.self.now c.args.request.now c.self.inside.proxies.items c.requires.next kept in
+          let one = found.0 in
+          let here = found.1 in
+          let at = ap (λ xs. slice_get xs c.args.request.now.proxy) (sym kept) ∙ here in
+          let s_is : (record { version = c.version.result; parts = c.share.result.now }) ≡ share_of c.args.request.now = λ k. record { version = c.version.ensures k; parts = c.share.ensures.value k } in
+          let are = subst (λ s. AreVerdicts c.args.self.now.written s c.in_ok-verdicts.verdicts) s_is (subst (λ w. AreVerdicts w (record { version = c.version.result; parts = c.share.result.now }) c.in_ok-verdicts.verdicts) history c.in_ok-verdicts.ensures.verdicts) in
+          let told = c.in-Ok.ensures.made.unseen one here ∙ ap (rows_above one.last) (ap (λ (v : ResolverView). v.rows) c.self.view_is) in
+          c.reply.ensures ∙ judged_reply c.args.self.now one judged c.args.request.now c.in_ok-verdicts.verdicts c.in-Ok.field-0.unseen stands at are told;
+      gains = λ judged stands.
+          let kept = ap (λ (v : ResolverView). v.proxies) c.self.view_is in
+          let history = ap (λ (v : ResolverView). v.written) c.self.view_is in
+          let found = next_there c.args.self.now c.args.request.now c.self.inside.proxies.items c.requires.next kept in
+          let one = found.0 in
+          let here = found.1 in
+          let at = ap (λ xs. slice_get xs c.args.request.now.proxy) (sym kept) ∙ here in
+          let s_is : (record { version = c.version.result; parts = c.share.result.now }) ≡ share_of c.args.request.now = λ k. record { version = c.version.ensures k; parts = c.share.ensures.value k } in
+          let are = subst (λ s. AreVerdicts c.args.self.now.written s c.in_ok-verdicts.verdicts) s_is (subst (λ w. AreVerdicts w (record { version = c.version.result; parts = c.share.result.now }) c.in_ok-verdicts.verdicts) history c.in_ok-verdicts.ensures.verdicts) in
+          let gains = subst (λ s. GainsShare c.args.self.now.written s c.judge_with.new.self) s_is (subst (λ w. GainsShare w (record { version = c.version.result; parts = c.share.result.now }) c.judge_with.new.self) history c.in_ok-verdicts.ensures.stands) in
+          let rows = ap (λ (v : ResolverView). v.rows) c.self.view_is in
+          let told = c.in-Ok.ensures.made.unseen one here ∙ ap (rows_above one.last) rows in
+          let row_is = row_made c.args.request.now c.in_ok-verdicts.verdicts c.version-2.result c.from.result c.version-2.ensures (c.from.ensures ∙ c.judge_states.ensures ∙ ap (λ vs. map (reply_state_of_mark c.args.request.now.share vs) c.args.request.now.states) c.as_slice-2.ensures) in
+          let many = as_many_verdicts c.args.self.now judged c.args.request.now c.in_ok-verdicts.verdicts stands are in
+          let reply_is = c.reply-noted.ensures ∙ (λ k. reply_of c.args.request.now ((c.from-2.ensures ∙ c.copy_verdicts.ensures (c.in-Ok.ensures.made.places ∙ sym many ∙ ap length (sym c.as_slice.ensures)) ∙ c.as_slice.ensures) k) ((c.in-Ok.ensures.made.copy ∙ told) k)) in
+          judged_memory c.args.self.now _ one judged c.args.request.now c.in_ok-verdicts.verdicts c.reply-noted.result (record { version = c.version-2.result; states = c.from.result }) c.judge_with.new.self _ stands c.requires.next at are gains c.forget.ensures.stands
+          (c.forget.ensures.window ∙ c.in_ok-verdicts.ensures.window ∙ ap (λ (w : WriteHistoryView). w.window) history)
+          (ap (λ (v : ResolverView). v.number) c.self.view_is) c.version-self-inside.ensures row_is reply_is
+          (c.note_reply.ensures one (ap (λ xs. slice_get xs c.args.request.now.proxy) c.prepare.ensures.proxies ∙ here) ∙ ap (λ xs. slice_set xs c.args.request.now.proxy (proxy_after one c.args.request.now c.reply-noted.result)) (c.prepare.ensures.proxies ∙ kept))
+          (c.forget_rows.ensures ∙ (λ k. rows_above ((c.reached_by_all.ensures ∙ ap (λ raw. reached_by_all (all_kept raw)) c.deref.ensures.value) k) ((c.push_back_reserved.ensures.items ∙ ap (λ xs. xs ++ (record { version = c.version-2.result; states = c.from.result }) ∷ []) (c.prepare.ensures.rows ∙ rows)) k)));
+      forgets = λ judged stands.
+          let history = ap (λ (v : ResolverView). v.written) c.self.view_is in
+          let s_is : (record { version = c.version.result; parts = c.share.result.now }) ≡ share_of c.args.request.now = λ k. record { version = c.version.ensures k; parts = c.share.ensures.value k } in
+          let gains = subst (λ s. GainsShare c.args.self.now.written s c.judge_with.new.self) s_is (subst (λ w. GainsShare w (record { version = c.version.result; parts = c.share.result.now }) c.judge_with.new.self) history c.in_ok-verdicts.ensures.stands) in
+          let above = version_above c.args.self.now c.args.request.now c.self.inside.version c.self.inside.history.last c.requires.next (ap (λ (v : ResolverView). v.version) c.self.view_is) c.self.invariant.0 in
+          let last = ap (λ (w : WriteHistoryView). w.last) history in
+          judged_forgets c.args.self.now judged c.args.request.now c.judge_with.new.self _ _ stands gains c.forget.ensures.stands (omega (arith, above, last)) c.version-3.ensures
+          (c.in_ok-verdicts.ensures.last ∙ c.version.ensures)
+          (c.in_ok-verdicts.ensures.window ∙ ap (λ (w : WriteHistoryView). w.window) history)
+          c.forget.ensures.window;
+      version = c.version-self-inside.ensures;
+      number = ap (λ (v : ResolverView). v.number) c.self.view_is;
+      proxies =
+          let found = next_there c.args.self.now c.args.request.now c.prepare.new.proxies.items c.requires.next (c.prepare.ensures.proxies ∙ ap (λ (v : ResolverView). v.proxies) c.self.view_is) in
+          noted_count (all_kept c.prepare.new.proxies.items) (all_kept c.note_reply.new.proxies.items) found.0 c.args.request.now c.reply-noted.result (c.note_reply.ensures found.0 found.1) ∙ ap length (c.prepare.ensures.proxies ∙ ap (λ (v : ResolverView). v.proxies) c.self.view_is);
+      window = c.forget.ensures.window ∙ c.in_ok-verdicts.ensures.window ∙ ap (λ (v : ResolverView). v.written.window) c.self.view_is;
+    }
 
 pub returns-clause-kept : goal.returns-clause-kept
 returns-clause-kept g c =

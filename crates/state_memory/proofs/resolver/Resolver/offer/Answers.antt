@@ -28,4 +28,4 @@ returns-in-GiveAgain-clause-answer c = λ judged stands.
 
 pub returns-in_ok-judge-in-Judge-clause-answer : goal.returns-in_ok-judge-in-Judge-clause-answer
 returns-in_ok-judge-in-Judge-clause-answer c = λ judged stands.
-    on_course c.args.self.now judged c.args.request.now (Ok Judge) stands (c.in_ok-reply.ensures ∙ ap (λ way. Ok (course_of way)) c.in-Judge.is) ∙ ap (λ reply. Ok (Judged reply)) (sym (c.in_ok-judge-in-Judge.ensures.reply judged stands))
+    on_course c.args.self.now judged c.args.request.now (Ok Judge) stands (c.in_ok-reply.ensures ∙ ap (λ way. Ok (course_of way)) c.in-Judge.is) ∙ ap (λ reply. Ok (Judged reply)) (sym (c.in_ok-judge-in-Judge.ensures.judged.replied judged stands))

@@ -7,6 +7,7 @@ use Rattle.locked_resolvers.specs.Requests.{RequestView}
 use Rattle.workers.specs.Desks.{DeskView, KeepsServing, has_failed}
 use Rattle.workers.proofs.DeskLemmas.{cause_moved, got, taken_out}
 use Rattle.workers.specs.declared.gate.Place.{Place}
+use Rattle.workers.specs.Refusing.{IsToldOf}
 use Rattle.workers.proofs.desk.Desk.judge_at.Goals as goal
 
 pub returns-clause-keeps : goal.returns-clause-keeps
@@ -48,3 +49,15 @@ returns-clause-entered g c =
     let entered : ℕ → ℕ → Type 0 = λ to row. let one : Place = record { resolver = to; row = row } in g.G.Gate.has_entered c.args.gate.now one in
     subst (λ (to : ℕ). entered to r.plain.row) c.number.ensures.value
     (subst (entered c.number.result) (c.row.ensures ∙ ap (λ (s : RequestView). s.plain.row) (c.into_parts-request.ensures ∙ is)) c.enter.ensures)
+
+pub returns-clause-told : goal.returns-clause-told
+returns-clause-told g c =
+    let q = c.remove.result in
+    let place = c.args.place in
+    let due = c.requires.due in
+    let same = ap (λ (v : DeskView). length v.held) c.self.view_is in
+    let within : place < length c.self.inside.held.items = omega (arith, same, slice_get_within c.args.self.now.held place due.0 due.1) in
+    let at = got c.self.inside.held.items place q within c.remove.ensures.value in
+    λ r there.
+    let is = same_Some q r (sym at ∙ ap (λ (v : DeskView). slice_get v.held place) c.self.view_is ∙ there) in
+    subst (λ (s : RequestView). IsToldOf c.args.guard.now s c.offer.new.guard c.offer.result) (c.into_parts-request.ensures ∙ is) c.offer.ensures.told

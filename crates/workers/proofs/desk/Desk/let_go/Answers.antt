@@ -8,10 +8,10 @@ use Rattle.workers.proofs.desk.Desk.let_go.Goals as goal
 pub loop-held-preserved : goal.loop-held-preserved
 loop-held-preserved g c =
     record {
-      column = c.refuse.ensures.fails.column ∙ ap (λ (v : DeskView). v.column) c.self.view_is ∙ c.loop-held.invariant.column;
-      closed = c.refuse.ensures.closed ∙ ap (λ (v : DeskView). v.closed) c.self.view_is ∙ c.loop-held.invariant.closed;
-      wanted = λ was. c.refuse.ensures.fails.stays_wanted (ap (λ (v : DeskView). v.wanted) c.self.view_is ∙ c.loop-held.invariant.wanted was);
-      failed = λ sound. c.loop-held.invariant.failed (subst (λ (v : DeskView). IsFalse (has_failed v)) c.self.view_is (c.refuse.ensures.fails.failed sound));
+      column = c.refuse-told.ensures.fails.column ∙ ap (λ (v : DeskView). v.column) c.self.view_is ∙ c.loop-held.invariant.column;
+      closed = c.refuse-told.ensures.closed ∙ ap (λ (v : DeskView). v.closed) c.self.view_is ∙ c.loop-held.invariant.closed;
+      wanted = λ was. c.refuse-told.ensures.fails.stays_wanted (ap (λ (v : DeskView). v.wanted) c.self.view_is ∙ c.loop-held.invariant.wanted was);
+      failed = λ sound. c.loop-held.invariant.failed (subst (λ (v : DeskView). IsFalse (has_failed v)) c.self.view_is (c.refuse-told.ensures.fails.failed sound));
       same = λ none.
           let empty = ap (λ (v : DeskView). length v.held) c.self.view_is ∙ ap (λ (v : DeskView). length v.held) (c.loop-held.invariant.same none) ∙ ap (λ (qs : List RequestView). length qs) none in
           let popped = ap (λ (qs : List RequestView). length qs) c.in-Some.ensures.items in

@@ -2,7 +2,10 @@
 use Rattle.std.proofs.Common.{sym, ◌∙◌, subst, ◌<◌, ◌≤◌, length}
 use Rattle.facts.specs.Stretches.{end_of}
 use Rattle.agreed_ledger.specs.Cells.{ColumnView}
-use Rattle.workers.proofs.DeskLemmas.{fails_keeps, keeps_trans}
+use Rattle.std.specs.Prelude.{Option}
+use Rattle.locked_resolvers.specs.declared.refusal.Refusal.{Refusal}
+use Rattle.workers.specs.Refusing.{IsToldOf}
+use Rattle.workers.proofs.DeskLemmas.{fails_keeps, keeps_trans, told_of}
 use Rattle.workers.proofs.desk.Desk.offer.Goals as goal
 
 pub returns-clause-keeps : goal.returns-clause-keeps
@@ -18,3 +21,9 @@ returns-clause-closed g c = λ closed. c.offered-answer.ensures.closed (sym c.te
 pub returns-clause-reached : goal.returns-clause-reached
 returns-clause-reached g c =
     λ sound. subst (λ (col : ColumnView). length c.offered-answer.new.guard.column ≤ end_of col.rows) (sym c.tell.ensures.fails.column) (c.offered-answer.ensures.reached (c.tell.ensures.fails.failed sound))
+
+pub returns-clause-told : goal.returns-clause-told
+returns-clause-told g c =
+    let asked = c.args.guard.now in
+    let left = c.offered-answer.new.guard in
+    subst (λ (told : Option Refusal). IsToldOf asked c.args.request left told) (sym c.tell.ensures.told) (told_of asked c.args.request left c.offered-answer.result c.offered-answer.ensures.answer)

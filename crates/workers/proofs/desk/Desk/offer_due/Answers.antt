@@ -1,17 +1,18 @@
 -- What was served so far is served.
 use Rattle.std.proofs.Common.{sym, ◌∙◌, subst, ℕ, ◌≤◌, max, length}
 use Rattle.facts.specs.Stretches.{end_of}
+use Rattle.model.specs.Agreed.{Column}
 use Rattle.agreed_ledger.specs.Cells.{ColumnView}
 use Rattle.workers.specs.Desks.{IsNoneDue, next_row}
-use Rattle.workers.proofs.DeskLemmas.{keeps_trans}
+use Rattle.workers.proofs.DeskLemmas.{keeps_trans, same_column, with_closed, with_worker}
 use Rattle.workers.proofs.desk.Desk.offer_due.Goals as goal
 
 pub loop-place-preserved : goal.loop-place-preserved
 loop-place-preserved g c =
     record {
-      keeps = keeps_trans _ _ _ c.loop-place.invariant.keeps c.judge_at.ensures.keeps;
-      own = c.judge_at.ensures.keeps.resolver ∙ c.loop-place.invariant.own ∙ sym c.judge_at.ensures.own;
-      reached = c.judge_at.ensures.reached;
+      keeps = keeps_trans _ _ _ c.loop-place.invariant.keeps c.judge_at-told.ensures.keeps;
+      own = c.judge_at-told.ensures.keeps.resolver ∙ c.loop-place.invariant.own ∙ sym c.judge_at-told.ensures.own;
+      reached = c.judge_at-told.ensures.reached;
     }
 
 pub returns-clause-keeps : goal.returns-clause-keeps
@@ -23,8 +24,17 @@ returns-clause-none_due g c =
     let guard = c.loop-place.guard in
     let after = c.let_go_if_closed.new.self in
     let none : IsNoneDue before (next_row before guard) = subst (λ (n : ℕ). IsNoneDue before n) c.next_row.ensures c.in_default.ensures in
-    subst (λ (col : ColumnView). IsNoneDue after (max (end_of col.rows) (length guard.column))) (sym c.let_go_if_closed.ensures.column) (c.let_go_if_closed.ensures.none_due (next_row before guard) none)
+    let cells = same_column c.loop-place.guard c.let_go_if_closed.new.guard (with_worker c.loop-place.self.closed c.loop-place.guard c.let_go_if_closed.new.guard c.let_go_if_closed.ensures.resolver) in
+    subst (λ (rows : Column). IsNoneDue after (max (end_of after.column.rows) (length rows))) (sym cells)
+    (subst (λ (col : ColumnView). IsNoneDue after (max (end_of col.rows) (length guard.column))) (sym c.let_go_if_closed.ensures.column) (c.let_go_if_closed.ensures.none_due (next_row before guard) none))
 
 pub returns-clause-reached : goal.returns-clause-reached
 returns-clause-reached g c =
-    λ sound. subst (λ (col : ColumnView). length c.loop-place.guard.column ≤ end_of col.rows) (sym c.let_go_if_closed.ensures.column) (c.loop-place.invariant.reached (c.let_go_if_closed.ensures.keeps.failed sound))
+    let after = c.let_go_if_closed.new.self in
+    let cells = same_column c.loop-place.guard c.let_go_if_closed.new.guard (with_worker c.loop-place.self.closed c.loop-place.guard c.let_go_if_closed.new.guard c.let_go_if_closed.ensures.resolver) in
+    λ sound. subst (λ (rows : Column). length rows ≤ end_of after.column.rows) (sym cells)
+    (subst (λ (col : ColumnView). length c.loop-place.guard.column ≤ end_of col.rows) (sym c.let_go_if_closed.ensures.column) (c.loop-place.invariant.reached (c.let_go_if_closed.ensures.keeps.failed sound)))
+
+pub returns-clause-closed : goal.returns-clause-closed
+returns-clause-closed g c =
+    λ closed. with_closed c.loop-place.self.closed c.loop-place.guard c.let_go_if_closed.new.guard c.let_go_if_closed.ensures.resolver (sym c.let_go_if_closed.ensures.closed ∙ closed)

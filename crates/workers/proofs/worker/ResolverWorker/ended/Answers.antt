@@ -14,6 +14,6 @@ of-requires g c =
     let worker : WorkerView = record { taken = inside.end; desk = inside.desk; proxies_left = inside.proxies_left; cut_off = inside.cut_off } in
     let ended : EndedView = record { taken = c.into_taker.result; column = parts.0; closed = parts.1; wanted = parts.2; cut_off = inside.cut_off } in
     let why = subst (λ (v : WorkerView). (v.proxies_left ≡ 0) ⊎ IsTrue v.cut_off) (sym c.self.view_is) c.requires in
-    worker_ended inside.shared.now g.N.Naming.cells.config.proxies worker ended c.self.invariant c.into_taker.ensures (told.column ∙ c.let_go-2.ensures.column)
-    (λ sound. c.let_go-2.ensures.failed (sym (λ i. told.closed i || told.wanted i) ∙ sound)) (λ none. told.wanted ∙ ap (λ (v : DeskView). v.wanted) (c.let_go-2.ensures.same none))
-    (told.closed ∙ c.let_go-2.ensures.closed) refl why
+    worker_ended inside.shared.now g.N.Naming.cells.config.proxies worker ended c.self.invariant c.into_taker.ensures (told.column ∙ c.end.ensures.desk.column)
+    (λ sound. c.end.ensures.desk.failed (sym (λ i. told.closed i || told.wanted i) ∙ sound)) (λ none. told.wanted ∙ ap (λ (v : DeskView). v.wanted) (c.end.ensures.desk.same none))
+    (told.closed ∙ c.end.ensures.desk.closed) refl why

@@ -1,11 +1,11 @@
 -- The requests are of one record, and the replies are those of all resolvers.
-use Rattle.std.proofs.Common.{sym, ap, subst, ℕ, List}
+use Rattle.std.proofs.Common.{refl, sym, ap, subst, ℕ, inl, inr, List}
 use Rattle.facts.specs.Stretches.{Stretch}
 use Rattle.model.specs.Records.{Record, IsHistory}
 use Rattle.locked_resolvers.specs.Requests.{RequestView}
 use Rattle.locked_resolvers.specs.NotedReplies.{NotedReplyView}
 use Rattle.locked_cluster.specs.Ready.{AreRepliesOfAll}
-use Rattle.locked_resolvers.specs.Asking.{AreOfOneRecord, AreRepliesInOrder}
+use Rattle.locked_resolvers.specs.Asking.{AreOfOneRecord, AreRepliesInOrder, AreTaken}
 use Rattle.locked_cluster.proofs.CommitRequests.{of_one_record, replies_of_all}
 use Rattle.locked_cluster.proofs.commits.shared_proxy.SharedProxy.resolve_all.Goals as goal
 
@@ -22,3 +22,7 @@ collect_replies-made-requires-clause-replied g c =
     subst (λ (rs : List NotedReplyView). AreRepliesOfAll config c.row-row.result rs) (sym c.as_slice.ensures.value)
     (subst (λ (row : ℕ). AreRepliesOfAll config row c.in-Ok.replies.items) (sym c.row-row.ensures.value)
     (replies_of_all config c.args.begun c.in-Ok.replies.items c.requests.ensures.kept answered))
+
+pub returns-in_default-clause-refused : goal.returns-in_default-clause-refused
+returns-in_default-clause-refused g c =
+    inr (subst (λ (qs : List RequestView). AreTaken (g.A.Asking.takes c.args.asking.now) qs) c.requests.ensures.value c.in-Ok.ensures.taken, inl refl)
