@@ -5,6 +5,7 @@
 //!
 //! Random events are carried out by the built program, in `tests/scripts`.
 
+mod late_states;
 mod of_dated_owners;
 mod of_metadata;
 mod of_proxy_state;

@@ -3,19 +3,9 @@
 //! found, so a call could want it just there. What calls return is said by their contracts.
 //!
 //! A call that is refused memory ends its test with that error: that it changes nothing, and
-//! returns the same when it is made again, stands in `tests_protocol`.
+//! returns the same when it is made again, the other tests of this crate show.
 
 mod of_clusters;
 mod of_histories;
 mod of_proxies;
 mod of_tags;
-
-use std::alloc::{AllocError, Global};
-use std::fmt::Debug;
-
-/// Whether the two are printed as one text, with all that they hold.
-fn are_alike<T: Debug>(alloc: Global, one: &T, other: &T) -> Result<bool, AllocError> {
-    let one = format!(in alloc; "{one:?}")?;
-    let other = format!(in alloc; "{other:?}")?;
-    Ok(one.as_str() == other.as_str())
-}

@@ -1,8 +1,0 @@
-//! The tests of inboxes that several threads ask through at once, of requests that come again, and of
-//! an inbox that is full.
-//!
-//! They are run with ample memory: a thread that were refused memory would leave others waiting.
-#![tactic(auto)]
-
-#[cfg(test)]
-mod asking;
