@@ -8,8 +8,8 @@ ghost use Rattle.std.specs.Prelude.{◌≡◌, length, IfOk};
 use agreed_ledger::{BlankLedger, Ledger, Naming, Sequencer};
 use mutation::{Admitted, Batch, GivenRange, Mutation, Transaction, admit_owned};
 use shared_cluster::{
-    AllResolvers, CommitFault, Config, ConfigRefusal, Finished, NotedFinished, Routing, SharedProxy,
-    SharedResolver, Version,
+    AllResolvers, CommitFault, Config, ConfigRefusal, Finished, NotedFinished, Routing,
+    SharedProxy, SharedResolver, Version,
 };
 use std::alloc::{AllocError, Global};
 use std::marker::Brand;

@@ -6,8 +6,8 @@
 #![tactic(auto)]
 
 pub use inboxes::{
-    BlankInboxes, Body, Channels, Counts, EndedSender, FreshEnd, Inbox, InboxEnd, InboxRoom, Message,
-    ProxySenders, Question, Refusal as InboxRefusal, Taker,
+    BlankInboxes, Body, Channels, Counts, EndedSender, FreshEnd, Inbox, InboxEnd, InboxRoom,
+    Message, ProxySenders, Question, Refusal as InboxRefusal, Taker,
 };
 pub use locked_cluster::{
     AllResolvers, Asking, Begun, BehindBy, Columns, CommitFault, LockedProxy, LockedResolver,
@@ -15,9 +15,9 @@ pub use locked_cluster::{
     ResolverGuard, SharedProxy, SharedResolver, audit, meet, metadata_of_two,
 };
 pub use model::{
-    Config, Finished, JournalRow, Move, Outcome, PrivateCopy, ProxyNumber, Refusal as ConfigRefusal,
-    Reply, ResolverNumber, Route, Routing, RowNumber, StateTxn, Tagged, TransactionNumber, Verdict,
-    Version,
+    Config, Finished, JournalRow, Move, Outcome, PrivateCopy, ProxyNumber,
+    Refusal as ConfigRefusal, Reply, ResolverNumber, Route, Routing, RowNumber, StateTxn, Tagged,
+    TransactionNumber, Verdict, Version,
 };
 pub use proxy_state::Metadata;
 pub use turn_world::{Answer, Event, OfferAnswer, Refusal as TurnRefusal, Stopped, TurnWorld};
