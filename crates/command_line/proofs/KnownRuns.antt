@@ -1,5 +1,5 @@
 -- What a run by words that are written out comes to.
-use Rattle.std.proofs.Common.{◌≢◌, ℕ, List, [], Option, subst}
+use Rattle.std.proofs.Common.{◌≢◌, List, [], Option, subst}
 use Rattle.std.specs.Prelude.{string_bytes}
 use Rattle.clap.specs.Words.{Kinds, Text, fault_of}
 use Rattle.mode_choice.specs.CommandLine.{GivesMode}

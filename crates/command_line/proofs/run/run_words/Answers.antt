@@ -1,8 +1,12 @@
-use Rattle.std.proofs.Common.{rules, ◌≡◌, ◌∙◌, Option, Some, ap, inl, inr, refl, subst, sym}
+use Rattle.std.proofs.Common.{◌≡◌, ◌≢◌, ◌∙◌, Global, List, [], Option, Some, String, ap, inr, refl, subst, sym}
 use Rattle.command_line.specs.WordRuns.{RunsMode}
-use Rattle.std.specs.Prelude.{Err}
-use Rattle.mode_choice.specs.Rejections.{RejectsBy}
+use Rattle.std.specs.Prelude.{Err, string_bytes}
+use Rattle.clap.specs.Words.{Text, fault_of}
+use Rattle.mode_choice.specs.Choices.{ChoosesMode}
+use Rattle.mode_choice.specs.CommandLine.{command_line}
+use Rattle.mode_choice.specs.Rejections.{IsTextOf, RejectsBy}
 use Rattle.mode_choice.specs.declared.choosing.Rejection.{Rejection}
+use Rattle.mode_choice.specs.declared.choosing.Rejection.TheVariants.{Words}
 use Rattle.mode_choice.specs.declared.mode.Mode.{Mode}
 use Rattle.mode_choice.specs.declared.mode.Mode.TheVariants.{Fold, Turns, Threads}
 use Rattle.command_line.proofs.KnownRuns.{fold_line_folds, rejected_line_rejected, threads_line_commits, turns_line_plays}
@@ -11,6 +15,15 @@ use Rattle.command_line.proofs.run.run_words.Goals as goal
 -- the mode that was given ran
 runs_given : (given : Option Mode) (mode : Mode) (runs : Mode → Type 0) → given ≡ Some mode → runs mode → RunsMode given runs
 runs_given given mode runs is ran = subst (λ (m : Option Mode). RunsMode m runs) (sym is) ran
+
+-- where the words are refused, and the rejection has this text, it tells one of their faults
+told_by : (words : List Text) (given : Rejection) (text given_text : String Global) (chosen : ChoosesMode words (Err given))
+    → given ≡ Words given_text → text ≡ given_text
+    → fault_of (command_line chosen.names) words ≢ [] → IsTextOf (fault_of (command_line chosen.names) words) (string_bytes text)
+told_by words given text given_text chosen is same some =
+    let faults = fault_of (command_line chosen.names) words in
+    subst (λ (t : String Global). IsTextOf faults (string_bytes t)) (sym same)
+      (subst (λ (r : Rejection). RejectsBy faults (Err r)) is (chosen.told some))
 
 pub returns-in-Ok-Fold-clause-mode : goal.returns-in-Ok-Fold-clause-mode
 returns-in-Ok-Fold-clause-mode g c =
@@ -46,7 +59,7 @@ returns-in-Err-Words-clause-mode g c =
     let chosen = c.in-Err-Words.ensures in
     record {
       names = chosen.names;
-      refused = λ some. (subst (λ (r : Rejection). RejectsBy _ (Err r)) c.in-Err-Words.field-0-is (chosen.told some), (refl, refl));
+      refused = λ some. (told_by _ _ _ _ chosen c.in-Err-Words.field-0-is c.in-Err-Words.text-is some, (refl, refl));
       taken = λ none. let bad = chosen.taken none in cc;
     }
 
