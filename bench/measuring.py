@@ -8,10 +8,10 @@ import tempfile
 import time
 
 ROOT = os.path.dirname(os.path.dirname(os.path.abspath(__file__)))
-sys.path[:0] = [os.path.join(ROOT, "tests", "memory"), os.path.join(ROOT, "tests")]
+sys.path.insert(0, ROOT)
 PROGRAM = os.path.join(ROOT, "crates", "proxy_run", "out", "proxy_run")
 
-from program import first_field_twice  # noqa: E402
+from tests.memory.program import first_field_twice  # noqa: E402
 
 PYTHON = ["python3", "-c", "import json,sys; json.load(sys.stdin.buffer)"]
 RUNS = 9

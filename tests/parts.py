@@ -5,7 +5,7 @@ import subprocess
 import threading
 import time
 
-import costs
+from tests import costs
 
 ROOT = os.path.dirname(os.path.dirname(os.path.abspath(__file__)))
 

@@ -8,7 +8,7 @@ import shutil
 import subprocess
 import tempfile
 
-from parts import ROOT, Part
+from tests.parts import ROOT, Part
 
 UNPROVED = os.path.join(ROOT, "out", "proxy_run_unproved")
 PROVED = os.path.join(ROOT, "crates", "proxy_run", "out", "proxy_run")

@@ -7,18 +7,20 @@ import errno
 import functools
 import random
 
-import reference
-import threads_trials
-import turns_reference
-from forms import FOLD, THREADS, TURNS
-from hostile_cases import with_asked
-from program import DEVICE_FAILED, READ_SIZE, SCRIPT_REFUSED, Example, refuse_each, refuse_growths, run_in_parts, shorten_calls
-from right_cases import LOCK as LOCKING
-from right_cases import clear_rows, row, script, tag
-from script import LOCKED, METADATA_VERSION, SERVER_1, SERVER_2, SERVER_3, write
-from threads_words import move as moved
-from threads_words import with_meetings
-from turns_words import LOCK, clear, finish, move, offer, offers, one_key, put, put_servers, put_tag, sequence, stamp, transaction, turns
+from tests.memory import threads_trials
+from tests.memory.program import (
+    DEVICE_FAILED, READ_SIZE, SCRIPT_REFUSED, Example, refuse_each, refuse_growths, run_in_parts, shorten_calls,
+)
+from tests.scripts.common.forms import FOLD, THREADS, TURNS
+from tests.scripts.common.hostile_cases import with_asked
+from tests.scripts.common.script import LOCKED, METADATA_VERSION, SERVER_1, SERVER_2, SERVER_3, write
+from tests.scripts.fold import reference
+from tests.scripts.fold.right_cases import LOCK as LOCKING, clear_rows, row, script, tag
+from tests.scripts.threads.words import move as moved, with_meetings
+from tests.scripts.turns import reference as turns_reference
+from tests.scripts.turns.words import (
+    LOCK, clear, finish, move, offer, offers, one_key, put, put_servers, put_tag, sequence, stamp, transaction, turns,
+)
 
 # how many keys the long scripts ask for, so that they take several reads and their text several pages
 ASKED = 1_200

@@ -16,7 +16,7 @@ import threading
 import time
 from typing import NamedTuple
 
-import watched
+from tests import watched
 
 SCRIPT_REFUSED, COMMAND_LINE_REFUSED, DEVICE_FAILED, OUT_OF_MEMORY = 1, 2, 3, 4
 

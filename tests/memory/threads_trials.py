@@ -4,17 +4,17 @@ It is also run in address spaces in which not all of its threads have room.
 
 Which growth has which number, and what a script comes to, depends on how the threads come. So it is not one text that a run is
 compared with. A run must end in time, and with one of two ends: with status 0 and a text that some order of the batches gives,
-as tests/scripts/threads_orders.py decides, or with the status of want of memory and nothing written.
+as tests/scripts/threads/orders.py decides, or with the status of want of memory and nothing written.
 """
 import functools
 
-import watched
-from program import LIMIT, OUT_OF_MEMORY, Example, limit_space, refuse_each
-from script import KEY_SERVERS, LISTING, LOCKED, SERVER_1, SERVER_2, SERVER_TAG, write
-from threads_orders import what_is_wrong
-from threads_random import random_cases
-from threads_words import move, threads
-from turns_words import clear, one_key, put, put_servers, put_tag, transaction
+from tests import watched
+from tests.memory.program import LIMIT, OUT_OF_MEMORY, Example, limit_space, refuse_each
+from tests.scripts.common.script import KEY_SERVERS, LISTING, LOCKED, SERVER_1, SERVER_2, SERVER_TAG, write
+from tests.scripts.threads.orders import what_is_wrong
+from tests.scripts.threads.random_cases import random_cases
+from tests.scripts.threads.words import move, threads
+from tests.scripts.turns.words import clear, one_key, put, put_servers, put_tag, transaction
 
 # how many numbers of growths are tried past the first that a run does not reach
 PAST = 20

@@ -1,10 +1,9 @@
 """The built program by the words of its command line: each growth is refused while they choose a mode, and while they are refused."""
 import os
 
-import program
-import threads_trials
-from command_line import RIGHT, TEXTS
-from program import COMMAND_LINE_REFUSED, OUT_OF_MEMORY
+from tests.memory import program, threads_trials
+from tests.memory.program import COMMAND_LINE_REFUSED, OUT_OF_MEMORY
+from tests.scripts.command_line import RIGHT, TEXTS
 
 
 def by_other_words(stored):

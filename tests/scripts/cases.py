@@ -7,33 +7,28 @@ a value, a range, a stamp or a batch in the order of the script, and last of all
 import functools
 import random
 
-import content_cases
-import fold_limit_cases
-import fold_shape_cases
-import fold_stream_cases
-import hostile_cases
-import json_cases
-import order_cases
-import right_cases
-import shape_cases
-import size_cases
-import text_cases
-import threads_content_cases
-import threads_limit_cases
-import threads_order_cases
-import threads_right_cases
-import threads_shape_cases
-import turns_content_cases
-import turns_limit_cases
-import turns_order_cases
-import turns_right_cases
-import turns_shape_cases
-from forms import FOLD, THREADS, TURNS
+from tests.scripts.common import hostile_cases, json_cases, shape_cases, size_cases, text_cases
+from tests.scripts.common.forms import FOLD, THREADS, TURNS
+from tests.scripts.fold import (
+    content_cases as fold_content_cases, limit_cases as fold_limit_cases, order_cases as fold_order_cases,
+    right_cases as fold_right_cases, shape_cases as fold_shape_cases, stream_cases as fold_stream_cases,
+)
+from tests.scripts.threads import (
+    content_cases as threads_content_cases, limit_cases as threads_limit_cases, order_cases as threads_order_cases,
+    right_cases as threads_right_cases, shape_cases as threads_shape_cases,
+)
+from tests.scripts.turns import (
+    content_cases as turns_content_cases, limit_cases as turns_limit_cases, order_cases as turns_order_cases,
+    right_cases as turns_right_cases, shape_cases as turns_shape_cases,
+)
 
 OF_EACH_FORM = [kind for part in (shape_cases, text_cases, json_cases, size_cases, hostile_cases) for kind in part.OF_EACH_FORM]
 OF_FOLD = [
     kind
-    for part in (right_cases, fold_shape_cases, content_cases, order_cases, fold_stream_cases, size_cases, fold_limit_cases)
+    for part in (
+        fold_right_cases, fold_shape_cases, fold_content_cases, fold_order_cases, fold_stream_cases, size_cases,
+        fold_limit_cases,
+    )
     for kind in part.CASES
 ]
 OF_TURNS = [

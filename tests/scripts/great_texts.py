@@ -5,9 +5,9 @@ Each script gives all keys 510 tags and asks for one key 100,000 times. The text
 import subprocess
 import threading
 
-from script import KEY_SERVERS, write
-from threads_words import threads
-from turns_words import finish, offers, put, sequence, transaction, turns
+from tests.scripts.common.script import KEY_SERVERS, write
+from tests.scripts.threads.words import threads
+from tests.scripts.turns.words import finish, offers, put, sequence, transaction, turns
 
 ASKED, LISTED = 100_000, 255
 

@@ -11,7 +11,7 @@ import select
 import time
 from typing import NamedTuple
 
-import watched
+from tests import watched
 
 # requests of ptrace, and the event by which a thread tells that it was interrupted
 SEIZE, INTERRUPT, DETACH = 0x4206, 0x4207, 17

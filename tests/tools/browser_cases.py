@@ -11,13 +11,11 @@ from selenium.webdriver.chrome.service import Service
 from selenium.webdriver.common.keys import Keys
 from selenium.webdriver.support.ui import WebDriverWait
 
-import play_cases
-import right
-from tool import draw, example, tool, want
-
-import turns_reference
-from script import write
-from turns_words import finish, offer, put, sequence, transaction, turns
+from tests.scripts.common.script import write
+from tests.scripts.turns import reference as turns_reference
+from tests.scripts.turns.words import finish, offer, put, sequence, transaction, turns
+from tests.tools import play_cases, right
+from tests.tools.tool import draw, example, tool, want
 
 WIDTHS = (390, 768, 1400)
 HEIGHT = 844

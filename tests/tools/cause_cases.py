@@ -1,12 +1,11 @@
 """What an opened event shows: the causes of refusals, whom ranges ask, and what is folded in a large picture."""
 import re
 
-import pages
-from tool import draw, example, examples, tool, want
-
-import turns_reference
-from script import write
-from turns_words import finish, offer, one_key, put, sequence, transaction, turns
+from tests.scripts.common.script import write
+from tests.scripts.turns import reference as turns_reference
+from tests.scripts.turns.words import finish, offer, one_key, put, sequence, transaction, turns
+from tests.tools import pages
+from tests.tools.tool import draw, example, examples, tool, want
 
 
 def details_of(tree, event):

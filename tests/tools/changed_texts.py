@@ -4,8 +4,8 @@ import os
 import random
 import tempfile
 
-from random_texts import fault_of
-from threads_checks import changed_lines
+from tests.scripts.threads.checks import changed_lines
+from tests.tools.random_texts import fault_of
 
 # how many texts are tried of each example
 TEXTS = 7

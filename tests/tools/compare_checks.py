@@ -12,9 +12,8 @@ import sys
 import tempfile
 import time
 
-from tool import ROOT, want
-
-from comparing import cases
+from tests.tools.tool import ROOT, want
+from tools.comparing import cases
 
 HERE = os.path.dirname(os.path.abspath(__file__))
 COMPARE, SHRINK = (os.path.join(ROOT, "tools", it) for it in ("compare", "shrink"))
@@ -213,14 +212,13 @@ def random_script_is_the_same_again(_folder):
 
 
 def second_programs_say_their_usage(_folder):
-    for name, example in (
-        ("reference", "moving_range"), ("turns_reference", "turns/two_proxies"), ("threads_reference", "threads/full_ledger"),
-    ):
-        path = os.path.join(ROOT, "tests", "scripts", name + ".py")
-        status, lines, _ = called(sys.executable, path, "--help")
-        want(status == 0 and any(it.strip().startswith("python3 tests/scripts/%s.py <" % name) for it in lines), "\n".join(lines))
+    for mode, example in (("fold", "moving_range"), ("turns", "turns/two_proxies"), ("threads", "threads/full_ledger")):
+        name = "tests.scripts.%s.reference" % mode
+        words = [sys.executable, "-B", "-m", name]
+        status, lines, _ = called(*words, "--help", cwd=ROOT)
+        want(status == 0 and any(it.strip().startswith("python3 -m %s <" % name) for it in lines), "\n".join(lines))
         example = os.path.join(ROOT, "examples", example)
-        status, lines, said = called(sys.executable, path, input=read(example + ".json"))
+        status, lines, said = called(*words, input=read(example + ".json"), cwd=ROOT)
         want((status, lines, said) == (0, read(example + ".out").decode().splitlines(), ""), "%s: %s" % (name, lines))
 
 

@@ -2,9 +2,9 @@
 import json
 import os
 
-import tool  # noqa: F401  (puts the packages of tools/ on the path)
-from comparing import cases, running, trying
-from wrong_rules import answer_by, changed_modules
+from tests.tools import tool
+from tests.tools.wrong_rules import answer_by, changed_modules
+from tools.comparing import cases, running, trying
 
 EXAMPLES = os.path.join(tool.ROOT, "examples")
 # how many events (turns), batches (threads) or rows (fold) of a shrunk script are too many
@@ -26,7 +26,7 @@ class Implementation:
         self.modules = changed_modules(*change)
 
     def __call__(self, words, script, _seconds, _most):
-        mode, threads = words[-1], self.modules["threads_reference"]
+        mode, threads = words[-1], self.modules["threads"]
         try:
             read, _ = threads.script_of(script)
             order = threads.order_in_turns(read) if mode == "threads" and read else None

@@ -7,14 +7,12 @@ import itertools
 import os
 import types
 
-import in_process
-import random_texts
-import reference
-import turns_reference
-import wrong_rule_cases
-from comparing import cases, right, running, trying
-from comparing.orders import Orders
-from compare_checks import COMPARE, SECOND, TURNS, called, want, want_last
+from tests.scripts.fold import reference
+from tests.scripts.turns import reference as turns_reference
+from tests.tools import in_process, random_texts, wrong_rule_cases
+from tests.tools.compare_checks import COMPARE, SECOND, TURNS, called, want, want_last
+from tools.comparing import cases, right, running, trying
+from tools.comparing.orders import Orders
 
 # for numbers of batches and resolvers, and whether offers are repeated, how many orders there are: they were counted otherwise
 COUNTS = {
@@ -24,7 +22,7 @@ COUNTS = {
 # how many orders of the larger cluster are tried
 SAMPLE = 150
 # a change by which the first value counts of a name that stands twice, and how many bytes its smallest script may have
-FIRST_OF_TWO, SMALL = ("reference", "return dict(members)", "return dict(reversed(members))"), 250
+FIRST_OF_TWO, SMALL = ("fold", "return dict(members)", "return dict(reversed(members))"), 250
 # a rule that only some orders show: the reply names what its proxy had not finished
 OF_SOME_ORDERS = "rows count as seen when they are finished"
 

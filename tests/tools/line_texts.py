@@ -1,14 +1,14 @@
 """Texts of small scripts with one line changed, each for a sentence that no wrong rule asks for."""
 import os
 
-import verdict_texts
-from reference import answer as fold_answer
-from script import KEY_SERVERS, LISTING, SERVER_1, SERVER_TAG, write
-from turns_reference import answer as turns_answer
-from turns_words import (
+from tests.scripts.common.script import KEY_SERVERS, LISTING, SERVER_1, SERVER_TAG, write
+from tests.scripts.fold.reference import answer as fold_answer
+from tests.scripts.turns.reference import answer as turns_answer
+from tests.scripts.turns.words import (
     LOCK, clear, finish, offer, offers, private, private_tag, put, put_servers, put_tag, sequence, transaction, turns,
 )
-from verdict_texts import NOT
+from tests.tools import verdict_texts
+from tests.tools.verdict_texts import NOT
 
 
 def cases(examples):

@@ -1,5 +1,5 @@
 """Wrong rules of which each is shown by one example alone: no other one has another text by it."""
-from wrong_rule import FOLD, THREADS, TURNS, WrongRule
+from tests.tools.wrong_rule import FOLD, THREADS, TURNS, WrongRule
 
 FORGOTTEN = (
     WrongRule(

@@ -1,10 +1,10 @@
 """Texts and inputs that are no fault of a rule: what cannot be read, white space, lines of other kinds, texts of threads."""
 import os
 
-from reference import answer as fold_answer
-from script import write
-from threads_reference import printed, script_of
-from threads_words import reading_and_writing, three_by_nine, threads
+from tests.scripts.common.script import write
+from tests.scripts.fold.reference import answer as fold_answer
+from tests.scripts.threads.reference import printed, script_of
+from tests.scripts.threads.words import reading_and_writing, threads, three_by_nine
 
 NO_DIFFERENCE = "no difference"
 SPACE = "The lines differ only in white space, or in the line feed at the end."

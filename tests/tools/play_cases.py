@@ -9,11 +9,9 @@ import subprocess
 import sys
 import threading
 
-from tool import ROOT, example, want
-
-from playing import clusters, riddles, server  # noqa: E402  (tool.py puts tools on the path)
-
-import turns_reference
+from tests.scripts.turns import reference as turns_reference
+from tests.tools.tool import ROOT, example, want
+from tools.playing import clusters, riddles, server
 
 PLAY = os.path.join(ROOT, "tools", "play")
 EMPTY = '{"proxies":2,"resolvers":1,"window":100,"step":10,"events":[],"ask":["k"]}'

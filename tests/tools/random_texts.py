@@ -8,13 +8,12 @@ import os
 import tempfile
 import types
 
-import reference
-import threads_random
-import threads_reference
-import turns_random
-import turns_reference
-from random_cases import random_folds
-from wrong_rules import ROOT, answer_by, changed_modules
+from tests.scripts.fold import reference
+from tests.scripts.fold.random_cases import random_folds
+from tests.scripts.threads import random_cases as threads_random, reference as threads_reference
+from tests.scripts.turns import random_cases as turns_random, reference as turns_reference
+from tests.tools.wrong_rules import ROOT, answer_by, changed_modules
+from tools.comparing.explained import NO_DIFFERENCE
 
 TOOL = os.path.join(ROOT, "tools", "first_difference")
 # how many random scripts of each mode are tried by each wrong rule
@@ -71,7 +70,7 @@ def said_of(script, text, ours, folder):
 def fault_of(mode, script, right, wrong, folder):
     """Words about what the tool says of a wrong text, or nothing. One of threads may be another that the script can come to."""
     status, lines = said_of(script, wrong, right, folder)
-    if mode == "threads" and status == 0 and lines[0] == tool().NO_DIFFERENCE:
+    if mode == "threads" and status == 0 and lines[0] == NO_DIFFERENCE:
         return None
     if status != 1 or any(CANNOT in line for line in lines):
         return "status %d, %s" % (status, "\n".join(lines))
@@ -100,9 +99,9 @@ def try_rule(mode, case):
 
 def modes_of(case):
     """The modes whose texts a wrong rule can change."""
-    if case.module == "reference":
+    if case.module == "fold":
         return "fold", "turns"
-    return ("turns",) if case.module == "turns_reference" else ("threads",)
+    return ("turns",) if case.module == "turns" else ("threads",)
 
 
 def tried(rules):

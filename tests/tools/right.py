@@ -8,14 +8,13 @@ import subprocess
 import tempfile
 import time
 
-import pages
-from tool import ROOT, called, draw, example, examples, tool, want
-
-import random_scripts
-import threads_reference
-import turns_reference
-from script import write
-from turns_words import finish, offer, put, sequence, transaction, turns
+from tests.scripts.common.script import write
+from tests.scripts.threads import reference as threads_reference
+from tests.scripts.turns import reference as turns_reference
+from tests.scripts.turns.words import finish, offer, put, sequence, transaction, turns
+from tests.tools import pages
+from tests.tools.tool import ROOT, called, draw, example, examples, tool, want
+from tools import random_scripts
 
 # how large a stored page may be, and how many random scripts of a kind there are
 LARGEST, SEEDS = 80_000, 15

@@ -3,11 +3,9 @@ import importlib.machinery
 import importlib.util
 import os
 import subprocess
-import sys
 
 ROOT = os.path.dirname(os.path.dirname(os.path.dirname(os.path.abspath(__file__))))
 TOOL = os.path.join(ROOT, "tools", "picture")
-sys.path[1:1] = [os.path.join(ROOT, "tests", "scripts"), os.path.join(ROOT, "tools")]
 
 
 def loaded(path):

@@ -1,6 +1,6 @@
 """Texts of small scripts with other verdicts: what the tool says of the snapshot, of owners, and of writes that nearly count."""
-from turns_reference import answer
-from turns_words import finish, move, offer, offers, put, sequence, transaction, turns
+from tests.scripts.turns.reference import answer
+from tests.scripts.turns.words import finish, move, offer, offers, put, sequence, transaction, turns
 
 # before a line that must not be printed
 NOT = "not: "

@@ -3,8 +3,8 @@ import os
 import random
 import tempfile
 
-import pages
-from tool import ROOT, called, draw, example, examples, tool, want
+from tests.tools import pages
+from tests.tools.tool import ROOT, called, draw, example, examples, tool, want
 
 # a line of the example turns/private_copies, and one of a kind that the tool does not know
 COPY = 'private 0 0 "\\xff\\xff/serverTag/server0000000001" 0:1\n'

@@ -1,13 +1,13 @@
 """A small change of the rules, as another implementation may have it."""
 from typing import NamedTuple
 
-FOLD, TURNS, THREADS = "reference", "turns_reference", "threads_reference"
+FOLD, TURNS, THREADS = "fold", "turns", "threads"
 
 
 class WrongRule(NamedTuple):
     # what is wrong, in words
     name: str
-    # the change: a module of the second program, a text of it, and what stands there then
+    # the change: the mode whose module of the second program has it, a text there, and what stands there then
     module: str
     old: str
     new: str

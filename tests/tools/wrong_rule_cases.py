@@ -1,7 +1,7 @@
 """Small changes of the rules, each with an example that shows it and with what the tool must say of the first line that differs."""
-import lone_rules
-from line_texts import NOT
-from wrong_rule import FOLD, THREADS, TURNS, WrongRule
+from tests.tools import lone_rules
+from tests.tools.line_texts import NOT
+from tests.tools.wrong_rule import FOLD, THREADS, TURNS, WrongRule
 
 OF_FOLDS = (
     WrongRule(

@@ -5,37 +5,36 @@ import threading
 import types
 
 ROOT = os.path.dirname(os.path.dirname(os.path.dirname(os.path.abspath(__file__))))
-SCRIPTS = os.path.join(ROOT, "tests", "scripts")
-# the modules of the second program, each after those that it imports
-MODULES = ("reference", "turns_reference", "threads_reference")
+# the module of the second program for each mode, after those that it imports
+MODULES = {mode: "tests.scripts.%s.reference" % mode for mode in ("fold", "turns", "threads")}
 # held while the modules of the process are others
 IMPORTING = threading.Lock()
 
 
-def source_of(name):
-    with open(os.path.join(SCRIPTS, name + ".py")) as file:
+def source_of(mode):
+    with open(os.path.join(ROOT, *MODULES[mode].split(".")) + ".py") as file:
         return file.read()
 
 
-def changed_source(module, name, old, new):
-    """The source of a module; of the one with this name with another text for one that stands there once."""
-    source = source_of(module)
-    if module != name:
+def changed_source(mode, changed, old, new):
+    """The source of a mode's module; of the changed mode's with another text for one that stands there once."""
+    source = source_of(mode)
+    if mode != changed:
         return source
     if source.count(old) != 1:
-        raise ValueError("%r stands %d times in %s" % (old, source.count(old), name))
+        raise ValueError("%r stands %d times in %s" % (old, source.count(old), MODULES[mode]))
     return source.replace(old, new)
 
 
-def changed_modules(name, old, new):
-    """The modules of the second program, by name, where one has this change."""
+def changed_modules(changed, old, new):
+    """The modules of the second program, by mode, where that of the changed mode has this change."""
     made = {}
     with IMPORTING:
-        kept = {it: sys.modules.pop(it, None) for it in MODULES}
+        kept = {it: sys.modules.pop(it, None) for it in MODULES.values()}
         try:
-            for module in MODULES:
-                made[module] = sys.modules[module] = types.ModuleType(module)
-                exec(compile(changed_source(module, name, old, new), module + ".py", "exec"), made[module].__dict__)
+            for mode, name in MODULES.items():
+                made[mode] = sys.modules[name] = types.ModuleType(name)
+                exec(compile(changed_source(mode, changed, old, new), name, "exec"), made[mode].__dict__)
         finally:
             sys.modules.update({it: module for it, module in kept.items() if module})
     return made
@@ -43,9 +42,7 @@ def changed_modules(name, old, new):
 
 def answer_by(modules, mode, script, order=None):
     """What the modules print for the bytes of a script; of a threads script in an order of its batches."""
-    if mode == "fold":
-        return modules["reference"].answer(script)
-    if mode == "turns":
-        return modules["turns_reference"].answer(script)
-    read, refused = modules["threads_reference"].script_of(script)
-    return refused + "\n" if refused else modules["threads_reference"].printed(read, order, True)
+    if mode != "threads":
+        return modules[mode].answer(script)
+    read, refused = modules["threads"].script_of(script)
+    return refused + "\n" if refused else modules["threads"].printed(read, order, True)

@@ -3,7 +3,7 @@ import itertools
 import os
 from typing import NamedTuple
 
-from random_scripts import CYCLES, drawn
+from tools.random_scripts import CYCLES, drawn
 
 from .right import ROOT, is_refusal
 

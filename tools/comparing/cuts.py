@@ -1,10 +1,10 @@
 """Ways to leave parts out of a script: each takes a shrinker and a script's value, and returns the smaller value."""
 import copy
 
-from reference import Refused, read_json, read_script
-from script import write
-from threads_reference import read_threads
-from turns_reference import read_turns
+from tests.scripts.common.script import write
+from tests.scripts.fold.reference import Refused, read_json, read_script
+from tests.scripts.threads.reference import read_threads
+from tests.scripts.turns.reference import read_turns
 
 # what can follow a line of an event and is of the same event
 FURTHER = ("txn ", "mutation ", "private ")

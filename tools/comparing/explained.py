@@ -1,10 +1,10 @@
 """The first line at which a text differs from this project's, and what decided that line."""
-from explaining import folds, refusals, threads, turns
-from explaining.run import Run
-from explaining.texts import decoded, first_difference, is_known, lines_of, shown
-from reference import Refused, check_change, read_json, read_script
-from threads_reference import check, order_in_turns, printed, read_threads, script_of
-from turns_reference import check_event, read_turns
+from tests.scripts.fold.reference import Refused, check_change, read_json, read_script
+from tests.scripts.threads.reference import check, order_in_turns, printed, read_threads, script_of
+from tests.scripts.turns.reference import check_event, read_turns
+from tools.explaining import folds, refusals, threads, turns
+from tools.explaining.run import Run
+from tools.explaining.texts import decoded, first_difference, is_known, lines_of, shown
 
 NO_DIFFERENCE = "no difference"
 

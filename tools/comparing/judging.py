@@ -2,9 +2,9 @@
 import signal
 from typing import NamedTuple
 
-from explaining import threads
-from explaining.texts import count, decoded, first_difference, lines_of
-from threads_reference import script_of
+from tests.scripts.threads.reference import script_of
+from tools.explaining import threads
+from tools.explaining.texts import count, decoded, first_difference, lines_of
 
 from .right import is_refusal
 

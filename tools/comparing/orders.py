@@ -11,8 +11,8 @@ Orders are counted by the states between their events, of which there are few, a
 import random
 import sys
 
-from script import KEY_SERVERS, LOCKED, SERVER_1, SERVER_2, SERVER_TAG, write
-from turns_words import finish, move, offer, one_key, put, put_servers, put_tag, sequence, transaction, turns
+from tests.scripts.common.script import KEY_SERVERS, LOCKED, SERVER_1, SERVER_2, SERVER_TAG, write
+from tests.scripts.turns.words import finish, move, offer, one_key, put, put_servers, put_tag, sequence, transaction, turns
 
 from .cases import Case
 

@@ -5,7 +5,7 @@ import itertools
 import multiprocessing
 import signal
 
-from explaining.threads import Undecided
+from tools.explaining.threads import Undecided
 
 from . import running
 from .trying import tell, try_case

@@ -2,9 +2,9 @@
 import os
 import shlex
 
-import reference
-import turns_reference
-from threads_reference import script_of
+from tests.scripts.fold import reference
+from tests.scripts.threads.reference import script_of
+from tests.scripts.turns import reference as turns_reference
 
 from . import running
 

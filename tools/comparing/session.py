@@ -6,7 +6,7 @@ import sys
 import time
 from concurrent.futures.process import BrokenProcessPool
 
-from explaining.texts import count
+from tools.explaining.texts import count
 
 from .cases import Examples, Random, places_of
 from .orders import Orders, TooLarge

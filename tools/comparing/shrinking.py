@@ -2,7 +2,7 @@
 import json
 import time
 
-from script import write
+from tests.scripts.common.script import write
 
 from . import cuts, smaller
 from .spelled import cut

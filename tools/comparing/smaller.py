@@ -2,10 +2,11 @@
 import copy
 import re
 
-from random_scripts.spelling import text
-from reference import (
-    KEY_SERVERS, LOCKED, METADATA_VERSION, SERVER_TAG, Refused, is_kept, is_server_tag, location_of, lists_tags, read_bytes, servers_of,
+from tests.scripts.fold.reference import (
+    KEY_SERVERS, LOCKED, METADATA_VERSION, SERVER_TAG, Refused, is_kept, is_server_tag, lists_tags, location_of, read_bytes,
+    servers_of,
 )
+from tools.random_scripts.spelling import text
 
 from .cuts import all_places, at, changed
 

@@ -2,8 +2,8 @@
 import os
 from typing import NamedTuple
 
-from explaining.texts import first_difference, lines_of
-from explaining.threads import Undecided
+from tools.explaining.texts import first_difference, lines_of
+from tools.explaining.threads import Undecided
 
 from . import running
 from .explained import compare, compare_threads

@@ -5,13 +5,13 @@ in every order, and what is found right may be wrong.
 """
 from typing import NamedTuple
 
-from reference import (
-    KEY_SERVERS, LOCKED, METADATA_VERSION, SERVER_TAG, is_locked, is_server_tag, listed, lists_tags, own_tags, quoted, servers_of,
-    tags_of,
+from tests.scripts.fold.reference import (
+    KEY_SERVERS, LOCKED, METADATA_VERSION, SERVER_TAG, is_locked, is_server_tag, listed, lists_tags, own_tags, quoted,
+    servers_of, tags_of,
 )
-from threads_orders import last_change
-from threads_reference import committed_rows, meeting_lines, overlap, refused_after
-from turns_reference import all_reads, is_state, stamped
+from tests.scripts.threads.orders import last_change
+from tests.scripts.threads.reference import committed_rows, meeting_lines, overlap, refused_after
+from tests.scripts.turns.reference import all_reads, is_state, stamped
 
 from .texts import words_in
 

@@ -1,8 +1,8 @@
 """What decides the line of a private copy, and why a mutation has none."""
 import re
 
-from reference import SERVER_TAG, is_server_tag, listed, quoted
-from turns_reference import SERVER_KEYS, private_copy, server_of_keys
+from tests.scripts.fold.reference import SERVER_TAG, is_server_tag, listed, quoted
+from tests.scripts.turns.reference import SERVER_KEYS, private_copy, server_of_keys
 
 from .journal import earlier_versions, indented, mutation_words, server_story
 from .texts import count, words_in

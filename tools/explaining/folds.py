@@ -1,5 +1,5 @@
 """What decides a line of a fold script's text."""
-from reference import metadata_lines
+from tests.scripts.fold.reference import metadata_lines
 
 from .journal import Journal
 from .outcomes import explain_metadata

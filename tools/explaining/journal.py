@@ -1,11 +1,12 @@
 """The state transactions of a script, and which of them decide a row of the metadata or the tags of a key."""
 from typing import NamedTuple
 
-from reference import (
-    KEY_SERVERS, LOCKED, METADATA_VERSION, SERVER_TAG, fold, is_locked, is_server_tag, lists_tags, quoted, servers_of, own_tags,
+from tests.scripts.fold.reference import (
+    KEY_SERVERS, LOCKED, METADATA_VERSION, SERVER_TAG, fold, is_locked, is_server_tag, lists_tags, own_tags, quoted,
+    servers_of,
 )
-from threads_orders import last_change
-from turns_reference import tags_of_change
+from tests.scripts.threads.orders import last_change
+from tests.scripts.turns.reference import tags_of_change
 
 from .texts import joined, some, words_in
 

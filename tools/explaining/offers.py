@@ -2,7 +2,7 @@
 import itertools
 import re
 
-from turns_reference import is_state
+from tests.scripts.turns.reference import is_state
 
 from .journal import indented
 from .owners import ranges_sent

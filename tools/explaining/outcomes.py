@@ -1,5 +1,5 @@
 """What decides a line of a finish, or one of a proxy after the events."""
-from reference import KEY_SERVERS, LOCKED, METADATA_VERSION, Refused, quoted, read_bytes
+from tests.scripts.fold.reference import KEY_SERVERS, LOCKED, METADATA_VERSION, Refused, quoted, read_bytes
 
 from .copies import explain_added, explain_copy
 from .journal import first_upper, indented, key_words, mutation_words, row_name, tags_compared, tags_story

@@ -1,5 +1,5 @@
 """Which resolvers own the keys of a range, and so get it."""
-from turns_reference import all_reads, keys_that_differ, owners, readers, writers
+from tests.scripts.turns.reference import all_reads, keys_that_differ, owners, readers, writers
 
 from .journal import indented, key_words, range_words
 from .texts import joined, some

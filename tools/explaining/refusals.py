@@ -1,7 +1,7 @@
 """Why a script is refused: the first fault that it has, and where; or that it has none."""
-from reference import KEY_SERVERS, Refused, check_change, is_server_tag, read_json, read_script
-from threads_reference import read_threads
-from turns_reference import REFUSALS, check_mutation, read_turns
+from tests.scripts.fold.reference import KEY_SERVERS, Refused, check_change, is_server_tag, read_json, read_script
+from tests.scripts.threads.reference import read_threads
+from tests.scripts.turns.reference import REFUSALS, check_mutation, read_turns
 
 from .journal import change_words, row_name
 from .texts import some

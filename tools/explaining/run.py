@@ -1,7 +1,7 @@
 """A turns script that the second program carries out, and the event that each line is of."""
 from typing import NamedTuple
 
-from turns_reference import Cluster, is_state, share
+from tests.scripts.turns.reference import Cluster, is_state, share
 
 from .journal import Journal
 from .texts import is_known, joined

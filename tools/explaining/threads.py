@@ -3,9 +3,9 @@ import collections
 import itertools
 import operator
 
-from threads_orders import UNKNOWN, Wrong, order_of
-from threads_reference import committed_rows, order_in_turns, printed
-from turns_reference import VERSION_LIMIT
+from tests.scripts.threads.orders import UNKNOWN, Wrong, order_of
+from tests.scripts.threads.reference import committed_rows, order_in_turns, printed
+from tests.scripts.turns.reference import VERSION_LIMIT
 
 from . import any_order
 from .journal import indented

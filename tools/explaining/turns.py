@@ -1,5 +1,5 @@
 """What decides a line of a turns script's text."""
-from turns_reference import VERSION_LIMIT
+from tests.scripts.turns.reference import VERSION_LIMIT
 
 from . import copies, offers, outcomes
 from .journal import range_words

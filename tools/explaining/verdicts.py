@@ -1,8 +1,8 @@
 """What decides the verdict of a resolver on a transaction: its age, and the writes that its reads meet."""
 from typing import NamedTuple
 
-from reference import LOCKED
-from turns_reference import all_reads, writers
+from tests.scripts.fold.reference import LOCKED
+from tests.scripts.turns.reference import all_reads, writers
 
 from .journal import first_upper, indented, key_words, range_words
 from .owners import owners_words, resolvers_words, unsent_reads

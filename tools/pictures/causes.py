@@ -5,7 +5,7 @@ tools/explaining finds them in the state of the second program; here each gets t
 import functools
 from typing import NamedTuple
 
-from pictures.second_program import LOCKED, Run, is_locked, last_change, offers, outcomes, verdicts
+from tools.pictures.second_program import LOCKED, Run, is_locked, last_change, offers, outcomes, verdicts
 
 
 class Cause(NamedTuple):

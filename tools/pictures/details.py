@@ -1,12 +1,12 @@
 """What an event shows once it is opened: its lines, and of each transaction what it reads and writes, whom that asks, and why."""
-from pictures import tables
-from pictures.forms import is_known
-from pictures.page import chip, counted, paragraph
-from pictures.second_program import (
+from tools.pictures import tables
+from tools.pictures.forms import is_known
+from tools.pictures.page import chip, counted, paragraph
+from tools.pictures.second_program import (
     all_reads, change_words, is_state, key_words, owners_words, quoted, range_words, readers, resolvers_words, writers,
 )
-from pictures.svg import LETTERS, clean, drawn, element, escaped, text
-from pictures.turns_text import TXN
+from tools.pictures.svg import LETTERS, clean, drawn, element, escaped, text
+from tools.pictures.turns_text import TXN
 
 # of a batch with more transactions each is opened by itself
 OPEN = 4

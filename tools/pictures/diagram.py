@@ -1,8 +1,8 @@
 """The whole picture of a turns script as one SVG that stands alone, with an arrow to the cause of each refusal."""
-from pictures.lanes import HEAD, Lanes
-from pictures.page import part
-from pictures.svg import box, drawn, element, ground, title
-from pictures.turns_drawing import Strip, arc, curve, place_of
+from tools.pictures.lanes import HEAD, Lanes
+from tools.pictures.page import part
+from tools.pictures.svg import box, drawn, element, ground, title
+from tools.pictures.turns_drawing import Strip, arc, curve, place_of
 
 # after so many events the names of the lanes stand again
 EVENTS_TO_NAMES = 14

@@ -2,7 +2,7 @@
 import os
 import re
 
-from pictures.second_program import ROOT
+from tools.pictures.second_program import ROOT
 
 EXAMPLES = os.path.join(ROOT, "examples")
 ROW = re.compile(r"\| \[[^\]]*\]\(([^)]*)\.json\) \| (.*) \|")

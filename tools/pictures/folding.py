@@ -1,7 +1,7 @@
 """How many chips of a kind become few: neighbours that say the same become one, with the numbers of the first and the last."""
 import itertools
 
-from pictures.svg import letter_chip
+from tools.pictures.svg import letter_chip
 
 # so many chips stand in a box as they are; and so many of words before and after those that are folded
 CHIPS, BEFORE, AFTER = 12, 4, 1

@@ -5,7 +5,7 @@ The second program in Python reads the script, and its folds give the metadata t
 import re
 from typing import NamedTuple
 
-from pictures.second_program import METADATA_VERSION, Refused, is_locked, metadata_lines, quoted, read_bytes, read_json
+from tools.pictures.second_program import METADATA_VERSION, Refused, is_locked, metadata_lines, quoted, read_bytes, read_json
 
 NUMBER = r"(\d{1,20})"
 REFUSAL = re.compile(r"refused (\d{1,3}) ([A-Za-z]+)(?: (\S+))?")

@@ -1,7 +1,7 @@
 """Where the lanes of a turns picture stand: proxies, the sequencer, resolvers. Lanes in which nothing happens are folded."""
 from typing import NamedTuple
 
-from pictures.svg import SMALL, box, element, text, title, width_of
+from tools.pictures.svg import SMALL, box, element, text, title, width_of
 
 GUTTER, HEAD = 30, 34
 # up to so many lanes none is folded, and up to so many stand wide

@@ -1,9 +1,8 @@
 """The key space by owner: a line for each date of moves, from top to bottom, and in it the pieces of the key space."""
 from types import SimpleNamespace
 
-from pictures.svg import SMALL, box, element, fitted, picture, text, title, width_of
-
-from pictures.second_program import END, quoted, turns_reference
+from tools.pictures.second_program import END, quoted, turns_reference
+from tools.pictures.svg import SMALL, box, element, fitted, picture, text, title, width_of
 
 LINE, HEAD, PIECE = 26, 24, 78
 # so many colours there are; the number of the resolver stands in each piece

@@ -1,7 +1,7 @@
 """One HTML file with all that it needs in it. It is well-formed XML too, so that nothing in it is left open."""
 import os
 
-from pictures.svg import LETTERS, element, escaped
+from tools.pictures.svg import LETTERS, element, escaped
 
 HERE = os.path.dirname(os.path.abspath(__file__))
 PAGE = """<!DOCTYPE html>

@@ -1,8 +1,8 @@
 """The pages of docs/pictures: which there are, and whether they are what the tool writes."""
 import os
 
-from pictures.examples_facts import EXAMPLES, facts
-from pictures.second_program import ROOT
+from tools.pictures.examples_facts import EXAMPLES, facts
+from tools.pictures.second_program import ROOT
 
 FOLDER = os.path.join(ROOT, "docs", "pictures")
 # the scripts of the pages, without the ending, and that of the diagram which README shows

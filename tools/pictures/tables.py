@@ -3,11 +3,11 @@ import bisect
 import difflib
 import itertools
 
-from pictures.forms import is_known
-from pictures.page import kept_as_text
-from pictures.second_program import quoted, read_bytes
-from pictures.svg import clean, element, escaped, shortened
-from pictures.turns_text import KNOWN, MUTATION, PRIVATE
+from tools.pictures.forms import is_known
+from tools.pictures.page import kept_as_text
+from tools.pictures.second_program import quoted, read_bytes
+from tools.pictures.svg import clean, element, escaped, shortened
+from tools.pictures.turns_text import KNOWN, MUTATION, PRIVATE
 
 LONGEST = 48
 ROUTING = "<table><caption>%s</caption><thead><tr><td></td>%s</tr></thead><tbody>%s</tbody></table>"

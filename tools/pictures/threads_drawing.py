@@ -1,11 +1,11 @@
 """The lanes of a threads picture: versions from top to bottom, and what the text says of each proxy. It has no arrows: which
 requests and replies there were, no line says.
 """
-from pictures.folding import folded_chips
-from pictures.page import part
-from pictures.svg import (
-    SMALL, box, draw_chips, drawn, element, fitted, ground, height_of_chips, life_lines, lines_of_chips, picture, shortened, text,
-    title, width_of,
+from tools.pictures.folding import folded_chips
+from tools.pictures.page import part
+from tools.pictures.svg import (
+    SMALL, box, draw_chips, drawn, element, fitted, ground, height_of_chips, life_lines, lines_of_chips, picture, shortened,
+    text, title, width_of,
 )
 
 HEAD, SPACE, LINE = 34, 16, 13

@@ -1,11 +1,12 @@
 """The page of a threads script."""
-from pictures import details, owners_drawing, tables, threads_drawing
-from pictures.forms import metadata_of
-from pictures.page import bar, both, chip, counted, differences, heading, legend, letters, page, paragraph, table_box, window_words
-from pictures.second_program import Move, Work, change_words, key_words, range_words
-from pictures.svg import LETTERS, clean, element, escaped
-from pictures.threads_drawing import id_of, name_of, versions_of
-
+from tools.pictures import details, owners_drawing, tables, threads_drawing
+from tools.pictures.forms import metadata_of
+from tools.pictures.page import (
+    bar, both, chip, counted, differences, heading, legend, letters, page, paragraph, table_box, window_words,
+)
+from tools.pictures.second_program import Move, Work, change_words, key_words, range_words
+from tools.pictures.svg import LETTERS, clean, element, escaped
+from tools.pictures.threads_drawing import id_of, name_of, versions_of
 
 CHECKS = (
     "A meeting compares the versions of two proxies: that of the first is the same, behind or ahead. An audit says whether each "

@@ -3,11 +3,10 @@ import itertools
 import re
 from typing import NamedTuple
 
-from pictures.forms import METADATA, NUMBER, WrongForm, is_known, lines_of, match, read_proxies, wrong_line
-
-from pictures import causes
-from pictures.second_program import Refused, Work, refusal, threads_explained, threads_orders, threads_reference
-from pictures.turns_text import Cluster
+from tools.pictures import causes
+from tools.pictures.forms import METADATA, NUMBER, WrongForm, is_known, lines_of, match, read_proxies, wrong_line
+from tools.pictures.second_program import Refused, Work, refusal, threads_explained, threads_orders, threads_reference
+from tools.pictures.turns_text import Cluster
 
 OUTCOME = "(?:committed|conflict|too_old|locked)"
 REFUSED = r"(refused (?:50 LedgerFull \d{1,20}|51 VersionsEnd))"

@@ -1,14 +1,14 @@
 """A strip for each event of a turns script, with what it does between the lanes, each drawn by itself from its own top."""
-from pictures.folding import folded_chips, folded_words
-from pictures.forms import is_known
-from pictures.lanes import GUTTER
-from pictures.page import counted
-from pictures.second_program import quoted
-from pictures.svg import (
-    SMALL, arrow, box, draw_chips, element, fitted, height_of_chips, life_lines, lines_of_chips, number, shortened, text, title,
-    width_of, word_chip,
+from tools.pictures.folding import folded_chips, folded_words
+from tools.pictures.forms import is_known
+from tools.pictures.lanes import GUTTER
+from tools.pictures.page import counted
+from tools.pictures.second_program import quoted
+from tools.pictures.svg import (
+    SMALL, arrow, box, draw_chips, element, fitted, height_of_chips, life_lines, lines_of_chips, number, shortened, text,
+    title, width_of, word_chip,
 )
-from pictures.turns_text import KNOWN, TXN
+from tools.pictures.turns_text import KNOWN, TXN
 
 # how many lines of mutations stand beside a finished batch, if there are more than one line over, and how many captions in a box
 LINES, CAPTIONS = 8, 3

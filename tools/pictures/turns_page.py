@@ -1,15 +1,16 @@
 """The page of a turns script."""
 import collections
 
-from pictures import diagram, owners_drawing, tables
-from pictures.details import details, name_of
-from pictures.lanes import HEAD, Lanes
-from pictures.page import (
-    bar, both, chip, counted, differences, heading, joined, kept_as_text, legend, letters, page, paragraph, table_box, window_words,
+from tools.pictures import diagram, owners_drawing, tables
+from tools.pictures.details import details, name_of
+from tools.pictures.lanes import HEAD, Lanes
+from tools.pictures.page import (
+    bar, both, chip, counted, differences, heading, joined, kept_as_text, legend, letters, page, paragraph, table_box,
+    window_words,
 )
-from pictures.svg import drawn, element
-from pictures.turns_drawing import Strip
-from pictures.turns_text import metadata_by_version
+from tools.pictures.svg import drawn, element
+from tools.pictures.turns_drawing import Strip
+from tools.pictures.turns_text import metadata_by_version
 
 # of a page with more events the strips are made when they come into view, in parts of so many; so many parts are there at once
 LONG, PART, FIRST_PARTS = 200, 25, 2

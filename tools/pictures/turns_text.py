@@ -2,10 +2,11 @@
 import re
 from typing import NamedTuple
 
-from pictures.forms import BYTES, METADATA, NUMBER, REFUSAL, WrongForm, is_known, lines_of, match, metadata_of, read_proxies, wrong_line
-
-from pictures import causes
-from pictures.second_program import Refused, fold, threads_reference, turns_reference
+from tools.pictures import causes
+from tools.pictures.forms import (
+    BYTES, METADATA, NUMBER, REFUSAL, WrongForm, is_known, lines_of, match, metadata_of, read_proxies, wrong_line,
+)
+from tools.pictures.second_program import Refused, fold, threads_reference, turns_reference
 
 VERDICTS = r"((?:conflict|too_old|committed)(?: (?:conflict|too_old|committed))*|none)"
 VERSIONS = r"(\d{1,20}(?: \d{1,20})*|none)"
@@ -66,7 +67,7 @@ class Turns(NamedTuple):
 
 
 class Cluster(turns_reference.Cluster):
-    """The second program's cluster, which keeps what each resolver gets, and judges as threads_reference.py does: in less time."""
+    """The second program's cluster, which keeps what each resolver gets, and judges as tests/scripts/threads/reference.py does: in less time."""
 
     def __init__(self, *numbers):
         super().__init__(*numbers)

@@ -1,5 +1,5 @@
 """Where the answers to events come from: one class, so that a session program can stand beside the second program."""
-from pictures.second_program import Cluster, read_event
+from tools.pictures.second_program import Cluster, read_event
 
 
 class SecondProgram:

@@ -4,9 +4,9 @@ import json
 import threading
 from typing import NamedTuple
 
-from pictures import turns_text
-from pictures.second_program import Refused, check_event, read_json, read_turns, refusal
-from playing.answers import SOURCE
+from tools.pictures import turns_text
+from tools.pictures.second_program import Refused, check_event, read_json, read_turns, refusal
+from tools.playing.answers import SOURCE
 
 # so many pages are known at once; the cluster of one that was forgotten is made anew from its script
 PAGES = 64

@@ -2,9 +2,9 @@
 import json
 import os
 
-from pictures.page import heading, page
-from pictures.svg import element, escaped
-from pictures.turns_page import key
+from tools.pictures.page import heading, page
+from tools.pictures.svg import element, escaped
+from tools.pictures.turns_page import key
 
 HERE = os.path.dirname(os.path.abspath(__file__))
 

@@ -2,7 +2,7 @@
 import os
 from typing import Callable, NamedTuple
 
-from pictures.examples_facts import EXAMPLES
+from tools.pictures.examples_facts import EXAMPLES
 
 
 class Riddle(NamedTuple):

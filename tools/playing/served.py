@@ -2,12 +2,12 @@
 import json
 import secrets
 
-from pictures import tables, turns_page
-from pictures.lanes import Lanes
-from pictures.svg import element, escaped
-from pictures.turns_text import metadata_by_version
-from playing import batches, clusters, page, riddles
-from playing.answers import SOURCE
+from tools.pictures import tables, turns_page
+from tools.pictures.lanes import Lanes
+from tools.pictures.svg import element, escaped
+from tools.pictures.turns_text import metadata_by_version
+from tools.playing import batches, clusters, page, riddles
+from tools.playing.answers import SOURCE
 
 
 def first_page(script):

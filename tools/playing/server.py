@@ -2,7 +2,7 @@
 import http.server
 import sys
 
-from playing import clusters, served
+from tools.playing import clusters, served
 
 HOST = "127.0.0.1"
 # what a body may have at most, in bytes: a script of fewer is never too long for the program

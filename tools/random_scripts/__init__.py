@@ -1,17 +1,16 @@
 """Random scripts of each mode, each from its seed. They reach every refusal and outcome.
 
 A script is spelled with its fields in any order, with any white space and any escapes of JSON, and some have names that stand
-twice in an object. Those of the kind `wrong` get
-one to three faults, in random places; of most it is known as they are made which fault is answered.
+twice in an object. Those of the kind `wrong` get one to three faults, in random places; of most it is known as they are made
+which fault is answered.
 
-The package takes from tests/scripts, which has to be on the path, the words of scripts and the tables of faults.
+The words of scripts and the tables of faults are those of tests/scripts.
 """
 import random
 
 from . import fold, threads, turns
 from .spelling import spell
 from .turns_kinds import Cleared, Moved, Nested, Wide
-
 
 # of how many scripts without a fault some objects have a name twice, and of these how many objects have
 TWICE_IN, TWICE = 0.2, 0.05

@@ -1,5 +1,5 @@
 """Faults of the form and of the text of a script, in random places."""
-from script import BAD_SHAPE, NOT_JSON, at, kind_at, places, write
+from tests.scripts.common.script import BAD_SHAPE, NOT_JSON, at, kind_at, places, write
 
 from .spelling import spell
 

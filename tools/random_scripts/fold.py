@@ -1,8 +1,8 @@
 """Random fold scripts, over few keys, servers and values, so that rows meet, change and go."""
 import copy
 
-from content_cases import FAULTS
-from script import places
+from tests.scripts.common.script import places
+from tests.scripts.fold.content_cases import FAULTS
 
 from .faults import spelled_wrong
 from .spelling import text

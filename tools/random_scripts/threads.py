@@ -1,8 +1,8 @@
 """Random threads scripts, by few keys, servers and values, so that reads and writes, moves and rows meet."""
-from script import BATCH_TOO_LARGE, NO_SUCH_RESOLVER
-from threads_words import move, threads
-from turns_content_cases import MUTATION_FAULTS, RANGE_FAULTS
-from turns_words import transaction
+from tests.scripts.common.script import BATCH_TOO_LARGE, NO_SUCH_RESOLVER
+from tests.scripts.threads.words import move, threads
+from tests.scripts.turns.content_cases import MUTATION_FAULTS, RANGE_FAULTS
+from tests.scripts.turns.words import transaction
 
 from .faults import spelled_wrong
 from .fold import GREATEST

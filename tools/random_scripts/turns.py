@@ -4,9 +4,9 @@ A script is drawn event by event, with most offers and finishes in their turn an
 """
 import copy
 
-from script import BATCH_TOO_LARGE
-from turns_content_cases import MUTATION_FAULTS, RANGE_FAULTS
-from turns_words import finish, move, offer, sequence, transaction, turns
+from tests.scripts.common.script import BATCH_TOO_LARGE
+from tests.scripts.turns.content_cases import MUTATION_FAULTS, RANGE_FAULTS
+from tests.scripts.turns.words import finish, move, offer, sequence, transaction, turns
 
 from .faults import spelled_wrong
 from .fold import GREATEST, KEYS, OTHERS, SERVERS, TAGS, change, clear, location

@@ -1,5 +1,5 @@
 """Random turns scripts that dwell on one thing: ranges that touch, Clears of many rows, many proxies and resolvers, many moves."""
-from turns_words import finish, offer, sequence, transaction, turns
+from tests.scripts.turns.words import finish, offer, sequence, transaction, turns
 
 from .fold import KEYS, SERVERS, TAGS, location
 from .spelling import text

@@ -1,0 +1,1 @@
+"""The built program where growths of memory, reads and writes fail."""

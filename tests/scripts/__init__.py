@@ -1,0 +1,1 @@
+"""Scripts and what they must be answered: see README.md."""

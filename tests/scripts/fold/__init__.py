@@ -1,0 +1,1 @@
+"""Scripts of the mode `fold`, and a second program for them."""

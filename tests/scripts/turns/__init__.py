@@ -1,0 +1,1 @@
+"""Scripts of the mode `turns`, and a second program for them."""

@@ -1,0 +1,1 @@
+"""The built program under load, and while single threads of it are stopped."""

@@ -1,0 +1,1 @@
+"""Programs for whoever compares, draws or makes scripts, and the packages that these share."""

@@ -1,0 +1,1 @@
+"""Pages and diagrams of what a script comes to."""
