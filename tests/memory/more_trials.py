@@ -1,7 +1,7 @@
 """The built program on scripts that are longer, or come to more, than the stored examples.
 
-What they must be answered, the second programs of tests/scripts say, or a rule. Of the long ones each read and each write fails
-in turn, or gives or takes nothing; of the others each growth is refused.
+What they must be answered, the second programs of tests/scripts say, or a rule. Of the long ones each read and each write
+fails in turn, or gives or takes nothing; of the others each growth is refused.
 """
 import errno
 import functools
@@ -105,8 +105,12 @@ def stored_run():
     tags = [tag(SERVER_1, "\\x00\\x00\\x01"), tag(SERVER_2, "\\x00\\x00\\x02"), tag(SERVER_3, "\\x00\\x01\\x00")]
     whole = script(
         [(True, [*tags, row("", [SERVER_1]), row("m", [SERVER_2], [SERVER_1, SERVER_3]), row("t")])],
-        [(False, [clear_rows("m", "n")], "committed", "conflict"), (False, [clear_rows("s", "z"), tag(SERVER_2, "\\x00\\x00\\x09")])],
-        [(True, [LOCKING, {"set": [METADATA_VERSION, "v"]}])], [(False, [clear_rows("", "z")]), (True, [row("p", [SERVER_2])])],
+        [
+            (False, [clear_rows("m", "n")], "committed", "conflict"),
+            (False, [clear_rows("s", "z"), tag(SERVER_2, "\\x00\\x00\\x09")]),
+        ],
+        [(True, [LOCKING, {"set": [METADATA_VERSION, "v"]}])],
+        [(False, [clear_rows("", "z")]), (True, [row("p", [SERVER_2])])],
         ask=["a", "m", "z"], resolvers=2,
     ).encode()
     return Example("a stored run", [], whole, reference.answer(whole).encode(), 0)
@@ -121,8 +125,10 @@ def owners_and_moves():
     """Moves that nest, touch, repeat and go back, with reads from before them, and owners that leave the window."""
     reads = [transaction(snapshot, [["a", "z"]], [one_key("p")]) for snapshot in (0, 11, 21, 30)]
     return of_turns(
-        "owners and moves", move("m", "t", 1), sequence(0, *reads[:1]), move("n", "p", 2), move("p", "q", 1), sequence(0, *reads),
-        move("m", "t", 1), move("a", "n", 2), move("n", "p", 0), sequence(0, *reads), offers(0, 1, 2, resolvers=3), finish(0), finish(0),
+        "owners and moves", move("m", "t", 1), sequence(0, *reads[:1]), move("n", "p", 2), move("p", "q", 1),
+        sequence(0, *reads),
+        move("m", "t", 1), move("a", "n", 2), move("n", "p", 0), sequence(0, *reads), offers(0, 1, 2, resolvers=3),
+        finish(0), finish(0),
         sequence(0, *reads), offers(3, resolvers=3), finish(0), finish(0), proxies=1, resolvers=3, window=25,
     )
 
@@ -131,9 +137,12 @@ def repeats_given_up():
     """Replies that are given again, by each resolver and to a proxy that is told of rows; and that are given up at last."""
     rows = [transaction(0, [], [one_key(key)], [put_servers(key, SERVER_1)], True) for key in "abc"]
     return of_turns(
-        "repeats given up", sequence(0, *rows, transaction(0, [], [], [put_tag(SERVER_1, "\\x00\\x00\\x01")], True)), sequence(1, *rows[:2]),
-        sequence(0, transaction(0, [["a", "c"]])), offers(0, 1, 2), offers(0, 1, 2), finish(0), finish(1), sequence(0), sequence(1),
-        offers(3, 4), offers(0, 1, 2, 3, 4), offer(9, 0), offer(5, 0), finish(0), finish(0), finish(1), finish(1), ask=["a", "z"],
+        "repeats given up", sequence(0, *rows, transaction(0, [], [], [put_tag(SERVER_1, "\\x00\\x00\\x01")], True)),
+        sequence(1, *rows[:2]),
+        sequence(0, transaction(0, [["a", "c"]])), offers(0, 1, 2), offers(0, 1, 2), finish(0), finish(1), sequence(0),
+        sequence(1),
+        offers(3, 4), offers(0, 1, 2, 3, 4), offer(9, 0), offer(5, 0), finish(0), finish(0), finish(1), finish(1),
+        ask=["a", "z"],
     )
 
 
@@ -141,22 +150,28 @@ def late_proxy():
     """A proxy that is told of five rows, with a lock, a stamp and Clears among them."""
     given = [
         [put_tag(SERVER_1, "\\x00\\x00\\x01"), put_servers("", SERVER_1), put_servers("m", SERVER_1)], [put(LOCKED, "L")],
-        [stamp(METADATA_VERSION, "\\x00" * 14)], [clear("\\xff/keyServers/a", "\\xff/keyServers/z")], [put(LOCKED, ""), put("k", "v")],
+        [stamp(METADATA_VERSION, "\\x00" * 14)], [clear("\\xff/keyServers/a", "\\xff/keyServers/z")],
+        [put(LOCKED, ""), put("k", "v")],
     ]
     batches = [sequence(0, transaction(0, [], [], changes, True)) for changes in given]
     last = transaction(0, [], [one_key("a")], [put("a", "1"), clear("a", "z")])
     return of_turns(
-        "a late proxy", batches, sequence(1, last, LOCK), sequence(1, last), offers(*range(7)), [finish(0)] * 5, finish(1), finish(1),
+        "a late proxy", batches, sequence(1, last, LOCK), sequence(1, last), offers(*range(7)), [finish(0)] * 5, finish(1),
+        finish(1),
         ask=["a", "z"],
     )
 
 
 def three_proxies():
-    """Proxies of which one locks, one moves on under the lock, and one learns of all by its closing, over ranges that moved."""
+    """Proxies of which one locks, one moves on under the lock, and one learns of all by its closing,
+    over ranges that moved.
+    """
     tags = [put_tag(SERVER_1, "\\x00\\x00\\x01"), put_servers("", SERVER_1), put_servers("m", SERVER_1)]
     first = [[transaction(0, [one_key("n")], [one_key("a")], tags, True)], [LOCK, transaction(0, [one_key("a")])]]
     second = [[transaction(10, [["a", "z"]], [one_key("n")], [stamp(METADATA_VERSION, "\\x00" * 14)], True)], []]
-    return threads_trials.example("three proxies, of which one is late", first, second, [], moves=[moved("m", "t", 1), moved("n", "p", 0)])
+    return threads_trials.example(
+        "three proxies, of which one is late", first, second, [], moves=[moved("m", "t", 1), moved("n", "p", 0)],
+    )
 
 
 def trials():

@@ -1,8 +1,8 @@
 """The built program where memory or a device fails it: each call of each kind refused, short calls, and strange devices.
 
-The status is 3 for a device, and 4 for a growth, or that of the example where the growth did not matter. What was written is a
-beginning of the example's output, and nothing where a read was refused. No other line is written. What holds where the growths
-of a threads script are refused, threads_trials.py says.
+The status is 3 for a device, and 4 for a growth, or that of the example where the growth did not matter. What was written is
+a beginning of the example's output, and nothing where a read was refused. No other line is written. What holds where the
+growths of a threads script are refused, threads_trials.py says.
 """
 import concurrent.futures
 import errno
@@ -39,7 +39,8 @@ DEVICE_SCRIPTS = {
     "threads": ("threads/two_proxies.json", "threads/move_to_nobody.json"),
 }
 
-# a long turns script has so many batches of so many ranges, and so much address space that it has room only if it keeps little
+# a long turns script has so many batches of so many ranges, and so much address space that it has room only if it keeps
+# little
 KEPT_BATCHES, KEPT_RANGES, KEPT_SPACE = 2_000, 40, 13 * 2**20
 
 # for each mode how a right script begins that asks for keys, and how it ends
@@ -75,7 +76,9 @@ class Example(NamedTuple):
 
 
 def examples(root):
-    """The stored examples: those of `fold`, and in folders those of the other modes; with those of `turns`, two worked scripts."""
+    """The stored examples: those of `fold`, and in folders those of the other modes;
+    with those of `turns`, two worked scripts.
+    """
     for folder, words in (("examples", []), *((os.path.join("examples", mode), [mode]) for mode in ("turns", "threads"))):
         for name in sorted(os.listdir(os.path.join(root, folder))):
             if name.endswith(".json"):
@@ -145,7 +148,9 @@ def refuse_growths(trial, example):
 
 
 def first_field_twice(script):
-    """The script with its first field repeated: it means the same, and only the reader over a tree of JSON values takes it."""
+    """The script with its first field repeated:
+    it means the same, and only the reader over a tree of JSON values takes it.
+    """
     end = script.index(b",") + 1
     return script[:end] + script[1:end] + script[end:]
 
@@ -250,7 +255,9 @@ def want_space(trial, mode):
 
 
 def batches_of(field, window, are_late):
-    """A turns script of batches that each read or write keys of their own: finished after their offers, or all at the end."""
+    """A turns script of batches that each read or write keys of their own:
+    finished after their offers, or all at the end.
+    """
     early, late = [], []
     for row in range(KEPT_BATCHES):
         keys = ["%08d" % it for it in range(row * KEPT_RANGES, (row + 1) * KEPT_RANGES)]
@@ -263,7 +270,9 @@ def batches_of(field, window, are_late):
 
 
 def keep_little(trial):
-    """Requests of finished batches and writes before the window are dropped: without them a long script has room, and with them not."""
+    """Requests of finished batches and writes before the window are dropped:
+    without them a long script has room, and with them not.
+    """
     for field, window, are_late, status in (
         ("reads", KEPT_BATCHES, False, 0), ("reads", KEPT_BATCHES, True, OUT_OF_MEMORY),
         ("writes", 1, False, 0), ("writes", KEPT_BATCHES, False, OUT_OF_MEMORY),
@@ -298,7 +307,9 @@ def try_endless_inputs(trial):
     for space, status, peak in ((most * 3 // 2 + BESIDE, DEVICE_FAILED, most + BESIDE), (2**28, OUT_OF_MEMORY, 2**28)):
         with open("/dev/zero", "rb") as source:
             got = run_endless(trial, source, space)
-        trial.expect(got[:2] == (status, b"") and got[2] <= peak, "ends wrong on an endless input in %d bytes: %r" % (space, got))
+        trial.expect(
+            got[:2] == (status, b"") and got[2] <= peak, "ends wrong on an endless input in %d bytes: %r" % (space, got),
+        )
     with subprocess.Popen(["cat", "/dev/zero"], stdout=subprocess.PIPE) as feeder:
         got = run_endless(trial, feeder.stdout, 2**28)
         feeder.stdout.close()
@@ -309,13 +320,16 @@ def try_endless_input(trial, words):
     """An input without an end that fills a small address space: want of memory, and nothing written."""
     with open("/dev/zero", "rb") as source:
         got = run_endless(trial, source, 2**26, words)
-    trial.expect(got[:2] == (OUT_OF_MEMORY, b""), "%s: ends wrong on an endless input in a small address space: %r" % (words, got))
+    trial.expect(
+        got[:2] == (OUT_OF_MEMORY, b""), "%s: ends wrong on an endless input in a small address space: %r" % (words, got),
+    )
 
 
 def try_endless_spaces(trial, words):
     """A source that gives one space a call without end: the limit on reads ends it, and nothing is written."""
     how = {"env": dict(os.environ, LD_PRELOAD=trial.shim, SHORT_READ="1"), "capture_output": True, "timeout": LIMIT}
-    with open("/dev/zero", "rb") as zeros, subprocess.Popen(["tr", "\\0", " "], stdin=zeros, stdout=subprocess.PIPE) as feeder:
+    to_spaces = ["tr", "\\0", " "]
+    with open("/dev/zero", "rb") as zeros, subprocess.Popen(to_spaces, stdin=zeros, stdout=subprocess.PIPE) as feeder:
         try:
             ended = subprocess.run([trial.program, *words], stdin=feeder.stdout, **how)
         finally:
@@ -345,7 +359,9 @@ def try_devices(trial, root, folder, mode):
             got = run_shell(trial, redirections + " " + more, mode)
             trial.expect(got == (status, b"", b""), "%s: ends wrong with %s %s: %r" % (mode, redirections, more, got))
     got = run_shell(trial, "< /dev/null", mode)
-    trial.expect(got == (SCRIPT_REFUSED, b"refused 70 NotJson\n", b""), "%s: ends wrong with an empty input: %r" % (mode, got))
+    trial.expect(
+        got == (SCRIPT_REFUSED, b"refused 70 NotJson\n", b""), "%s: ends wrong with an empty input: %r" % (mode, got),
+    )
 
 
 def try_words(trial):

@@ -2,9 +2,9 @@
 
 It is also run in address spaces in which not all of its threads have room.
 
-Which growth has which number, and what a script comes to, depends on how the threads come. So it is not one text that a run is
-compared with. A run must end in time, and with one of two ends: with status 0 and a text that some order of the batches gives,
-as tests/scripts/threads/orders.py decides, or with the status of want of memory and nothing written.
+Which growth has which number, and what a script comes to, depends on how the threads come. So it is not one text that a run
+is compared with. A run must end in time, and with one of two ends: with status 0 and a text that some order of the batches
+gives, as tests/scripts/threads/orders.py decides, or with the status of want of memory and nothing written.
 """
 import functools
 
@@ -44,18 +44,26 @@ def two_by_two():
     """Two proxies with two batches each, all different: they conflict, lock the database and change the metadata."""
     tags = [put_tag(SERVER_1, "\\x00\\x00\\x01"), put_servers("", SERVER_1)]
     first = [transaction(0, [one_key("n")], [one_key("a")], tags)]
-    second = [transaction(0, [one_key("a")], [one_key("n")], [put("a", "1")]), transaction(10, [], [], [put_servers("m", SERVER_1)], True)]
+    second = [
+        transaction(0, [one_key("a")], [one_key("n")], [put("a", "1")]),
+        transaction(10, [], [], [put_servers("m", SERVER_1)], True),
+    ]
     third = [transaction(0, [], [one_key(LOCKED)], [put(LOCKED, "L")], True)]
     last = [transaction(0, [], [], [{"clear": [KEY_SERVERS, KEY_SERVERS[:-1] + "0"]}], True), transaction(0, [one_key("n")])]
     return example("two proxies with two batches each", [first, last], [second, third], moves=[move("m", "t", 1)])
 
 
 def listed_and_cleared():
-    """Rows that list tags beside rows of servers, and tags of servers, which two proxies put and clear, and a third learns of."""
+    """Rows that list tags beside rows of servers, and tags of servers, which two proxies put and clear,
+    and a third learns of.
+    """
     rows = [put(KEY_SERVERS, LISTING), put_servers("m", SERVER_1), put_servers("p", SERVER_1, SERVER_2)]
     tags = [put_tag(SERVER_1, "\\x00\\x00\\x07"), put_tag(SERVER_2, "\\x00\\x00\\x09")]
     over_all = [put("z", "1"), clear("a", "z"), put("a", "1")]
-    other_rows = [clear(KEY_SERVERS + "m", KEY_SERVERS + "q"), put(KEY_SERVERS + "n", LISTING), tags[0], clear(*one_key(SERVER_TAG + SERVER_2))]
+    other_rows = [
+        clear(KEY_SERVERS + "m", KEY_SERVERS + "q"), put(KEY_SERVERS + "n", LISTING), tags[0],
+        clear(*one_key(SERVER_TAG + SERVER_2)),
+    ]
     first = [[transaction(0, [], [], rows + tags, True)], [transaction(0, [], [], over_all, True)]]
     second = [[transaction(0, [], [], other_rows, True)], [transaction(0, [], [one_key("a")], over_all)]]
     return example("rows that list tags, and Clears", first, second, [])
@@ -74,12 +82,16 @@ def is_right(example, ended):
 
 
 def refuse_growths(trial, example):
-    """Each growth once, and each with all that follow; and numbers past the last, since there may be more growths another time."""
+    """Each growth once, and each with all that follow;
+    and numbers past the last, since there may be more growths another time.
+    """
     for more in ({}, {"REFUSE_ON": 1}):
         count = refuse_each(trial, example, "REFUSE_GROWTH", lambda _, ended: is_right(example, ended), **more)
         for number in range(count + 2, count + PAST):
             ended, _ = trial.run(example.script, example.words, REFUSE_GROWTH=number, **more)
-            trial.expect(is_right(example, ended), "%s: ends wrong where growth %d is refused: %r" % (example.name, number, ended))
+            trial.expect(
+                is_right(example, ended), "%s: ends wrong where growth %d is refused: %r" % (example.name, number, ended),
+            )
 
 
 def refuse_shaken(trial, example):
@@ -87,7 +99,10 @@ def refuse_shaken(trial, example):
     number, refused = 1, True
     while refused:
         ended, refused = trial.run(example.script, example.words, REFUSE_GROWTH=number, SHAKE=number)
-        trial.expect(is_right(example, ended), "%s: ends wrong where growth %d is refused, shaken: %r" % (example.name, number, ended))
+        trial.expect(
+            is_right(example, ended),
+            "%s: ends wrong where growth %d is refused, shaken: %r" % (example.name, number, ended),
+        )
         number += EVERY_SHAKEN
 
 
@@ -97,7 +112,10 @@ def refuse_random(trial, seed, first, step):
     while refused:
         more = {"REFUSE_ON": 1} if number // step % 2 else {}
         ended, refused = trial.run(drawn.script, drawn.words, REFUSE_GROWTH=number, **more)
-        trial.expect(is_right(drawn, ended), "%s: ends wrong where growth %d is refused, with %s: %r" % (drawn.name, number, more, ended))
+        trial.expect(
+            is_right(drawn, ended),
+            "%s: ends wrong where growth %d is refused, with %s: %r" % (drawn.name, number, more, ended),
+        )
         number += step
     trial.expect(number > first + step, "%s: only one growth of it was tried" % drawn.name)
 
@@ -114,7 +132,9 @@ def narrow_spaces(trial):
 
 
 def refuse_threads(trial):
-    """The start of each thread in turn, a resolver's or a proxy's, while those before it run or have ended: all threads end."""
+    """The start of each thread in turn, a resolver's or a proxy's, while those before it run or have ended:
+    all threads end.
+    """
     def is_want_of_memory(_, ended):
         return (ended.returncode, ended.stdout) == (OUT_OF_MEMORY, b"")
 
@@ -145,7 +165,9 @@ def random_trials(is_all, turn):
         yield from ((refuse_random, seed, 1, 1) for seed in range(ALL_SCRIPTS))
     else:
         first = SOME_SCRIPTS * turn
-        yield from ((refuse_random, seed, 1 + seed % EVERY_OF_SOME, EVERY_OF_SOME) for seed in range(first, first + SOME_SCRIPTS))
+        yield from (
+            (refuse_random, seed, 1 + seed % EVERY_OF_SOME, EVERY_OF_SOME) for seed in range(first, first + SOME_SCRIPTS)
+        )
 
 
 def trials(stored, is_all, turn):

@@ -1,4 +1,6 @@
-"""The built program by the words of its command line: each growth is refused while they choose a mode, and while they are refused."""
+"""The built program by the words of its command line:
+each growth is refused while they choose a mode, and while they are refused.
+"""
 import os
 
 from tests.memory import program, threads_trials
@@ -7,14 +9,18 @@ from tests.scripts.command_line import RIGHT, TEXTS
 
 
 def by_other_words(stored):
-    """Some examples with all other words that run them: the name of the default mode, and two hyphens, which are passed over."""
+    """Some examples with all other words that run them:
+    the name of the default mode, and two hyphens, which are passed over.
+    """
     for name, right in RIGHT.items():
         example = next(it for it in stored if it.name == os.path.basename(name) and it.words in right)
         yield from (example._replace(words=words) for words in right if words != example.words)
 
 
 def refuse_in_words(trial, words, text):
-    """Each growth while these words are refused: the status is 2 and the text whole, or 4, and nothing stands on standard output."""
+    """Each growth while these words are refused:
+    the status is 2 and the text whole, or 4, and nothing stands on standard output.
+    """
     number, refused = 0, True
     while refused:
         number += 1

@@ -19,10 +19,12 @@ from tests.scripts.threads import (
 )
 from tests.scripts.turns import (
     content_cases as turns_content_cases, limit_cases as turns_limit_cases, order_cases as turns_order_cases,
-    right_cases as turns_right_cases, shape_cases as turns_shape_cases,
+    right_cases as turns_right_cases, row_cases as turns_row_cases, shape_cases as turns_shape_cases,
 )
 
-OF_EACH_FORM = [kind for part in (shape_cases, text_cases, json_cases, size_cases, hostile_cases) for kind in part.OF_EACH_FORM]
+OF_EACH_FORM = [
+    kind for part in (shape_cases, text_cases, json_cases, size_cases, hostile_cases) for kind in part.OF_EACH_FORM
+]
 OF_FOLD = [
     kind
     for part in (
@@ -32,16 +34,20 @@ OF_FOLD = [
     for kind in part.CASES
 ]
 OF_TURNS = [
-    kind for part in (turns_right_cases, turns_shape_cases, turns_content_cases, turns_order_cases, turns_limit_cases)
+    kind
+    for part in (
+        turns_right_cases, turns_row_cases, turns_shape_cases, turns_content_cases, turns_order_cases, turns_limit_cases,
+    )
     for kind in part.CASES
 ]
 OF_THREADS = [
-    kind for part in (threads_right_cases, threads_shape_cases, threads_content_cases, threads_order_cases, threads_limit_cases)
+    kind
+    for part in (threads_right_cases, threads_shape_cases, threads_content_cases, threads_order_cases, threads_limit_cases)
     for kind in part.CASES
 ]
 
-# how many cases of a kind that each form has are tried, drawn by the kind's name; all where there is no number. Threads scripts
-# are read as turns scripts are, but for a few fields
+# how many cases of a kind that each form has are tried, drawn by the kind's name; all where there is no number. Threads
+# scripts are read as turns scripts are, but for a few fields
 FORMS = ((FOLD, OF_FOLD, None), (TURNS, OF_TURNS, None), (THREADS, OF_THREADS, 300))
 
 

@@ -11,13 +11,21 @@ RIGHT = {
 
 REFUSED = ["Fold", "fold ", " fold", "fol", "folds", "", "-", "-h", "--help", "--version", "-V"]
 REFUSED += ["Turns", "turn", "turns ", "turnss", "--turns", "turns=1", "fold,turns", "fold turns"]
-REFUSED += ["Threads", "thread", "threads ", " threads", "threadss", "THREADS", "--threads", "threads=2", "turns,threads", "-threads"]
-REFUSED += ["help", "--unknown", "--fold", "-fold", "--mode=fold", "fold=1", "\u00e9", "x" * 10_000, b"\xff", b"fold\xff", b"turns\xff"]
+REFUSED += [
+    "Threads", "thread", "threads ", " threads", "threadss", "THREADS", "--threads", "threads=2", "turns,threads",
+    "-threads",
+]
+REFUSED += [
+    "help", "--unknown", "--fold", "-fold", "--mode=fold", "fold=1", "\u00e9", "x" * 10_000, b"\xff", b"fold\xff",
+    b"turns\xff",
+]
 REFUSED += [b"threads\xff", b"\xffthreads"]
 REFUSED_TOGETHER = [
-    ["fold", "fold"], ["fold", ""], ["fold", "--help"], ["", "fold"], ["--", "Threads"], ["fold", "turns"], ["turns", "fold"],
+    ["fold", "fold"], ["fold", ""], ["fold", "--help"], ["", "fold"], ["--", "Threads"], ["fold", "turns"],
+    ["turns", "fold"],
     ["turns", "turns"], ["turns", ""], ["turns", "--help"], ["--", "fold", "turns"],
-    ["threads", "threads"], ["threads", "turns"], ["fold", "threads"], ["threads", "4"], ["threads", "--help"], ["--", "threads", "turns"],
+    ["threads", "threads"], ["threads", "turns"], ["fold", "threads"], ["threads", "4"], ["threads", "--help"],
+    ["--", "threads", "turns"],
 ]
 
 HELP = """Reads a JSON script on standard input and prints its result: proxy_run [MODE] < script.json
@@ -32,7 +40,7 @@ Options:
 
 Example:
   proxy_run turns < script.json
-"""
+"""  # noqa: E501
 
 # what stands after each refusal but a call for help
 END = """
@@ -43,7 +51,9 @@ MODES = "  [possible values: fold, turns, threads]\n"
 NO_MODE = "error: invalid value '%s' for '[MODE]'\n" + MODES + END
 LIKE_A_MODE = "error: invalid value '%s' for '[MODE]'\n" + MODES + "\n  tip: a similar value exists: '%s'\n" + END
 ONE_TOO_MANY = "error: unexpected argument '%s' found\n\nUsage: proxy_run [MODE]\n" + END
-NO_FLAG = "error: unexpected argument '%s' found\n\n  tip: to pass '%s' as a value, use '-- %s'\n\nUsage: proxy_run [MODE]\n" + END
+NO_FLAG = (
+    "error: unexpected argument '%s' found\n\n  tip: to pass '%s' as a value, use '-- %s'\n\nUsage: proxy_run [MODE]\n" + END
+)
 NO_VALUE = "error: a value is required for '[MODE]' but none was supplied\n" + MODES + END
 
 # words, and the whole text of their refusal
@@ -52,7 +62,8 @@ TEXTS = [
     (["examples/two_servers.json"], NO_MODE % "examples/two_servers.json"),
     *(([word], LIKE_A_MODE % (word, mode)) for word, mode in (("Threads", "threads"), ("turn", "turns"), ("Fold", "fold"))),
     *((["fold", word], ONE_TOO_MANY % word) for word in ("script.json", "fold", "turns", "threads")),
-    (["threads", "turns"], ONE_TOO_MANY % "turns"), *(([word], NO_FLAG % (word, word, word)) for word in ("--unknown", "--threads")),
+    (["threads", "turns"], ONE_TOO_MANY % "turns"),
+    *(([word], NO_FLAG % (word, word, word)) for word in ("--unknown", "--threads")),
     ([b"\xff"], "error: a word of the command line is not UTF-8\n"),
 ]
 

@@ -1,4 +1,5 @@
-"""Texts of half a gigabyte, far longer than those of the other cases: a run that gives up past some length would not come to them.
+"""Texts of half a gigabyte, far longer than those of the other cases:
+a run that gives up past some length would not come to them.
 
 Each script gives all keys 510 tags and asks for one key 100,000 times. The text is compared piece by piece.
 """
@@ -69,7 +70,8 @@ def feed(process, script):
 
 def is_answered(program, words, script, text):
     """Whether a run comes to this text, and ends well."""
-    with subprocess.Popen([program, *words], stdin=subprocess.PIPE, stdout=subprocess.PIPE, stderr=subprocess.DEVNULL) as process:
+    streams = {"stdin": subprocess.PIPE, "stdout": subprocess.PIPE, "stderr": subprocess.DEVNULL}
+    with subprocess.Popen([program, *words], **streams) as process:
         watch = threading.Timer(LIMIT, process.kill)
         watch.start()
         feeder = threading.Thread(target=feed, args=(process, script))

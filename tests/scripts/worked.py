@@ -2,12 +2,13 @@
 """The scripts in tests/worked, each with what its text was worked out to be, and the crate of tests that carries them too.
 
 usage: tests/scripts/worked.py [--check]
-  writes the files of crates/tests_program/src/worked that have the scripts and texts as constants, since a test of a crate reads
-  no file; with --check it writes none, and says which are not as they would be written
+  writes the files of crates/tests_program/src/worked that have the scripts and texts as constants, since a test of a crate
+  reads no file; with --check it writes none, and says which are not as they would be written
 
-tests/worked/MODE/NAME.json is a script, without its last line feed, and beside it stands its whole text, NAME.out, or, where threads
-leave a part of the text open, NAME.lines: lines that the text has in this order. changes.json has scripts that are others with a
-change: something before or after it, or texts, each of which stands once, that are exchanged for another, or for so many of it.
+tests/worked/MODE/NAME.json is a script, without its last line feed, and beside it stands its whole text, NAME.out, or, where
+threads leave a part of the text open, NAME.lines: lines that the text has in this order. changes.json has scripts that are
+others with a change: something before or after it, or texts, each of which stands once, that are exchanged for another, or
+for so many of it.
 """
 import argparse
 import functools
@@ -33,7 +34,8 @@ use super::{{Expected, Worked}};
 pub(super) const {name}: &[Worked] = &[
 """
 WHAT = {
-    "fold": "Scripts of the mode `fold`.", "turns": "Scripts of the mode `turns`.", "threads": "Scripts of the mode `threads`.",
+    "fold": "Scripts of the mode `fold`.", "turns": "Scripts of the mode `turns`.",
+    "threads": "Scripts of the mode `threads`.",
     "changed": "Scripts of the mode `turns` that are others with a change.",
 }
 
@@ -144,7 +146,9 @@ def constants(group):
         if len(it.parts) == 1:
             yield "        script: &[%s],\n" % laid_out(*it.parts[0], 8)
         else:
-            yield "        script: &[\n%s        ],\n" % "".join("            %s,\n" % laid_out(*part, 12) for part in it.parts)
+            yield "        script: &[\n%s        ],\n" % "".join(
+                "            %s,\n" % laid_out(*part, 12) for part in it.parts
+            )
         yield "        expected: Expected::%s(\n            %s,\n        ),\n" % (kind, literal(it.answer.encode()))
         yield "        status: %d,\n    },\n" % it.status()
     yield "];\n"
@@ -168,7 +172,9 @@ def main():
     reader.add_argument("--check", action="store_true")
     if reader.parse_args().check:
         left = [*stale()]
-        print("\n".join("%s is not as tests/scripts/worked.py writes it" % it for it in left) or "all are as they are written")
+        print(
+            "\n".join("%s is not as tests/scripts/worked.py writes it" % it for it in left) or "all are as they are written"
+        )
         return 1 if left else 0
     for path, text in files():
         os.makedirs(os.path.dirname(path), exist_ok=True)

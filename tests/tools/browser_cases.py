@@ -1,4 +1,6 @@
-"""What a reader meets in a browser: the stored pages at three widths, a wrong text, a long page, the keys, and tools/play."""
+"""What a reader meets in a browser: the stored pages at three widths, a wrong text, a long page,
+the keys, and tools/play.
+"""
 import contextlib
 import os
 import re
@@ -82,7 +84,10 @@ class Page:
         want(wide[0] <= wide[1], "%s is %d wide in %d" % (name, *wide))
 
     def is_seen(self, selector):
-        script = "var it = document.querySelector(arguments[0]).getBoundingClientRect(); return it.top >= 0 && it.top < innerHeight - 60"
+        script = (
+            "var it = document.querySelector(arguments[0]).getBoundingClientRect(); return it.top >= 0 && it.top < "
+            "innerHeight - 60"
+        )
         return self.run(script, selector)
 
 
@@ -107,10 +112,16 @@ def stored_pages(page):
 
 def arrows_lead_to_causes(page):
     page.width(768)
-    for name, event, count in (("turns/moved_range", 9, 1), ("turns/moved_range", 12, 2), ("turns/spreading_lock", 4, 2), ("turns/moved_range", 8, 0)):
+    for name, event, count in (
+        ("turns/moved_range", 9, 1), ("turns/moved_range", 12, 2), ("turns/spreading_lock", 4, 2),
+        ("turns/moved_range", 8, 0),
+    ):
         page.open(draw(*example(name))[0])
         page.click("#e%d > summary" % event)
-        page.wait("document.querySelectorAll('#arrows .cause').length === %d" % count, "%d arrows at event %d of %s" % (count, event, name))
+        page.wait(
+            "document.querySelectorAll('#arrows .cause').length === %d" % count,
+            "%d arrows at event %d of %s" % (count, event, name),
+        )
         page.click("#e%d > summary" % event)
         page.wait("document.querySelectorAll('#arrows .cause').length === 0", "no arrow once it is closed")
 
@@ -120,8 +131,14 @@ def first_difference_is_seen(page):
     changed = text.decode().replace("txn 1 committed 20 1", "txn 1 conflict 1020")
     want(changed != text.decode(), "the text is not changed")
     for content, selector in (
-        (draw(script, changed)[0], ".event.differing"), (draw(script, text.decode().replace("locked no", "locked yes"))[0], "#p0"),
-        (draw(example("threads/two_proxies")[0], example("threads/two_proxies")[1].replace(b"batch 1 1 conflict", b"batch 1 1 committed"))[0], "#b1-1"),
+        (draw(script, changed)[0], ".event.differing"),
+        (draw(script, text.decode().replace("locked no", "locked yes"))[0], "#p0"),
+        (
+            draw(
+                example("threads/two_proxies")[0],
+                example("threads/two_proxies")[1].replace(b"batch 1 1 conflict", b"batch 1 1 committed"),
+            )[0], "#b1-1",
+        ),
     ):
         page.width(WIDTHS[0])
         page.open(content)
@@ -131,8 +148,13 @@ def first_difference_is_seen(page):
             page.click("a.first")
             page.wait("location.hash.length > 1", "the jump")
             want(page.is_seen(selector), "%s is not in view at %d" % (selector, width))
-            is_open = page.run("var it = document.querySelector(arguments[0]); return it.tagName !== 'DETAILS' || it.open", selector)
-            want(is_open and page.run("return document.querySelectorAll(arguments[0] + ' mark').length", selector), "the words that differ")
+            is_open = page.run(
+                "var it = document.querySelector(arguments[0]); return it.tagName !== 'DETAILS' || it.open", selector,
+            )
+            want(
+                is_open and page.run("return document.querySelectorAll(arguments[0] + ' mark').length", selector),
+                "the words that differ",
+            )
             page.want_fine("%s at %d" % (selector, width))
 
 
@@ -160,7 +182,10 @@ def wide_clusters_fit(page):
     """Twelve proxies and eight resolvers, and a batch of forty."""
     batch = [transaction(0, [["a", "b"]] if it % 3 else [], [["a", "b"]], [put("a", "1")]) for it in range(40)]
     few = [sequence(9, *batch), *(offer(0, it) for it in range(8)), finish(9)]
-    many = [it for proxy in range(12) for it in (sequence(proxy, *batch[:1]), *(offer(proxy, it) for it in range(8)), finish(proxy))]
+    many = [
+        it for proxy in range(12)
+        for it in (sequence(proxy, *batch[:1]), *(offer(proxy, it) for it in range(8)), finish(proxy))
+    ]
     for events, folded in ((few, True), (many, False)):
         script = write(turns(*events, proxies=12, resolvers=8, step=2**60)).encode()
         page.open(draw(script, turns_reference.answer(script))[0])
@@ -196,7 +221,9 @@ def pages_print(page):
 
 
 def went_to(page, at, count):
-    page.wait("document.getElementById('place').textContent === 'event %d of %d'" % (at, count), "event %d of %d" % (at, count))
+    page.wait(
+        "document.getElementById('place').textContent === 'event %d of %d'" % (at, count), "event %d of %d" % (at, count),
+    )
 
 
 def play_is_clicked_through(page):
@@ -241,7 +268,10 @@ def play_refuses_and_opens(page):
         page.click("#open")
         count = len(turns_reference.read_turns(turns_reference.read_json(example("turns/repeated_request")[0]))[1])
         went_to(page, count, count)
-        want(page.run("return document.getElementById('text').textContent") == example("turns/repeated_request")[1].decode(), "the text")
+        want(
+            page.run("return document.getElementById('text').textContent") == example("turns/repeated_request")[1].decode(),
+            "the text",
+        )
         want(all("422" in it for it in page.errors()), "errors on the console")
 
 
@@ -251,18 +281,24 @@ def riddles_are_clicked_through(page):
         page.visit(made.address())
         went_to(page, 0, 0)
         page.click("button.riddle")
-        page.wait("!document.getElementById('riddle').hidden && document.querySelectorAll('.event').length === 8", "a riddle")
+        page.wait(
+            "!document.getElementById('riddle').hidden && document.querySelectorAll('.event').length === 8", "a riddle",
+        )
         for choice, words in ((1, "Not so"), (0, "Right")):
             page.click("#riddle input", choice)
             page.click("#riddle button.possible")
-            page.wait("(document.querySelector('#riddle .said') || {textContent: ''}).textContent.indexOf('%s') === 0" % words, words)
+            page.wait(
+                "(document.querySelector('#riddle .said') || {textContent: ''}).textContent.indexOf('%s') === 0" % words,
+                words,
+            )
         want(page.is_seen(".event[open]"), "the event that shows why is not in view")
         want(page.run("return document.querySelectorAll('#arrows .cause').length") == 1, "the arrow to the write")
         page.want_fine("a riddle")
 
 
 CHECKS = (
-    stored_pages, arrows_lead_to_causes, first_difference_is_seen, later_parts_are_made, wide_clusters_fit, keys_are_enough, pages_print,
+    stored_pages, arrows_lead_to_causes, first_difference_is_seen, later_parts_are_made, wide_clusters_fit, keys_are_enough,
+    pages_print,
     play_is_clicked_through, play_refuses_and_opens, riddles_are_clicked_through,
 )
 

@@ -43,7 +43,9 @@ def each_refusal_has_a_cause():
             tree = pages.tree_of(draw(script, text)[0])
             _, verdicts, outcomes = pages.said_of_turns(text.decode())
             refused = sum(letter != "C" for letter in verdicts + outcomes)
-            sources = {it for event in events_of(tree) for it, _ in details_of(tree, event)[1] if it.startswith("%d-" % event)}
+            sources = {
+                it for event in events_of(tree) for it, _ in details_of(tree, event)[1] if it.startswith("%d-" % event)
+            }
             want(len(sources) == refused, "%s: %d refusals, and causes of %s" % (name, refused, sorted(sources)))
 
 
@@ -52,13 +54,18 @@ def events_of(tree):
 
 
 def diagrams_stand_alone():
-    """Each is well formed, asks for nothing outside, and has an arrow for each verdict of conflict and each locked outcome."""
+    """Each is well formed, asks for nothing outside,
+    and has an arrow for each verdict of conflict and each locked outcome.
+    """
     for name, is_refused in examples():
         if not is_refused:
             script, text = example(name)
             svg, wrong = tool.draw_svg(script, text)
             tree = pages.tree_of(svg)
-            want(wrong is None and tree.tag == pages.SVG + "svg" and not re.search(r'src=|href="(?!#)|url\(|@import', svg), name)
+            want(
+                wrong is None and tree.tag == pages.SVG + "svg" and not re.search(r'src=|href="(?!#)|url\(|@import', svg),
+                name,
+            )
             if name.startswith("turns/"):
                 _, verdicts, outcomes = pages.said_of_turns(text.decode())
                 arrows = len(pages.of_class(tree, "cause"))
@@ -73,7 +80,9 @@ def many_are_folded():
     tree = pages.tree_of(draw(script, turns_reference.answer(script))[0])
     labels = [["".join(it.itertext()) for it in group.iter(pages.SVG + "text")] for group in pages.of_class(tree, "verdict")]
     want(labels == [["0–37", "C"], ["38", "X"], ["39", "C"]], "chips %s" % labels)
-    names = [it.text for svg in tree.iter(pages.SVG + "svg") if svg.get("class") == "names" for it in svg.iter(pages.SVG + "text")]
+    names = [
+        it.text for svg in tree.iter(pages.SVG + "svg") if svg.get("class") == "names" for it in svg.iter(pages.SVG + "text")
+    ]
     want("9 idle" in names and "2 idle" in names and "proxy 10" not in names, "lanes %s" % names)
     shown = {it.text for it in tree.iter(pages.SVG + "text")}
     is_whole, is_cut = (any(part in (it or "") for it in shown) for part in (str(2**62), "…"))
@@ -91,7 +100,10 @@ def pages_say_what_to_see():
             want(said == sentences[name[: -len(".html")].replace("_", "/", 1)], "%s says %s" % (name, said))
             want(any(it.get("class") == "legend" for it in tree.iter(pages.HTML + "details")), "%s has no legend" % name)
     page, _ = draw(*example("turns/two_proxies"))
-    want("2 batches in 2 proxies; of the finished transactions 1 committed and 1 conflict." in page, "a page that is no example's")
+    want(
+        "2 batches in 2 proxies; of the finished transactions 1 committed and 1 conflict." in page,
+        "a page that is no example's",
+    )
 
 
 def lines_that_differ_stand_side_by_side():

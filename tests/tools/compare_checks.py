@@ -20,7 +20,8 @@ COMPARE, SHRINK = (os.path.join(ROOT, "tools", it) for it in ("compare", "shrink
 RANDOM_SCRIPT, SECOND = (os.path.join(ROOT, "tools", it) for it in ("random_script", "second_program"))
 WRONG = os.path.join(HERE, "wrong_program")
 TURNS = os.path.join(ROOT, "examples", "turns")
-# how many seconds a run of a tool may take on a machine that is busy, and how many a run of an implementation that does not hang
+# how many seconds a run of a tool may take on a machine that is busy, and how many a run of an implementation that does not
+# hang
 LIMIT, PATIENCE = 600, "300"
 RULE = "a read at the version of a write conflicts with it"
 # a share of the examples in which some differ by this rule, and how many shares there are of which one has a single fault
@@ -73,12 +74,17 @@ def wrong_implementation_is_told(folder):
     script, right = read(folder, name, "script.json"), read(folder, name, "right.out")
     want(len(json.loads(script)["events"]) < 10, "the script has not been made small")
     want(called(SECOND, "turns", input=script)[1] == right.decode().splitlines(), "the right text is not that of the script")
-    want(called(WRONG, RULE, "turns", input=script)[1] == read(folder, name, "theirs.out").decode().splitlines(), "their text")
+    want(
+        called(WRONG, RULE, "turns", input=script)[1] == read(folder, name, "theirs.out").decode().splitlines(),
+        "their text",
+    )
     want(read(folder, name, "explanation.txt").decode().splitlines()[0] in lines, "the explanation is another one")
 
 
 def same_seed_does_the_same(folder):
-    words = ["--modes", "turns", "--random", "12", "--seed", "3", "--keep-going", "9", "--shrink-seconds", "0", "--shard", SHARE]
+    words = [
+        "--modes", "turns", "--random", "12", "--seed", "3", "--keep-going", "9", "--shrink-seconds", "0", "--shard", SHARE,
+    ]
     first, again = (compared(folder, *words, fault=RULE)[:2] for _ in range(2))
     want(first == again, "\n".join([*first[1], *again[1]]))
     want_last(first[1], r"\d+ examples and 2 random scripts: [2-8] differ \(seed 3\)")
@@ -90,7 +96,10 @@ def json_has_an_object_for_each_difference(folder):
     found = [json.loads(line) for line in lines]
     want(status == 1 and len(found) == 2, "status %d, %d objects" % (status, len(found)))
     for one in found:
-        want(one["kind"].startswith("line ") and one["mode"] == "turns" and one["right"] != one["theirs"], "the object %s" % one)
+        want(
+            one["kind"].startswith("line ") and one["mode"] == "turns" and one["right"] != one["theirs"],
+            "the object %s" % one,
+        )
         right = called(SECOND, "turns", input=one["script"].encode())[1]
         want(right == one["right"].splitlines(), "the script of %s" % one["name"])
     want(re.fullmatch(r"\d+ examples: 2 differ", said.splitlines()[-1]), said)
@@ -143,7 +152,8 @@ def progress_is_shown_on_a_terminal(folder):
 
 def interrupted_run_leaves_nothing(folder):
     words = [COMPARE, "--folder", folder, "--modes", "turns", "--seconds", "500", "--random", "0", "--", WRONG, "hang"]
-    with subprocess.Popen(words, stdout=subprocess.PIPE, stderr=subprocess.PIPE, env={**os.environ, "MARK": folder}) as process:
+    streams = {"stdout": subprocess.PIPE, "stderr": subprocess.PIPE}
+    with subprocess.Popen(words, env={**os.environ, "MARK": folder}, **streams) as process:
         process.stdout.readline()
         time.sleep(3)
         process.send_signal(signal.SIGTERM)
@@ -163,7 +173,8 @@ def environment(process):
 
 def misuse_ends_with_status_2(_folder):
     for words, said in (
-        ([], "name the command after --"), (["--"], "name the command after --"), (["--", "/nothing"], "/nothing cannot be found"),
+        ([], "name the command after --"), (["--"], "name the command after --"),
+        (["--", "/nothing"], "/nothing cannot be found"),
         (["--modes", "folds", "--", SECOND], "'folds' is not some of fold,turns,threads"),
         (["--shard", "4/3", "--", SECOND], "'4/3' is no shard"), (["--seed", "-1", "--", SECOND], "argument --seed"),
         (["--seconds", "x", "--", SECOND], "'x' is no number of seconds"),
@@ -205,7 +216,8 @@ def random_script_is_the_same_again(_folder):
         first, again, other = (called(RANDOM_SCRIPT, *words, "--seed", seed)[1] for seed in ("7", "7", "8"))
         want(first == again != other, "%s" % words)
     for words in (
-        [], ["turns"], ["folds", "--seed", "7"], ["fold", "--seed", "7", "--kind", "wide"], ["fold", "--seed", "7", "--size", "-1"],
+        [], ["turns"], ["folds", "--seed", "7"], ["fold", "--seed", "7", "--kind", "wide"],
+        ["fold", "--seed", "7", "--size", "-1"],
     ):
         status, lines, said = called(RANDOM_SCRIPT, *words)
         want(status == 2 and not lines and said, "%s: status %d" % (words, status))
@@ -239,7 +251,10 @@ def checks():
     ):
         yield "a run with the fault %s" % fault, bad_ends_are_told(fault, *found)
     for fault in ("hang", "left open"):
-        yield "a run with the fault %s" % fault, bad_ends_are_told(fault, "hangs", "It hangs: it has not ended in 20", seconds="20")
+        yield (
+            "a run with the fault %s" % fault,
+            bad_ends_are_told(fault, "hangs", "It hangs: it has not ended in 20", seconds="20"),
+        )
 
 
 def try_check(check):

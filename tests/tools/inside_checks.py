@@ -1,5 +1,5 @@
-"""What needs no process of its own: the orders of a small cluster, the shards and the random scripts of tools/compare, and what is
-right without a built program. Each check returns words about a fault, or nothing.
+"""What needs no process of its own: the orders of a small cluster, the shards and the random scripts of tools/compare, and
+what is right without a built program. Each check returns words about a fault, or nothing.
 """
 import contextlib
 import io
@@ -14,7 +14,8 @@ from tests.tools.compare_checks import COMPARE, SECOND, TURNS, called, want, wan
 from tools.comparing import cases, right, running, trying
 from tools.comparing.orders import Orders
 
-# for numbers of batches and resolvers, and whether offers are repeated, how many orders there are: they were counted otherwise
+# for numbers of batches and resolvers, and whether offers are repeated, how many orders there are: they were counted
+# otherwise
 COUNTS = {
     (1, 1, False): 4, (2, 2, False): 576, (3, 2, False): 59_670, (4, 2, False): 8_949_786, (2, 2, True): 703_248,
     (3, 2, True): 20_376_063_904,

@@ -12,7 +12,9 @@ from tests.tools.verdict_texts import NOT
 
 
 def cases(examples):
-    """Each case: its name, the words of the tool (bytes are put into a file), its status, lines that it prints, its error."""
+    """Each case: its name, the words of the tool (bytes are put into a file), its status,
+    lines that it prints, its error.
+    """
     yield from refused_events(examples)
     yield from small_scripts()
     yield from private_copies()
@@ -49,7 +51,10 @@ def refused_events(examples):
         (3, 'Event 2 moves ["a", "b") to resolver 2.', "The cluster has 2 resolvers; they count from 0."),
         (5, "Event 4 finishes a batch of proxy 0.", "Proxy 0 has 0 records before this event, and has finished each."),
         (8, "Event 7 offers row 0 to resolver 2.", "The cluster has 2 resolvers; they count from 0."),
-        (9, "Resolver 0 has judged no row before this event.", "So row 0 comes next, and the refusal names that version, or 0."),
+        (
+            9, "Resolver 0 has judged no row before this event.",
+            "So row 0 comes next, and the refusal names that version, or 0.",
+        ),
         (10, "Resolver 0 has judged no row before this event.", "So it judges row 0 now, for the first time."),
         (11, "It is the earliest record that proxy 0 has not finished, and resolver 1 has not judged it before this event."),
         (13, "It is the earliest record of proxy 0 that it has not finished, and every resolver has judged it."),
@@ -73,7 +78,10 @@ def refused_events(examples):
 
 def tag_rows(*rows):
     """A fold script that gives all keys to a server, and then sets its tag in each row: an id, and the verdict."""
-    return fold_rows([[put_servers("", SERVER_1)], "committed"], *([[put_tag(SERVER_1, "\\x00\\x00\\x%02x" % it)], said] for it, said in rows))
+    return fold_rows(
+        [[put_servers("", SERVER_1)], "committed"],
+        *([[put_tag(SERVER_1, "\\x00\\x00\\x%02x" % it)], said] for it, said in rows),
+    )
 
 
 def fold_rows(*states):
@@ -84,13 +92,15 @@ def fold_rows(*states):
     ]}
 
 
-def small_scripts():
+def tags_of_rows():
     unlocked = "the database was not locked before version %d."
     yield changed(
-        "a tag that is set twice, and then refused", tag_rows((1, "committed"), (2, "committed"), (3, "too_old")), fold_answer,
-        'route "" 0:2', 'route "" 0:1',
-        NOT + "    Transaction 0 of row 1 (version 20) sets it to 0:1: applied, since every resolver committed it and " + unlocked % 20,
-        "    Transaction 0 of row 2 (version 30) sets it to 0:2: applied, since every resolver committed it and " + unlocked % 30,
+        "a tag that is set twice, and then refused", tag_rows((1, "committed"), (2, "committed"), (3, "too_old")),
+        fold_answer, 'route "" 0:2', 'route "" 0:1',
+        NOT + "    Transaction 0 of row 1 (version 20) sets it to 0:1: applied, since every resolver committed it and "
+        + unlocked % 20,
+        "    Transaction 0 of row 2 (version 30) sets it to 0:2: applied, since every resolver committed it and "
+        + unlocked % 30,
         "    Transaction 0 of row 3 (version 40) sets it to 0:3: not applied, since resolver 0 gave too_old.",
         "TEXT lacks 0:2.", "TEXT also has 0:1.", "By the metadata after version 20, the tags would be those of TEXT.",
     )
@@ -106,17 +116,23 @@ def small_scripts():
         "a tag that nobody has", tag_rows((1, "committed")), fold_answer, 'route "" 0:1', 'route "" 0:1 0:7',
         "TEXT also has 0:7.", "  No state transaction up to version 20 gives 0:7 to a server or lists it.",
     )
+
+
+def tags_of_other_rows():
     listed = [put_servers("", SERVER_1), put_tag(SERVER_1, "\\x00\\x00\\x01"), put(KEY_SERVERS + "m", LISTING)]
     yield changed(
         "a tag that another row lists", fold_rows([listed, "committed"]), fold_answer, 'route "" 0:1', 'route "" 0:1 3:258',
         "TEXT also has 3:258.", '  The keyServers row "m" lists it, and is none of these rows.',
     )
     yield changed(
-        "a tag that another row listed", fold_rows([listed, "committed"], [[put_servers("m", SERVER_1)], "committed"]), fold_answer,
-        'route "" 0:1', 'route "" 0:1 3:258', "TEXT also has 3:258.",
-        "  Transaction 0 of row 1 (version 20) sets it to sources server0000000001, destinations none: applied, since every resolver committed it and "
-        + unlocked % 20,
+        "a tag that another row listed", fold_rows([listed, "committed"], [[put_servers("m", SERVER_1)], "committed"]),
+        fold_answer, 'route "" 0:1', 'route "" 0:1 3:258', "TEXT also has 3:258.",
+        "  Transaction 0 of row 1 (version 20) sets it to sources server0000000001, destinations none: applied, since every "
+        "resolver committed it and the database was not locked before version 20.",
     )
+
+
+def unseen_rows_and_versions():
     rows = turns(*(sequence(row % 2) for row in range(5)), *offers(*range(5), resolvers=1), resolvers=1)
     yield changed(
         "a third record", rows, turns_answer, "offer row 4 resolver 0 judged none unseen 40",
@@ -133,6 +149,12 @@ def small_scripts():
         "a second version", rows, turns_answer, "sequence row 1 version 20", "sequence row 1 version 15",
         "The next row is 1, and its version the last one plus the step: 10 + 10 = 20.",
     )
+
+
+def small_scripts():
+    yield from tags_of_rows()
+    yield from tags_of_other_rows()
+    yield from unseen_rows_and_versions()
     yield lock_of_another_row()
 
 
@@ -154,7 +176,8 @@ def later_versions():
     never = "By the metadata after version %d, the "
     yield changed(
         "tags of a later version", setting(given, later), turns_answer, "mutation 0 0 tags 0:1", "mutation 0 0 tags 0:2",
-        "TEXT lacks 0:1.", "TEXT also has 0:2.", *(NOT + never % version + "tags would be those of TEXT." for version in (0, 10, 20)),
+        "TEXT lacks 0:1.", "TEXT also has 0:2.",
+        *(NOT + never % version + "tags would be those of TEXT." for version in (0, 10, 20)),
     )
     yield changed(
         "a private copy of a later version", setting([*given, put(KEYS_1, "1")], later), turns_answer,
@@ -178,7 +201,9 @@ NO_COPY = "Only a Set of a serverKeys or a serverTag row has a private copy."
 
 def setting(*batches):
     """A script that commits a transaction with these mutations for each of these batches."""
-    events = [[sequence(0, transaction(0, [], [], mutations)), offer(row, 0), finish(0)] for row, mutations in enumerate(batches)]
+    events = [
+        [sequence(0, transaction(0, [], [], mutations)), offer(row, 0), finish(0)] for row, mutations in enumerate(batches)
+    ]
     return turns(*events, proxies=1, resolvers=1)
 
 
@@ -215,7 +240,8 @@ def private_copies():
     )
     cleared = setting([put_tag(SERVER_1, "\\x00\\x00\\x01")], [clear(SERVER_TAG, "\\xff/serverTag0"), put(KEYS_1, "1")])
     yield added(
-        "keys of a server whose tag is cleared", cleared, turns_answer, "mutation 0 1 tags none", private(0, 1, KEYS_1, "0:1"),
+        "keys of a server whose tag is cleared", cleared, turns_answer, "mutation 0 1 tags none",
+        private(0, 1, KEYS_1, "0:1"),
         "  Server %s has no tag." % SERVER_1, earlier,
     )
     yield from no_copies()

@@ -13,7 +13,8 @@ FORGOTTEN = (
         ),
     ),
     WrongRule(
-        "a write that leaves the window takes later ones that overlap it along", TURNS, "found += part.writes if said", """left = [
+        "a write that leaves the window takes later ones that overlap it along", TURNS, "found += part.writes if said",
+        """left = [
                         span for old in self.history[:row] if old.version <= self.history[row].version - self.window
                         for one in old.batch for span in one.writes
                     ]
@@ -47,10 +48,12 @@ FORGOTTEN = (
     ),
     WrongRule(
         "writes of a transaction that is too old count", TURNS,
-        'if said[part.number] == "committed" else []', 'if said[part.number] != "conflict" else []', "turns/too_old_writes", (
+        'if said[part.number] == "committed" else []', 'if said[part.number] != "conflict" else []', "turns/too_old_writes",
+        (
             "Verdict 0 is on transaction 0, with snapshot 15.",
             "No write that counts overlaps a read of it; these do not count.",
-            '  The write ["k", "l") of transaction 0 of row 1 (version 20): resolver 0 gave its transaction too_old (line 5).',
+            '  The write ["k", "l") of transaction 0 of row 1 (version 20): resolver 0 gave its transaction too_old (line '
+            '5).',
         ),
     ),
     WrongRule(
@@ -58,12 +61,14 @@ FORGOTTEN = (
         'verdicts[it.number] == "committed"]', 'verdicts[it.number] != "conflict"]', "turns/too_old_writes", (
             "Verdict 1 is on transaction 1, with snapshot 5.",
             "No write that counts overlaps a read of it; these do not count.",
-            '  The write ["k", "l") of transaction 0 of row 1 (version 20): resolver 0 gave its transaction too_old (line 5).',
+            '  The write ["k", "l") of transaction 0 of row 1 (version 20): resolver 0 gave its transaction too_old (line '
+            '5).',
         ),
     ),
     WrongRule(
         "a read of a transaction at another resolver makes it too old", TURNS,
-        "if part.reads and snapshot <", "if all_reads(record.batch[part.number]) and snapshot <", "turns/old_read_elsewhere", (
+        "if part.reads and snapshot <", "if all_reads(record.batch[part.number]) and snapshot <", "turns/old_read_elsewhere",
+        (
             "Verdict 0 is on transaction 0, with snapshot 4.",
             "No read of it is sent to this resolver, so it is not too old, whatever its snapshot is.",
             'Its read ["a", "b") is not sent to resolver 1, but to resolver 0.',
@@ -183,7 +188,8 @@ OF_ROWS = (
         "a Clear leaves the metadata version", FOLD,
         "kept if first <= key < second]", "kept if first <= key < second and key != METADATA_VERSION]", "cleared_lock", (
             "This is decided by the metadata version after version 20.",
-            '  Transaction 0 of row 1 (version 20) clears ["\\xff/d", "\\xff/n"): applied, since every resolver committed it '
+            '  Transaction 0 of row 1 (version 20) clears ["\\xff/d", "\\xff/n"): applied, since every resolver committed '
+            'it '
             "and it is lock aware.",
         ),
     ),
@@ -191,13 +197,15 @@ OF_ROWS = (
         "an empty metadata version is none", FOLD, "if METADATA_VERSION in kept else", "if kept.get(METADATA_VERSION) else",
         "empty_values", (
             '  Gakyhera: metadata_version ""',
-            '  Transaction 0 of row 1 (version 20) sets it to "": applied, since every resolver committed it and the database '
+            '  Transaction 0 of row 1 (version 20) sets it to "": applied, since every resolver committed it and the '
+            'database '
             "was not locked before version 20.",
         ),
     ),
     WrongRule(
         "a Set of a server's tag has a copy with the tag after the batch", TURNS,
-        'return b"\\xff" + key, read_tag(value)\n', 'return b"\\xff" + key, read_tag(kept.get(key, value))\n', "turns/tag_set_twice", (
+        'return b"\\xff" + key, read_tag(value)\n', 'return b"\\xff" + key, read_tag(kept.get(key, value))\n',
+        "turns/tag_set_twice", (
             'Mutation 0 of transaction 0 sets "\\xff/serverTag/server0000000001".',
             "A Set of a serverTag row has a private copy with the tag that it sets: 0:1.",
         ),

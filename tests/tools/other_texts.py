@@ -19,7 +19,9 @@ OTHER = b"other 0 0\n"
 
 
 def cases(examples):
-    """Each case: its name, the words of the tool (bytes are put into a file), its status, lines that it prints, its error."""
+    """Each case: its name, the words of the tool (bytes are put into a file), its status,
+    lines that it prints, its error.
+    """
     turns = os.path.join(examples, "turns", "two_proxies")
     script, out = turns + ".json", turns + ".out"
     with open(script, "rb") as given, open(out, "rb") as told:
@@ -46,7 +48,10 @@ def unreadable(script, out):
     yield "standard input twice", ["-", "-", *ours], 2, [], "only one of SCRIPT and TEXT can be standard input"
     yield "no program", [script, out, "--program", "/nothing"], 2, [], "the program /nothing cannot be run: No such file"
     yield "a program that fails", [script, out, "--program", "/bin/ls"], 2, [], "the program /bin/ls ended with status 2"
-    yield "a program without a text", [script, out, "--program", "/bin/false"], 2, [], "the program /bin/false ended with status 1"
+    yield (
+        "a program without a text", [script, out, "--program", "/bin/false"], 2, [],
+        "the program /bin/false ended with status 1",
+    )
     yield "no words", [], 2, [], "usage: first_difference"
     yield "a wrong mode", [script, out, "--mode", "folds"], 2, [], "usage: first_difference"
 
@@ -63,11 +68,13 @@ def endings(script, out, text):
         ("no text", b"", ["  TEXT:     (the text has ended)", "Event 0 sequences a batch of 1 transaction for proxy 0."]),
         ("an empty line", b"\n" + text, ["Line 1 differs:", "  TEXT:     "]),
         ("a line more", text + lines[-1], [
-            "Line 18 differs:", "  Gakyhera: (the text has ended)", "The text has an end after 17 lines, and TEXT goes on."]),
+            "Line 18 differs:", "  Gakyhera: (the text has ended)",
+            "The text has an end after 17 lines, and TEXT goes on."]),
         ("the last line missing", b"".join(lines[:-1]), [
             "Line 17 differs:", "  TEXT:     (the text has ended)", 'Each keyServers row after version 20 has a line.']),
         ("the outcome of a transaction missing", b"".join(lines[:7] + lines[8:]), [
-            "Line 8 differs:", "  Gakyhera: txn 1 conflict 1020", "  TEXT:     proxy 0", "Resolver 0 gave conflict (line 4)."]),
+            "Line 8 differs:", "  Gakyhera: txn 1 conflict 1020", "  TEXT:     proxy 0",
+            "Resolver 0 gave conflict (line 4)."]),
         ("a mutation missing", b"".join(lines[:6] + lines[7:]), [
             "Line 7 differs:", "Transaction 0 is committed and has 1 mutation, each with a line."]),
         ("bytes that are no text", b"\xff\x00\xfe", ["  TEXT:     \\xff\\x00\\xfe (without a line feed)"]),
@@ -134,7 +141,10 @@ def of_threads():
         ([1, 0], "row 0 is batch 0 of proxy 1 and row 1 is batch 0 of proxy 0"),
     ):
         text = printed(read, order, True).encode()
-        yield "threads in the order %s" % order, [script, text], 0, [NO_DIFFERENCE, "TEXT is right in this order: %s." % words], ""
+        yield (
+            "threads in the order %s" % order, [script, text], 0,
+            [NO_DIFFERENCE, "TEXT is right in this order: %s." % words], "",
+        )
     both = text.replace(b"batch 0 0 conflict", b"batch 0 0 committed")
     yield "threads that both commit", [script, both], 1, [
         "Line 2 differs:", "  Gakyhera: batch 1 0 conflict", "  TEXT:     batch 1 0 committed",
@@ -165,7 +175,8 @@ def of_many_orders(script, right):
     order = "One of these orders: the first 20 rows are of the proxies 0 1 2 0 1 2 0 1 2 0 1 2 0 1 2 0 1 2 0 1."
     for name, old, new, said in (
         ("tags", b'"k13" 0:1', b'"k13" 0:2', [
-            "Line 48 differs:", '  Gakyhera: route "k13" 0:1', '  TEXT:     route "k13" 0:2', many, order, "  TEXT also has 0:2.",
+            "Line 48 differs:", '  Gakyhera: route "k13" 0:1', '  TEXT:     route "k13" 0:2', many, order,
+            "  TEXT also has 0:2.",
             "    No state transaction up to version 280 gives 0:2 to a server or lists it."]),
         ("an outcome", b"batch 1 4 committed", b"batch 1 4 conflict", [
             "Line 14 differs:", "  Gakyhera: batch 1 4 committed", "  TEXT:     batch 1 4 conflict", many,
@@ -206,7 +217,8 @@ def by_form(script, out):
     yield "the mode by its name", ["--mode", "turns", script, out, "--text", out], 0, [NO_DIFFERENCE], ""
     refusal = b"refused 71 BadShape\n"
     yield "another mode by its name", ["--mode", "fold", script, b"version 0\n", "--text", refusal], 1, [
-        "The script is refused by 71 BadShape: it does not have the form of its mode, or a number is outside its limits."], ""
+        "The script is refused by 71 BadShape: it does not have the form of its mode, or a number is outside its limits.",
+    ], ""
 
 
 def long_line():

@@ -42,7 +42,9 @@ def said_of_turns(text):
 
 
 def folded(words):
-    """The letters of verdicts or outcomes in the order in which they are drawn: many that change often stand by their words."""
+    """The letters of verdicts or outcomes in the order in which they are drawn:
+    many that change often stand by their words.
+    """
     changes = sum(one != other for one, other in zip(words, words[1:]))
     ordered = [it for word in dict.fromkeys(words) for it in words if it == word] if changes >= MOST else words
     return "".join(LETTERS[it] for it in ordered)
@@ -99,7 +101,8 @@ def count_of(group):
 
 def letters_of(svg, kind):
     return "".join(
-        it.text * count_of(group) for group in of_class(svg, kind) for it in group.iter(SVG + "text") if it.get("class") == "letter"
+        it.text * count_of(group) for group in of_class(svg, kind) for it in group.iter(SVG + "text")
+        if it.get("class") == "letter"
     )
 
 
@@ -117,9 +120,13 @@ def shown_of_turns(tree):
 
 def shown_of_threads(tree):
     svg = lanes_of(tree)
-    shown = collections.Counter(closing=len(of_class(svg, "record", "closing")), refused=len(of_class(svg, "record", "refused")))
+    shown = collections.Counter(
+        closing=len(of_class(svg, "record", "closing")), refused=len(of_class(svg, "record", "refused")),
+    )
     shown["batch"] = len(of_class(svg, "record")) - shown["closing"] - shown["refused"]
-    shown["meet"] = sum(it.text in ("same", "behind", "ahead") for row in rows_of(tree, "meeting") for it in row.iter(HTML + "td"))
+    shown["meet"] = sum(
+        it.text in ("same", "behind", "ahead") for row in rows_of(tree, "meeting") for it in row.iter(HTML + "td")
+    )
     shown["audit"] = len(rows_of(tree, "audit"))
     return +shown, "", "".join(sorted(letters_of(svg, "outcome")))
 

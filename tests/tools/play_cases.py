@@ -141,7 +141,8 @@ def foreign_requests_change_nothing():
             (403, "GET", "/", None, {"Host": "example.org"}), (403, "GET", "/", None, {"Host": None}),
             (403, "POST", "/state", body, {"Host": "example.org:%d" % port}),
             (403, "POST", "/state", body, {"Origin": "http://example.org"}),
-            (403, "POST", "/state", body, {"Origin": "null"}), (403, "POST", "/state", body, {"Sec_Fetch_Site": "cross-site"}),
+            (403, "POST", "/state", body, {"Origin": "null"}),
+            (403, "POST", "/state", body, {"Sec_Fetch_Site": "cross-site"}),
             (403, "POST", "/state", body, {"Content_Type": "text/plain"}),
             (404, "POST", "/", body, {}), (404, "GET", "/state", None, {}),
             (404, "GET", "/../tools/play", None, {}), (404, "GET", "//example.org/", None, {}),
@@ -190,7 +191,10 @@ def the_command_serves_and_ends():
         run.kill()
     for words, status in ((["--help"], 0), (["--port", "x"], 2), (["/nowhere"], 2), ([os.path.join(ROOT, "README.md")], 2)):
         ended = subprocess.run([PLAY, *words], capture_output=True, text=True, timeout=60)
-        want(ended.returncode == status and "Traceback" not in ended.stderr, "%s: %d %r" % (words, ended.returncode, ended.stderr))
+        want(
+            ended.returncode == status and "Traceback" not in ended.stderr,
+            "%s: %d %r" % (words, ended.returncode, ended.stderr),
+        )
         want(status or "example:" in ended.stdout, "help without an example")
 
 

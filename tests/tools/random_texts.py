@@ -1,4 +1,6 @@
-"""Random scripts by each wrong rule: the tool must find the line at which the text differs, say what decided it, and not fail."""
+"""Random scripts by each wrong rule: the tool must find the line at which the text differs, say what decided it,
+and not fail.
+"""
 import concurrent.futures
 import functools
 import importlib.machinery
@@ -68,7 +70,9 @@ def said_of(script, text, ours, folder):
 
 
 def fault_of(mode, script, right, wrong, folder):
-    """Words about what the tool says of a wrong text, or nothing. One of threads may be another that the script can come to."""
+    """Words about what the tool says of a wrong text, or nothing.
+    One of threads may be another that the script can come to.
+    """
     status, lines = said_of(script, wrong, right, folder)
     if mode == "threads" and status == 0 and lines[0] == NO_DIFFERENCE:
         return None

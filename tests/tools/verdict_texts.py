@@ -1,4 +1,6 @@
-"""Texts of small scripts with other verdicts: what the tool says of the snapshot, of owners, and of writes that nearly count."""
+"""Texts of small scripts with other verdicts:
+what the tool says of the snapshot, of owners, and of writes that nearly count.
+"""
 from tests.scripts.turns.reference import answer
 from tests.scripts.turns.words import finish, move, offer, offers, put, sequence, transaction, turns
 
@@ -22,11 +24,13 @@ def cases(changed):
 
 def too_old(changed):
     """Verdicts and outcomes that are too old, or not: the version, the window and the snapshot are named."""
-    rows = turns(sequence(0), sequence(0, transaction(4, [A]), transaction(5, [A])), offers(0, 1, resolvers=1), finish(0), finish(0),
+    rows = turns(sequence(0), sequence(0, transaction(4, [A]), transaction(5, [A])), offers(0, 1, resolvers=1), finish(0),
+                 finish(0),
                  proxies=1, resolvers=1, window=15)
     edge = "The version 20 less the window 15 is 5. A read is too old if its snapshot is below that: %s."
     yield changed(
-        "an outcome that is too old", rows, answer, "txn 0 too_old 1007", "txn 0 committed 20 0", "Resolver 0 gave too_old (line 4).",
+        "an outcome that is too old", rows, answer, "txn 0 too_old 1007", "txn 0 committed 20 0",
+        "Resolver 0 gave too_old (line 4).",
         edge % "4 is", "The least of these in the order conflict, too_old, committed is too_old.",
     )
     yield changed(
@@ -37,7 +41,8 @@ def too_old(changed):
     long = turns(sequence(0, transaction(0, [A])), offer(0, 0), proxies=1, resolvers=1, window=100)
     yield changed(
         "a window greater than the version", long, answer, "offer row 0 resolver 0 judged committed unseen none",
-        "offer row 0 resolver 0 judged too_old unseen none", "The window 100 is greater than the version 10, so no read is too old.",
+        "offer row 0 resolver 0 judged too_old unseen none",
+        "The window 100 is greater than the version 10, so no read is too old.",
         NOT + "The version 10 less the window 100 is -90. A read is too old if its snapshot is below that: 0 is not.",
     )
     state = turns(sequence(0), sequence(0, transaction(4, mutations=STATE)), *offers(0, 1), proxies=1, window=15)
@@ -62,7 +67,8 @@ def near_writes(changed):
     left = ", and has left the window: the version 80 less the window 50 is 30."
     yield changed(
         "the nearest writes first", rows, answer, "offer row 7 resolver 0 judged committed unseen none",
-        "offer row 7 resolver 0 judged conflict unseen none", "No write that counts overlaps a read of it; these do not count.",
+        "offer row 7 resolver 0 judged conflict unseen none",
+        "No write that counts overlaps a read of it; these do not count.",
         older % (5, 60) + ".", "  %s: resolver 0 gave its transaction conflict (line 15)." % (OF_A % (6, 70)),
         older % (2, 30) + left, older % (4, 50) + ".", older % (1, 20) + left, older % (3, 40) + ".", "(and 1 more)",
         NOT + older % (0, 10) + left,
@@ -75,22 +81,27 @@ def of_the_batch(changed):
     other = turns(move("k", "l", 1), sequence(0, *batch), *offers(0), proxies=1)
     yield changed(
         "writes of the same batch, and a read at another resolver", other, answer,
-        "offer row 0 resolver 1 judged committed committed unseen none", "offer row 0 resolver 1 judged conflict committed unseen none",
+        "offer row 0 resolver 1 judged committed committed unseen none",
+        "offer row 0 resolver 1 judged conflict committed unseen none",
         '  The write ["k", "l") of transaction 1 of row 0 (version 10): it is its own.',
         '  The write ["k", "l") of transaction 2 of row 0 (version 10): it comes later in the batch.',
-        'Its read ["b", "c") is not sent to resolver 1, but to resolver 0.', '  The owners of "b", the last one first: 0 (dated 0).',
+        'Its read ["b", "c") is not sent to resolver 1, but to resolver 0.',
+        '  The owners of "b", the last one first: 0 (dated 0).',
     )
     yield changed(
         "a write that touches a read", other, answer, "offer row 0 resolver 0 judged committed committed unseen none",
         "offer row 0 resolver 0 judged committed conflict unseen none",
-        '  The write ["a", "b") of transaction 0 of row 0 (version 10): it only touches the read ["b", "c"), since no range has its end.',
+        '  The write ["a", "b") of transaction 0 of row 0 (version 10): it only touches the read ["b", "c"), since no range '
+        'has its end.',
     )
-    many = turns(*(sequence(0, transaction(0, [], [A])) for _ in range(4)), sequence(0, transaction(0, [A])), offers(*range(5), resolvers=1),
+    many = turns(*(sequence(0, transaction(0, [], [A])) for _ in range(4)), sequence(0, transaction(0, [A])),
+                 offers(*range(5), resolvers=1),
                  proxies=1, resolvers=1)
     hit = OF_A + ' overlaps the read ["a", "b"): resolver 0 committed it (line %d), and it is above the snapshot 0.'
     yield changed(
         "several writes that count", many, answer, "offer row 4 resolver 0 judged conflict unseen none",
-        "offer row 4 resolver 0 judged committed unseen none", hit % (0, 10, 6), hit % (1, 20, 7), hit % (2, 30, 8), "(and 1 more)",
+        "offer row 4 resolver 0 judged committed unseen none", hit % (0, 10, 6), hit % (1, 20, 7), hit % (2, 30, 8),
+        "(and 1 more)",
         NOT + hit % (3, 40, 9),
     )
 
@@ -104,7 +115,8 @@ def later_move(changed):
     return changed(
         "a move after the sequence", rows, answer, "offer row 0 resolver 0 judged none unseen none",
         "offer row 0 resolver 0 judged committed unseen none", "TEXT also has a verdict on transaction 0.",
-        '  The write ["k", "l") goes to resolver 1.', "    The record has the moves before its sequence. That dated 11 came later.",
+        '  The write ["k", "l") goes to resolver 1.',
+        "    The record has the moves before its sequence. That dated 11 came later.",
         '    The owners of "k", the last one first: 1 (dated 1) and 0 (dated 0).',
     )
 
@@ -122,14 +134,20 @@ def missing_verdicts(changed):
         ("a verdict too many", given + " committed", "TEXT also has a verdict on transaction 3."),
     ):
         yield changed(
-            name, rows, answer, line % given, line % other, "The resolver gives 3 verdicts on this row, one for each transaction that "
-            "asks it. TEXT has %d." % len(other.split(" ")), said, "Transaction 0 asks it.", "Transaction 3 does not ask it.")
+            name, rows, answer, line % given, line % other,
+            "The resolver gives 3 verdicts on this row, one for each transaction that "
+            "asks it. TEXT has %d." % len(other.split(" ")), said, "Transaction 0 asks it.",
+            "Transaction 3 does not ask it.")
     yield changed(
-        "a list that is no part of ours", rows, answer, line % given, line % "too_old", NOT + "TEXT lacks the verdicts on 2 of the "
+        "a list that is no part of ours", rows, answer, line % given, line % "too_old",
+        NOT + "TEXT lacks the verdicts on 2 of the "
         "transactions 0, 1 and 2.", "Transaction 0 asks it.")
-    large = turns(sequence(0, *(transaction(0, [], [A]) for _ in range(11)), transaction(0, [A])), offer(0, 0), proxies=1, resolvers=1)
+    large = turns(
+        sequence(0, *(transaction(0, [], [A]) for _ in range(11)), transaction(0, [A])), offer(0, 0), proxies=1, resolvers=1,
+    )
     yield changed(
-        "a large batch", large, answer, line % " ".join(["committed"] * 11 + ["conflict"]), line % " ".join(["committed"] * 11),
+        "a large batch", large, answer, line % " ".join(["committed"] * 11 + ["conflict"]),
+        line % " ".join(["committed"] * 11),
         "TEXT lacks the verdict on transaction 11.", "Transaction 6 asks it.", "Transaction 11 asks it.",
         '  The read ["a", "b") goes to resolver 0.', "(and 4 more)", NOT + "Transaction 7 asks it.",
     )

@@ -1,4 +1,6 @@
-"""What comes of texts with lines that the tool does not know, of texts that are not the script's, and of what has no picture."""
+"""What comes of texts with lines that the tool does not know, of texts that are not the script's,
+and of what has no picture.
+"""
 import os
 import random
 import tempfile
@@ -26,13 +28,17 @@ def lines_of_no_known_form_are_shown():
     script, text = example("threads/two_proxies")
     for after in ("batch 0 1 committed conflict", "closing 0 version 50", "meet 0 1 behind", "audit 1 ok"):
         page, wrong = draw(script, text.decode().replace(after + "\n", after + "\nfurther 1 2\n"))
-        want(wrong is None and pages.is_told_of(pages.tree_of(page), "further 1 2", not after.startswith(("meet", "audit"))), after)
+        want(
+            wrong is None and pages.is_told_of(pages.tree_of(page), "further 1 2", not after.startswith(("meet", "audit"))),
+            after,
+        )
 
 
 def differences_are_marked():
     script, text = example("turns/spreading_lock")
     for old, new, event in (
-        ("txn 0 locked 1038", "txn 0 conflict 1020", 4), ("unseen 20", "unseen 10", 7), ("row 2 version 30", "row 2 version 40", 6),
+        ("txn 0 locked 1038", "txn 0 conflict 1020", 4), ("unseen 20", "unseen 10", 7),
+        ("row 2 version 30", "row 2 version 40", 6),
         ("finish proxy 1 version 20", "finish proxy 1 version 30", 4),
     ):
         page, wrong = draw(script, text.decode().replace(old, new))
@@ -40,7 +46,9 @@ def differences_are_marked():
     page, wrong = draw(script, text.decode().replace("locked yes", "locked no"))
     want(wrong and "2 places, first at proxy 0 at the end" in page, "locked")
     script, text = example("turns/private_copies")
-    for old, new in ((COPY, ""), (COPY, COPY * 2), ("0:1\nmutation 0 2", "0:2\nmutation 0 2"), (COPY, COPY.replace("ff", "fe"))):
+    for old, new in (
+        (COPY, ""), (COPY, COPY * 2), ("0:1\nmutation 0 2", "0:2\nmutation 0 2"), (COPY, COPY.replace("ff", "fe")),
+    ):
         page, wrong = draw(script, text.decode().replace(old, new))
         want(wrong and "at event 2" in page and "≠" in page, "%r for %r" % (new, old))
     script, text = example("threads/two_proxies")
@@ -58,8 +66,10 @@ def differing_text_ends_with_status_1():
 
 # changes of a text that leave it without the known form, for a text of turns, one with private copies and one of threads
 WRONG_TURNS = [
-    (b"row 0", b"row 1"), (b"proxy 1\n", b"proxy 2\n"), (b"tags 0:1", b"tags 0;1"), (b"committed conflict", b"committed maybe"),
-    (b"resolver 0", b"resolver 7"), (b"locked no\n", b""), (b"finish proxy 1", b"finish proxy 0"), (b"version 10", b"version x"),
+    (b"row 0", b"row 1"), (b"proxy 1\n", b"proxy 2\n"), (b"tags 0:1", b"tags 0;1"),
+    (b"committed conflict", b"committed maybe"),
+    (b"resolver 0", b"resolver 7"), (b"locked no\n", b""), (b"finish proxy 1", b"finish proxy 0"),
+    (b"version 10", b"version x"),
     (b"version 10", b"version " + b"1" * 5000), (b'route ""', b'route "k'), (b'route ""', b'route "\\x6d"'),
     (b"conflict 1020", b"conflict 1021"), (b"mutation 0 0", b"mutation 0"), (b"version 0\n", b"version 0\nversion 0\n"),
 ]
@@ -69,7 +79,8 @@ WRONG_COPIES = [
 ]
 WRONG_THREADS = [
     (b"batch 0 0", b"batch 0 1"), (b"committed conflict", b"committed"), (b"closing 0 version 50", b"closing 0 version 55"),
-    (b"audit 0 ok", b"audit 0 fine"), (b"closing 0 version 50", b"closing 0 version 9000000000000000000"), (b"proxy 1\n", b""),
+    (b"audit 0 ok", b"audit 0 fine"), (b"closing 0 version 50", b"closing 0 version 9000000000000000000"),
+    (b"proxy 1\n", b""),
     (b"meet 0 1 behind\n", b""), (b"batch 0 0 committed", b"batch 0 0 lost"), (b'tags "a" 0:1\n', b""),
 ]
 
@@ -112,11 +123,16 @@ def wrong_inputs_end_with_status_2():
     threads = os.path.join(ROOT, "examples", "threads", "two_proxies")
     right = [script + ".json", script + ".out"]
     for words in (
-        [], right[:1], right[::-1], [threads + ".json", script + ".out"], [right[0], "/nowhere"], ["-", "-"], [right[0], "-"],
-        [ROOT, ROOT], ["--check"], ["--other"], [*right, "--all"], [*right, "--from", "x"], [*right, "--from", "20", "--to", "10"],
+        [], right[:1], right[::-1], [threads + ".json", script + ".out"], [right[0], "/nowhere"], ["-", "-"],
+        [right[0], "-"],
+        [ROOT, ROOT], ["--check"], ["--other"], [*right, "--all"], [*right, "--from", "x"],
+        [*right, "--from", "20", "--to", "10"],
     ):
         status, page, said = called(words)
-        want(status == 2 and page == "" and said.count("\n") == 1 and "Traceback" not in said, "%s: %d %r" % (words, status, said))
+        want(
+            status == 2 and page == "" and said.count("\n") == 1 and "Traceback" not in said,
+            "%s: %d %r" % (words, status, said),
+        )
 
 
 def changed_texts_never_fail():
@@ -163,7 +179,8 @@ def change_line(rng, lines):
 def checks():
     """Each check with its name."""
     for check in (
-        lines_of_no_known_form_are_shown, differences_are_marked, differing_text_ends_with_status_1, wrong_inputs_are_refused,
+        lines_of_no_known_form_are_shown, differences_are_marked, differing_text_ends_with_status_1,
+        wrong_inputs_are_refused,
         wrong_inputs_end_with_status_2, changed_texts_never_fail,
     ):
         yield check.__name__, check

@@ -1,4 +1,6 @@
-"""Small changes of the rules, each with an example that shows it and with what the tool must say of the first line that differs."""
+"""Small changes of the rules, each with an example that shows it and with what the tool must say
+of the first line that differs.
+"""
 from tests.tools import lone_rules
 from tests.tools.line_texts import NOT
 from tests.tools.wrong_rule import FOLD, THREADS, TURNS, WrongRule
@@ -32,13 +34,15 @@ OF_FOLDS = (
             '  Transaction 0 of row 1 (version 20) sets it to "v": '
             "not applied, since it is not lock aware and the database was locked before version 20.",
             "    The lock is read once, before the row, after version 10: the database was locked.",
-            '      Transaction 0 of row 0 (version 10) sets it to "L": applied, since every resolver committed it and it is lock aware.',
+            '      Transaction 0 of row 0 (version 10) sets it to "L": applied, since every resolver committed it and it is '
+            'lock aware.',
             "    The transaction is not lock aware.",
             NOT + "    The lock is read once, before the batch, after version 10: the database was locked.",
         ),
     ),
     WrongRule(
-        "a tag of a server is left out", FOLD, "servers_of(kept[max(before)])", "servers_of(kept[max(before)])[:2]", "moving_range", (
+        "a tag of a server is left out", FOLD, "servers_of(kept[max(before)])", "servers_of(kept[max(before)])[:2]",
+        "moving_range", (
             '  Gakyhera: route "" 0:9 0:258 1:0', '  TEXT:     route "" 0:258 1:0',
             "  Server server0000000003 has the tag 0:9.", "  Server server0000000004 has no tag.", "TEXT lacks 0:9.",
         ),
@@ -47,7 +51,8 @@ OF_FOLDS = (
         "the destinations have no tags", FOLD,
         "servers_of(kept[max(before)])", "servers_of(kept[max(before)])[: kept[max(before)][0]]", "moving_range", (
             '  Gakyhera: route "" 0:9 0:258 1:0', '  TEXT:     route "" 1:0',
-            '  The keyServers row "" has sources server0000000001, destinations server0000000002, server0000000003 and server0000000004.',
+            '  The keyServers row "" has sources server0000000001, destinations server0000000002, server0000000003 and '
+            'server0000000004.',
             "TEXT lacks 0:9 and 0:258.",
         ),
     ),
@@ -58,14 +63,16 @@ OF_FOLDS = (
         ),
     ),
     WrongRule(
-        "tags stand in the order of their ids", FOLD, "    return sorted(found)", "    return sorted(found, key=lambda it: it[::-1])",
+        "tags stand in the order of their ids", FOLD, "    return sorted(found)",
+        "    return sorted(found, key=lambda it: it[::-1])",
         "moving_range", (
             '  TEXT:     route "" 1:0 0:9 0:258',
             "TEXT has the same tags in another order: each tag stands once, by its locality and then by its id, as numbers.",
         ),
     ),
     WrongRule(
-        "a Clear removes the row at its end", FOLD, "if first <= key < second]", "if first <= key <= second]", "cleared_rows", (
+        "a Clear removes the row at its end", FOLD, "if first <= key < second]", "if first <= key <= second]",
+        "cleared_rows", (
             '  Gakyhera: route "m" 0:3', '  TEXT:     tags "b" 0:1',
             "Each keyServers row after version 20 has a line.",
             "    Transaction 0 of row 0 (version 10) sets it to sources server0000000003, destinations none: "
@@ -73,7 +80,8 @@ OF_FOLDS = (
         ),
     ),
     WrongRule(
-        "a Clear leaves the row at its begin", FOLD, "if first <= key < second]", "if first < key < second]", "cleared_rows", (
+        "a Clear leaves the row at its begin", FOLD, "if first <= key < second]", "if first < key < second]", "cleared_rows",
+        (
             '  TEXT:     route "c" 0:2', 'The keyServers row "c" is not there after version 20.',
             '  Transaction 0 of row 1 (version 20) clears ["\\xff/keyServers/c", "\\xff/keyServers/m"): '
             "applied, since every resolver committed it and it is lock aware.",
@@ -86,7 +94,8 @@ OF_FOLDS = (
         ),
     ),
     WrongRule(
-        "the version is that of the first row", FOLD, "rows[-1][0] if rows else 0", "rows[0][0] if rows else 0", "cleared_rows", (
+        "the version is that of the first row", FOLD, "rows[-1][0] if rows else 0", "rows[0][0] if rows else 0",
+        "cleared_rows", (
             "  TEXT:     version 10", "The version is that of the last row, row 1.",
         ),
     ),
@@ -134,16 +143,19 @@ OF_VERDICTS = (
     WrongRule(
         "a read that begins where a write ends conflicts with it", TURNS,
         "any(a < d and c < b for a, b", "any(a <= d and c < b for a, b", "turns/touching_ranges", (
-            "Verdict 0 is on transaction 0, with snapshot 0.", "No write that counts overlaps a read of it; these do not count.",
+            "Verdict 0 is on transaction 0, with snapshot 0.",
+            "No write that counts overlaps a read of it; these do not count.",
             '  The write ["c", "e") of transaction 0 of row 0 (version 10): '
             'it only touches the read ["a", "c"), since no range has its end.',
         ),
     ),
     WrongRule(
         "a write of a transaction that conflicts counts later in its batch", TURNS,
-        'if it.number < part.number and verdicts[it.number] == "committed"]', "if it.number < part.number]", "turns/within_a_batch", (
+        'if it.number < part.number and verdicts[it.number] == "committed"]', "if it.number < part.number]",
+        "turns/within_a_batch", (
             "Verdict 2 is on transaction 2, with snapshot 0.",
-            '  The write ["c", "d") of transaction 1 of row 0 (version 10): resolver 0 gave its transaction conflict (line 2).',
+            '  The write ["c", "d") of transaction 1 of row 0 (version 10): resolver 0 gave its transaction conflict (line '
+            '2).',
         ),
     ),
     WrongRule(
@@ -178,8 +190,10 @@ OF_OWNERS = (
     WrongRule(
         "an old owner is not asked", TURNS, "            if date < bound:", "            if True:", "turns/moved_range", (
             "Event 8 offers row 2 to resolver 0.",
-            "The resolver gives 1 verdict on this row, one for each transaction that asks it. TEXT has 0.", "Transaction 0 asks it.",
-            '  The read ["n", "n\\x00") goes to resolvers 0 and 1.', '    The owners of "n", the last one first: 1 (dated 11) and 0 (dated 0).',
+            "The resolver gives 1 verdict on this row, one for each transaction that asks it. TEXT has 0.",
+            "Transaction 0 asks it.",
+            '  The read ["n", "n\\x00") goes to resolvers 0 and 1.',
+            '    The owners of "n", the last one first: 1 (dated 11) and 0 (dated 0).',
             "    A read asks the owners from the last one back to the first that is dated before its snapshot 10.",
             "Transaction 1 does not ask it.",
         ),
@@ -195,7 +209,8 @@ OF_OWNERS = (
         "the window does not end the search for owners", TURNS,
         "max(snapshot, record.previous - window), set()", "snapshot, set()", "turns/owner_before_the_window", (
             "Transaction 0 does not ask it.", '  The read ["n", "o") goes to resolver 1.',
-            "    A read asks the owners from the last one back to the first that is dated before 15, the previous version 20 less the window 5.",
+            "    A read asks the owners from the last one back to the first that is dated before 15, the previous version "
+            "20 less the window 5.",
         ),
     ),
     WrongRule(
@@ -203,13 +218,15 @@ OF_OWNERS = (
         "return {owners(record, key)[-1][1] for key in keys_that_differ(record, span)}",
         "return {it for key in keys_that_differ(record, span) for _, it in owners(record, key)}", "turns/moved_range", (
             "Event 6 offers row 1 to resolver 0.",
-            "The resolver gives 0 verdicts on this row, one for each transaction that asks it. TEXT has 1.", "Transaction 0 does not ask it.",
+            "The resolver gives 0 verdicts on this row, one for each transaction that asks it. TEXT has 1.",
+            "Transaction 0 does not ask it.",
             '  The write ["n", "n\\x00") goes to resolver 1.', "    A write asks the last owner of each key.",
         ),
     ),
     WrongRule(
         "a write goes only to the owner of its begin", TURNS,
-        "return {owners(record, key)[-1][1] for key in keys_that_differ(record, span)}", "return {owners(record, span[0])[-1][1]}",
+        "return {owners(record, key)[-1][1] for key in keys_that_differ(record, span)}",
+        "return {owners(record, span[0])[-1][1]}",
         "turns/straddling_write", (
             "Transaction 0 asks it.", '  The write ["k", "p") goes to resolvers 0 and 1.',
             '    The owners of "k", the last one first: 0 (dated 0).',
@@ -219,10 +236,12 @@ OF_OWNERS = (
     ),
     WrongRule(
         "a read goes only to the owners of its begin", TURNS,
-        "for key in keys_that_differ(record, span):\n        for", "for key in span[:1]:\n        for", "turns/around_a_range", (
+        "for key in keys_that_differ(record, span):\n        for", "for key in span[:1]:\n        for",
+        "turns/around_a_range", (
             "The resolver gives 2 verdicts on this row, one for each transaction that asks it. TEXT has 1.",
             "TEXT lacks the verdict on transaction 0.", '  The read ["a", "z") goes to resolvers 0 and 1.',
-            '    The owners of "a", the last one first: 0 (dated 0).', '    The owners of "m", the last one first: 1 (dated 1) and 0 (dated 0).',
+            '    The owners of "a", the last one first: 0 (dated 0).',
+            '    The owners of "m", the last one first: 1 (dated 1) and 0 (dated 0).',
             '    The owners of "t", the last one first: 0 (dated 0).',
         ),
     ),
@@ -252,7 +271,8 @@ OF_OWNERS = (
     WrongRule(
         "an ordinary system key makes no state transaction", TURNS,
         'return first.startswith(b"\\xff") and not', 'return first.startswith(b"\\xff/k") and not', "turns/state_or_not", (
-            "Transaction 0 does not ask it.", "  It is no state transaction, and reads and writes no range.", "Transaction 1 asks it.",
+            "Transaction 0 does not ask it.", "  It is no state transaction, and reads and writes no range.",
+            "Transaction 1 asks it.",
             "  It is a state transaction, which asks every resolver.",
         ),
     ),
@@ -299,7 +319,8 @@ OF_REPLIES = (
     ),
     WrongRule(
         "a reply is given up when it is finished", TURNS,
-        "max(it.received for it in self.history[:judged] if it.proxy == record.proxy)", "self.finished_version(record.proxy)",
+        "max(it.received for it in self.history[:judged] if it.proxy == record.proxy)",
+        "self.finished_version(record.proxy)",
         "turns/acknowledged_at_one", (
             "  TEXT:     refused 31 GivenUp 10", "Event 7 offers row 0 to resolver 1.",
             "The last record of proxy 0 that this resolver judged before this event is row 0 (line 3).",
@@ -308,7 +329,8 @@ OF_REPLIES = (
         ),
     ),
     WrongRule(
-        "another proxy acknowledges replies too", TURNS, "self.history[:judged] if it.proxy == record.proxy)", "self.history[:judged])",
+        "another proxy acknowledges replies too", TURNS, "self.history[:judged] if it.proxy == record.proxy)",
+        "self.history[:judged])",
         "turns/late_repeat", (
             "  TEXT:     refused 31 GivenUp 20",
             "The last record of proxy 0 that this resolver judged before this event is row 0 (line 3).",
@@ -332,7 +354,8 @@ OF_REPLIES = (
         ),
     ),
     WrongRule(
-        "a missing row is looked for after the resolver", TURNS, "        if row >= len(self.history):\n            return refusal(35)\n",
+        "a missing row is looked for after the resolver", TURNS,
+        "        if row >= len(self.history):\n            return refusal(35)\n",
         "        if row >= len(self.history):\n            return refusal(33)\n", "turns/refused_events", (
             "Before this event 0 rows have a record. Rows count from 0.",
         ),
@@ -342,7 +365,8 @@ OF_REPLIES = (
 OF_FINISHES = (
     WrongRule(
         "the lock is read after the batch", TURNS,
-        "is_locked(fold(self.journal(record.previous)))", "is_locked(fold(self.journal(record.version)))", "turns/spreading_lock", (
+        "is_locked(fold(self.journal(record.previous)))", "is_locked(fold(self.journal(record.version)))",
+        "turns/spreading_lock", (
             "  Gakyhera: txn 1 committed 10 1", "  TEXT:     txn 1 locked 1038",
             "The lock is read once, before the batch, after version 0: the database was not locked.",
             "The transaction is not lock aware.",
@@ -354,7 +378,8 @@ OF_FINISHES = (
         "is_locked(fold(self.journal(record.previous)))", "is_locked(fold(self.journal(record.version)))", "turns/unlock", (
             "  Gakyhera: txn 1 locked 1038",
             "The lock is read once, before the batch, after version 10: the database was locked.",
-            '  Transaction 0 of row 0 (version 10) sets it to "L": applied, since every resolver committed it (line 4) and it is lock aware.',
+            '  Transaction 0 of row 0 (version 10) sets it to "L": applied, since every resolver committed it (line 4) and '
+            'it is lock aware.',
         ),
     ),
     WrongRule(
@@ -362,7 +387,8 @@ OF_FINISHES = (
         "turns/spreading_lock", ("  TEXT:     txn 1 locked 1038", "The transaction is lock aware."),
     ),
     WrongRule(
-        "the lock comes before conflict", TURNS, 'if outcome == "committed" and locked and', "if locked and", "turns/lock_conflict", (
+        "the lock comes before conflict", TURNS, 'if outcome == "committed" and locked and', "if locked and",
+        "turns/lock_conflict", (
             "  Gakyhera: txn 0 conflict 1020", "  TEXT:     txn 0 locked 1038", "Resolver 0 gave conflict (line 4).",
             "The lock refuses only what would be committed.",
         ),
@@ -371,7 +397,8 @@ OF_FINISHES = (
         "the outcome is the greatest verdict", TURNS,
         "return min(said, key=WORST_FIRST.index", "return max(said, key=WORST_FIRST.index", "turns/half_committed", (
             "  TEXT:     txn 0 committed 20 0", "Resolver 0 gave conflict (line 7).",
-            "Resolver 1 gave committed (line 8).", "The least of these in the order conflict, too_old, committed is conflict.",
+            "Resolver 1 gave committed (line 8).",
+            "The least of these in the order conflict, too_old, committed is conflict.",
         ),
     ),
     WrongRule(
@@ -406,11 +433,13 @@ OF_FINISHES = (
             "  Server server0000000002 has the tag 0:2.",
             "    Transaction 0 of row 0 (version 10) sets it to 0:2: "
             "applied, since every resolver committed it (lines 3 and 5) and the database was not locked before version 10.",
-            "TEXT lacks 0:2.", '  The keyServers row "m" has it.', NOT + "By the metadata after version 20, the tags would be those of TEXT.",
+            "TEXT lacks 0:2.", '  The keyServers row "m" has it.',
+            NOT + "By the metadata after version 20, the tags would be those of TEXT.",
         ),
     ),
     WrongRule(
-        "a stamp has its low byte first", TURNS, 'version.to_bytes(8, "big")', 'version.to_bytes(8, "little")', "turns/stamped_version", (
+        "a stamp has its low byte first", TURNS, 'version.to_bytes(8, "big")', 'version.to_bytes(8, "little")',
+        "turns/stamped_version", (
             "This is decided by the metadata version after version 258.",
             "    That has a stamp: the version in eight bytes and the transaction's number in two, high byte first.",
         ),
@@ -424,19 +453,22 @@ OF_FINISHES = (
     ),
     WrongRule(
         "a proxy shows the last version, finished or not", TURNS,
-        "version = self.finished_version(proxy)\n        yield", "version = self.last_version()\n        yield", "turns/two_proxies", (
+        "version = self.finished_version(proxy)\n        yield", "version = self.last_version()\n        yield",
+        "turns/two_proxies", (
             "  TEXT:     version 20", "Proxy 0 has finished no record, so it is at version 0.",
             "It has not finished row 0.",
         ),
     ),
     WrongRule(
-        "versions are one step late", TURNS, "version = previous + self.step", "version = previous + self.step * bool(self.history)",
+        "versions are one step late", TURNS, "version = previous + self.step",
+        "version = previous + self.step * bool(self.history)",
         "turns/two_proxies", (
             "The next row is 0, and its version the last one plus the step: 0 + 10 = 10.",
         ),
     ),
     WrongRule(
-        "a stamp may go past the end of its value", TURNS, "place + 10 <= len(text)", "place + 9 <= len(text)", "turns/bad_stamp", (
+        "a stamp may go past the end of its value", TURNS, "place + 10 <= len(text)", "place + 9 <= len(text)",
+        "turns/bad_stamp", (
             "  Gakyhera: refused 15 BadStamp", "The first fault is at mutation 0 of transaction 0 of event 0.",
         ),
     ),
@@ -445,9 +477,11 @@ OF_FINISHES = (
 OF_COPIES = (
     WrongRule(
         "the tag of a private copy is that from before the batch", TURNS,
-        "copy = private_copy(kept, change)", "copy = private_copy(fold(self.journal(record.previous)), change)", "turns/private_copies", (
+        "copy = private_copy(kept, change)", "copy = private_copy(fold(self.journal(record.previous)), change)",
+        "turns/private_copies", (
             '  Gakyhera: private 0 1 "\\xff\\xff/serverKeys/server0000000001/m" 0:1', "  TEXT:     mutation 0 2 tags none",
-            "Event 2 finishes a batch of proxy 0.", 'Mutation 1 of transaction 0 sets "\\xff/serverKeys/server0000000001/m".',
+            "Event 2 finishes a batch of proxy 0.",
+            'Mutation 1 of transaction 0 sets "\\xff/serverKeys/server0000000001/m".',
             "A Set of a serverKeys row has a private copy with the tag of its server after version 10, if there is one.",
             "  Server server0000000001 has the tag 0:1.",
             "    Transaction 0 of row 0 (version 10) sets it to 0:1: applied, since every resolver committed it (line 2) "
@@ -463,13 +497,15 @@ OF_COPIES = (
 """, "turns/private_copies", (
             "  Gakyhera: proxy 0", '  TEXT:     private 0 2 "\\xff\\xff/serverKeys/server0000000002/m" 0:0',
             "Event 2 finishes a batch of proxy 0.", "Row 0 has version 10 and is of proxy 0; event 0 sequenced it.",
-            'Mutation 2 of transaction 0 sets "\\xff/serverKeys/server0000000002/m".', "  Server server0000000002 has no tag.",
+            'Mutation 2 of transaction 0 sets "\\xff/serverKeys/server0000000002/m".',
+            "  Server server0000000002 has no tag.",
             "    No state transaction up to version 10 sets or clears it.",
             NOT + "The line of a private copy stands right after that of its mutation.",
         ),
     ),
     WrongRule(
-        "the key of a private copy is that of its mutation", TURNS, "quoted(copy[0])", "quoted(change[1])", "turns/private_copies", (
+        "the key of a private copy is that of its mutation", TURNS, "quoted(copy[0])", "quoted(change[1])",
+        "turns/private_copies", (
             '  TEXT:     private 0 0 "\\xff/serverTag/server0000000001" 0:1',
             "A Set of a serverTag row has a private copy with the tag that it sets: 0:1.",
             "The key of the copy is that of the Set, with one more byte \\xff before it.",
@@ -477,7 +513,8 @@ OF_COPIES = (
         ),
     ),
     WrongRule(
-        "a server's tag has no private copy", TURNS, 'if kind == "set" and is_server_tag(key):', "if False:", "turns/lagging_proxy", (
+        "a server's tag has no private copy", TURNS, 'if kind == "set" and is_server_tag(key):', "if False:",
+        "turns/lagging_proxy", (
             '  Gakyhera: private 0 0 "\\xff\\xff/serverTag/server0000000001" 0:1', "  TEXT:     mutation 0 1 tags none",
             'Mutation 0 of transaction 0 sets "\\xff/serverTag/server0000000001".',
             "A Set of a serverTag row has a private copy with the tag that it sets: 0:1.",
@@ -488,10 +525,12 @@ OF_COPIES = (
 
 OF_THREADS = (
     WrongRule(
-        "the lock does not refuse", THREADS, 'return "locked" if joined == "committed" and locked', 'return "locked" if False',
+        "the lock does not refuse", THREADS, 'return "locked" if joined == "committed" and locked',
+        'return "locked" if False',
         "threads/lock_of_one", (
             "Line 2 differs:", "  Gakyhera: batch 0 1 locked committed", "  TEXT:     batch 0 1 committed committed",
-            "The batches can come in 3 orders. The texts of 3 begin as TEXT does up to line 1, and none goes on as TEXT does.",
+            "The batches can come in 3 orders. The texts of 3 begin as TEXT does up to line 1, and none goes on as TEXT "
+            "does.",
             "  The lock is read once, before the batch, after version 10: the database was locked.",
             "  The transaction is not lock aware.",
         ),
@@ -513,7 +552,8 @@ OF_THREADS = (
         ),
     ),
     WrongRule(
-        "the ledger has a row more", THREADS, "if rows == script.rows:", "if rows == script.rows + 1:", "threads/full_ledger", (
+        "the ledger has a row more", THREADS, "if rows == script.rows:", "if rows == script.rows + 1:",
+        "threads/full_ledger", (
             "Line 3 differs:", "  Gakyhera: batch 0 2 refused 50 LedgerFull 2",
             "  2 batches get a row: the ledger has 2 rows, and the greatest version is 9223372036854775807.",
         ),

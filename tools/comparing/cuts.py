@@ -249,9 +249,13 @@ def batches_of_threads(shrinker, value):
 
 
 def rounds_of_threads(shrinker, value):
-    """Leaves out the batches with one number of all proxies at once: without only one of them the order in turns is another one."""
+    """Leaves out the batches with one number of all proxies at once:
+    without only one of them the order in turns is another one.
+    """
     def without(gone):
-        return changed(value, work=[[it for number, it in enumerate(batches) if number not in gone] for batches in value["work"]])
+        return changed(
+            value, work=[[it for number, it in enumerate(batches) if number not in gone] for batches in value["work"]],
+        )
 
     return without(shrinker.drop(max(map(len, value["work"]), default=0), without))
 

@@ -92,8 +92,13 @@ def compare_threads(given, theirs):
     order, wrong = threads.what_is_wrong(script, text)
     if not wrong:
         return 0, [NO_DIFFERENCE, "TEXT is right in this order: %s." % threads.order_words(script, order)]
-    difference = first_difference(lines_of(printed(script, order_in_turns(script), meetings=True).encode()), lines_of(theirs))
-    number = refusals.script_refusal(decoded(difference.theirs), "threads") if difference and not difference.at and difference.theirs else None
+    difference = first_difference(
+        lines_of(printed(script, order_in_turns(script), meetings=True).encode()), lines_of(theirs),
+    )
+    number = (
+        refusals.script_refusal(decoded(difference.theirs), "threads") if difference and not difference.at
+        and difference.theirs else None
+    )
     if number:
         return 1, [*shown(difference), *refusals.no_fault_words("threads", given, number)]
     return 1, list(threads.explain(script, theirs, wrong))

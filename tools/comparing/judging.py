@@ -51,9 +51,13 @@ def fault_of_end(ended, seconds):
     if ended.stopped == "hangs":
         return Difference("hangs", ["It hangs: it has not ended in %g seconds." % seconds, *said_words(ended)])
     if ended.stopped:
-        return Difference("no end", ["It prints to no end: it was ended after %d bytes." % len(ended.text), *said_words(ended)])
+        return Difference(
+            "no end", ["It prints to no end: it was ended after %d bytes." % len(ended.text), *said_words(ended)],
+        )
     if ended.status < 0:
-        return Difference("crash %d" % ended.status, ["It crashes: %s ended it." % signal_name(-ended.status), *said_words(ended)])
+        return Difference(
+            "crash %d" % ended.status, ["It crashes: %s ended it." % signal_name(-ended.status), *said_words(ended)],
+        )
     return None
 
 

@@ -48,28 +48,66 @@ def shard(words):
 def reader(words):
     """The reader of the options, which stand before `--`."""
     how = argparse.RawDescriptionHelpFormatter
-    found = argparse.ArgumentParser(prog="compare", description=words, formatter_class=how, usage="tools/compare [OPTIONS] -- COMMAND..")
-    add, count = found.add_argument, number(1, 10**12)
-    add("--modes", type=modes, default=list(MODES), metavar="LIST", help="the modes that COMMAND has [default: %s]" % ",".join(MODES))
-    add("--random", type=number(0, 10**12), default=RANDOM, metavar="N", help="how many random scripts to try [default: %d]" % RANDOM)
-    add("--seed", type=number(0, SEEDS - 1), metavar="S", help="what decides the random scripts [default: drawn, and printed]")
+    found = argparse.ArgumentParser(
+        prog="compare", description=words, formatter_class=how, usage="tools/compare [OPTIONS] -- COMMAND..",
+    )
+    add_scripts(found.add_argument)
+    add_ends(found.add_argument)
+    add_orders(found.add_argument)
+    return found
+
+
+def add_scripts(add):
+    """What is tried, and what is right."""
+    add(
+        "--modes", type=modes, default=list(MODES), metavar="LIST",
+        help="the modes that COMMAND has [default: %s]" % ",".join(MODES),
+    )
+    add(
+        "--random", type=number(0, 10**12), default=RANDOM, metavar="N",
+        help="how many random scripts to try [default: %d]" % RANDOM,
+    )
+    add(
+        "--seed", type=number(0, SEEDS - 1), metavar="S",
+        help="what decides the random scripts [default: drawn, and printed]",
+    )
+    add(
+        "--shard", type=shard, default=(1, 1), metavar="K/N",
+        help="tries each Nth script, from the Kth on, so that N machines share them",
+    )
+    add(
+        "--program", metavar="PROGRAM",
+        help="what says what is right, with its words [default: %s, else the second program]" % BUILT,
+    )
+
+
+def add_ends(add):
+    """How it is run, when it ends, and what becomes of a difference."""
+    count = number(1, 10**12)
     add("--seconds", type=seconds, default=SECONDS, metavar="X", help="how long a run may take [default: %d]" % SECONDS)
     add("--minutes", type=seconds, metavar="X", help="begins no further script after so many minutes")
     add("--jobs", type=number(1, 1024), metavar="N", help="how many runs go on at once [default: the processors]")
     add("--keep-going", type=count, default=1, metavar="N", help="stops at the Nth difference [default: 1]")
-    add("--shard", type=shard, default=(1, 1), metavar="K/N", help="tries each Nth script, from the Kth on, so that N machines share them")
-    add("--json", action="store_true", help="prints one JSON object on a line for each difference, and all else on standard error")
+    add(
+        "--json", action="store_true",
+        help="prints one JSON object on a line for each difference, and all else on standard error",
+    )
     add("--folder", default=FOLDER, help="where scripts and texts that differ are left [default: out/compare]")
-    add("--shrink-seconds", type=seconds, default=SHRINK_SECONDS, metavar="X",
-        help="how long making a script smaller may take; 0 leaves it as it is [default: %d]" % SHRINK_SECONDS)
+    add(
+        "--shrink-seconds", type=seconds, default=SHRINK_SECONDS, metavar="X",
+        help="how long making a script smaller may take; 0 leaves it as it is [default: %d]" % SHRINK_SECONDS,
+    )
     add("--any-status", action="store_true", help="does not look at the status that a run ends with, unless it crashes")
-    add("--program", metavar="PROGRAM", help="what says what is right, with its words [default: %s, else the second program]" % BUILT)
+
+
+def add_orders(add):
+    """Every order of the events of a small cluster."""
+    count = number(1, 10**12)
     add("--orders", action="store_true", help="tries every order of the events of a small cluster")
     add("--batches", type=number(1, 8), metavar="N", help="with --orders, how many batches it has [default: 2]")
     add("--resolvers", type=number(1, 8), metavar="N", help="with --orders, how many resolvers it has [default: 2]")
     add("--repeats", action="store_true", help="with --orders, each offer is given twice")
     add("--sample", type=count, metavar="N", help="with --orders, tries N orders that are drawn")
-    return found
 
 
 def command_of(found, given):
@@ -77,7 +115,10 @@ def command_of(found, given):
     cut = given.index("--") if "--" in given else len(given)
     (options, others), command = found.parse_known_args(given[:cut]), given[cut + 1 :]
     if others:
-        found.error("unrecognized arguments: %s%s" % (" ".join(others), "" if command else "; the command stands after --, as in: -- ./mine"))
+        found.error(
+            "unrecognized arguments: %s%s"
+            % (" ".join(others), "" if command else "; the command stands after --, as in: -- ./mine")
+        )
     if not command:
         found.error("name the command after --, as in: -- ./mine")
     if not shutil.which(command[0]):

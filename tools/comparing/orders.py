@@ -1,10 +1,10 @@
 """Every order of the events of one small cluster: how many there are, and each by its number.
 
-The cluster has two proxies, which have the batches in turn, some resolvers and a move. The batches are sequenced in one order. A
-row is offered to a resolver after it was sequenced and after the row before it was offered there. A proxy finishes a row after it
-was offered to every resolver, and its rows in order. The move can stand anywhere. With repeats each offer is given twice, and the
-second time any time after the first; it is refused where its reply was acknowledged by then, as docs/FORMATS.md says. No other
-event is refused.
+The cluster has two proxies, which have the batches in turn, some resolvers and a move. The batches are sequenced in one
+order. A row is offered to a resolver after it was sequenced and after the row before it was offered there. A proxy finishes
+a row after it was offered to every resolver, and its rows in order. The move can stand anywhere. With repeats each offer is
+given twice, and the second time any time after the first; it is refused where its reply was acknowledged by then, as
+docs/FORMATS.md says. No other event is refused.
 
 Orders are counted by the states between their events, of which there are few, and never listed.
 """
@@ -33,13 +33,15 @@ class Orders:
     def __init__(self, batches, resolvers, repeats, seed, sample=None):
         self.batches, self.resolvers, self.repeats, self.seed = batches, resolvers, repeats, seed
         self.counts = {}
-        # a state: how many rows are sequenced, whether the move is made; for each resolver how many rows it was offered, and which
-        # of them again; for each proxy how many rows it has finished
+        # a state: how many rows are sequenced, whether the move is made; for each resolver how many rows it was offered, and
+        # which of them again; for each proxy how many rows it has finished
         self.first = 0, False, (0,) * resolvers, (0,) * resolvers, (0,) * PROXIES
         self.total = self.count(self.first)
         if self.total > sys.maxsize and sample is None:
             raise TooLarge("the cluster has %d orders: take --sample" % self.total)
-        self.given, rng = drawn_batches(batches, resolvers, random.Random("orders %s" % seed)), random.Random("sample %s" % seed)
+        self.given, rng = (
+            drawn_batches(batches, resolvers, random.Random("orders %s" % seed)), random.Random("sample %s" % seed),
+        )
         self.sample = None if sample is None or sample >= self.total else [rng.randrange(self.total) for _ in range(sample)]
 
     def __len__(self):
@@ -70,7 +72,10 @@ class Orders:
                 yield ("offer", count, resolver), (sequenced, moved, with_one_more(offered, resolver), again, finished)
             for row in range(count if self.repeats else 0):
                 if not again[resolver] >> row & 1:
-                    yield ("offer", row, resolver), (sequenced, moved, offered, with_one_more(again, resolver, 1 << row), finished)
+                    yield (
+                        ("offer", row, resolver),
+                        (sequenced, moved, offered, with_one_more(again, resolver, 1 << row), finished),
+                    )
         for proxy, count in enumerate(finished):
             if count * PROXIES + proxy < min(sequenced, *offered):
                 yield ("finish", proxy), (sequenced, moved, offered, again, with_one_more(finished, proxy))
@@ -113,14 +118,16 @@ def with_one_more(counts, place, more=1):
 
 
 def drawn_batches(count, resolvers, rng):
-    """Batches of which the first writes rows and a key that the move takes, the second reads that key and conflicts, the third locks
-    the database, and the fourth meets the lock; and again."""
+    """Batches of which the first writes rows and a key that the move takes, the second reads that key and conflicts, the
+    third locks the database, and the fourth meets the lock; and again."""
     taken, other = rng.choice(["m", "n", "s"]), rng.choice(["a", "l", "t"])
     server, another = rng.sample([SERVER_1, SERVER_2], 2)
     rows = transaction(0, [], [one_key(taken)], [put_tag(server, "\\x00\\x00\\x01"), put_servers("", server)], True)
     conflict = transaction(rng.choice([0, 5]), [one_key(taken)], [one_key(other)], [put(other, "1")])
     lock = transaction(0, [], [one_key(LOCKED)], [put(LOCKED, "L"), put(SERVER_TAG + another, "\\x00\\x00\\x02")], True)
-    meets = transaction(rng.choice([10, 25]), [one_key(other)], [], [put(KEY_SERVERS + "m", "\\x01%s\\x00" % another)], rng.random() < 0.5)
+    meets = transaction(
+        rng.choice([10, 25]), [one_key(other)], [], [put(KEY_SERVERS + "m", "\\x01%s\\x00" % another)], rng.random() < 0.5,
+    )
     reads_all = transaction(rng.choice([10, 20]), [["a", "z"]], [[taken, "z"]], [put(taken, "2")])
     writes_all = transaction(30, [], [["a", "z"]], [put(taken, "3")])
     second = [conflict, transaction(10, [one_key(other)], [one_key("k")], [put("k", "1")])]

@@ -22,7 +22,9 @@ class Unknown(Exception):
 
 
 def second_text(mode, script):
-    """The text of a script by the second program; of a threads script that of its refusal, or nothing if there may be several."""
+    """The text of a script by the second program;
+    of a threads script that of its refusal, or nothing if there may be several.
+    """
     if mode == "threads":
         refused = script_of(script)[1]
         return refused.encode() + b"\n" if refused else None
@@ -58,7 +60,10 @@ def printed_by(words, mode, script):
     except running.NoStart as why:
         raise Unknown("the program %s" % why) from None
     if ended.stopped:
-        raise Unknown("the program %s %s" % (name, "has not ended in %d seconds" % LIMIT if ended.stopped == "hangs" else ended.stopped))
+        raise Unknown(
+            "the program %s %s"
+            % (name, "has not ended in %d seconds" % LIMIT if ended.stopped == "hangs" else ended.stopped)
+        )
     if ended.status != is_refusal(ended.text) or ended.said:
         said = ended.said.decode(errors="backslashreplace").strip()
         raise Unknown("the program %s ended with status %d%s" % (name, ended.status, ": " + said if said else ""))

@@ -62,7 +62,9 @@ class Session:
             if differs:
                 waiting.append(pool.tell(*differs))
             if len(waiting) + self.told == self.options.keep_going:
-                self.stopped = "Stopped at the %s difference: --keep-going N goes on to the Nth." % ordinal(self.options.keep_going)
+                self.stopped = "Stopped at the %s difference: --keep-going N goes on to the Nth." % ordinal(
+                    self.options.keep_going
+                )
                 break
             while waiting and waiting[0].done():
                 self.tell(waiting.pop(0).result())
@@ -82,12 +84,19 @@ class Session:
 
     def first_words(self):
         right = SECOND if self.how.program is None else " ".join(self.how.program)
-        yield "What is right comes from %s%s." % (right, ", since there is no built program" if self.how.program is None else "")
+        yield "What is right comes from %s%s." % (
+            right, ", since there is no built program" if self.how.program is None else "",
+        )
         for source in self.sources:
             if isinstance(source, Orders):
                 yield "A cluster of %s and a move%s has %s, with %s between their events%s (seed %d)." % (
-                    "%s, %s" % ("1 batch" if source.batches == 1 else "%d batches" % source.batches, count(source.resolvers, "resolver")),
-                    ", each offer given twice," if source.repeats else "", count(source.total, "order"), count(len(source.counts), "state"),
+                    "%s, %s"
+                    % (
+                        "1 batch" if source.batches == 1 else "%d batches" % source.batches,
+                        count(source.resolvers, "resolver"),
+                    ),
+                    ", each offer given twice," if source.repeats else "", count(source.total, "order"),
+                    count(len(source.counts), "state"),
                     "" if source.sample is None else "; %d of them are drawn" % len(source.sample), source.seed)
             elif isinstance(source, Random):
                 yield "The seed of the random scripts is %d." % source.seed
@@ -107,7 +116,8 @@ class Session:
         if told.script != told.case.script:
             how = "Made smaller" if len(told.script) < len(told.case.script) else "Written anew"
             yield "%s, from %d to %d bytes, by %s%s:" % (
-                how, len(told.case.script), len(told.script), count(told.runs, "run"), ", until the time ended" * told.is_cut_short)
+                how, len(told.case.script), len(told.script), count(told.runs, "run"),
+                ", until the time ended" * told.is_cut_short)
         script = told.script.decode(errors="backslashreplace")
         yield from script.rstrip("\n").split("\n") if len(script) <= SHORT else ["(%d bytes)" % len(script)]
         yield ""
@@ -120,7 +130,8 @@ class Session:
     def last_words(self):
         if self.undecided:
             yield "%s not found out whether it is right, the first of them %s" % (
-                "Of 1 text it was" if len(self.undecided) == 1 else "Of %d texts it was" % len(self.undecided), self.undecided[0])
+                "Of 1 text it was" if len(self.undecided) == 1 else "Of %d texts it was" % len(self.undecided),
+                self.undecided[0])
         if self.stopped:
             yield self.stopped
         tried = " and ".join(count(self.tried[place], source.what) for place, source in enumerate(self.sources))
@@ -137,7 +148,10 @@ class Session:
             return
         part, of = self.options.shard
         whole = -(-(sum(map(len, self.sources)) - part + 1) // of)
-        print("\r\x1b[K%d of %d scripts, %d s" % (sum(self.tried.values()), whole, now - self.begun), end="", file=sys.stderr, flush=True)
+        print(
+            "\r\x1b[K%d of %d scripts, %d s" % (sum(self.tried.values()), whole, now - self.begun), end="", file=sys.stderr,
+            flush=True,
+        )
         self.shown_at = now
 
     def clear(self):
@@ -165,11 +179,15 @@ def sources_of(options):
 
 def object_of(told, folder):
     """A difference for machines."""
-    right, theirs = (None if it is None else it.decode(errors="backslashreplace") for it in (told.found.right, told.found.ended.text))
+    right, theirs = (
+        None if it is None else it.decode(errors="backslashreplace") for it in (told.found.right, told.found.ended.text)
+    )
     return {
         "name": told.case.name, "mode": told.case.mode, "source": told.case.source, "kind": told.found.kind,
-        "line": None if told.found.line is None else told.found.line + 1, "script": told.script.decode(errors="backslashreplace"),
-        "right": right, "theirs": theirs, "status": told.found.ended.status, "explanation": told.explanation, "folder": folder,
+        "line": None if told.found.line is None else told.found.line + 1,
+        "script": told.script.decode(errors="backslashreplace"),
+        "right": right, "theirs": theirs, "status": told.found.ended.status, "explanation": told.explanation,
+        "folder": folder,
     }
 
 

@@ -1,4 +1,6 @@
-"""Ways to make the numbers, keys and values of a script small: each takes a shrinker and a script's value, and returns the smaller one."""
+"""Ways to make the numbers, keys and values of a script small:
+each takes a shrinker and a script's value, and returns the smaller one.
+"""
 import copy
 import re
 
@@ -130,7 +132,8 @@ def with_keys(value, rename):
     if not isinstance(value, dict):
         return value
     return {
-        name: [with_keys(inner[0], rename), inner[1]] if name in PAIRS else inner if name == "verdicts" else with_keys(inner, rename)
+        name: [with_keys(inner[0], rename), inner[1]] if name in PAIRS else inner if name == "verdicts"
+        else with_keys(inner, rename)
         for name, inner in value.items()
     }
 
@@ -173,7 +176,10 @@ def own_part(key, is_left):
 
 def values(shrinker, value):
     """Makes the values of Sets short."""
-    for path in [(*it, name) for it in all_places(value) for name in PAIRS if isinstance(at(value, it), dict) and name in at(value, it)]:
+    for path in [
+        (*it, name) for it in all_places(value) for name in PAIRS if isinstance(at(value, it), dict)
+        and name in at(value, it)
+    ]:
         key, given = at(value, path)
         if path[-1] == "set_stamped":
             shorter = [STAMP]
@@ -213,7 +219,10 @@ def servers(shrinker, value):
 
 
 def set_pairs(value):
-    return [at(value, path)["set"] for path in all_places(value) if isinstance(at(value, path), dict) and "set" in at(value, path)]
+    return [
+        at(value, path)["set"] for path in all_places(value) if isinstance(at(value, path), dict)
+        and "set" in at(value, path)
+    ]
 
 
 def with_servers(spelled, names):

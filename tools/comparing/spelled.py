@@ -1,4 +1,6 @@
-"""A JSON text as a tree that keeps how each part is spelled, so that items can be left out of it and the others stay as they are."""
+"""A JSON text as a tree that keeps how each part is spelled,
+so that items can be left out of it and the others stay as they are.
+"""
 import json
 import re
 from typing import NamedTuple
@@ -89,7 +91,9 @@ def respelled(string):
 
 
 def cut(shrinker, text):
-    """Leaves out white space and items of a JSON text, with no other change. The smaller text, or the same if it has no tree."""
+    """Leaves out white space and items of a JSON text, with no other change.
+    The smaller text, or the same if it has no tree.
+    """
     shorter = (without_space(text, how) for how in (respelled, str))
     text = next((it for it in shorter if shrinker.accepts_text(it)), text)
     try:

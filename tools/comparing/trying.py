@@ -90,7 +90,9 @@ def attempt(how, mode, seconds):
 
 
 def shrunk(how, case, found):
-    """The smallest script that shows the same kind of difference, what was found of it, how many were tried, and whether time ended."""
+    """The smallest script that shows the same kind of difference, what was found of it, how many were tried,
+    and whether time ended.
+    """
     seconds = min(HANGS, how.seconds) if found.kind == HANG else how.seconds
     shrinker = Shrinker(attempt(how, case.mode, seconds), found.kind, how.shrink_seconds)
     shrinker.shrink(case.mode, case.script)

@@ -1,7 +1,7 @@
 """The lines of a threads script's text that no order of its batches changes, as far as they follow from simple bounds.
 
-Of each transaction those outcomes are known that it may have: a set that can be too large. So what is found wrong here is wrong
-in every order, and what is found right may be wrong.
+Of each transaction those outcomes are known that it may have: a set that can be too large. So what is found wrong here is
+wrong in every order, and what is found right may be wrong.
 """
 from typing import NamedTuple
 
@@ -20,7 +20,9 @@ OPEN = "*"
 
 
 class Found(NamedTuple):
-    """A line of TEXT that no order has: its number from 0, what must stand there, or nothing and why nothing of the kind can."""
+    """A line of TEXT that no order has: its number from 0, what must stand there,
+    or nothing and why nothing of the kind can.
+    """
 
     at: int
     line: str
@@ -64,7 +66,9 @@ class Bounds:
         oldest = [version - self.script.window for version in (least, greatest)]
         if reads and transaction.snapshot < oldest[0]:
             return {"too_old"}
-        found, hits = set(), [self.hit(it, sure, proxy, number, transaction) for it, sure in self.before(proxy, number, place)]
+        found, hits = (
+            set(), [self.hit(it, sure, proxy, number, transaction) for it, sure in self.before(proxy, number, place)],
+        )
         if reads and transaction.snapshot < oldest[1]:
             found.add("too_old")
         if any(hits):
@@ -85,7 +89,9 @@ class Bounds:
         if not is_same and greatest <= transaction.snapshot:
             return None
         # (a write and a read of one key both go to its last owner: no key moves after the first batch)
-        is_committed = is_earlier and (not all_reads(writer) or self.outcomes[theirs, batch, place] <= {"committed", "locked"})
+        is_committed = is_earlier and (
+            not all_reads(writer) or self.outcomes[theirs, batch, place] <= {"committed", "locked"}
+        )
         return "surely" if is_committed and (is_same or least > transaction.snapshot) else "may"
 
     def may_be_locked(self, proxy, number):
@@ -136,7 +142,9 @@ class Bounds:
     def given_tags(self):
         """All tags that some transaction gives to a server or lists, as text."""
         tags = {"%d:%d" % (it[0], it[1] * 256 + it[2]) for key, it in self.ever_set(SERVER_TAG) if is_server_tag(key)}
-        return tags | {"%d:%d" % it for _, value in self.ever_set(KEY_SERVERS) if lists_tags(value) for it in own_tags(value)}
+        return tags | {
+            "%d:%d" % it for _, value in self.ever_set(KEY_SERVERS) if lists_tags(value) for it in own_tags(value)
+        }
 
 
 def is_locking(change):
@@ -179,12 +187,18 @@ class Reading:
         outcomes = [self.bounds.outcomes[proxy, number, place] for place in range(len(batch))]
         words = [next(iter(it)) if len(it) == 1 else OPEN for it in outcomes]
         others = sum(map(len, self.bounds.batches)) - len(self.bounds.batches[proxy])
-        is_refused = beginning + str(refused_after(self.script, self.bounds.rows)) == line and number >= self.bounds.rows - others
+        is_refused = (
+            beginning + str(refused_after(self.script, self.bounds.rows)) == line and number >= self.bounds.rows - others
+        )
         theirs = words_in(line[len(beginning) :])
-        is_fine = number < self.bounds.rows and len(theirs) == len(batch) and all(it in may for it, may in zip(theirs, outcomes))
+        is_fine = number < self.bounds.rows and len(theirs) == len(batch) and all(
+            it in may for it, may in zip(theirs, outcomes)
+        )
         if not line.startswith(beginning) or not (is_refused or is_fine):
             must = "refused" if number >= self.bounds.rows else " ".join(words) or "none"
-            yield Found(self.at, beginning + (refused_after(self.script, self.bounds.rows) if must == "refused" else must), "")
+            yield Found(
+                self.at, beginning + (refused_after(self.script, self.bounds.rows) if must == "refused" else must), "",
+            )
         self.at += 1
 
     def closings(self):

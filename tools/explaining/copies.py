@@ -59,7 +59,10 @@ def copy_story(journal, version, change):
     elif is_server_tag(key):
         yield "A Set of a serverTag row has a private copy with the tag that it sets: %s." % words_of(copy)[1]
     elif server is not None:
-        yield "A Set of a serverKeys row has a private copy with the tag of its server after version %d, if there is one." % version
+        yield (
+            "A Set of a serverKeys row has a private copy with the tag of its server after version %d, if there is one."
+            % version
+        )
         yield from indented(server_story(journal, version, journal.kept(version), server))
     else:
         yield "Only a Set of a serverKeys or a serverTag row has a private copy."

@@ -23,7 +23,10 @@ def explain(fold, at, theirs):
     """What decides the line with this number."""
     if not at:
         last = len(fold.journal.rows) - 1
-        yield "The script has no rows, so the version is 0." if last < 0 else "The version is that of the last row, row %d." % last
+        yield (
+            "The script has no rows, so the version is 0." if last < 0 else "The version is that of the last row, row %d."
+            % last
+        )
         return
     yield "The script has %s, and the last version is %d." % (count(len(fold.journal.rows), "row"), fold.version)
     yield from explain_metadata(fold.journal, fold.version, fold.lines[at], theirs)

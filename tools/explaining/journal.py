@@ -46,8 +46,8 @@ class State(NamedTuple):
 class Journal:
     """The state transactions of all rows, each as the fields of a State from `number` to `stamped`.
 
-    `lines_of` gives the lines with the verdicts of some resolvers on a row, in brackets, or no text. `unit` is what the script
-    has for each row.
+    `lines_of` gives the lines with the verdicts of some resolvers on a row, in brackets, or no text. `unit` is what the
+    script has for each row.
     """
 
     def __init__(self, rows, lines_of=lambda row, resolvers: "", unit="batch"):
@@ -191,11 +191,15 @@ def rows_touched(kept, change):
 
 
 def tags_story(journal, version, change):
-    """What decides the tags of a change by the metadata after a version: the keyServers rows, and the tags of their servers."""
+    """What decides the tags of a change by the metadata after a version:
+    the keyServers rows, and the tags of their servers.
+    """
     kept = journal.kept(version)
     rows = rows_touched(kept, change)
     more = ", and of each after it and before %s" % key_words(change[2]) if change[0] == "clear" else ""
-    yield "The tags are those of the last keyServers row at or before %s%s, after version %d." % (key_words(change[1]), more, version)
+    yield "The tags are those of the last keyServers row at or before %s%s, after version %d." % (
+        key_words(change[1]), more, version,
+    )
     if not rows:
         yield "  There is none."
     for row in rows:
@@ -232,7 +236,9 @@ def server_story(journal, version, kept, server):
 
 
 def tags_compared(journal, version, change, theirs):
-    """What TEXT's list of tags lacks, or has too, in words; and the version by whose metadata it is right, if there is one."""
+    """What TEXT's list of tags lacks, or has too, in words;
+    and the version by whose metadata it is right, if there is one.
+    """
     ours, theirs = tag_words(journal, version, change), words_in(theirs)
     lacking, added = [it for it in ours if it not in theirs], [it for it in theirs if it not in ours]
     if lacking:
@@ -286,7 +292,9 @@ def holders(journal, version, tag):
             return
     had = [*given, *journal.ever_set(KEY_SERVERS, version)]
     told = [line for row in had if was_given(journal, row, tag) for line in journal.story(row, version)]
-    yield from some(told, MOST) if told else ["No state transaction up to version %d gives %s to a server or lists it." % (version, tag)]
+    yield from some(told, MOST) if told else [
+        "No state transaction up to version %d gives %s to a server or lists it." % (version, tag)
+    ]
 
 
 def was_given(journal, row, tag):

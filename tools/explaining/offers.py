@@ -132,7 +132,9 @@ def explain_verdicts(run, record, resolver, ours, theirs):
 
 
 def ways_to_read(asked, others, ours, theirs):
-    """The transactions of which TEXT lacks the verdict, or has one too, for each way in which its other verdicts are ours."""
+    """The transactions of which TEXT lacks the verdict, or has one too,
+    for each way in which its other verdicts are ours.
+    """
     more = len(theirs) - len(ours)
     ways = list(itertools.islice(itertools.combinations(others if more > 0 else asked, abs(more)), WAYS + 1))
     if len(ways) > WAYS:
@@ -186,7 +188,9 @@ def explain_unseen(run, record, ours, theirs):
             record.proxy, own[-1].row, own[-1].version, run.line_with("sequence row %d " % own[-1].row))
     else:
         yield "Row %d is the first record of proxy %d, so it had seen no row." % (record.row, record.proxy)
-    yield "The unseen rows are all after that and before row %d, whatever the proxy has finished: %s." % (record.row, joined(ours))
+    yield "The unseen rows are all after that and before row %d, whatever the proxy has finished: %s." % (
+        record.row, joined(ours),
+    )
     lacking, added = [it for it in ours if it not in theirs], [it for it in theirs if it not in ours]
     for word in lacking:
         row = next(it for it in run.cluster.history if str(it.version) == word)

@@ -2,7 +2,7 @@
 from tests.scripts.fold.reference import KEY_SERVERS, LOCKED, METADATA_VERSION, Refused, quoted, read_bytes
 
 from .copies import explain_added, explain_copy
-from .journal import first_upper, indented, key_words, mutation_words, row_name, tags_compared, tags_story
+from .journal import first_upper, indented, mutation_words, row_name, tags_compared, tags_story
 from .texts import after, count, joined
 from .verdicts import too_old_words
 
@@ -43,12 +43,16 @@ def finish_refused(run, cluster, proxy):
         return
     record = first_waiting(cluster, proxy)
     if record is None:
-        yield "Proxy %d has %s before this event, and has finished each." % (proxy, count(len(cluster.of_proxy(proxy)), "record"))
+        yield "Proxy %d has %s before this event, and has finished each." % (
+            proxy, count(len(cluster.of_proxy(proxy)), "record"),
+        )
         return
     yield run.record_words(record)
     missing = next(it for it in range(cluster.resolvers) if cluster.judged[it] <= record.row)
-    yield "It is the earliest record that proxy %d has not finished, and resolver %d has not judged it before this event." % (
-        proxy, missing)
+    yield (
+        "It is the earliest record that proxy %d has not finished, and resolver %d has not judged it before this event."
+        % (proxy, missing)
+    )
 
 
 # ---- outcomes

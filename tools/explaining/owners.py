@@ -52,7 +52,9 @@ def owners_words(run, record, span, snapshot):
     yield "A read asks the owners from the last one back to the first that is dated before %s." % bound
     before = run.cluster.history[record.row - 1] if record.row else None
     if oldest > snapshot and before and before.proxy != record.proxy:
-        yield "The previous version is that of the row before, row %d, though that is of proxy %d." % (before.row, before.proxy)
+        yield "The previous version is that of the row before, row %d, though that is of proxy %d." % (
+            before.row, before.proxy,
+        )
 
 
 def owner_words(record, key):

@@ -11,7 +11,8 @@ MEANINGS = {
     12: "a key or the begin of a range is at or past \\xff\\xff, or the end of a range past it",
     13: "the begin of a range is not below its end",
     14: "a keyServers or serverTag value does not decode, or a SetStamped has such a row",
-    15: "a stamped value is under four bytes, or its ten bytes go past its end", 16: "a batch has more than 1,024 transactions",
+    15: "a stamped value is under four bytes, or its ten bytes go past its end",
+    16: "a batch has more than 1,024 transactions",
     20: "a move goes to a missing resolver", 70: "it is not JSON",
     71: "it does not have the form of its mode, or a number is outside its limits",
 }
@@ -51,7 +52,8 @@ def no_fault_words(mode, script, number):
     if number == 14:
         rows = [(place, change) for place, _, change in all_places(mode, read_json(script)) if change and is_row(change)]
         yield from some(("The row value of %s decodes: it sets %s to %s." % (
-            place, row_name(change[1]), change_words(change).removeprefix("sets it to ")) for place, change in rows), MOST_ROWS)
+            place, row_name(change[1]),
+            change_words(change).removeprefix("sets it to ")) for place, change in rows), MOST_ROWS)
 
 
 def is_row(change):
@@ -65,7 +67,9 @@ def places_of(mode, value):
 
 
 def all_places(mode, value):
-    """Each part of a script that is checked, in order, the number of its fault, if it has one, and the mutation, if it is one."""
+    """Each part of a script that is checked, in order, the number of its fault, if it has one, and the mutation,
+    if it is one.
+    """
     return {"fold": fold_places, "turns": turns_places, "threads": threads_places}[mode](value)
 
 

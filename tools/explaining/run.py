@@ -103,7 +103,9 @@ class Run:
         return self.lines_with([beginning])
 
     def lines_with(self, beginnings):
-        """The first line with each of these beginnings, in brackets; no text if there are none, or their numbers are not known."""
+        """The first line with each of these beginnings, in brackets;
+        no text if there are none, or their numbers are not known.
+        """
         found = [self.number_with(it) for it in beginnings]
         found = [str(it) for it in found if it is not None]
         if not found:

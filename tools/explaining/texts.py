@@ -3,7 +3,8 @@ from typing import NamedTuple
 
 # the first word of each kind of line that can be explained. Lines of other kinds are compared, and counted as no event's
 KINDS = {
-    "sequence", "move", "offer", "finish", "txn", "mutation", "private", "refused", "proxy", "version", "locked", "metadata_version",
+    "sequence", "move", "offer", "finish", "txn", "mutation", "private", "refused", "proxy", "version", "locked",
+    "metadata_version",
     "route", "tags",
 }
 # how much of a long line is shown before and after the place where it differs
@@ -27,7 +28,9 @@ def is_known(line):
 
 
 def decoded(line):
-    """The characters of a line without its line feed. Bytes that are not UTF-8, and characters that do not print, are escaped."""
+    """The characters of a line without its line feed.
+    Bytes that are not UTF-8, and characters that do not print, are escaped.
+    """
     text = line.removesuffix(b"\n").decode(errors="backslashreplace")
     return "".join(it if it.isprintable() else ascii(it)[1:-1] for it in text)
 

@@ -108,7 +108,9 @@ def nearest_words(theirs, most, near):
         yield from shown(Difference(most, ways[0][0], there))
         return
     yield "Line %d differs:" % (most + 1)
-    yield from some(("  Gakyhera: %s (in %s)" % (as_shown(line), count(number, "order")) for line, number in ways), MOST_LINES)
+    yield from some(
+        ("  Gakyhera: %s (in %s)" % (as_shown(line), count(number, "order")) for line, number in ways), MOST_LINES,
+    )
     yield "  TEXT:     %s" % as_shown(there)
 
 
@@ -200,7 +202,8 @@ def explain_line(script, order, lines, theirs):
             yield from explain_batch(run, record, words[3:], other[3:])
     if words[3:4] == ["refused"] or words[0] == "closing":
         yield "%s a row: the ledger has %s, and the greatest version is %d." % (
-            "1 batch gets" if len(order) == 1 else "%d batches get" % len(order), count(script.rows, "row"), VERSION_LIMIT - 1)
+            "1 batch gets" if len(order) == 1 else "%d batches get" % len(order), count(script.rows, "row"),
+            VERSION_LIMIT - 1)
     if words[3:4] == ["refused"] and len(order) == script.rows and (len(order) + 1) * script.step >= VERSION_LIMIT:
         yield "Neither a row nor a version is left, and the row is looked for first."
     if words[0] == "batch" and words[3:4] == ["refused"] and theirs.split(" ")[:3] != words[:3]:

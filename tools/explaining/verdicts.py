@@ -69,7 +69,9 @@ def too_old_words(run, record, snapshot):
     words = first_upper(window_words(window, record.version))
     if oldest < 0:
         return "%s, so no read is too old." % words
-    return "%s. A read is too old if its snapshot is below that: %d is%s." % (words, snapshot, "" if snapshot < oldest else " not")
+    return "%s. A read is too old if its snapshot is below that: %d is%s." % (
+        words, snapshot, "" if snapshot < oldest else " not",
+    )
 
 
 def window_words(window, version):
@@ -89,7 +91,9 @@ def lock_words(transaction):
 
 
 def meetings(run, record, resolver, part):
-    """Each write, up to this record, that overlaps a read of the transaction, or only touches one and would count otherwise."""
+    """Each write, up to this record, that overlaps a read of the transaction,
+    or only touches one and would count otherwise.
+    """
     sent, unsent = part.reads, [it for it in all_reads(record.batch[part.number]) if it not in part.reads]
     for other in run.cluster.history[: record.row + 1]:
         for number, transaction in enumerate(other.batch):

@@ -118,7 +118,9 @@ class Followed(Run):
             cause = self.of_verdict(record, resolver, number)
             if cause and cause.word == self.cluster.joined(record, number):
                 words = "Resolver %d gave %s." % (resolver, cause.word)
-                return cause._replace(sentences=[words], event=self.judged.get((record.row, resolver)), number=number, before=cause)
+                return cause._replace(
+                    sentences=[words], event=self.judged.get((record.row, resolver)), number=number, before=cause,
+                )
         return None if record.batch[number].lock_aware else self.of_lock(record)
 
     def of_lock(self, record):

@@ -1,4 +1,6 @@
-"""What an event shows once it is opened: its lines, and of each transaction what it reads and writes, whom that asks, and why."""
+"""What an event shows once it is opened: its lines, and of each transaction what it reads and writes,
+whom that asks, and why.
+"""
 from tools.pictures import tables
 from tools.pictures.forms import is_known
 from tools.pictures.page import chip, counted, paragraph

@@ -24,14 +24,18 @@ def draw(turns, events):
         pieces.append(element("g", behind, *strip.inner(), class_=names, transform="translate(0 %g)" % y))
         tops[strip.event.number] = y
         y += strip.height
-    words = title("Lanes of the proxies, of the sequencer and of the resolvers, with a strip for each event from top to bottom")
+    words = title(
+        "Lanes of the proxies, of the sequencer and of the resolvers, with a strip for each event from top to bottom"
+    )
     style = element("style", part("picture.css"))
     return drawn(width, y + 6, words, style, element("rect", width=width, height=float(y + 6), class_="ground"), *pieces,
                  *arrows(turns, strips, tops), class_="lanes alone", role="img")
 
 
 def arrows(turns, strips, tops):
-    """Arrows to what decided: of each verdict by a write to that of its transaction, of each outcome by the lock to its row."""
+    """Arrows to what decided: of each verdict by a write to that of its transaction,
+    of each outcome by the lock to its row.
+    """
     for strip in strips.values():
         for transaction, cause in causes_of(turns, strip):
             if cause.event in strips:

@@ -1,4 +1,6 @@
-"""How many chips of a kind become few: neighbours that say the same become one, with the numbers of the first and the last."""
+"""How many chips of a kind become few: neighbours that say the same become one,
+with the numbers of the first and the last.
+"""
 import itertools
 
 from tools.pictures.svg import letter_chip
@@ -8,7 +10,9 @@ CHIPS, BEFORE, AFTER = 12, 4, 1
 
 
 def folded_chips(words, numbers, kind, whose, name):
-    """Chips for verdicts or outcomes, each with the numbers of its transactions; its id is the name and the first of them."""
+    """Chips for verdicts or outcomes, each with the numbers of its transactions;
+    its id is the name and the first of them.
+    """
     pairs = list(zip(words, numbers))
     groups, is_counted = [[it] for it in pairs], False
     if len(groups) > CHIPS:

@@ -78,7 +78,8 @@ def match(pattern, number, line, wanted):
 def read_proxies(lines, at, proxies, ask, other):
     """For each proxy what its lines from this place on say, and those lines; and the place after them.
 
-    A line that begins with none of the known words belongs to the proxy before it; one that begins with one of `other` ends them.
+    A line that begins with none of the known words belongs to the proxy before it; one that begins with one of `other` ends
+    them.
     """
     found = []
     while at < len(lines) and lines[at].split(" ")[0] not in other:
@@ -105,7 +106,9 @@ def read_proxies(lines, at, proxies, ask, other):
                 raise WrongForm("the text of proxy %d lacks the line `%s`" % (len(found), word))
         if [key for key, _ in said["tags"]] != [quoted(key) for key in ask]:
             raise WrongForm("the lines `tags` of proxy %d are not those of the keys that the script asks for" % len(found))
-        metadata = Metadata(int(said["version"]), said["locked"], said["metadata_version"], dict(said["route"]), said["tags"])
+        metadata = Metadata(
+            int(said["version"]), said["locked"], said["metadata_version"], dict(said["route"]), said["tags"],
+        )
         found.append((metadata, lines[first:at]))
     if len(found) != proxies:
         raise WrongForm("the text has the lines of %d proxies, and the script has %d" % (len(found), proxies))

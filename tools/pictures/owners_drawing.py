@@ -22,7 +22,9 @@ def draw(moves, first=0, last=None):
     for place, edge in enumerate(edges):
         pieces.append(edge_mark(gutter + place * piece, edge, HEAD + LINE * len(counts), piece))
     for line, (count, date) in enumerate(zip(counts, dates)):
-        pieces += line_of_pieces(known[:count], edges, HEAD + LINE * line, gutter, piece, date, known[count - 1] if line else None)
+        pieces += line_of_pieces(
+            known[:count], edges, HEAD + LINE * line, gutter, piece, date, known[count - 1] if line else None,
+        )
     width = gutter + piece * (len(edges) - 1) + int(width_of(quoted(END), SMALL)) + 8
     words = "Which resolver owns which keys, from top to bottom by the date of each move"
     return picture(width, HEAD + LINE * len(counts) + 6, pieces, "owners", words)

@@ -12,9 +12,12 @@ PAGES = (
 )
 DIAGRAM = "turns/two_proxies"
 ABOUT = (
-    "Some of the [examples](../../examples/README.md), drawn: a lane for each proxy, the sequencer and each resolver, with requests,",
-    "replies, verdicts and outcomes, and the routing at each version. An event opens and shows what each transaction reads and writes,",
-    "whom that asks, and what decided a refusal. A text of threads says less, and its pictures show less. The pages are HTML files:",
+    "Some of the [examples](../../examples/README.md), drawn: a lane for each proxy, the sequencer and each resolver, with "
+    "requests,",
+    "replies, verdicts and outcomes, and the routing at each version. An event opens and shows what each transaction reads "
+    "and writes,",
+    "whom that asks, and what decided a refusal. A text of threads says less, and its pictures show less. The pages are "
+    "HTML files:",
     "open them in a browser, from a copy of the repository. `tools/picture --all` writes them and the diagram",
     "[two_proxies.svg](turns_two_proxies.svg), and [you can draw your own](../USING.md#drawing-what-a-script-comes-to).",
 )

@@ -27,7 +27,9 @@ def number(value):
 
 
 def element(name, *inner, **attributes):
-    """An element. A `_` at the end of an attribute's name is dropped, and others are `-`; one without a value is left out."""
+    """An element. A `_` at the end of an attribute's name is dropped, and others are `-`;
+    one without a value is left out.
+    """
     words = [name]
     for key, value in attributes.items():
         if value is not None:
@@ -93,7 +95,9 @@ def letter_width(label):
 
 
 def letter_chip(word, label, kind, what, **more):
-    """A chip for a verdict or an outcome: its width, and how it is drawn. `label` says of which transactions it is, if known."""
+    """A chip for a verdict or an outcome: its width, and how it is drawn.
+    `label` says of which transactions it is, if known.
+    """
     width = letter_width(label)
 
     def draw(x, y):

@@ -85,7 +85,9 @@ def is_outside(event, line):
 
 
 def mutations(turns, event):
-    """The mutations of a finished batch with their tags, and below each its private copy and the lines that the tool does not know."""
+    """The mutations of a finished batch with their tags,
+    and below each its private copy and the lines that the tool does not know.
+    """
     record = turns.run.records.get(event.number)
     rows = []
     for line in event.lines[1:]:
@@ -95,7 +97,9 @@ def mutations(turns, event):
             rows.append(element("tr", cell(transaction), cell(place), cell(what), cell(tags)))
         elif is_known(line, ["private"]):
             transaction, place, key, tag = PRIVATE.fullmatch(line).groups()
-            rows.append(element("tr", cell(transaction), cell(place), cell("private copy: %s" % cut(key)), cell(tag), class_="copy"))
+            rows.append(
+                element("tr", cell(transaction), cell(place), cell("private copy: %s" % cut(key)), cell(tag), class_="copy")
+            )
         elif not is_known(line, KNOWN):
             rows.append(element("tr", cell(line, colspan=4), class_="other"))
     if not rows:
@@ -110,7 +114,9 @@ def words_of_mutation(record, transaction, place):
     if record is None or transaction >= len(record.batch) or place >= len(record.batch[transaction].changes):
         return "not in the script"
     kind, first, second = record.batch[transaction].changes[place]
-    return "set %s to %s" % (short(first), short(second)) if kind == "set" else "clear [%s, %s)" % (short(first), short(second))
+    return "set %s to %s" % (short(first), short(second)) if kind == "set" else "clear [%s, %s)" % (
+        short(first), short(second),
+    )
 
 
 def compared(said, wanted):

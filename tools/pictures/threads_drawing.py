@@ -24,7 +24,10 @@ def draw_alone(threads, first, last):
     """The same picture as one SVG that stands alone."""
     width, height, pieces = drawing(threads, first, last)
     behind = element("rect", width=width, height=float(height), class_="ground")
-    return drawn(width, height, title(WORDS), element("style", part("picture.css")), behind, *pieces, class_="lanes alone", role="img")
+    return drawn(
+        width, height, title(WORDS), element("style", part("picture.css")), behind, *pieces, class_="lanes alone",
+        role="img",
+    )
 
 
 def drawing(threads, first, last):
@@ -113,11 +116,15 @@ def boxed(lanes, given, y, version):
     kind = "sure" if given.rows[0] == given.rows[1] else "loose"
     number = version if kind == "sure" else None
     names = "record %s" % ("closing" if given.number is None else kind)
-    return framed(lanes, given, y + 6, height_of(lanes, given), versions_of(lanes.threads, given), names, data_version=number)
+    return framed(
+        lanes, given, y + 6, height_of(lanes, given), versions_of(lanes.threads, given), names, data_version=number,
+    )
 
 
 def framed(lanes, given, y, height, words, names, **more):
-    """A frame with the name of a batch or closing, words below it, its outcomes, and the lines that the tool does not know."""
+    """A frame with the name of a batch or closing, words below it, its outcomes,
+    and the lines that the tool does not know.
+    """
     middle, left = lanes.middle(given.proxy), lanes.middle(given.proxy) - lanes.box / 2
     wrong = lanes.threads.is_unexplained(given)
     pieces = [

@@ -9,7 +9,8 @@ from tools.pictures.svg import LETTERS, clean, element, escaped
 from tools.pictures.threads_drawing import id_of, name_of, versions_of
 
 CHECKS = (
-    "A meeting compares the versions of two proxies: that of the first is the same, behind or ahead. An audit says whether each "
+    "A meeting compares the versions of two proxies: that of the first is the same, behind or ahead. An audit says whether "
+    "each "
     "resolver has come to the version of the proxy."
 )
 
@@ -40,7 +41,9 @@ def draw_svg(threads, first, last):
 
 
 def owners_words(moves):
-    return "All moves are made before the first batch, at date 1." if moves else "Resolver 0 owns all keys: there are no moves."
+    return (
+        "All moves are made before the first batch, at date 1." if moves else "Resolver 0 owns all keys: there are no moves."
+    )
 
 
 def order_words(threads):
@@ -136,7 +139,9 @@ def transactions(threads, run, given):
 
 def plain(transaction):
     """The ranges and the mutations of a transaction whose version is not known."""
-    rows = ["reads %s" % range_words(it) for it in transaction.reads] + ["writes %s" % range_words(it) for it in transaction.writes]
+    rows = ["reads %s" % range_words(it) for it in transaction.reads] + [
+        "writes %s" % range_words(it) for it in transaction.writes
+    ]
     for kind, *rest in transaction.changes:
         words = {"set": "sets %s to %s", "set_stamped": "sets %s to %s, with a stamp put in"}
         rows.append(words[kind] % tuple(map(key_words, rest)) if kind in words else change_words((kind, *rest)))
@@ -148,13 +153,18 @@ def plain(transaction):
 
 def key(threads):
     return legend(
-        "A batch stands at its version. If the text does not tell it and several orders give the text, the batch stands at the first "
-        "version that it may have had, its frame is dotted, and the bar beside it spans all. Click it to see its transactions.",
+        "A batch stands at its version. If the text does not tell it and several orders give the text, the batch stands at "
+        "the first "
+        "version that it may have had, its frame is dotted, and the bar beside it spans all. Click it to see its "
+        "transactions.",
         "Closings come after all batches, in the order of the proxies; their frames are dashed.",
         "An outcome has a letter: %s. The number before it is that of the transaction in its batch." % letters(),
         "There are no arrows, since a threads text does not say which requests and replies there were.",
         "%s in a thick frame is the first batch that no order explains." % chip("≠", "wrong"),
-        *(['<span class="swatch"></span> marks the batch of the version whose routing is shown.'] if threads.order is not None else []),
+        *(
+            ['<span class="swatch"></span> marks the batch of the version whose routing is shown.']
+            if threads.order is not None else []
+        ),
     )
 
 
@@ -162,7 +172,9 @@ def key(threads):
 
 
 def routing(threads, first, last):
-    """The metadata at each version that is shown, if the order of the batches is known; otherwise that of each proxy at the end."""
+    """The metadata at each version that is shown, if the order of the batches is known;
+    otherwise that of each proxy at the end.
+    """
     if threads.order is None:
         known = {it.version: it for it, _ in threads.ends}
         yield tables.routing(max(known), [it.version for it, _ in threads.ends], known, threads.script.ask, "At the end")
@@ -207,7 +219,10 @@ def meetings(threads):
             word, lines = found.get((one, other), ("", [""]))
             cells.append(element("td", escaped(word), *(element("pre", escaped(clean(it))) for it in lines[1:])))
         rows.append(element("tr", tables.cell("proxy %d" % one, "th", scope="row"), *cells, class_="meeting"))
-    return element("table", element("thead", head), element("tbody", *rows), id="checks", class_="meetings") if rows else element("span", "", id="checks")
+    return (
+        element("table", element("thead", head), element("tbody", *rows), id="checks", class_="meetings") if rows
+        else element("span", "", id="checks")
+    )
 
 
 def audits(threads):
@@ -223,7 +238,9 @@ def audits(threads):
 
 
 def ends(threads):
-    """The lines of each proxy at the end of the text, and beside the first that no order explains those that are possible."""
+    """The lines of each proxy at the end of the text,
+    and beside the first that no order explains those that are possible.
+    """
     found, rows = threads.unexplained, []
     for proxy, (_, lines) in enumerate(threads.ends):
         wrong = found and place_of(found)[0] == "p%d" % proxy

@@ -17,8 +17,8 @@ AUDIT = re.compile("audit %s (?:ok|behind %s %s)" % (NUMBER, NUMBER, NUMBER))
 KNOWN = {"batch", "closing", "proxy", "meet", "audit", *METADATA}
 # how many batches a search for all orders commits before it gives up
 COMMITS = 1500
-# how many states the search for one order looks at, and of how many orders each is printed to find the first wrong line: a page
-# has to be there in some seconds
+# how many states the search for one order looks at, and of how many orders each is printed to find the first wrong line: a
+# page has to be there in some seconds
 threads_orders.STATES = 1000
 ORDERS = 200
 
@@ -167,7 +167,9 @@ def read_checks(script, lines, at):
 
 
 def rows_by_count(script, batches):
-    """The first and the last row of each batch that has one, by how many batches come before it and after it in its proxy."""
+    """The first and the last row of each batch that has one,
+    by how many batches come before it and after it in its proxy.
+    """
     given = [it for it in batches if not it.refusal]
     counts = [sum(it.proxy == proxy for it in given) for proxy in range(script.proxies)]
     return {(it.proxy, it.number): (it.number, len(given) - counts[it.proxy] + it.number) for it in given}

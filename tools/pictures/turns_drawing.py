@@ -10,7 +10,8 @@ from tools.pictures.svg import (
 )
 from tools.pictures.turns_text import KNOWN, TXN
 
-# how many lines of mutations stand beside a finished batch, if there are more than one line over, and how many captions in a box
+# how many lines of mutations stand beside a finished batch, if there are more than one line over, and how many captions in a
+# box
 LINES, CAPTIONS = 8, 3
 # how deep an arrow between two chips of a box is
 ARC = 6
@@ -170,9 +171,13 @@ class Strip:
         """The unseen rows of a reply, which its proxy learns: their arrow and their versions. Returns where they end."""
         half, chips = self.lanes.box / 2, []
         for words, those in folded_words(versions):
-            what, shown = "version %s, which this reply lists as unseen" % words, shortened(words, self.lanes.box - 10, SMALL)
+            what, shown = (
+                "version %s, which this reply lists as unseen" % words, shortened(words, self.lanes.box - 10, SMALL),
+            )
             if len(those) > 1:
-                what, shown = "versions %s to %s, which this reply lists as unseen" % (those[0], those[-1]), "%d more" % len(those)
+                what, shown = (
+                    "versions %s to %s, which this reply lists as unseen" % (those[0], those[-1]), "%d more" % len(those),
+                )
             chips.append(word_chip(shown, "unseen", what, data_u=those[0], data_n=len(those) if len(those) > 1 else None))
         lines = lines_of_chips(chips, self.lanes.box - 6)
         height = height_of_chips(lines) + 6
@@ -191,7 +196,9 @@ class Strip:
         chips, end = draw_chips(lines, middle, 37), 37 + height_of_chips(lines) if lines else 33
         locked = [it for it in self.turns.run.causes(self.event.number, words, numbers) if it[1].word == "locked"]
         why, end = self.captions(locked, middle, end)
-        inner = [text(middle, 17, "finish", anchor="middle", size=SMALL), self.big(middle, 31, version, "version"), *chips, *why]
+        inner = [
+            text(middle, 17, "finish", anchor="middle", size=SMALL), self.big(middle, 31, version, "version"), *chips, *why,
+        ]
         self.boxed(middle, 5, end, "finished", *inner, data_version=version)
         self.height = max(end + 12, self.mutation_lines(middle) + 6)
 
@@ -242,7 +249,9 @@ def words_of_list(words):
 
 
 def place_of(strip, transaction):
-    """The right end of an event's box, the middle of a transaction's chip, or of the box if it has none, and a ring about the chip."""
+    """The right end of an event's box, the middle of a transaction's chip, or of the box if it has none,
+    and a ring about the chip.
+    """
     left, top, width, height = strip.frame
     if transaction not in strip.chips:
         return left + width, top + height / 2, None
@@ -263,4 +272,6 @@ def curve(x, y, end, bottom, class_):
     out = max(x, end) + (26 if abs(y - bottom) > 40 else 14)
     places = tuple(number(float(it)) for it in (x, y, out, y, out, bottom, end + 5, bottom))
     head = "M%s %sl6 -3.5v7z" % (number(float(end)), number(float(bottom)))
-    return element("g", element("path", d="M%s %sC%s %s %s %s %s %s" % places), element("path", d=head, class_="head"), class_=class_)
+    return element(
+        "g", element("path", d="M%s %sC%s %s %s %s %s %s" % places), element("path", d=head, class_="head"), class_=class_,
+    )

@@ -12,7 +12,8 @@ from tools.pictures.svg import drawn, element
 from tools.pictures.turns_drawing import Strip
 from tools.pictures.turns_text import metadata_by_version
 
-# of a page with more events the strips are made when they come into view, in parts of so many; so many parts are there at once
+# of a page with more events the strips are made when they come into view, in parts of so many; so many parts are there at
+# once
 LONG, PART, FIRST_PARTS = 200, 25, 2
 # about how high a strip is, before it is made
 STRIP = 52
@@ -31,12 +32,14 @@ def draw(name, turns, first, last, about=None):
     left += [heading("Owners of the keys"), paragraph(owners_words(moves)), owners_drawing.draw(moves, first, last)]
     left += [heading("At the end, as the text says it"), table_box(tables.ends(turns))] if is_end else []
     hint = paragraph(
-        "What the definitions say of the metadata at a version, and of that of each proxy once it has finished its last batch up "
+        "What the definitions say of the metadata at a version, and of that of each proxy once it has finished its last "
+        "batch up "
         "to that version. Rows in which they differ are bold.", "hint",
     )
     place, where = (first_place(turns) or (None, None))
     return page(
-        name, heading(name, 1), paragraph(about or summary(turns), "see"), differences(words_of_differences(turns), place, where),
+        name, heading(name, 1), paragraph(about or summary(turns), "see"),
+        differences(words_of_differences(turns), place, where),
         bar(facts, key()), both(left, "Routing by version", hint, routing(turns, first, last)),
     )
 
@@ -52,7 +55,8 @@ def shown(turns, first, last):
 def summary(turns):
     """What there is to see, counted: for a script that says nothing of itself."""
     outcomes = collections.Counter(
-        line.split(" ")[2] for event in turns.events if event.kind == "finish" for line in event.lines if line.startswith("txn ")
+        line.split(" ")[2] for event in turns.events if event.kind == "finish" for line in event.lines
+        if line.startswith("txn ")
     )
     words = ["%d %s" % (number, word.replace("_", " ")) for word, number in outcomes.most_common()]
     refused = sum(it.refusal is not None for it in turns.events)
@@ -111,7 +115,8 @@ def owners_words(moves):
     if not moves:
         return "Resolver 0 owns all keys: there are no moves."
     return (
-        "The first line holds before the moves; each other line is a move, and holds from its date on. Of lines with one date the last "
+        "The first line holds before the moves; each other line is a move, and holds from its date on. Of lines with one "
+        "date the last "
         "holds. The bar is below the range that moved. A key stands at the left end of its piece."
     )
 
@@ -119,7 +124,9 @@ def owners_words(moves):
 def places_of_differences(turns):
     """Each place where the text is not what the second program says: its id and its name."""
     places = [("e%d" % it.number, "event %d" % it.number) for it in turns.events if it.wanted]
-    return places + [("p%d" % proxy, "proxy %d at the end" % proxy) for proxy, (_, _, wanted) in enumerate(turns.ends) if wanted]
+    return places + [
+        ("p%d" % proxy, "proxy %d at the end" % proxy) for proxy, (_, _, wanted) in enumerate(turns.ends) if wanted
+    ]
 
 
 def first_place(turns):
@@ -137,21 +144,28 @@ def words_of_differences(turns):
 
 def key():
     return legend(
-        "A strip is an event. Its number counts the events of the script from 0. It opens below: what the text says, and of each "
+        "A strip is an event. Its number counts the events of the script from 0. It opens below: what the text says, and of "
+        "each "
         "transaction what it reads, writes and changes, whom that asks, and what decided a refusal.",
-        "A record that begins and a move have thick frames, a record that is finished a green one, and a request that comes again a "
+        "A record that begins and a move have thick frames, a record that is finished a green one, and a request that comes "
+        "again a "
         "dashed one.",
-        "An arrow with a full line is a request, one with a dashed line a reply. A thick blue arrow brings the proxy the rows "
+        "An arrow with a full line is a request, one with a dashed line a reply. A thick blue arrow brings the proxy the "
+        "rows "
         "that the reply lists as unseen, by their versions: %s." % chip("10", "unseen"),
-        "A verdict or an outcome has a letter: %s. The number before it is that of the transaction in its batch; many that are alike "
+        "A verdict or an outcome has a letter: %s. The number before it is that of the transaction in its batch; many that "
+        "are alike "
         "are one, as %s. A request that asks for no verdict gets <i>none</i>." % (letters(), chip("0–37 C", "committed")),
-        "Below a verdict stands what decided it: <i>met 20</i> is a write at version 20 that a read met, <i>edge 10</i> the edge of the "
+        "Below a verdict stands what decided it: <i>met 20</i> is a write at version 20 that a read met, <i>edge 10</i> the "
+        "edge of the "
         "window, <i>lock 10</i> the version that locked. Once the strip is open an arrow leads there.",
-        "Beside a finished record stand its committed mutations: the number of the transaction, the place of the mutation in it, "
+        "Beside a finished record stand its committed mutations: the number of the transaction, the place of the mutation "
+        "in it, "
         "and its tags.",
         "%s is an event that is refused; it changes nothing." % chip("!", "refusal"),
         "%s in a thick frame is an event whose lines are not what the definitions come to." % chip("≠", "wrong"),
-        '<span class="swatch"></span> marks the strips of the version whose routing is shown. Click a strip, tap it or go to it '
+        '<span class="swatch"></span> marks the strips of the version whose routing is shown. Click a strip, tap it or go '
+        'to it '
         "with Tab to choose its version; Enter opens it.",
         "<i>2 idle</i> are two lanes in which nothing happens.",
     )

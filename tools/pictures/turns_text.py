@@ -67,7 +67,9 @@ class Turns(NamedTuple):
 
 
 class Cluster(turns_reference.Cluster):
-    """The second program's cluster, which keeps what each resolver gets, and judges as tests/scripts/threads/reference.py does: in less time."""
+    """The second program's cluster, which keeps what each resolver gets, and judges as tests/scripts/threads/reference.py
+    does: in less time.
+    """
 
     def __init__(self, *numbers):
         super().__init__(*numbers)
@@ -77,7 +79,9 @@ class Cluster(turns_reference.Cluster):
 
     def judge(self, record, resolver):
         parts, oldest = turns_reference.share(record, resolver, self.window), record.version - self.window
-        said, self.writes[resolver] = threads_reference.judge(self.writes[resolver], parts, record.batch, record.version, oldest)
+        said, self.writes[resolver] = threads_reference.judge(
+            self.writes[resolver], parts, record.batch, record.version, oldest,
+        )
         self.parts[record.row, resolver], self.asked[record.row, resolver] = parts, [part.number for part in parts]
         return dict(zip(self.asked[record.row, resolver], said))
 
@@ -106,7 +110,9 @@ def read(value, text):
 
 
 def end_of_event(lines, at):
-    """The place after the lines of the event that begins here: after it stand lines of outcomes, and those of no known form."""
+    """The place after the lines of the event that begins here:
+    after it stand lines of outcomes, and those of no known form.
+    """
     at += 1
     while at < len(lines) and (not is_known(lines[at], KNOWN) or is_known(lines[at], OUTCOME)):
         at += 1
@@ -146,7 +152,9 @@ class Reader:
         ))
 
     def check_outcome(self, kind, refusal, place, line):
-        """Refuses a line of an outcome, a mutation or a private copy that has another form, or follows another event than a finish."""
+        """Refuses a line of an outcome, a mutation or a private copy that has another form,
+        or follows another event than a finish.
+        """
         for word, (pattern, form) in OUTCOME.items():
             if is_known(line, [word]):
                 match(pattern, place, line, form)

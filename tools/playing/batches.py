@@ -33,7 +33,10 @@ BATCHES = [
     ["read the key and write it", batch(transaction(ONE, ONE, put("KEY", "1")))],
     ["write the key, then read it", batch(WRITE, READ)],
     ["a server gets the tag 0:1 and all keys", batch(transaction("", "", put_server(1) + "," + put_keys("", 1)))],
-    ["a server gets the tag 0:2 and the keys from here on", batch(transaction("", "", put_server(2) + "," + put_keys("KEY", 2)))],
+    [
+        "a server gets the tag 0:2 and the keys from here on",
+        batch(transaction("", "", put_server(2) + "," + put_keys("KEY", 2))),
+    ],
     ["lock the database", batch(transaction("", LOCK, put("\\\\xff/dbLocked", "L"), True))],
     ["unlock the database", batch(transaction("", LOCK, put("\\\\xff/dbLocked", ""), True))],
     ["write the key, lock aware", batch(transaction("", ONE, put("KEY", "1"), True, "0"))],

@@ -122,4 +122,3 @@ def possible(turns):
 def choices(turns):
     """The same as JSON."""
     return [{"group": group, "words": words, "event": spelled(event)} for group, words, event in possible(turns)]
-

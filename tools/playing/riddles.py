@@ -42,19 +42,22 @@ def refused_as(turns):
 RIDDLES = (
     Riddle(
         "Which transaction conflicts?", "turns/moved_range", 8,
-        "Row 0 wrote n at version 10. Then n moved to resolver 1, and row 1 wrote it at version 20. Both transactions of row 2 read n: "
+        "Row 0 wrote n at version 10. Then n moved to resolver 1, and row 1 wrote it at version 20. Both transactions of "
+        "row 2 read n: "
         "transaction 0 with snapshot 10, transaction 1 with snapshot 20. Which of them conflicts?",
         [("transaction 0", "0"), ("transaction 1", "1"), ("both", "0 1"), ("none", "")], conflicting,
     ),
     Riddle(
         "Which proxy has the tag?", "turns/two_proxies", 2,
-        "Proxy 0 commits that a server has the tag 0:1 and all keys. Proxy 1 has a batch after it, and the two never talk to each other. "
+        "Proxy 0 commits that a server has the tag 0:1 and all keys. Proxy 1 has a batch after it, and the two never talk "
+        "to each other. "
         "Resolver 0 judges both batches, and then proxy 1 alone finishes. Which proxy then gives the tag 0:1 to a write?",
         [("proxy 0", "0"), ("proxy 1", "1"), ("both", "0 1"), ("none", "")], knowing,
     ),
     Riddle(
         "Why is it refused?", "turns/window_edge", 2,
-        "Nobody has written anything. The window is 15. Row 1 is at version 20, and its transaction 0 reads with snapshot 4. "
+        "Nobody has written anything. The window is 15. Row 1 is at version 20, and its transaction 0 reads with snapshot "
+        "4. "
         "What will resolver 0 say of it?",
         [
             ("it is committed: nobody wrote what it reads", "committed"), ("conflict: a write came between", "conflict"),

@@ -1,8 +1,8 @@
 """Random scripts of each mode, each from its seed. They reach every refusal and outcome.
 
-A script is spelled with its fields in any order, with any white space and any escapes of JSON, and some have names that stand
-twice in an object. Those of the kind `wrong` get one to three faults, in random places; of most it is known as they are made
-which fault is answered.
+A script is spelled with its fields in any order, with any white space and any escapes of JSON, and some have names that
+stand twice in an object. Those of the kind `wrong` get one to three faults, in random places; of most it is known as they
+are made which fault is answered.
 
 The words of scripts and the tables of faults are those of tests/scripts.
 """
@@ -29,7 +29,8 @@ def of_class(drawn):
 KINDS = {
     "fold": {"right": spelled(fold.right_script), "wrong": fold.wrong_script},
     "turns": {
-        "right": spelled(turns.right_script), "nested": of_class(Nested), "cleared": of_class(Cleared), "wide": of_class(Wide),
+        "right": spelled(turns.right_script), "nested": of_class(Nested), "cleared": of_class(Cleared),
+        "wide": of_class(Wide),
         "moved": of_class(Moved), "wrong": turns.wrong_script,
     },
     "threads": {"right": spelled(threads.right_script), "wrong": threads.wrong_script},

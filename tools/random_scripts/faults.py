@@ -8,8 +8,10 @@ def plant_form(rng, script):
     """Puts a value of another type at a random place."""
     path, value = rng.choice([(path, value) for path, value in places(script) if path])
     wrong = {
-        "list": [None, {}, "a", 1], "dict": [None, [], "a", {}, {"x": 1}], "number": [None, "1", True, -1, 1.5, 2**63, 2**64],
-        "bool": [None, 0, 1, "true", []], "verdict": [None, True, "Committed", "", ["committed"]], "bytes": [None, 7, "\\", "a b", "\\x6d", []],
+        "list": [None, {}, "a", 1], "dict": [None, [], "a", {}, {"x": 1}],
+        "number": [None, "1", True, -1, 1.5, 2**63, 2**64],
+        "bool": [None, 0, 1, "true", []], "verdict": [None, True, "Committed", "", ["committed"]],
+        "bytes": [None, 7, "\\", "a b", "\\x6d", []],
         "batches": [None, {}, "a", 1, [{}]],
     }
     at(script, path[:-1])[path[-1]] = rng.choice(wrong[kind_at(path, value)])
@@ -29,7 +31,9 @@ def plant_text(rng, spelled):
 
 
 def spelled_wrong(rng, script, kinds, is_large, answer):
-    """The text of a script, with the faults of form and of text among these kinds, and what it must be answered: so far, `answer`."""
+    """The text of a script, with the faults of form and of text among these kinds, and what it must be answered:
+    so far, `answer`.
+    """
     if "form" in kinds:
         plant_form(rng, script)
         answer = BAD_SHAPE

@@ -9,7 +9,10 @@ from .spelling import text
 
 SERVERS = [b"server000000000%d" % number for number in range(1, 6)] + [b"\0" * 16, b"\xff" * 16]
 KEYS = [b"", b"\0", b"a", b"a\0", b"ab", b"b", b"m", b"z", b"\x7f", b"\x80", b"\xff", b"\xff\xff", b"\xff/keyServers/"]
-OTHERS = [b"\xff", b"\xff\0", b"\xff\x02", b"\xff\x02/x", b"\xff\x03", b"\xff/", b"\xff/keyServers", b"\xff/keyServers0", b"\xff/t"]
+OTHERS = [
+    b"\xff", b"\xff\0", b"\xff\x02", b"\xff\x02/x", b"\xff\x03", b"\xff/", b"\xff/keyServers", b"\xff/keyServers0",
+    b"\xff/t",
+]
 OTHERS += [b"\xff/serverTag/", b"\xff/serverTag/short", b"\xff/serverTag0", b"\xff/dbLocked\0", b"\xff/dbLocke", b"\xff\xfe"]
 TAGS = [b"\0\0\1", b"\0\0\2", b"\0\1\0", b"\1\0\0", b"\0\0\1", b"\xff\xff\xff", b"\3\1\2"]
 # a tag that only a keyServers row lists, and no server has
@@ -82,7 +85,6 @@ def change(rng):
     return {"set": [text(rng.choice([rng.choice(OTHERS), rng.choice(KEYS[:-2])])), text(rng.choice([b"", b"L", b"\xff"]))]}
 
 
-
 def state(rng, resolvers):
     words = ["committed"] * resolvers
     if rng.random() < 0.25:
@@ -119,7 +121,9 @@ def right_script(rng, size=None):
     ]
     if rows and rng.random() < 0.8:
         rows[0]["states"].insert(0, first_state(rng, resolvers))
-    asked = [rng.choice([rng.choice(KEYS), any_key(rng), any_key(rng), b"\xff\xff\xff"]) for _ in range(rng.choice([0, 1, 3, 6]))]
+    asked = [
+        rng.choice([rng.choice(KEYS), any_key(rng), any_key(rng), b"\xff\xff\xff"]) for _ in range(rng.choice([0, 1, 3, 6]))
+    ]
     return {"resolvers": resolvers, "rows": rows, "ask": [text(key) for key in asked]}
 
 

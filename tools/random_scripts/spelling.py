@@ -45,5 +45,7 @@ def spell(rng, value, twice=0):
             members.insert(0, spell_text(rng, rng.choice(list(value))) + ":" + rng.choice(STRAY))
         spelled = "{" + ("," + space(rng)).join(space(rng) + member for member in members) + space(rng) + "}"
     else:
-        spelled = {None: "null", True: "true", False: "false"}[value] if value is None or isinstance(value, bool) else str(value)
+        spelled = {None: "null", True: "true", False: "false"}[value] if value is None or isinstance(value, bool) else str(
+            value
+        )
     return space(rng) + spelled + space(rng)

@@ -46,7 +46,9 @@ def right_script(rng, size=None):
 
 
 def lists_of_content(script):
-    """The lists and moves into which a fault can be put, in the order of the checks, each with its faults; and batches between."""
+    """The lists and moves into which a fault can be put, in the order of the checks, each with its faults;
+    and batches between.
+    """
     for one in script["moves"]:
         yield one, RANGE_FAULTS
     for batches in script["work"]:
@@ -59,7 +61,9 @@ def lists_of_content(script):
 
 
 def plant(rng, script):
-    """Puts a fault of content into a random place: what was put there, and what it is answered, or nothing without a place."""
+    """Puts a fault of content into a random place:
+    what was put there, and what it is answered, or nothing without a place.
+    """
     return plant_content(rng, [it for it in lists_of_content(script) if it[1] is not None])
 
 
@@ -90,10 +94,14 @@ def first_fault(script, planted):
 
 
 def wrong_script(rng, size=None):
-    """The text of a script with one to three kinds of fault, and what it must be answered, or nothing without a place for them."""
+    """The text of a script with one to three kinds of fault, and what it must be answered,
+    or nothing without a place for them.
+    """
     script = random_threads(rng, *rng.choice(SIZES[1:6])) if size is None else right_script(rng, size)
     large, nobody = rng.random() < 0.05, rng.random() < 0.2
-    kinds = rng.sample(["content", "content", "content", "form", "text"], rng.choice([0, 1, 2] if large or nobody else [1, 1, 2, 3]))
+    kinds = rng.sample(
+        ["content", "content", "content", "form", "text"], rng.choice([0, 1, 2] if large or nobody else [1, 1, 2, 3]),
+    )
     planted = [plant(rng, script) for _ in range(kinds.count("content"))]
     if nobody:
         plant_nobody(rng, script)

@@ -59,7 +59,9 @@ class Drawn:
         if rng.random() < 0.1:
             return {"clear": [text(key), text(SERVER_KEYS[:-1] + b"0")]}
         if rng.random() < 0.3:
-            key = SERVER_KEYS + rng.choice([server, server[1:] + b"/m", server + b"0/m", server + b"0", b"", b"/", b"/" * 17])
+            key = SERVER_KEYS + rng.choice(
+                [server, server[1:] + b"/m", server + b"0/m", server + b"0", b"", b"/", b"/" * 17]
+            )
         return {"set": [text(key), rng.choice(["", "1"])]}
 
     def transaction(self):
@@ -68,7 +70,9 @@ class Drawn:
         snapshot = min(GREATEST, max(0, rng.choice([0, last, last, last, *near, *near, last - self.window, GREATEST])))
         reads = [self.span() for _ in range(rng.choice([0, 1, 1, 2]))]
         writes = [self.span() for _ in range(rng.choice([0, 1, 1, 2]))]
-        return transaction(snapshot, reads, writes, [self.mutation() for _ in range(rng.choice([0, 0, 1, 2]))], rng.random() < 0.5)
+        return transaction(
+            snapshot, reads, writes, [self.mutation() for _ in range(rng.choice([0, 0, 1, 2]))], rng.random() < 0.5,
+        )
 
     def sequence(self, proxy=None):
         proxy = self.rng.randrange(self.proxies) if proxy is None else proxy
@@ -105,7 +109,9 @@ class Drawn:
 
     def any_offer(self):
         """A row to a resolver, in its turn or not; the row and the resolver may be one too many."""
-        row, resolver = self.rng.randrange(len(self.owners) + 1), self.rng.randrange(self.resolvers + (self.rng.random() < 0.2))
+        row, resolver = (
+            self.rng.randrange(len(self.owners) + 1), self.rng.randrange(self.resolvers + (self.rng.random() < 0.2)),
+        )
         if resolver < self.resolvers and self.judged[resolver] == row < len(self.owners):
             self.judged[resolver] += 1
         return offer(row, resolver)
@@ -133,7 +139,10 @@ class Drawn:
 
     def first_batch(self):
         """A batch of the first proxy that sets tags and rows, for the later ones to change."""
-        tags = [{"set": [text(b"\xff/serverTag/" + server), text(self.rng.choice(TAGS))]} for server in self.rng.sample(SERVERS, 4)]
+        tags = [
+            {"set": [text(b"\xff/serverTag/" + server), text(self.rng.choice(TAGS))]}
+            for server in self.rng.sample(SERVERS, 4)
+        ]
         rows = [{"set": [text(b"\xff/keyServers/" + key), text(location(self.rng))]} for key in self.rng.sample(KEYS, 3)]
         self.owners.append(0)
         return sequence(0, transaction(0, [], [], tags + rows, True))
@@ -141,8 +150,14 @@ class Drawn:
     def script(self, size=None):
         """The whole script, of about as many events as the size says."""
         events = [self.first_batch()] if self.rng.random() < 0.7 else []
-        draws = [self.sequence] * 5 + [self.move] * self.rng.choice([2, 2, 2, 12]) + [self.offer] * 12 + [self.any_offer] * 2 + [self.finish] * 5 + [self.stranger]
-        events += [self.rng.choice(draws)() for _ in range(self.rng.choice([5, 5, 15, 15, 30, 30, 45, 45, 120]) if size is None else size)]
+        draws = (
+            [self.sequence] * 5 + [self.move] * self.rng.choice([2, 2, 2, 12]) + [self.offer] * 12 + [self.any_offer] * 2
+            + [self.finish] * 5 + [self.stranger]
+        )
+        events += [
+            self.rng.choice(draws)()
+            for _ in range(self.rng.choice([5, 5, 15, 15, 30, 30, 45, 45, 120]) if size is None else size)
+        ]
         if self.rng.random() < 0.5:
             events += [self.offer() for _ in range(self.resolvers * len(self.owners))] + [self.finish() for _ in self.owners]
         ask = [text(self.rng.choice([*POINTS, *KEYS])) for _ in range(self.rng.choice([0, 1, 3]))]
@@ -203,7 +218,9 @@ def first_fault(script, planted):
 
 
 def wrong_script(rng, size=None):
-    """The text of a script with one to three kinds of fault, and what it must be answered, or nothing without a place for them."""
+    """The text of a script with one to three kinds of fault, and what it must be answered,
+    or nothing without a place for them.
+    """
     script = right_script(rng, size)
     large = rng.random() < 0.1
     kinds = rng.sample(["content", "content", "content", "form", "text"], rng.choice([0, 1, 2] if large else [1, 1, 2, 3]))

@@ -1,4 +1,6 @@
-"""Random turns scripts that dwell on one thing: ranges that touch, Clears of many rows, many proxies and resolvers, many moves."""
+"""Random turns scripts that dwell on one thing:
+ranges that touch, Clears of many rows, many proxies and resolvers, many moves.
+"""
 from tests.scripts.turns.words import finish, offer, sequence, transaction, turns
 
 from .fold import KEYS, SERVERS, TAGS, location
@@ -50,8 +52,8 @@ class Nested(Drawn):
 
 
 class Cleared(Drawn):
-    """A script of many keyServers rows and of Clears of them that nest, repeat and overlap, with Sets of rows, tags and keys in
-    the same batches, so that tags are looked up where many rows are gone or have come back."""
+    """A script of many keyServers rows and of Clears of them that nest, repeat and overlap, with Sets of rows, tags and keys
+    in the same batches, so that tags are looked up where many rows are gone or have come back."""
 
     PLACES = [b"%02d" % number for number in range(20)]
 
@@ -91,17 +93,22 @@ class Cleared(Drawn):
         filling = [self.tag(server) for server in SERVERS] + [self.row(place) for place in self.PLACES]
         events = [sequence(0, transaction(0, [], [], filling, True)), offer(0, 0), finish(0)]
         for number in range(1, rng.choice([3, 8, 20]) if size is None else max(2, size // 3)):
-            made = [transaction(0, [], [], [self.mutation() for _ in range(rng.choice([1, 3, 8]))], True) for _ in range(rng.choice([1, 2]))]
+            made = [
+                transaction(0, [], [], [self.mutation() for _ in range(rng.choice([1, 3, 8]))], True)
+                for _ in range(rng.choice([1, 2]))
+            ]
             proxy = rng.randrange(self.proxies)
             events += [sequence(proxy, *made), offer(number, 0), finish(proxy)]
         return turns(
-            *events, ask=[text(place) for place in self.PLACES[::3]], proxies=self.proxies, resolvers=1, window=self.window, step=self.step
+            *events, ask=[text(place) for place in self.PLACES[::3]], proxies=self.proxies, resolvers=1, window=self.window,
+            step=self.step
         )
 
 
 class Wide(Drawn):
-    """A script of more than three proxies and resolvers, up to the most, of which a few proxies have batches. Rows are offered to
-    all resolvers, and again: to be given again, and to be given up once a later request of their proxy acknowledges them."""
+    """A script of more than three proxies and resolvers, up to the most, of which a few proxies have batches. Rows are
+    offered to all resolvers, and again: to be given again, and to be given up once a later request of their proxy
+    acknowledges them."""
 
     def __init__(self, rng):
         super().__init__(rng)
@@ -131,8 +138,12 @@ class Wide(Drawn):
 
     def script(self, size=None):
         rng = self.rng
-        draws = [self.sequence] * 5 + [self.move] + [self.offer_to_all] * 5 + [self.offer_again] * 8 + [self.finish] * 6 + [self.stranger]
-        events = [self.first_batch(), *(rng.choice(draws)() for _ in range(rng.choice([15, 30, 45]) if size is None else size))]
+        draws = [self.sequence] * 5 + [self.move] + [self.offer_to_all] * 5 + [self.offer_again] * 8 + [self.finish] * 6 + [
+            self.stranger
+        ]
+        events = [
+            self.first_batch(), *(rng.choice(draws)() for _ in range(rng.choice([15, 30, 45]) if size is None else size)),
+        ]
         ask = [text(rng.choice([*POINTS, *KEYS]))]
         return turns(*events, ask=ask, proxies=self.proxies, resolvers=self.resolvers, window=self.window, step=self.step)
 

@@ -120,7 +120,9 @@ tags "a" none
 
 
 def turns_of_value(text):
-    batch = [{"snapshot": 0, "reads": [], "writes": [], "mutations": [{"set": [METADATA_VERSION, text]}], "lock_aware": True}]
+    batch = [
+        {"snapshot": 0, "reads": [], "writes": [], "mutations": [{"set": [METADATA_VERSION, text]}], "lock_aware": True}
+    ]
     events = [{"sequence": {"proxy": 0, "batch": batch}}, {"offer": {"row": 0, "resolver": 0}}, {"finish": {"proxy": 0}}]
     return write({"proxies": 1, "resolvers": 1, "window": 1, "step": 3, "events": events, "ask": [text]})
 
@@ -175,7 +177,9 @@ tags "a" 0:1
 
 
 def threads_of_value(text):
-    batch = [{"snapshot": 0, "reads": [], "writes": [], "mutations": [{"set": [METADATA_VERSION, text]}], "lock_aware": True}]
+    batch = [
+        {"snapshot": 0, "reads": [], "writes": [], "mutations": [{"set": [METADATA_VERSION, text]}], "lock_aware": True}
+    ]
     numbers = {"proxies": 1, "resolvers": 1, "window": 1, "step": 3, "rows": 2}
     return write({**numbers, "moves": [], "work": [[batch]], "ask": [text]})
 

@@ -1,4 +1,5 @@
-"""Scripts made by somebody who wants the program to fail: beginnings of a long script, brackets, one fault, bytes changed at random.
+"""Scripts made by somebody who wants the program to fail:
+beginnings of a long script, brackets, one fault, bytes changed at random.
 
 Where what is left may still be a script, the second program alone says what it must be answered.
 """
@@ -56,8 +57,8 @@ def nested_alone(form):
 
 
 def one_change_at_each_place(form):
-    """One wrong number, field or text at each place, and bytes around the script. The table draws some of many such cases; these
-    are few enough that all are tried of every form."""
+    """One wrong number, field or text at each place, and bytes around the script. The table draws some of many such cases;
+    these are few enough that all are tried of every form."""
     whole = write(form.good()).encode()
     yield "nothing at all", b"", NOT_JSON
     yield "200 lists alone", "[" * 200 + "]" * 200, NOT_JSON

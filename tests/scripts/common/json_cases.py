@@ -41,9 +41,14 @@ def tokens_exchanged(form):
             yield "%s for %s at %d" % (other, token, len(before)), before + other + after, NOT_JSON
 
 
-NO_WORDS = ["nul", "nulll", "Null", "NULL", "None", "undefined", "True", "TRUE", "tru", "truee", "False", "fals", "yes", "NaN"]
+NO_WORDS = [
+    "nul", "nulll", "Null", "NULL", "None", "undefined", "True", "TRUE", "tru", "truee", "False", "fals", "yes", "NaN",
+]
 NO_WORDS += ["'a'", "`a`", "a", "\\", "/**/", "//", "#", "@", ";", "(1)", "<1>", '"', '"a', 'a"', "[", "{", "]", "}", "[1,]"]
-NO_WORDS += ["[,1]", "[,]", "[1 2]", "{1}", "{1:2}", '{"a"}', '{"a":}', '{"a":1,}', '{,"a":1}', '{,}', '{"a" 1}', '{"a":1 "b":2}', "{a:1}"]
+NO_WORDS += [
+    "[,1]", "[,]", "[1 2]", "{1}", "{1:2}", '{"a"}', '{"a":}', '{"a":1,}', '{,"a":1}', '{,}', '{"a" 1}', '{"a":1 "b":2}',
+    "{a:1}",
+]
 
 
 def no_words(form):
@@ -67,7 +72,9 @@ def bytes_around(form):
         answer = form.answer if byte in b" \t\n\r" else NOT_JSON
         yield "the byte %02x before it" % byte, bytes([byte]) + whole, answer
         yield "the byte %02x after it" % byte, whole + bytes([byte]), answer
-    for more in ("{}", "null", "1", ",", ",{}", "//", "/**/", "# comment", "\0", "\0\0", "\ufeff", "\u00a0", "\u2028", "x" * 70000):
+    for more in (
+        "{}", "null", "1", ",", ",{}", "//", "/**/", "# comment", "\0", "\0\0", "\ufeff", "\u00a0", "\u2028", "x" * 70000,
+    ):
         yield "%.9r after it" % more, whole + more.encode(), NOT_JSON
         yield "%.9r before it" % more, more.encode() + whole, NOT_JSON
     yield "white space of JSON after it", whole + b" \n" * 40000, form.answer

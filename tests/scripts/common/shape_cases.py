@@ -40,7 +40,10 @@ def missing_fields(form):
 def extra_fields(form):
     """One more field, by each name that stands anywhere in the form, and by others."""
     names = ["", "x", "set", "clear", "set_stamped", "version", "states", "mutations", "lock_aware", "verdicts"]
-    names += ["resolvers", "rows", "ask", "snapshot", "reads", "writes", "proxies", "window", "step", "events", "sequence", "proxy"]
+    names += [
+        "resolvers", "rows", "ask", "snapshot", "reads", "writes", "proxies", "window", "step", "events", "sequence",
+        "proxy",
+    ]
     names += ["batch", "move", "range", "resolver", "offer", "row", "finish", "moves", "work"]
     for path, value in form.places("dict"):
         for name in names:
@@ -74,7 +77,10 @@ def lists_of_wrong_length(form):
     for path, value in form.places("list"):
         if is_pair(path):
             for count in (0, 1, 3, 4):
-                yield "%s of %d texts" % (named(path), count), write(form.changed(path, ["a", "b", "c", "d"][:count])), BAD_SHAPE
+                yield (
+                    "%s of %d texts" % (named(path), count), write(form.changed(path, ["a", "b", "c", "d"][:count])),
+                    BAD_SHAPE,
+                )
 
 
 def lists_for_elements(form):
@@ -92,7 +98,9 @@ NUMBERS += ["1.7976931348623157e308", "2" * 300, "0." + "2" * 400, "-92233720368
 
 # spellings that are no numbers, or none that a float can hold
 NO_NUMBERS = ["020", "00", "+20", "20.", ".5", "2e", "2e+", "2.e1", "-", "--1", "0x14", "1_0", "1,0", "NaN", "Infinity"]
-NO_NUMBERS += ["-Infinity", "1e309", "-1e309", "1.7976931348623159e308", "2" * 310, "1e99999999999999999999", "- 1", "1 0", "２"]
+NO_NUMBERS += [
+    "-Infinity", "1e309", "-1e309", "1.7976931348623159e308", "2" * 310, "1e99999999999999999999", "- 1", "1 0", "２",
+]
 
 
 def spellings_of_numbers(form):
@@ -121,6 +129,7 @@ def doubled_fields(form):
 
 
 OF_EACH_FORM = (
-    missing_fields, extra_fields, misspelled_fields, wrong_types, lists_of_wrong_length, lists_for_elements, spellings_of_numbers,
+    missing_fields, extra_fields, misspelled_fields, wrong_types, lists_of_wrong_length, lists_for_elements,
+    spellings_of_numbers,
     doubled_fields,
 )

@@ -9,7 +9,12 @@ TAKEN_AT_ONCE = (4_096, 65_536)
 def sizes_about_reads(form):
     """Scripts of these sizes, made long by white space at either end or by a value."""
     whole = write(form.good())
-    for size in sorted({size for once in TAKEN_AT_ONCE for size in (once - 1, once, once + 1, 2 * once - 1, 2 * once, 2 * once + 1, 20 * once)}):
+    for size in sorted(
+        {
+            size for once in TAKEN_AT_ONCE
+            for size in (once - 1, once, once + 1, 2 * once - 1, 2 * once, 2 * once + 1, 20 * once)
+        }
+    ):
         yield "%d bytes, white space behind" % size, whole.ljust(size), form.answer
         yield "%d bytes, white space before" % size, whole.rjust(size), form.answer
         yield "%d bytes, and one behind" % size, whole.ljust(size) + "x", NOT_JSON

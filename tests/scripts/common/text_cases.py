@@ -83,7 +83,10 @@ def raw_characters(form):
     for code in [*range(0x20), 0x22, 0x5C, 0x7F, 0x80, 0xE9, 0x2028, 0xFEFF, 0xFFFE, 0x1F600]:
         answer = NOT_JSON if code < 0x20 or code in (0x22, 0x5C) else BAD_SHAPE
         for path, _ in form.places("bytes"):
-            yield "%s is the raw character %x" % (named(path), code), write(form.changed(path, Written('"%c"' % code))), answer
+            yield (
+                "%s is the raw character %x" % (named(path), code), write(form.changed(path, Written('"%c"' % code))),
+                answer,
+            )
         yield "a name with the raw character %x" % code, write(form.good()).replace('"ask"', '"ask%c"' % code), answer
 
 
@@ -99,7 +102,9 @@ def json_escapes(form):
         ("\\\\x0\\u0061", "\\x0a"),
     ):
         yield "a value spelled %s" % spelled, form.with_value(Written('"%s"' % spelled)), form.printed(means)
-    for escape in ("\\b", "\\f", "\\n", "\\r", "\\t", '\\"', "\\\\", "\\u0000", "\\u00e9", "\\ud83d\\ude00", "\\udbff\\udfff"):
+    for escape in (
+        "\\b", "\\f", "\\n", "\\r", "\\t", '\\"', "\\\\", "\\u0000", "\\u00e9", "\\ud83d\\ude00", "\\udbff\\udfff",
+    ):
         yield "a value spelled %s" % escape, form.with_value(Written('"%s"' % escape)), BAD_SHAPE
     for escape in NO_ESCAPES:
         for path, _ in form.places("bytes"):
@@ -108,8 +113,12 @@ def json_escapes(form):
 
 
 # what is no escape of a JSON string
-NO_ESCAPES = ["\\x41", "\\xff", "\\a", "\\0", "\\U0041", "\\ ", "\\'", "\\u", "\\u0", "\\u00", "\\u004", "\\u004g", "\\u+041"]
-NO_ESCAPES += ["\\ud800", "\\ud800a", "\\ud800\\n", "\\ud800\\u0041", "\\ud800\\ud800", "\\udbff\\ue000", "\\udc00", "\\udfff\\ud800"]
+NO_ESCAPES = [
+    "\\x41", "\\xff", "\\a", "\\0", "\\U0041", "\\ ", "\\'", "\\u", "\\u0", "\\u00", "\\u004", "\\u004g", "\\u+041",
+]
+NO_ESCAPES += [
+    "\\ud800", "\\ud800a", "\\ud800\\n", "\\ud800\\u0041", "\\ud800\\ud800", "\\udbff\\ue000", "\\udc00", "\\udfff\\ud800",
+]
 
 
 # bytes that are no UTF-8, each by its fault

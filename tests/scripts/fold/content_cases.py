@@ -12,7 +12,9 @@ TWO_SOURCES = "\\x02" + SERVER_1 + SERVER_2 + "\\x01" + SERVER_3
 def tags(sources=(), destinations=()):
     """The value of a keyServers row that lists tags, each given as one number: 65,536 times the locality, and the id."""
     lists = [bytes([len(some)]) + b"".join(tag.to_bytes(3, "big") for tag in some) for some in (sources, destinations)]
-    return "".join("\\x%02x" % byte if not 0x21 <= byte <= 0x7E or byte in b'"\\' else chr(byte) for byte in b"\0\0" + b"".join(lists))
+    return "".join(
+        "\\x%02x" % byte if not 0x21 <= byte <= 0x7E or byte in b'"\\' else chr(byte) for byte in b"\0\0" + b"".join(lists)
+    )
 
 
 def set_at_row(value):
@@ -152,11 +154,17 @@ def no_fault():
     yield "all keys", with_change({"clear": ["", "\\xff\\xff"]}), without
     far = KEY_SERVERS + "k" * 9987
     more = 'route "" 0:1\nroute "%s" none\n' % ("k" * 9987)
-    yield "a keyServers key of 10,000 bytes", with_change({"set": [far, "\\x00\\x00"]}), FOLD.answer.replace('route "" 0:1\n', more)
+    yield (
+        "a keyServers key of 10,000 bytes", with_change({"set": [far, "\\x00\\x00"]}),
+        FOLD.answer.replace('route "" 0:1\n', more),
+    )
     rows = 'route "" 0:1\nroute "m" 0:1\n'
     yield "destinations alone", with_change(set_at_row("\\x00\\x01" + SERVER_1)), FOLD.answer.replace('route "" 0:1\n', rows)
     yield "equal lists", with_change(set_at_row(("\\x01" + SERVER_1) * 2)), FOLD.answer.replace('route "" 0:1\n', rows)
-    yield "a later source", with_change(set_at_row("\\x01" + SERVER_2 + "\\x01" + SERVER_1)), FOLD.answer.replace('route "" 0:1\n', rows)
+    yield (
+        "a later source", with_change(set_at_row("\\x01" + SERVER_2 + "\\x01" + SERVER_1)),
+        FOLD.answer.replace('route "" 0:1\n', rows),
+    )
 
 
 def servers(count):
@@ -190,7 +198,9 @@ def cut_rows():
 
 
 def cut_tags():
-    """Each proper beginning of a value that lists tags but that of two zero bytes, 255 tags in a list, and one more or fewer."""
+    """Each proper beginning of a value that lists tags but that of two zero bytes, 255 tags in a list,
+    and one more or fewer.
+    """
     units = [1, 256, 65536], [66051, 16777215]
     whole = tags(*units).split("\\x")[1:]
     for length in [1, *range(3, len(whole))]:
@@ -214,7 +224,9 @@ def ids_that_do_not_rise():
         for low, high in (("\\x00", "\\x01"), ("0", "1"), ("\\x7f", "\\x80"), ("\\xfe", "\\xff"), ("\\x00", "\\xff")):
             first, second = ("".join([*SERVER_1[:place], byte, *SERVER_1[place + 1 :]]) for byte in (low, high))
             falling = second + first
-            rising = FOLD.answer.replace('route "" 0:1\n', 'route "" 0:1\nroute "m" %s\n' % ("0:1" if SERVER_1 in (first, second) else "none"))
+            rising = FOLD.answer.replace(
+                'route "" 0:1\n', 'route "" 0:1\nroute "m" %s\n' % ("0:1" if SERVER_1 in (first, second) else "none"),
+            )
             yield "sources that fall at byte %d" % place, with_change(set_at_row("\\x02" + falling + "\\x00")), BAD_ROW
             yield "destinations that fall at byte %d" % place, with_change(set_at_row("\\x00\\x02" + falling)), BAD_ROW
             yield "sources that rise at byte %d" % place, with_change(set_at_row("\\x02" + first + second + "\\x00")), rising

@@ -28,7 +28,10 @@ def many_states():
     for count in (3, 60, 1024):
         states = [(YES, TAGGED)] + [(NO, [put(it)], *verdicts(it)) for it in range(count)]
         fine = [it for it in range(count) if it % 3 == 0]
-        yield "%d transactions of a row, with 64 resolvers" % (count + 1), script(states, resolvers=64), head(10) + routes(fine)
+        yield (
+            "%d transactions of a row, with 64 resolvers" % (count + 1), script(states, resolvers=64),
+            head(10) + routes(fine),
+        )
 
 
 def verdicts(number):
@@ -62,7 +65,9 @@ def rows_up_to_the_greatest_version():
 def many_mutations():
     """1,200 mutations of a transaction; a Clear of all rows but the ends; and the rows put again."""
     count = 1200
-    puts, inner = TAGGED + [put(it) for it in range(count)], {"clear": [KEY_SERVERS + key_of(1), KEY_SERVERS + key_of(count - 1)]}
+    puts, inner = (
+        TAGGED + [put(it) for it in range(count)], {"clear": [KEY_SERVERS + key_of(1), KEY_SERVERS + key_of(count - 1)]},
+    )
     ends = [0, count - 1]
     yield "%d rows of a transaction" % count, script([(NO, puts)]), head(10) + routes(range(count))
     yield "%d rows of a transaction, and a Clear" % count, script([(NO, [*puts, inner])]), head(10) + routes(ends)
@@ -70,7 +75,10 @@ def many_mutations():
     text = head(30) + routes(sorted([*ends, *range(2, count, 100)]))
     yield "%d rows, a Clear, and some rows again" % count, script([(NO, puts)], [(NO, [inner])], [(NO, again)]), text
     cleared = [{"clear": [KEY_SERVERS + key_of(it), KEY_SERVERS + key_of(it) + "\\x00"]} for it in range(count) if it % 7]
-    yield "%d rows, and a Clear of each but some" % count, script([(NO, puts)], [(NO, cleared)]), head(20) + routes(range(0, count, 7))
+    yield (
+        "%d rows, and a Clear of each but some" % count, script([(NO, puts)], [(NO, cleared)]),
+        head(20) + routes(range(0, count, 7)),
+    )
     twice = [{"set": [METADATA_VERSION, str(it)]} for it in range(5000)]
     yield "5,000 values of one row", script([(NO, twice)]), head(10, "no", '"4999"')
 
@@ -86,7 +94,10 @@ def many_tags():
     row = {"set": [KEY_SERVERS + "m", value]}
     text = 'route "m" %s\ntags "a" none\ntags "m" %s\n' % (listed, listed)
     yield "510 tags of a row", script([(NO, [*tags, row])], ask=["a", "m"]), head(10) + text
-    yield "510 tags that are set after their row", script([(NO, [row])], *[[(NO, [it])] for it in tags], ask=["a", "m"]), head(5110) + text
+    yield (
+        "510 tags that are set after their row", script([(NO, [row])], *[[(NO, [it])] for it in tags], ask=["a", "m"]),
+        head(5110) + text,
+    )
     asked = ["%05d" % it for it in range(5000)]
     yield "5,000 asked keys", script(ask=asked), head(0) + "".join('tags "%s" none\n' % key for key in asked)
 

@@ -18,7 +18,9 @@ def wide():
         "ask": ["a", "b", "c"],
         "rows": [
             {
-                "states": [{"mutations": tags(3), "lock_aware": aware, "verdicts": ["committed", word]} for aware, word in marks],
+                "states": [
+                    {"mutations": tags(3), "lock_aware": aware, "verdicts": ["committed", word]} for aware, word in marks
+                ],
                 "version": version,
             }
             for version in (10, 20, 30)
@@ -42,7 +44,10 @@ def faults_at_the_ends():
 
 def two_faults_of_changes():
     """The first fault in the order of the lists is answered, whatever its number is."""
-    pairs = [((0, 0, 0), (0, 0, 2)), ((0, 0, 2), (0, 2, 0)), ((0, 2, 2), (2, 0, 0)), ((0, 0, 0), (2, 2, 2)), ((2, 0, 0), (2, 0, 2))]
+    pairs = [
+        ((0, 0, 0), (0, 0, 2)), ((0, 0, 2), (0, 2, 0)), ((0, 2, 2), (2, 0, 0)), ((0, 0, 0), (2, 2, 2)),
+        ((2, 0, 0), (2, 0, 2)),
+    ]
     for name in SOME:
         for other in SOME:
             for first, second in pairs:

@@ -2,8 +2,8 @@
 
     python3 -m tests.scripts.fold.reference < examples/moving_range.json
 
-It prints the text of the script on standard input. It is made to be read, not to be fast. The status is 0, or 1 for a refused
-script.
+It prints the text of the script on standard input. It is made to be read, not to be fast. The status is 0, or 1 for a
+refused script.
 """
 import argparse
 import json
@@ -84,7 +84,9 @@ def read_json(script):
     try:
         text = script.decode("utf-8")
         want(depth_of(text) <= DEEPEST, 70)
-        value = json.loads(text, parse_int=number, parse_float=number, parse_constant=refuse_word, object_pairs_hook=last_of_each)
+        value = json.loads(
+            text, parse_int=number, parse_float=number, parse_constant=refuse_word, object_pairs_hook=last_of_each,
+        )
     except (ValueError, RecursionError):
         raise Refused(70) from None
     want_characters(value)
@@ -147,7 +149,10 @@ def read_verdict(value):
 
 def read_state(value):
     mutations, lock_aware, verdicts = fields(value, "mutations", "lock_aware", "verdicts")
-    return [read_change(one) for one in items(mutations)], read_bool(lock_aware), [read_verdict(one) for one in items(verdicts)]
+    return (
+        [read_change(one) for one in items(mutations)], read_bool(lock_aware),
+        [read_verdict(one) for one in items(verdicts)],
+    )
 
 
 def read_row(value):
@@ -212,7 +217,9 @@ def two_lists(value, place, size, read):
 
 
 def location_of(value):
-    """The servers that a keyServers value names and the tags that it lists, sources first, or None where it does not decode."""
+    """The servers that a keyServers value names and the tags that it lists, sources first,
+    or None where it does not decode.
+    """
     servers = [] if lists_tags(value) else two_lists(value, 0, 16, bytes)
     tags = two_lists(value, 2, 3, read_tag) if lists_tags(value) else []
     return None if servers is None or tags is None else (servers, tags)
@@ -262,7 +269,9 @@ def fold(rows):
 
 
 def tags_of(kept, key):
-    """The tags of a key: those of the greatest keyServers row at or before it, of its servers or its own, rising, each once."""
+    """The tags of a key: those of the greatest keyServers row at or before it, of its servers or its own,
+    rising, each once.
+    """
     found = set()
     before = [row for row in kept if row.startswith(KEY_SERVERS) and row[len(KEY_SERVERS) :] <= key]
     if before:
@@ -322,7 +331,9 @@ def answer(script):
 
 
 def run(answer, words):
-    """The program with these words of help: prints the answer to the script on standard input. Its exit status is returned."""
+    """The program with these words of help: prints the answer to the script on standard input.
+    Its exit status is returned.
+    """
     how = {"formatter_class": argparse.RawDescriptionHelpFormatter}
     argparse.ArgumentParser(description=words, **how).parse_args()
     text = answer(sys.stdin.buffer.read())

@@ -60,7 +60,10 @@ def verdicts():
         for last in words:
             value = '"m"' if (first, last) == ("committed", "committed") else "none"
             yield "%s and %s" % (first, last), script([(YES, [MARK], first, last)], resolvers=2), head(10, "no", value)
-            yield "%s and %s, then no mark" % (first, last), script([(YES, [MARK], first, last), (NO, [UNMARK])], resolvers=2), head(10)
+            yield (
+                "%s and %s, then no mark" % (first, last), script([(YES, [MARK], first, last), (NO, [UNMARK])], resolvers=2),
+                head(10),
+            )
     for place in range(64):
         said = ["committed"] * place + ["too_old"] + ["committed"] * (63 - place)
         yield "resolver %d of 64" % place, script([(YES, [MARK], *said)], resolvers=64), head(10)
@@ -83,18 +86,29 @@ def tags():
         answer = head(10) + 'route "k" %s\ntags "k" %s\ntags "j" none\n' % (listed, listed)
         name = "sources %s, destinations %s" % (sources, destinations)
         yield name, script([(NO, [*three, row("k", sources, destinations)])], ask=["k", "j"]), answer
-        yield name + ", set before the tags", script([(NO, [row("k", sources, destinations), *three])], ask=["k", "j"]), answer
+        yield (
+            name + ", set before the tags", script([(NO, [row("k", sources, destinations), *three])], ask=["k", "j"]),
+            answer,
+        )
     equal = [tag(SERVER_1, "\\x03\\x01\\x02"), tag(SERVER_2, "\\x03\\x01\\x02"), row("", (SERVER_1, SERVER_2))]
     yield "two servers of one tag", script([(NO, equal)], ask=["a"]), head(10) + 'route "" 3:258\ntags "a" 3:258\n'
     last = [tag(SERVER_1, "\\x00\\x00\\x00"), tag(SERVER_2, "\\xff\\xff\\xff"), row("", (SERVER_1, SERVER_2))]
-    yield "the first tag and the last", script([(NO, last)], ask=["a"]), head(10) + 'route "" 0:0 255:65535\ntags "a" 0:0 255:65535\n'
+    yield (
+        "the first tag and the last", script([(NO, last)], ask=["a"]),
+        head(10) + 'route "" 0:0 255:65535\ntags "a" 0:0 255:65535\n',
+    )
+
+
+def tags_that_change():
+    """The tags of a row are those that its servers have after the last row."""
+    equal = [tag(SERVER_1, "\\x03\\x01\\x02"), tag(SERVER_2, "\\x03\\x01\\x02"), row("", (SERVER_1, SERVER_2))]
     gone = [{"clear": [SERVER_TAG + SERVER_1, SERVER_TAG + SERVER_2]}]
     yield "a tag that is gone", script([(NO, equal)], [(NO, gone)], ask=["a"]), head(20) + 'route "" 3:258\ntags "a" 3:258\n'
     changed = [tag(SERVER_1, "\\x00\\x00\\x05")]
     yield "a tag that changed", script([(NO, equal)], [(NO, changed)]), head(20) + 'route "" 0:5 3:258\n'
     later = [
-        [(NO, [row("", [SERVER_1])])], [(NO, [tag(SERVER_1, "\\x00\\x00\\x01")])], [(NO, [row("m", [SERVER_1], [SERVER_2])])],
-        [(NO, [tag(SERVER_2, "\\x00\\x00\\x00")])],
+        [(NO, [row("", [SERVER_1])])], [(NO, [tag(SERVER_1, "\\x00\\x00\\x01")])],
+        [(NO, [row("m", [SERVER_1], [SERVER_2])])], [(NO, [tag(SERVER_2, "\\x00\\x00\\x00")])],
     ]
     answer = head(40) + 'route "" 0:1\nroute "m" 0:0 0:1\ntags "a" 0:1\ntags "m" 0:0 0:1\n'
     yield "tags in later rows than their servers", script(*later, ask=["a", "m"]), answer
@@ -107,10 +121,19 @@ def listed_tags():
     """A row that lists tags has them, whatever tags servers have; a row of servers beside it has those of its servers."""
     both = [{"set": [KEY_SERVERS, LISTING]}, row("m", [SERVER_1])]
     answer = 'route "" 0:1 0:2 3:258\nroute "m" %s\ntags "a" 0:1 0:2 3:258\ntags "m" %s\n'
-    yield "listed tags, and a server without a tag", script([(NO, both)], ask=["a", "m"]), head(10) + answer % ("none", "none")
+    yield (
+        "listed tags, and a server without a tag", script([(NO, both)], ask=["a", "m"]),
+        head(10) + answer % ("none", "none"),
+    )
     given = [tag(SERVER_1, "\\x00\\x00\\x01"), tag(SERVER_2, "\\x00\\x00\\x05")]
-    yield "listed tags before tags of servers", script([(NO, both)], [(NO, given)], ask=["a", "m"]), head(20) + answer % ("0:1", "0:1")
-    yield "listed tags after tags of servers", script([(NO, given)], [(NO, both)], ask=["a", "m"]), head(20) + answer % ("0:1", "0:1")
+    yield (
+        "listed tags before tags of servers", script([(NO, both)], [(NO, given)], ask=["a", "m"]),
+        head(20) + answer % ("0:1", "0:1"),
+    )
+    yield (
+        "listed tags after tags of servers", script([(NO, given)], [(NO, both)], ask=["a", "m"]),
+        head(20) + answer % ("0:1", "0:1"),
+    )
     gone = {"clear": [SERVER_TAG, "\\xff/serverTag0"]}
     yield (
         "listed tags that stay when all tags of servers go", script([(NO, given + both)], [(NO, [gone])], ask=["a", "m"]),
@@ -119,10 +142,15 @@ def listed_tags():
     twice = {"set": [KEY_SERVERS, LISTING[:-16] + "\\x01\\x00\\x00\\x01"]}
     yield "a tag in both lists", script([(NO, [twice])], ask=["a"]), head(10) + 'route "" 0:1 0:2\ntags "a" 0:1 0:2\n'
     no_tags = {"set": [KEY_SERVERS, "\\x00\\x00\\x00\\x00"]}
-    yield "two empty lists of tags", script([(NO, [*given, no_tags])], ask=["a"]), head(10) + 'route "" none\ntags "a" none\n'
+    yield (
+        "two empty lists of tags", script([(NO, [*given, no_tags])], ask=["a"]), head(10) + 'route "" none\ntags "a" none\n',
+    )
     yield (
         "a row of servers in place of listed tags, and back",
-        script([(NO, given + both)], [(NO, [row("", [SERVER_2])])], [(NO, [{"set": [KEY_SERVERS + "m", LISTING]}])], ask=["a", "m"]),
+        script(
+            [(NO, given + both)], [(NO, [row("", [SERVER_2])])], [(NO, [{"set": [KEY_SERVERS + "m", LISTING]}])],
+            ask=["a", "m"],
+        ),
         head(30) + 'route "" 0:5\nroute "m" 0:1 0:2 3:258\ntags "a" 0:5\ntags "m" 0:1 0:2 3:258\n',
     )
     yield (
@@ -141,14 +169,19 @@ def routes():
     ):
         answer = head(20) + "".join(lines[key] for key in left)
         yield "a Clear from %s to %s" % (begin, end), script([(NO, rows)], [(NO, [clear_rows(begin, end)])]), answer
-    asked = ["", "a", "b", "b\\x00", "l\\xff", "m", "s", "t", "\\xff", "\\xff/keyServers/b", "\\xff\\xff\\xff", "k" * 20_000, "b", "b"]
+    asked = [
+        "", "a", "b", "b\\x00", "l\\xff", "m", "s", "t", "\\xff", "\\xff/keyServers/b", "\\xff\\xff\\xff", "k" * 20_000, "b",
+        "b",
+    ]
     owners = "--bbbmmttttbbb"
     answer = head(10) + "".join(lines[key] for key in "bmt")
     for key, owner in zip(asked, owners):
         answer += 'tags "%s" %s\n' % (key, "0:1" if owner in "bt" else "none")
     yield "keys of each row, asked in any order and twice", script([(NO, rows)], ask=asked), answer
     bytewise = [row(key) for key in ("\\xff", "a", "\\x80", "", "B", "\\x00", "ab", "\\x7f")]
-    answer = head(10) + "".join('route "%s" none\n' % key for key in ("", "\\x00", "B", "a", "ab", "\\x7f", "\\x80", "\\xff"))
+    answer = head(10) + "".join(
+        'route "%s" none\n' % key for key in ("", "\\x00", "B", "a", "ab", "\\x7f", "\\x80", "\\xff")
+    )
     yield "rows in the order of unsigned bytes", script([(NO, bytewise)]), answer
 
 
@@ -166,4 +199,4 @@ def small_ones():
     yield "a metadata version set twice", script([(NO, [MARK, {"set": [METADATA_VERSION, "n"]}])]), head(10, "no", '"n"')
 
 
-CASES = (small_ones, locks, verdicts, tags, listed_tags, routes)
+CASES = (small_ones, locks, verdicts, tags, tags_that_change, listed_tags, routes)

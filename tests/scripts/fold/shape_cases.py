@@ -8,7 +8,10 @@ def moved_fields():
     yield "ask in a row", write(moved((), ("rows", 0), "ask")), BAD_SHAPE
     yield "states around the rows", write(moved(("rows", 0), (), "states")), BAD_SHAPE
     yield "verdicts around the states", write(moved(("rows", 0, "states", 0), ("rows", 0), "verdicts")), BAD_SHAPE
-    yield "lock_aware in a change", write(moved(("rows", 1, "states", 0), ("rows", 1, "states", 0, "mutations", 0), "lock_aware")), BAD_SHAPE
+    yield (
+        "lock_aware in a change",
+        write(moved(("rows", 1, "states", 0), ("rows", 1, "states", 0, "mutations", 0), "lock_aware")), BAD_SHAPE,
+    )
 
 
 def moved(old, new, name):

@@ -2,9 +2,9 @@
 
     python3 -m tests.scripts.threads.again SCRIPT [TIMES [PROGRAM]]
 
-SCRIPT is a file, or `seed N` for a random script of tests/scripts/run; 1,000 times without TIMES. As many runs go on at once as
-there are processors. It ends with 1 if a text is one that no order of the batches gives, if a run ends otherwise than with
-status 0, or if one has not ended in a minute.
+SCRIPT is a file, or `seed N` for a random script of tests/scripts/run; 1,000 times without TIMES. As many runs go on at once
+as there are processors. It ends with 1 if a text is one that no order of the batches gives, if a run ends otherwise than
+with status 0, or if one has not ended in a minute.
 """
 import collections
 import concurrent.futures
@@ -57,7 +57,10 @@ def main():
     for (_, text, _), fault in wrong[:5]:
         print("%s\n%s" % (fault, text))
     often = ", ".join(str(count) for _, count in ends.most_common(10))
-    print("%d runs, %d different texts, %d of them wrong; the most frequent came so often: %s" % (times, len(ends), len(wrong), often))
+    print(
+        "%d runs, %d different texts, %d of them wrong; the most frequent came so often: %s"
+        % (times, len(ends), len(wrong), often)
+    )
     return 1 if wrong else 0
 
 

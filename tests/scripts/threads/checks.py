@@ -2,9 +2,9 @@
 
     python3 -m tests.scripts.threads.checks [SEEDS]
 
-What an order gives is found here by the cluster of turns/reference.py, by its sequences, offers and finishes; the decider has
-a shorter way of its own. Of small scripts every order is tried, so that of each text it is known whether it is one of the
-script's. Of larger ones the text of a random order must be taken.
+What an order gives is found here by the cluster of turns/reference.py, by its sequences, offers and finishes; the decider
+has a shorter way of its own. Of small scripts every order is tried, so that of each text it is known whether it is one of
+the script's. Of larger ones the text of a random order must be taken.
 """
 import concurrent.futures
 import functools
@@ -86,7 +86,9 @@ def random_order(rng, script):
 
 
 def changed_lines(text):
-    """Texts that differ from a text in one line, which is gone, stands twice, comes after the next, or says another thing."""
+    """Texts that differ from a text in one line, which is gone, stands twice, comes after the next,
+    or says another thing.
+    """
     whole = text.splitlines(True)
     for at, line in enumerate(whole):
         yield "without line %d" % (at + 1), whole[:at] + whole[at + 1 :]
@@ -100,8 +102,10 @@ def changed_lines(text):
 
 
 OTHERS = {
-    "committed": ["conflict", "too_old", "locked"], "conflict": ["committed", "too_old"], "too_old": ["committed", "conflict"],
-    "locked": ["committed", "locks"], "yes": ["no"], "no": ["yes"], "0:1": ["0:2", "none", "0:1 0:2"], "none": ["0:1", "committed"],
+    "committed": ["conflict", "too_old", "locked"], "conflict": ["committed", "too_old"],
+    "too_old": ["committed", "conflict"],
+    "locked": ["committed", "locks"], "yes": ["no"], "no": ["yes"], "0:1": ["0:2", "none", "0:1 0:2"],
+    "none": ["0:1", "committed"],
     "behind": ["ahead", "same"], "ahead": ["behind"], "ok": ["behind 0 0"], "LedgerFull": ["VersionsEnd"],
     "VersionsEnd": ["LedgerFull"],
 }
@@ -182,7 +186,9 @@ def no_version_left():
 
 
 def conflicts():
-    """Of those that read and write one key, one is committed; of two that read what the other writes, either; of a ring, two."""
+    """Of those that read and write one key, one is committed;
+    of two that read what the other writes, either; of a ring, two.
+    """
     words = ("committed", "conflict", "too_old")
     for count in (2, 3, 8):
         script = threads(*[[reading_and_writing("a", "a")]] * count)
@@ -194,7 +200,9 @@ def conflicts():
         yield from one_batch_each("two keys, crossed", script, said, sorted(said) == ["committed", "conflict"])
     script = threads([reading_and_writing("a", "b")], [reading_and_writing("b", "c")], [reading_and_writing("c", "a")])
     for said in itertools.product(words, repeat=3):
-        yield from one_batch_each("three keys, in a ring", script, said, sorted(said) == ["committed", "committed", "conflict"])
+        yield from one_batch_each(
+            "three keys, in a ring", script, said, sorted(said) == ["committed", "committed", "conflict"],
+        )
 
 
 def one_batch_each(what, script, said, right):
@@ -226,7 +234,8 @@ SMALL = {
     ),
     "a move, and owners of before": threads(
         [[transaction(0, [one_key("n")], [one_key("n")])]] * 2, [[transaction(1, [one_key("n")], [one_key("b")])]],
-        [[transaction(2, [one_key("b"), one_key("n")], [one_key("n")])]], moves=[move("m", "t", 1), move("n", "p", 2)], resolvers=3,
+        [[transaction(2, [one_key("b"), one_key("n")], [one_key("n")])]], moves=[move("m", "t", 1), move("n", "p", 2)],
+        resolvers=3,
     ),
     "a version in the metadata": threads(
         [[transaction(0, [], [], [stamp(METADATA_VERSION, "\\x00" * 14)])]] * 2,
@@ -275,7 +284,9 @@ def random_small(seeds):
 def random_large(seeds):
     for seed in seeds:
         rng = random.Random("large threads %d" % seed)
-        script = random_scripts.threads.random_threads(rng, *rng.choice([(3, 9), (3, 9), (2, 14), (4, 4), (5, 3), (8, 2), (1, 30)]))
+        script = random_scripts.threads.random_threads(
+            rng, *rng.choice([(3, 9), (3, 9), (2, 14), (4, 4), (5, 3), (8, 2), (1, 30)]),
+        )
         found, _ = script_of(write(script).encode())
         with_meetings = rng.random() < 0.5
         text = text_of(found, random_order(rng, found), with_meetings)

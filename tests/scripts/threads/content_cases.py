@@ -1,4 +1,6 @@
-"""Threads scripts of the right form whose keys, values, ranges, stamps, batches or moves are at fault, or stand just within limits."""
+"""Threads scripts of the right form whose keys, values, ranges, stamps, batches or moves are at fault,
+or stand just within limits.
+"""
 from tests.scripts.common.script import BATCH_TOO_LARGE, METADATA_VERSION, NO_SUCH_RESOLVER, write
 from tests.scripts.fold.content_cases import FINE
 from tests.scripts.threads.words import closings, move, outcomes, threads
@@ -75,7 +77,9 @@ def moves_to_nobody():
     """A move to a resolver that is not there, alone, behind right moves and before them."""
     for resolvers in (1, 2, 63, 64):
         fine = [move("a", "b", it) for it in range(resolvers)]
-        yield case("moves to each of %d" % resolvers, threads([], moves=fine, resolvers=resolvers), closings(10), shown(0, 10))
+        yield case(
+            "moves to each of %d" % resolvers, threads([], moves=fine, resolvers=resolvers), closings(10), shown(0, 10),
+        )
         for number in (resolvers, resolvers + 1, 64, 65, 2**32, 2**63 - 1):
             for moves in ([move("a", "b", number)], [*fine, move("a", "b", number)], [move("a", "b", number), *fine]):
                 name = "one of %d moves goes to %d of %d" % (len(moves), number, resolvers)

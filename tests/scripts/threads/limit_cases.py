@@ -1,7 +1,7 @@
 """Right threads scripts at the limits and at sizes where a body could give up, each with the lines that it must be answered.
 
-They come to one text whatever the order of the batches is: what different proxies do does not conflict, or one proxy does all.
-The lines are worked out by hand, by a rule for each of many alike batches.
+They come to one text whatever the order of the batches is: what different proxies do does not conflict, or one proxy does
+all. The lines are worked out by hand, by a rule for each of many alike batches.
 """
 from tests.scripts.common.script import KEY_SERVERS, METADATA_VERSION, SERVER_1
 from tests.scripts.threads.words import closings, move, outcomes, threads
@@ -36,26 +36,32 @@ def full_batches():
     chains = [[transaction(0, [own[it]], [own[it + 1]]) for it in range(count)] for own in keys]
     said = words(count, lambda it: "conflict" if it % 2 else COMMITTED)
     yield case(
-        "1,024 transactions that each read and write", threads([chains[0]], resolvers=1), outcomes(0, said), closings(20), shown(0, 20),
+        "1,024 transactions that each read and write", threads([chains[0]], resolvers=1), outcomes(0, said), closings(20),
+        shown(0, 20),
     )
     yield case(
-        "1,024 transactions that each read and write, of each of two proxies", threads([chains[0]], [chains[1]]), outcomes(0, said),
+        "1,024 transactions that each read and write, of each of two proxies", threads([chains[0]], [chains[1]]),
+        outcomes(0, said),
         outcomes(1, said), closings(30, 40), shown(0, 30), shown(1, 40),
     )
     every = [one_key(key_of(it)) for it in range(1000)]
     yield case(
         "1,000 reads and 1,000 writes of a transaction", threads([
-            [transaction(0, [], every)], [transaction(9, [one_key("j")] * 1000, every), transaction(9, [one_key("j")] * 999 + every[-1:])],
+            [transaction(0, [], every)],
+            [transaction(9, [one_key("j")] * 1000, every), transaction(9, [one_key("j")] * 999 + every[-1:])],
         ]),
         outcomes(0, COMMITTED, "committed conflict"), closings(30), shown(0, 30),
     )
 
 
 def many_states():
-    """Batches of many state transactions, and of many under the lock; a proxy without batches learns all rows by its closing."""
+    """Batches of many state transactions, and of many under the lock;
+    a proxy without batches learns all rows by its closing.
+    """
     for count in (3, 60, 1024):
         yield case(
-            "%d state transactions of a batch" % count, threads([[row_put(it) for it in range(count)]], []), outcomes(0, words(count)),
+            "%d state transactions of a batch" % count, threads([[row_put(it) for it in range(count)]], []),
+            outcomes(0, words(count)),
             closings(20, 30), shown(0, 20, *routed(range(count))), shown(1, 30, *routed(range(count))),
         )
     for count in (9, 60, 1024):
@@ -70,7 +76,8 @@ def many_states():
     cleared = clear(KEY_SERVERS + key_of(1), KEY_SERVERS + key_of(1000))
     yield case(
         "1,000 mutations of a transaction, and a Clear of 999 rows",
-        threads([[transaction(0, [], [], puts, True)], [transaction(0, [], [], [cleared], True)]], []), outcomes(0, COMMITTED, COMMITTED),
+        threads([[transaction(0, [], [], puts, True)], [transaction(0, [], [], [cleared], True)]], []),
+        outcomes(0, COMMITTED, COMMITTED),
         closings(30, 40), shown(0, 30, *routed([0])), shown(1, 40, *routed([0])),
     )
 
@@ -87,7 +94,8 @@ def many_moves():
     again = [*many, transaction(GREATEST, [one_key(key_of(99))])]
     yield case(
         "100 reads at the greatest snapshot, behind a write", threads([written, many, again], moves=[move("m", "t", 1)]),
-        outcomes(0, COMMITTED, words(100), words(101, lambda it: "conflict" if it == 100 else COMMITTED)), closings(40), shown(0, 40),
+        outcomes(0, COMMITTED, words(100), words(101, lambda it: "conflict" if it == 100 else COMMITTED)), closings(40),
+        shown(0, 40),
     )
     step = GREATEST // 7
     yield case(
@@ -103,7 +111,8 @@ def many_batches():
         end = 10 * count + 10
         yield case(
             "%d batches of one proxy, and two that learn of them at once" % count,
-            threads([[row_put(it, lock_aware=True)] for it in range(count)], [], [], rows=count + 3), outcomes(0, *[COMMITTED] * count),
+            threads([[row_put(it, lock_aware=True)] for it in range(count)], [], [], rows=count + 3),
+            outcomes(0, *[COMMITTED] * count),
             closings(end, end + 10, end + 20), *[shown(it, end + 10 * it, *routed(range(count))) for it in range(3)],
         )
     yield case(
@@ -121,7 +130,9 @@ def greatest_ledgers():
     marks = {0: [marking(0)], rows - 2: [marking(1)], rows - 1: [marking(2)]}
     yield case(
         "4,097 batches in 4,096 rows",
-        threads([marks.get(it, [transaction(0, [], [], [put(METADATA_VERSION, "x")])] * (it == rows)) for it in range(rows + 1)],
+        threads([
+            marks.get(it, [transaction(0, [], [], [put(METADATA_VERSION, "x")])] * (it == rows)) for it in range(rows + 1)
+        ],
                 [], rows=rows, resolvers=1),
         outcomes(0, *[COMMITTED if it in marks else "none" for it in range(rows)], full), closings(full, full),
         shown(0, 10 * rows, metadata_version='"2"'), shown(1, 0),

@@ -67,7 +67,8 @@ def faults_at_the_ends():
 
 # places in the order of the checks: the moves come first, however the fields stand
 CHECKED = [
-    *MOVES, place(0, 0, 0, "reads", 0), place(0, 0, 0, "writes", 1), place(0, 0, 1, "mutations", 0), place(0, 1, 0, "mutations", 1),
+    *MOVES, place(0, 0, 0, "reads", 0), place(0, 0, 0, "writes", 1), place(0, 0, 1, "mutations", 0),
+    place(0, 1, 0, "mutations", 1),
     place(1, 0, 0, "reads", 1), place(1, 1, 1, "mutations", 1),
 ]
 
@@ -145,7 +146,9 @@ SHAPELESS = {
 }
 
 # faults of content: a way to a place, and what stands there
-FAULTY = [(path, name, value) for path in (MOVES[1], CHECKED[2], CHECKED[5], CHECKED[7]) for name, value, _ in some_faults_at(path)]
+FAULTY = [
+    (path, name, value) for path in (MOVES[1], CHECKED[2], CHECKED[5], CHECKED[7]) for name, value, _ in some_faults_at(path)
+]
 
 
 def form_and_content():
@@ -156,7 +159,9 @@ def form_and_content():
                 script = changed(changed(wide(), path, value), way, new)
                 script = turned(script) if number % 2 else script
                 yield "%s, and %s at %s" % (shapeless, name, in_words(path)), write(script), BAD_SHAPE
-        for what, script in (("a move to nobody", with_nobody(wide())), ("a batch too large", with_large_batch(wide(), place(0, 0)))):
+        for what, script in (
+            ("a move to nobody", with_nobody(wide())), ("a batch too large", with_large_batch(wide(), place(0, 0))),
+        ):
             yield "%s, and %s" % (shapeless, what), write(changed(script, way, new)), BAD_SHAPE
 
 
@@ -176,7 +181,10 @@ def json_and_others():
 
 def doubled_faults():
     """Where a field stands twice, what its first value holds counts for nothing, whatever its fault is."""
-    faulty = [(path, name, changed(wide(), path, value), answer) for path in CHECKED[1::2] for name, value, answer in some_faults_at(path)]
+    faulty = [
+        (path, name, changed(wide(), path, value), answer) for path in CHECKED[1::2] for name, value,
+        answer in some_faults_at(path)
+    ]
     faulty.append((MOVES[0], "nobody", with_nobody(wide()), NO_SUCH_RESOLVER))
     for path, name, wrong, answer in faulty:
         field, fine = path[0], wide()

@@ -6,12 +6,12 @@ Two files, each `-` for standard input. It prints an order, as the proxy of each
 With `--meetings` the text has to end with the lines of each two proxies and of the audits. For a refused script there is one
 text, its refusal. It needs no program: `what_is_wrong` says the same of bytes.
 
-The batches of a proxy come in their own order, and after all of them the closings in the order of the proxies. So an order is
-a way through the numbers of batches that each proxy has had, and the text says much of where it goes: what each batch comes
-to, which rows are in the metadata at the end, and in which row a proxy has its last batch if its closing is refused. The
-search goes depth first and leaves a way where the text contradicts it. It takes none twice: two ways are one from where each
-proxy has had as many batches, the metadata is the same, and no read still to come tells the committed writes apart. The order
-that it finds is printed anew by reference.py, and that must be the text, byte by byte.
+The batches of a proxy come in their own order, and after all of them the closings in the order of the proxies. So an order
+is a way through the numbers of batches that each proxy has had, and the text says much of where it goes: what each batch
+comes to, which rows are in the metadata at the end, and in which row a proxy has its last batch if its closing is refused.
+The search goes depth first and leaves a way where the text contradicts it. It takes none twice: two ways are one from where
+each proxy has had as many batches, the metadata is the same, and no read still to come tells the committed writes apart. The
+order that it finds is printed anew by reference.py, and that must be the text, byte by byte.
 
 What a proxy acknowledges decides what a resolver forgets, and nothing that is printed.
 """
@@ -165,7 +165,9 @@ def read_said(script, text, meetings):
 
 
 def check_versions(script, outcomes, closings, versions):
-    """A proxy is at the version of its closing, or of its last batch, or at 0. Some proxy is at the version of the last row."""
+    """A proxy is at the version of its closing, or of its last batch, or at 0.
+    Some proxy is at the version of the last row.
+    """
     for proxy, (words, closing, version) in enumerate(zip(outcomes, closings, versions)):
         count, rest = divmod(version, script.step)
         own = version == 0 if not words else rest == 0 and len(words) <= count <= committed_rows(script)
@@ -210,7 +212,8 @@ class Later:
         self.shown = [LOCKED, METADATA_VERSION, *(KEY_SERVERS + key for key in said.final.routes)]
         # for each proxy and batch its changes of kept rows, and for each proxy the ranges that it reads, each with its batch
         self.changes, self.reads = [[[] for _ in batches] for batches in said.outcomes], [[] for _ in said.outcomes]
-        # for each proxy the last batch with a transaction that commits if there is no lock, and with one that the lock refuses
+        # for each proxy the last batch with a transaction that commits if there is no lock, and with one that the lock
+        # refuses
         self.last_unlocked, self.last_locked = [-1] * script.proxies, [-1] * script.proxies
         for proxy, batches in enumerate(said.outcomes):
             for number, words in enumerate(batches):
@@ -251,7 +254,8 @@ class Later:
         if row not in self.known_touches:
             self.known_touches[row] = [
                 (proxy, number, self.may_stay(row, last_change(row, changes)))
-                for proxy, batches in enumerate(self.changes) for number, changes in enumerate(batches) if last_change(row, changes)
+                for proxy, batches in enumerate(self.changes)
+                for number, changes in enumerate(batches) if last_change(row, changes)
             ]
         return self.known_touches[row]
 
@@ -340,8 +344,8 @@ class Spared:
 class Rows:
     """The first and the last row that each batch can have, by the text.
 
-    A transaction with reads is too old exactly where its version lies more than the window above its snapshot, and the batches
-    of a proxy come one after another. The last one stands where the proxy ends, if its closing is refused.
+    A transaction with reads is too old exactly where its version lies more than the window above its snapshot, and the
+    batches of a proxy come one after another. The last one stands where the proxy ends, if its closing is refused.
     """
 
     def __init__(self, script, said):
@@ -406,7 +410,9 @@ class Search:
             ways.append(self.ways_on(known, had))
 
     def ways_on(self, known, had):
-        """The states after the next row, for each proxy that may have it; first for those whose batches have to come soonest."""
+        """The states after the next row, for each proxy that may have it;
+        first for those whose batches have to come soonest.
+        """
         waiting = [it for it in range(len(had)) if had[it] < self.counts[it] and self.rows.first[it][had[it]] <= known.rows]
         for proxy in sorted(waiting, key=lambda it: (self.rows.last[it][had[it]], had[it] - self.counts[it])):
             after = self.after(known, proxy, had)
@@ -429,8 +435,12 @@ class Search:
         return (then, had) if self.agrees(then.kept, had, touched) else None
 
     def agrees(self, kept, had, rows):
-        """Whether each of these rows can be as the text shows it in the end: as it is, or as a batch still to come leaves it."""
-        return all(self.left_fits(had, row) if self.is_touched_later(had, row) else self.row_agrees(kept, had, row) for row in rows)
+        """Whether each of these rows can be as the text shows it in the end:
+        as it is, or as a batch still to come leaves it.
+        """
+        return all(
+            self.left_fits(had, row) if self.is_touched_later(had, row) else self.row_agrees(kept, had, row) for row in rows
+        )
 
     def is_touched_later(self, had, row):
         return any(number >= had[proxy] for proxy, number, _ in self.later.touches(row))

@@ -2,15 +2,15 @@
 
     python3 -m tests.scripts.threads.reference < examples/threads/two_proxies.json
 
-It prints one right text of the script on standard input: that of the order in which the proxies take turns, each with its next
-batch. The status is 0, or 1 for a refused script.
+It prints one right text of the script on standard input: that of the order in which the proxies take turns, each with its
+next batch. The status is 0, or 1 for a refused script.
 
-The text depends on the order in which the sequencer takes the batches of the proxies, which no script says. Here an order is a
-list of proxies: each takes the next of its batches. `printed` is the text of one order; orders.py finds whether there is an
-order of which a text is.
+The text depends on the order in which the sequencer takes the batches of the proxies, which no script says. Here an order is
+a list of proxies: each takes the next of its batches. `printed` is the text of one order; orders.py finds whether there is
+an order of which a text is.
 
-It shares nothing with the first program, and with that of turns what a transaction is, whom it asks and how a script is read.
-Verdicts are found otherwise than there: each resolver has the last version of each range that it committed a write of.
+It shares nothing with the first program, and with that of turns what a transaction is, whom it asks and how a script is
+read. Verdicts are found otherwise than there: each resolver has the last version of each range that it committed a write of.
 """
 import sys
 from typing import NamedTuple
@@ -59,14 +59,17 @@ def read_threads(value):
     *numbers, moves, work, ask = fields(value, *names)
     script = Script(
         *read_numbers(*numbers), [read_move(one) for one in items(moves)],
-        [[read_batch(batch) for batch in items(batches)] for batches in items(work)], [read_bytes(key) for key in items(ask)],
+        [[read_batch(batch) for batch in items(batches)] for batches in items(work)],
+        [read_bytes(key) for key in items(ask)],
     )
     want(len(script.work) == script.proxies)
     return script
 
 
 def check(script):
-    """Refuses a script by its first fault: of the moves, then of the work, and then a move to a resolver that is not there."""
+    """Refuses a script by its first fault: of the moves, then of the work,
+    and then a move to a resolver that is not there.
+    """
     for span, _ in script.moves:
         check_change(("clear", *span))
     for batches in script.work:
@@ -104,7 +107,9 @@ class Work:
         return Known(0, ({},) * self.script.resolvers, {})
 
     def shares(self, proxy, number, previous):
-        """What each resolver gets of a batch, without writes that no read meets. All moves are dated 1: what is older is alike."""
+        """What each resolver gets of a batch, without writes that no read meets.
+        All moves are dated 1: what is older is alike.
+        """
         place = proxy, number, min(max(previous - self.script.window, 0), 2)
         if place not in self.shares_by_age:
             batch = [stamped(it, 0, at) for at, it in enumerate(self.script.work[proxy][number])]
@@ -129,7 +134,9 @@ class Work:
                 verdicts[part.number].append(verdict)
         locked = is_locked(known.kept)
         outcomes = [outcome_of(it, said, locked) for it, said in zip(batch, verdicts)]
-        changes = [change for it, said in zip(batch, outcomes) if said == "committed" and is_state(it) for change in it.changes]
+        changes = [
+            change for it, said in zip(batch, outcomes) if said == "committed" and is_state(it) for change in it.changes
+        ]
         kept = known.kept
         if changes:
             kept = dict(kept)
@@ -187,7 +194,9 @@ def words_of(outcomes):
 
 
 def printed(script, order, meetings=False):
-    """The text if the batches that get a row come in this order; with `meetings` also the lines of two proxies and of audits."""
+    """The text if the batches that get a row come in this order;
+    with `meetings` also the lines of two proxies and of audits.
+    """
     work = Work(script)
     known, said = work.begin(), [[] for _ in script.work]
     # for each proxy its version, and the metadata at it
@@ -214,7 +223,9 @@ def printed(script, order, meetings=False):
 
 
 def meeting_lines(versions):
-    """The lines of each two proxies by their versions, and of each proxy's audit: every resolver has judged all rows by then."""
+    """The lines of each two proxies by their versions, and of each proxy's audit:
+    every resolver has judged all rows by then.
+    """
     for first, version in enumerate(versions):
         for second, other in list(enumerate(versions))[first + 1 :]:
             yield "meet %d %d %s" % (first, second, "same" if version == other else "behind" if version < other else "ahead")

@@ -46,14 +46,19 @@ def small_ones():
         ["batch %d 0 none" % it for it in every], closings(*(10 * it + 650 for it in every)),
         *[shown(it, 10 * it + 650) for it in every],
     )
-    yield case("batches of the last proxy alone", threads([], [[], []]), ["batch 1 0 none", "batch 1 1 none"], closings(30, 40),
+    yield case("batches of the last proxy alone", threads([], [[], []]), ["batch 1 0 none", "batch 1 1 none"],
+               closings(30, 40),
                shown(0, 30), shown(1, 40))
     asked = ['tags "%s" none' % key for key in ("", "\\xff\\xff\\xff", "k" * 20_000)]
-    yield case("any bytes may be asked", threads([], ask=["", "\\xff\\xff\\xff", "k" * 20_000]), closings(10), shown(0, 10, *asked))
+    yield case(
+        "any bytes may be asked", threads([], ask=["", "\\xff\\xff\\xff", "k" * 20_000]), closings(10), shown(0, 10, *asked),
+    )
 
 
 def three_proxies_with_nine_batches():
-    """All is committed, and each proxy ends with the rows of all. Without a row for the last closing, its proxy may lack some."""
+    """All is committed, and each proxy ends with the rows of all.
+    Without a row for the last closing, its proxy may lack some.
+    """
     each = [shown(proxy, 280 + 10 * proxy, *routes(range(27)), 'tags "k13" 0:1') for proxy in range(3)]
     text = lines(committed(9, 9, 9), closings(280, 290, 300), *each)
     for rows in (30, 31, 4096):
@@ -105,12 +110,18 @@ def each_outcome():
 
 
 def full_ledgers():
-    """A batch for which there is no row, or no version, is refused, and so are all that follow; a full ledger comes first."""
+    """A batch for which there is no row, or no version, is refused, and so are all that follow;
+    a full ledger comes first.
+    """
     full, end = "refused 50 LedgerFull %d", "refused 51 VersionsEnd"
     yield case("no row for a closing", threads([], [], rows=1), closings(10, full % 1), shown(0, 10), shown(1, 0))
-    yield case("one row for two batches", threads([[], []], rows=1), outcomes(0, "none", full % 1), closings(full % 1), shown(0, 10))
     yield case(
-        "a row for each batch and none for the closing", threads([[], []], rows=2), outcomes(0, "none", "none"), closings(full % 2),
+        "one row for two batches", threads([[], []], rows=1), outcomes(0, "none", full % 1), closings(full % 1),
+        shown(0, 10),
+    )
+    yield case(
+        "a row for each batch and none for the closing", threads([[], []], rows=2), outcomes(0, "none", "none"),
+        closings(full % 2),
         shown(0, 20),
     )
     last, half = 2**63 - 1, 2**62
@@ -130,7 +141,8 @@ def full_ledgers():
     )
     yield from each_time("two rows for four batches", threads([[], []], [[], []], rows=2), tuple(
         lines(
-            outcomes(0, *["none"] * count, *[full % 2] * (2 - count)), outcomes(1, *["none"] * (2 - count), *[full % 2] * count),
+            outcomes(0, *["none"] * count, *[full % 2] * (2 - count)),
+            outcomes(1, *["none"] * (2 - count), *[full % 2] * count),
             closings(full % 2, full % 2), shown(0, first), shown(1, second),
         )
         for count, first, second in ((2, 20, 0), (0, 0, 20), (1, 10, 20), (1, 20, 10))
@@ -138,7 +150,9 @@ def full_ledgers():
 
 
 def rivals():
-    """Of those that read and write one key one commits; of two that read what the other writes, either; of a ring, all but one."""
+    """Of those that read and write one key one commits;
+    of two that read what the other writes, either; of a ring, all but one.
+    """
     for count in (2, 3, 8):
         script = threads(*[[reading_and_writing("a", "a")]] * count)
         answers = [["committed" if it == first else "conflict" for it in range(count)] for first in range(count)]
@@ -165,7 +179,10 @@ def locks():
     yield from each_time("a lock and a plain batch", threads([[LOCK]], [plain]), (
         one_batch_each("committed", "committed", locked="yes"), one_batch_each("committed", "locked", locked="yes"),
     ))
-    yield "a lock and a lock-aware batch", write(threads([[LOCK]], [aware])), one_batch_each("committed", "committed", locked="yes")
+    yield (
+        "a lock and a lock-aware batch", write(threads([[LOCK]], [aware])),
+        one_batch_each("committed", "committed", locked="yes"),
+    )
     # (a state transaction that is not lock aware reads the lock)
     state = [transaction(0, [], [], [put(METADATA_VERSION, "v")])]
     yield from each_time("a lock and a state transaction", threads([[LOCK]], [state]), (
@@ -195,25 +212,33 @@ def windows():
 
 
 def moved_ranges():
-    """All moves are made before the first batch, after version 0: a read goes back to their date, a write to the last owner."""
+    """All moves are made before the first batch, after version 0:
+    a read goes back to their date, a write to the last owner.
+    """
     yield case(
         "a conflict that one resolver alone sees",
-        threads([[written("n")], [transaction(5, [one_key("n")], [one_key("b")])], [read("b", 10)]], moves=[move("m", "t", 1)]),
+        threads(
+            [[written("n")], [transaction(5, [one_key("n")], [one_key("b")])], [read("b", 10)]], moves=[move("m", "t", 1)],
+        ),
         outcomes(0, "committed", "conflict", "conflict"), closings(40), shown(0, 40),
     )
     yield case(
         "a state transaction that the last resolver alone refuses",
         threads(
-            [[written("n")], [transaction(5, [one_key("n")], [], [put(METADATA_VERSION, "v")], True)]], moves=[move("m", "t", 1)],
+            [[written("n")], [transaction(5, [one_key("n")], [], [put(METADATA_VERSION, "v")], True)]],
+            moves=[move("m", "t", 1)],
         ),
         outcomes(0, "committed", "conflict"), closings(30), shown(0, 30),
     )
-    crossed = [[transaction(0, [one_key("n")], [one_key("b")])], [written("n")], [transaction(19, [one_key("n")], [one_key("b")])]]
+    crossed = [
+        [transaction(0, [one_key("n")], [one_key("b")])], [written("n")], [transaction(19, [one_key("n")], [one_key("b")])],
+    ]
     yield case(
         "a write that counts where its transaction conflicts elsewhere",
         threads([*crossed, [read("b", 29)], [read("b", 30)]], moves=[move("m", "t", 1)]),
         outcomes(0, "committed", "committed", "conflict", "conflict", "committed"), closings(60), shown(0, 60),
     )
+    yield from each_time("owners of before, in three proxies", threads(*[crossed] * 3, moves=[move("m", "t", 1)]))
     yield case(
         "moves to and fro, and a range over the borders of all",
         threads(
@@ -222,6 +247,10 @@ def moved_ranges():
         ),
         outcomes(0, "committed", "committed", "conflict"), closings(40), shown(0, 40),
     )
+
+
+def overlapping_moves():
+    """Of moves that overlap the later one counts."""
     # the write of c counts unless it goes to the resolver at which its transaction conflicts
     overlapping = [move("b", "d", 1), move("c", "e", 0)]
     batches = [[written("n")], [transaction(5, [one_key("n")], [one_key("c")])], [read("c", 10)]]
@@ -233,24 +262,49 @@ def moved_ranges():
     many = [move("a", "z", it) for it in range(64)]
     yield case("moves to each of 64", threads([[written("n")], [read("n")]], moves=many, resolvers=64),
                outcomes(0, "committed", "conflict"), closings(30), shown(0, 30))
-    yield from each_time("owners of before, in three proxies", threads(*[crossed] * 3, moves=[move("m", "t", 1)]))
+
+
+def four_servers():
+    """A transaction that gives four servers their tags and keys."""
+    tags = [
+        put_tag(server, "\\x00\\x00\\x%02x" % (it + 1)) for it, server in enumerate((SERVER_1, SERVER_2, SERVER_3, SERVER_4))
+    ]
+    rows = [
+        put_servers("", SERVER_1), put_servers("b", SERVER_2), put_servers("f", SERVER_1, SERVER_3),
+        put_servers("q", SERVER_4),
+    ]
+    return transaction(0, [], [], tags + rows, True)
 
 
 def metadata():
-    """Tags, rows and stamps: what one proxy commits, all print."""
-    tags = [put_tag(server, "\\x00\\x00\\x%02x" % (it + 1)) for it, server in enumerate((SERVER_1, SERVER_2, SERVER_3, SERVER_4))]
-    rows = [put_servers("", SERVER_1), put_servers("b", SERVER_2), put_servers("f", SERVER_1, SERVER_3), put_servers("q", SERVER_4)]
-    first = [transaction(0, [], [], tags + rows, True)]
+    """Tags and rows: what one proxy commits, all print."""
+    first = [four_servers()]
     known = ['route "" 0:1', 'route "b" 0:2', 'route "f" 0:1 0:3', 'route "q" 0:4', 'tags "a" 0:1', 'tags "z" 0:4']
     yield case(
-        "rows of the first of three proxies", threads([first], [], [], ask=["a", "z"]), outcomes(0, "committed"), closings(20, 30, 40),
+        "rows of the first of three proxies", threads([first], [], [], ask=["a", "z"]), outcomes(0, "committed"),
+        closings(20, 30, 40),
         *[shown(proxy, 20 + 10 * proxy, *known) for proxy in range(3)],
     )
     cleared = [transaction(0, [], [], [clear(*ALL_KEY_SERVERS)], True)]
     yield case(
-        "rows that are cleared", threads([first, cleared], [], ask=["a"]), outcomes(0, "committed", "committed"), closings(30, 40),
+        "rows that are cleared", threads([first, cleared], [], ask=["a"]), outcomes(0, "committed", "committed"),
+        closings(30, 40),
         shown(0, 30, 'tags "a" none'), shown(1, 40, 'tags "a" none'),
     )
+    marked = [transaction(0, [], [], [put(LOCKED, "L"), put(METADATA_VERSION, "v")], True)]
+    everything = [transaction(0, [], [], [clear("", "\\xff\\xff")], True)]
+    yield case(
+        "a Clear of all keys behind a lock and a metadata version, of which another proxy learns",
+        threads([first, marked, everything], [], ask=["a"]), outcomes(0, "committed", "committed", "committed"),
+        closings(40, 50), shown(0, 40, 'tags "a" none'), shown(1, 50, 'tags "a" none'),
+    )
+    yield from each_time(
+        "rows that are put and cleared by three", threads([first, cleared], [first], [cleared, first], ask=["a"]),
+    )
+
+
+def listed_tags():
+    """A row that lists tags, and a server's tag beside it: what one proxy commits, all print."""
     listed = [transaction(0, [], [], [put(KEY_SERVERS, LISTING), put_servers("m", SERVER_1)], True)]
     given = [transaction(0, [], [], [put_tag(SERVER_1, "\\x00\\x00\\x07")], True)]
     both = ['route "" 0:1 0:2 3:258', 'route "m" 0:7', 'tags "a" 0:1 0:2 3:258', 'tags "z" 0:7']
@@ -266,13 +320,10 @@ def metadata():
             ),
         ),
     )
-    marked = [transaction(0, [], [], [put(LOCKED, "L"), put(METADATA_VERSION, "v")], True)]
-    everything = [transaction(0, [], [], [clear("", "\\xff\\xff")], True)]
-    yield case(
-        "a Clear of all keys behind a lock and a metadata version, of which another proxy learns",
-        threads([first, marked, everything], [], ask=["a"]), outcomes(0, "committed", "committed", "committed"), closings(40, 50),
-        shown(0, 40, 'tags "a" none'), shown(1, 50, 'tags "a" none'),
-    )
+
+
+def stamps():
+    """A stamp has the version of its batch and the place of its transaction."""
     stamped = [transaction(0, [], [], [stamp(METADATA_VERSION, "\\x00" * 14)])]
     texts = ['"%s\\x%02x\\x00\\x00"' % ("\\x00" * 7, version) for version in (10, 20)]
     yield case("a stamp of the first row", threads([stamped]), outcomes(0, "committed"), closings(20),
@@ -282,13 +333,15 @@ def metadata():
     yield from each_time("a stamp in the first row or the second", threads([stamped], [[]]), tuple(
         one_batch_each("committed", "none", metadata_version=it) for it in texts
     ))
-    yield from each_time("rows that are put and cleared by three", threads([first, cleared], [first], [cleared, first], ask=["a"]))
 
 
 def fields_that_matter():
     """One script, and for each of its fields a change that changes the answer."""
     def script(**changes):
-        batches = [[transaction(0, [one_key("n")], [one_key("n")])], [transaction(5, [one_key("n")], [one_key("b")])], [read("b", 10)]]
+        batches = [
+            [transaction(0, [one_key("n")], [one_key("n")])], [transaction(5, [one_key("n")], [one_key("b")])],
+            [read("b", 10)],
+        ]
         return {**threads(batches, moves=[move("m", "t", 1)], ask=["a"], window=100, rows=4), **changes}
 
     def answer(said, end, version, asked=('tags "a" none',)):
@@ -308,6 +361,6 @@ def fields_that_matter():
 
 
 CASES = (
-    small_ones, three_proxies_with_nine_batches, each_outcome, full_ledgers, rivals, locks, windows, moved_ranges, metadata,
-    fields_that_matter,
+    small_ones, three_proxies_with_nine_batches, each_outcome, full_ledgers, rivals, locks, windows, moved_ranges,
+    overlapping_moves, metadata, listed_tags, stamps, fields_that_matter,
 )

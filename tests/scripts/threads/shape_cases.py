@@ -1,4 +1,6 @@
-"""Threads scripts without their form: numbers of the cluster, lists of work, moves, mutations, and fields that stand elsewhere."""
+"""Threads scripts without their form: numbers of the cluster, lists of work, moves, mutations,
+and fields that stand elsewhere.
+"""
 from tests.scripts.common.forms import THREADS
 from tests.scripts.common.script import BAD_SHAPE, NO_SUCH_RESOLVER, NOT_JSON, at, write
 from tests.scripts.threads.words import closings, move, threads
@@ -24,7 +26,9 @@ def ends(proxies, rows, step):
 def numbers_of_the_cluster():
     """Each number at its limits and past them."""
     for name, most in MOST.items():
-        for number in sorted({0, most + 1, 2**32 + 1 if most < 2**32 else 2**63, 2**63 - 1, 2**63, 2**64 - 1, 2**64, 2**64 + 1} - {most}):
+        for number in sorted(
+            {0, most + 1, 2**32 + 1 if most < 2**32 else 2**63, 2**63 - 1, 2**63, 2**64 - 1, 2**64, 2**64 + 1} - {most}
+        ):
             yield "%s %d" % (name, number), write(THREADS.changed((name,), number)), BAD_SHAPE
             yield "%s %d, without work" % (name, number), write(dict(threads([], []), **{name: number})), BAD_SHAPE
         for number in sorted({1, 2, most}):
@@ -103,9 +107,11 @@ def other_forms():
 
 RANGE = ["a", "b"]
 NO_MOVES = [
-    {}, [], None, 0, "", [RANGE, 0], {"range": RANGE}, {"resolver": 0}, {"range": RANGE, "dest": 0}, {"Range": RANGE, "resolver": 0},
+    {}, [], None, 0, "", [RANGE, 0], {"range": RANGE}, {"resolver": 0}, {"range": RANGE, "dest": 0},
+    {"Range": RANGE, "resolver": 0},
     {"range": RANGE, "resolver": 0, "date": 1}, {"range": ["a"], "resolver": 0}, {"range": ["a", "b", "c"], "resolver": 0},
-    {"range": {"begin": "a", "end": "b"}, "resolver": 0}, {"range": ["a", "\\xFF"], "resolver": 0}, {"range": RANGE, "resolver": -1},
+    {"range": {"begin": "a", "end": "b"}, "resolver": 0}, {"range": ["a", "\\xFF"], "resolver": 0},
+    {"range": RANGE, "resolver": -1},
     {"range": RANGE, "resolver": 2**63}, {"range": RANGE, "resolver": "0"}, {"range": RANGE, "resolver": [0]},
     {"move": {"range": RANGE, "resolver": 0}}, {"range": RANGE, "resolver": None}, {"range": None, "resolver": 0},
 ]
@@ -129,7 +135,9 @@ def mutations_of_wrong_form():
 def beginnings():
     """No beginning of a script is JSON."""
     batch = [transaction(7, [], [["n", "n\\x00"]], [{"set": ["n", "1"]}])]
-    whole = write(threads([batch, []], [[]], moves=[move("m", "t", 1), move("", "\\xff", 2)], resolvers=3, ask=["n", "\\xff"]))
+    whole = write(
+        threads([batch, []], [[]], moves=[move("m", "t", 1), move("", "\\xff", 2)], resolvers=3, ask=["n", "\\xff"])
+    )
     for length in range(len(whole)):
         yield "the first %d bytes" % length, whole[:length], NOT_JSON
     yield "two proxies and no end", '{"proxies":2', NOT_JSON
@@ -137,6 +145,7 @@ def beginnings():
 
 
 CASES = (
-    numbers_of_the_cluster, numbers_of_lists, lists_of_work, moved_fields, other_forms, moves_of_wrong_form, mutations_of_wrong_form,
+    numbers_of_the_cluster, numbers_of_lists, lists_of_work, moved_fields, other_forms, moves_of_wrong_form,
+    mutations_of_wrong_form,
     beginnings,
 )

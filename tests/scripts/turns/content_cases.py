@@ -1,4 +1,6 @@
-"""Turns scripts of the right form whose keys, values, ranges, stamps or batches are at fault, or stand just within their limits."""
+"""Turns scripts of the right form whose keys, values, ranges, stamps or batches are at fault,
+or stand just within their limits.
+"""
 from tests.scripts.common.script import (
     BAD_ROW, BAD_STAMP, BATCH_TOO_LARGE, KEY_OUTSIDE, KEY_SERVERS, KEY_TOO_LONG, LISTING, LOCKED, METADATA_VERSION, SERVER_1,
     SERVER_2, SERVER_TAG, VALUE_TOO_LONG, write,
@@ -15,7 +17,10 @@ ZEROS = "\\x00" * 10
 
 def offset(place):
     """The four bytes that name a place."""
-    return "".join("\\x%02x" % byte if not 0x21 <= byte <= 0x7E or byte in (0x22, 0x5C) else chr(byte) for byte in place.to_bytes(4, "little"))
+    return "".join(
+        "\\x%02x" % byte if not 0x21 <= byte <= 0x7E or byte in (0x22, 0x5C) else chr(byte)
+        for byte in place.to_bytes(4, "little")
+    )
 
 
 # stamped values that have no room for their stamp, or that no stamp may be put into
@@ -46,7 +51,8 @@ STAMP_FAULTS = {
     "a stamped key past all": (stamp("\\xff" * 10_000, ZEROS + offset(0)), KEY_OUTSIDE),
 }
 
-# stamped values with room for their stamp: one at each end of the longest value, one of ten bytes, and keys that are like kept rows
+# stamped values with room for their stamp: one at each end of the longest value, one of ten bytes, and keys that are like
+# kept rows
 FINE_STAMPS = {
     "ten bytes and an offset": stamp("k", "0123456789" + offset(0)),
     "a stamp at the end": stamp("k", "ab" + ZEROS + offset(2)),

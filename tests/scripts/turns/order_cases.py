@@ -10,13 +10,16 @@ LARGE = [transaction()] * 1025
 
 
 def wide():
-    """Batches of three transactions, each with three reads, writes and mutations, with moves between them; all is refused or waits."""
+    """Batches of three transactions, each with three reads, writes and mutations, with moves between them;
+    all is refused or waits.
+    """
     def batch():
         three = [one_key("r") for _ in range(3)]
         return [transaction(0, three, three, [put("k", "v") for _ in range(3)]) for _ in range(3)]
 
     return turns(
-        sequence(9, *batch()), move("m", "t", 9), sequence(9, *batch()), move("m", "t", 9), sequence(9, *batch()), offer(0, 0), finish(0),
+        sequence(9, *batch()), move("m", "t", 9), sequence(9, *batch()), move("m", "t", 9), sequence(9, *batch()),
+        offer(0, 0), finish(0),
         ask=["a", "b"],
     )
 
@@ -75,7 +78,8 @@ def faults_at_the_ends():
 # places in the order of the checks
 CHECKED = [
     place(0, 0, "reads", 0), place(0, 0, "reads", 2), place(0, 0, "writes", 0), place(0, 0, "mutations", 0),
-    place(0, 0, "mutations", 2), place(0, 2, "reads", 2), MOVES[0], place(2, 1, "writes", 1), MOVES[1], place(4, 2, "mutations", 2),
+    place(0, 0, "mutations", 2), place(0, 2, "reads", 2), MOVES[0], place(2, 1, "writes", 1), MOVES[1],
+    place(4, 2, "mutations", 2),
 ]
 
 
@@ -139,7 +143,9 @@ SHAPELESS = {
 }
 
 # faults of content: a way to a place, and what stands there
-FAULTY = [(path, name, value) for path in (CHECKED[0], CHECKED[4], MOVES[0], CHECKED[9]) for name, value, _ in some_faults_at(path)]
+FAULTY = [
+    (path, name, value) for path in (CHECKED[0], CHECKED[4], MOVES[0], CHECKED[9]) for name, value, _ in some_faults_at(path)
+]
 
 
 def form_and_content():

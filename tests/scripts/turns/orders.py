@@ -32,7 +32,8 @@ SETS = {
         [sequence(0, writing("a")), sequence(1, reading("a", 0)), offer(0, 0), offer(1, 0), finish(0), finish(1)], 2, 1,
     ),
     "a move between a write and a read": (
-        [sequence(0, writing("n")), move("m", "t", 1), sequence(0, reading("n", 5)), offer(0, 0), offer(0, 1), offer(1, 1)], 1, 2,
+        [sequence(0, writing("n")), move("m", "t", 1), sequence(0, reading("n", 5)), offer(0, 0), offer(0, 1), offer(1, 1)],
+        1, 2,
     ),
     "a lock, and a transaction that meets it or not": (
         [sequence(0, LOCK), sequence(1, TAG), offer(0, 0), offer(1, 0), finish(0), finish(1)], 2, 1,
@@ -44,7 +45,8 @@ SETS = {
         [sequence(0, writing("a")), offer(0, 0), finish(0), sequence(0), offer(1, 0), offer(0, 0)], 2, 1,
     ),
     "records of two proxies, all begun before any is finished": (
-        [sequence(0, TAG), sequence(1, writing("b")), sequence(0, reading("b", 10)), offer(0, 0), offer(1, 0), offer(2, 0)], 2, 1,
+        [sequence(0, TAG), sequence(1, writing("b")), sequence(0, reading("b", 10)), offer(0, 0), offer(1, 0), offer(2, 0)],
+        2, 1,
     ),
 }
 

@@ -2,8 +2,8 @@
 
     python3 -m tests.scripts.turns.reference < examples/turns/two_proxies.json
 
-It prints the text of the script on standard input. It is made to be read, not to be fast: every record is kept, and each verdict
-compares all pairs. The status is 0, or 1 for a refused script.
+It prints the text of the script on standard input. It is made to be read, not to be fast: every record is kept, and each
+verdict compares all pairs. The status is 0, or 1 for a refused script.
 """
 import sys
 from typing import NamedTuple

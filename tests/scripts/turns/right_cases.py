@@ -1,13 +1,9 @@
 """Right turns scripts, each with the lines that it must be answered, worked out by hand."""
-from tests.scripts.common.script import (
-    BAD_STAMP, KEY_SERVERS, LISTING, LOCKED, METADATA_VERSION, SERVER_1, SERVER_2, SERVER_3, SERVER_TAG, write,
-)
+from tests.scripts.common.script import BAD_STAMP, LOCKED, METADATA_VERSION, SERVER_1, write
 from tests.scripts.turns.words import (
-    LOCK, case, clear, finish, finished, move, offer, offered, offered_to_both, offers, one_key, private, private_tag, put,
+    LOCK, case, clear, finish, finished, move, offer, offered, offered_to_both, offers, one_key, private_tag, put,
     put_servers, put_tag, sequence, sequenced, shown, stamp, transaction, turns,
 )
-
-SERVER_4 = "server0000000004"
 
 
 def read(key, snapshot=0):
@@ -30,7 +26,8 @@ def stamps():
     yield "a stamp past the end of its value", write(turns(sequence(0, late), offers(0), finish(0))), BAD_STAMP
     second = transaction(0, [], [], [stamp(METADATA_VERSION, "ab0123456789c\\x02\\x00\\x00\\x00")], True)
     yield case(
-        "a stamp within a value, by the second transaction", turns(sequence(0, transaction(), second), offers(0), finish(0), step=258),
+        "a stamp within a value, by the second transaction",
+        turns(sequence(0, transaction(), second), offers(0), finish(0), step=258),
         sequenced(1, 258), offered_to_both(0, "committed"),
         finished(0, 258, "txn 0 committed 258 0", "txn 1 committed 258 1", "mutation 1 0 tags none"),
         shown(0, 258, metadata_version='"ab\\x00\\x00\\x00\\x00\\x00\\x00\\x01\\x02\\x00\\x01c"'), shown(1, 0),
@@ -42,7 +39,10 @@ def moved_ranges():
     reads = [read("n", snapshot) for snapshot in (20, 21, 30)]
     yield case(
         "reads before and after the date of a move",
-        turns(sequence(0), sequence(0), move("m", "t", 1), sequence(0), sequence(0, *reads), offers(0, 1, 2, 3), [finish(0)] * 4),
+        turns(
+            sequence(0), sequence(0), move("m", "t", 1), sequence(0), sequence(0, *reads), offers(0, 1, 2, 3),
+            [finish(0)] * 4,
+        ),
         sequenced(2), "move date 21", sequenced(4)[2:], offered_to_both(0), offered_to_both(1), offered_to_both(2),
         offered(3, 0, "committed committed"), offered(3, 1, "committed committed committed"),
         finished(0, 10), finished(0, 20), finished(0, 30),
@@ -54,15 +54,18 @@ def moved_ranges():
             move("m", "t", 1), sequence(0, written("n")), sequence(0, transaction(5, [one_key("n")], [one_key("b")])),
             sequence(0, read("b", 10)), offers(0, 1, 2), [finish(0)] * 3,
         ),
-        "move date 1", sequenced(3), offered(0, 0), offered(0, 1, "committed"), offered(1, 0, "committed"), offered(1, 1, "conflict"),
-        offered(2, 0, "conflict"), offered(2, 1), finished(0, 10, "txn 0 committed 10 0"), finished(0, 20, "txn 0 conflict 1020"),
+        "move date 1", sequenced(3), offered(0, 0), offered(0, 1, "committed"), offered(1, 0, "committed"),
+        offered(1, 1, "conflict"),
+        offered(2, 0, "conflict"), offered(2, 1), finished(0, 10, "txn 0 committed 10 0"),
+        finished(0, 20, "txn 0 conflict 1020"),
         finished(0, 30, "txn 0 conflict 1020"), shown(0, 30), shown(1, 0),
     )
     yield case(
         "moves to and fro, and a range over the borders of all",
         turns(
             move("b", "d", 1), move("c", "e", 2), move("d", "f", 0), sequence(0, transaction(0, [], [["a", "z"]])),
-            sequence(0, transaction(10, [["c", "d"]])), offers(0, 1, resolvers=3), finish(0), finish(0), resolvers=3, proxies=1,
+            sequence(0, transaction(10, [["c", "d"]])), offers(0, 1, resolvers=3), finish(0), finish(0), resolvers=3,
+            proxies=1,
         ),
         ["move date 1"] * 3, sequenced(2), [offered(0, resolver, "committed") for resolver in range(3)],
         offered(1, 0), offered(1, 1), offered(1, 2, "committed"),
@@ -73,12 +76,14 @@ def moved_ranges():
 def owners_in_the_window():
     """A read asks the owners back to its snapshot, or to the window; a range goes whole to each who is asked."""
     batch = [
-        transaction(20, [["m", "t"]]), transaction(30, [["m", "t"]]), transaction(0, [], [["a", "z"]]), transaction(0, [], [["m", "t"]]),
+        transaction(20, [["m", "t"]]), transaction(30, [["m", "t"]]), transaction(0, [], [["a", "z"]]),
+        transaction(0, [], [["m", "t"]]),
     ]
 
     def moved_twice(window):
         return turns(
-            [sequence(0)] * 2, move("m", "t", 1), [sequence(0)] * 2, move("p", "q", 2), sequence(0, *batch), offers(*range(5), resolvers=3),
+            [sequence(0)] * 2, move("m", "t", 1), [sequence(0)] * 2, move("p", "q", 2), sequence(0, *batch),
+            offers(*range(5), resolvers=3),
             [finish(0)] * 5, resolvers=3, proxies=1, window=window,
         )
 
@@ -99,10 +104,12 @@ def owners_in_the_window():
     reads = [transaction(snapshot, [["63", "z"]]) for snapshot in (1, 2)]
     yield case(
         "keys that moved 63 times", turns(
-            moves, sequence(0, *reads, transaction(0, [], [["", "z"]])), offers(0, resolvers=64), finish(0), resolvers=64, proxies=1,
+            moves, sequence(0, *reads, transaction(0, [], [["", "z"]])), offers(0, resolvers=64), finish(0), resolvers=64,
+            proxies=1,
         ),
         ["move date 1"] * 63, sequenced(1), [offered(0, resolver, "committed committed") for resolver in range(63)],
-        offered(0, 63, "committed committed committed"), finished(0, 10, *["txn %d committed 10 %d" % (it, it) for it in range(3)]),
+        offered(0, 63, "committed committed committed"),
+        finished(0, 10, *["txn %d committed 10 %d" % (it, it) for it in range(3)]),
         shown(0, 10),
     )
 
@@ -117,8 +124,12 @@ def verdicts():
     )
     yield case(
         "a read behind a write of its batch, and before one",
-        turns(sequence(0, written("a"), read("a")), sequence(0, read("b", 10), written("b", 10)), offers(0, 1), finish(0), finish(0)),
-        sequenced(2), offered(0, 0, "committed conflict"), offered(0, 1), offered(1, 0, "committed committed"), offered(1, 1),
+        turns(
+            sequence(0, written("a"), read("a")), sequence(0, read("b", 10), written("b", 10)), offers(0, 1), finish(0),
+            finish(0),
+        ),
+        sequenced(2), offered(0, 0, "committed conflict"), offered(0, 1), offered(1, 0, "committed committed"),
+        offered(1, 1),
         finished(0, 10, "txn 0 committed 10 0", "txn 1 conflict 1020"),
         finished(0, 20, "txn 0 committed 20 0", "txn 1 committed 20 1"), shown(0, 20), shown(1, 0),
     )
@@ -126,7 +137,8 @@ def verdicts():
         "reads at the version of a write and before it, and the write of one that is in conflict",
         turns(
             sequence(0, transaction(0, [], [["a", "c"]])),
-            sequence(0, read("b", 10), read("b", 9), read("c", 9), transaction(9, [one_key("b")], [one_key("d")]), read("d", 9),
+            sequence(0, read("b", 10), read("b", 9), read("c", 9), transaction(9, [one_key("b")], [one_key("d")]),
+                     read("d", 9),
                      transaction(9, [one_key("e")], [one_key("e")])),
             offers(0, 1, resolvers=1), finish(0), finish(0), resolvers=1, proxies=1,
         ),
@@ -147,9 +159,11 @@ def many_parts():
             sequence(0, transaction(0, [["0", "1"]]), transaction(9, [["0", "1"]]), transaction(10, [["0", "1"]])),
             offers(0, 1, resolvers=1), finish(0), finish(0), proxies=1, resolvers=1,
         ),
-        sequenced(2), offered(0, 0, "committed " * 512 + "conflict " * 511 + "conflict"), offered(1, 0, "conflict conflict committed"),
+        sequenced(2), offered(0, 0, "committed " * 512 + "conflict " * 511 + "conflict"),
+        offered(1, 0, "conflict conflict committed"),
         finished(
-            0, 10, *["txn %d committed 10 %d" % (it, it) for it in range(512)], *["txn %d conflict 1020" % it for it in range(512, 1024)],
+            0, 10, *["txn %d committed 10 %d" % (it, it) for it in range(512)],
+            *["txn %d conflict 1020" % it for it in range(512, 1024)],
         ),
         finished(0, 20, "txn 0 conflict 1020", "txn 1 conflict 1020", "txn 2 committed 20 2"), shown(0, 20),
     )
@@ -159,16 +173,19 @@ def many_parts():
             sequence(0, read("b", 20), read("b", 19), read("d", 20), read("e", 20), read("e", 30)),
             offers(*range(4), resolvers=1), [finish(0)] * 4, proxies=1, resolvers=1, window=20,
         ),
-        sequenced(4), [offered(row, 0, "committed") for row in range(3)], offered(3, 0, "committed too_old committed conflict committed"),
+        sequenced(4), [offered(row, 0, "committed") for row in range(3)],
+        offered(3, 0, "committed too_old committed conflict committed"),
         *[finished(0, 10 * number, "txn 0 committed %d 0" % (10 * number)) for number in range(1, 4)],
         finished(
-            0, 40, "txn 0 committed 40 0", "txn 1 too_old 1007", "txn 2 committed 40 2", "txn 3 conflict 1020", "txn 4 committed 40 4",
+            0, 40, "txn 0 committed 40 0", "txn 1 too_old 1007", "txn 2 committed 40 2", "txn 3 conflict 1020",
+            "txn 4 committed 40 4",
         ),
         shown(0, 40),
     )
     yield case(
         "a read past the version behind a write of its batch", turns(
-            sequence(0, written("b", 35), read("b", 35), read("c", 35)), offers(0, resolvers=1), finish(0), proxies=1, resolvers=1,
+            sequence(0, written("b", 35), read("b", 35), read("c", 35)), offers(0, resolvers=1), finish(0), proxies=1,
+            resolvers=1,
         ),
         sequenced(1), offered(0, 0, "committed conflict committed"),
         finished(0, 10, "txn 0 committed 10 0", "txn 1 conflict 1020", "txn 2 committed 10 2"), shown(0, 10),
@@ -180,11 +197,13 @@ def refused_writes():
     yield case(
         "the write of a batch before that was in conflict",
         turns(
-            sequence(0, written("b")), sequence(0, transaction(9, [one_key("b")], [one_key("d")])), sequence(0, read("d", 9)),
+            sequence(0, written("b")), sequence(0, transaction(9, [one_key("b")], [one_key("d")])),
+            sequence(0, read("d", 9)),
             offers(0, 1, 2, resolvers=1), [finish(0)] * 3, resolvers=1, proxies=1,
         ),
         sequenced(3), offered(0, 0, "committed"), offered(1, 0, "conflict"), offered(2, 0, "committed"),
-        finished(0, 10, "txn 0 committed 10 0"), finished(0, 20, "txn 0 conflict 1020"), finished(0, 30, "txn 0 committed 30 0"),
+        finished(0, 10, "txn 0 committed 10 0"), finished(0, 20, "txn 0 conflict 1020"),
+        finished(0, 30, "txn 0 committed 30 0"),
         shown(0, 30),
     )
     yield case(
@@ -197,7 +216,8 @@ def refused_writes():
     yield case(
         "a state transaction that the last resolver alone refuses",
         turns(
-            move("m", "t", 1), sequence(0, written("n")), sequence(1, state), sequence(0), offers(0, 1, 2), finish(0), finish(1), finish(0),
+            move("m", "t", 1), sequence(0, written("n")), sequence(1, state), sequence(0), offers(0, 1, 2), finish(0),
+            finish(1), finish(0),
         ),
         "move date 1", sequenced(3), offered(0, 0), offered(0, 1, "committed"), offered(1, 0, "committed", "10"),
         offered(1, 1, "conflict", "10"), offered_to_both(2, "none", "20"), finished(0, 10, "txn 0 committed 10 0"),
@@ -207,12 +227,16 @@ def refused_writes():
 
 # mutations, each with whether it makes a state transaction
 STATES = [
-    (put("\\xff", "v"), True), (put("\\xff\\x01\\xff", "v"), True), (put("\\xff\\x02", "v"), False), (put("\\xff\\x02a", "v"), False),
+    (put("\\xff", "v"), True), (put("\\xff\\x01\\xff", "v"), True), (put("\\xff\\x02", "v"), False),
+    (put("\\xff\\x02a", "v"), False),
     (put("\\xff\\x03", "v"), True), (put("\\xfe\\xff", "v"), False), (put("a", "v"), False), (put("", ""), False),
     (stamp("\\xff/x", "\\x00" * 14), True), (stamp("\\xff\\x02/x", "\\x00" * 14), False), (stamp("k", "\\x00" * 14), False),
-    (clear("a", "\\xff"), False), (clear("a", "\\xff\\x00"), True), (clear("a", "\\xff\\x02"), True), (clear("\\xff", "\\xff\\x02"), True),
-    (clear("\\xff\\x02", "\\xff\\x03"), False), (clear("\\xff\\x02a", "\\xff\\x02b"), False), (clear("\\xff\\x02a", "\\xff\\x03"), False),
-    (clear("\\xff\\x02", "\\xff\\x03\\x00"), True), (clear("\\xff\\x01\\xff", "\\xff\\x03"), True), (clear("\\xff\\x02", "\\xff\\x04"), True),
+    (clear("a", "\\xff"), False), (clear("a", "\\xff\\x00"), True), (clear("a", "\\xff\\x02"), True),
+    (clear("\\xff", "\\xff\\x02"), True),
+    (clear("\\xff\\x02", "\\xff\\x03"), False), (clear("\\xff\\x02a", "\\xff\\x02b"), False),
+    (clear("\\xff\\x02a", "\\xff\\x03"), False),
+    (clear("\\xff\\x02", "\\xff\\x03\\x00"), True), (clear("\\xff\\x01\\xff", "\\xff\\x03"), True),
+    (clear("\\xff\\x02", "\\xff\\x04"), True),
     (clear("", "a"), False), (clear("a", "\\xfe\\xff"), False), (clear("", "\\xff\\xff"), True),
 ]
 
@@ -231,14 +255,17 @@ def locked(snapshot):
     """A lock by one proxy, a tag set by another with this snapshot, and an empty batch that is told of both."""
     tag = transaction(snapshot, [], [], [put_tag(SERVER_1, "\\x00\\x00\\x01")])
     return turns(
-        sequence(0, LOCK, transaction(0, [], [one_key("a")], [put("a", "1")])), sequence(1, tag), sequence(0), offers(0, 1, 2),
+        sequence(0, LOCK, transaction(0, [], [one_key("a")], [put("a", "1")])), sequence(1, tag), sequence(0),
+        offers(0, 1, 2),
         finish(0), finish(1), finish(0),
     )
 
 
 def locks():
     """The lock is read once for each batch, and what meets it is neither committed nor applied by anyone."""
-    first = finished(0, 10, "txn 0 committed 10 0", "mutation 0 0 tags none", "txn 1 committed 10 1", "mutation 1 0 tags none")
+    first = finished(
+        0, 10, "txn 0 committed 10 0", "mutation 0 0 tags none", "txn 1 committed 10 1", "mutation 1 0 tags none",
+    )
     offered_first = [offered(0, 0, "committed committed"), offered(0, 1, "committed")]
     yield case(
         "a lock and a plain write of another proxy",
@@ -256,8 +283,10 @@ def locks():
     )
     yield case(
         "a state transaction that has not seen the lock", locked(9),
-        sequenced(3), offered_first, offered(1, 0, "conflict", "10"), offered(1, 1, "committed", "10"), offered_to_both(2, "none", "20"),
-        first, finished(1, 20, "txn 0 conflict 1020"), finished(0, 30), shown(0, 30, locked="yes"), shown(1, 20, locked="yes"),
+        sequenced(3), offered_first, offered(1, 0, "conflict", "10"), offered(1, 1, "committed", "10"),
+        offered_to_both(2, "none", "20"),
+        first, finished(1, 20, "txn 0 conflict 1020"), finished(0, 30), shown(0, 30, locked="yes"),
+        shown(1, 20, locked="yes"),
     )
 
 
@@ -267,7 +296,8 @@ def outcomes():
     yield case(
         "a write before a move, and a read after it",
         turns(
-            sequence(0), sequence(0, write_of_n), move("m", "t", 1), sequence(0, read("n", 10)), offers(0, 1, 2), [finish(0)] * 3,
+            sequence(0), sequence(0, write_of_n), move("m", "t", 1), sequence(0, read("n", 10)), offers(0, 1, 2),
+            [finish(0)] * 3,
             ask=["n"], proxies=1,
         ),
         sequenced(2), "move date 21", sequenced(3)[2:], offered_to_both(0), offered(1, 0, "committed"), offered(1, 1),
@@ -283,12 +313,14 @@ def outcomes():
     yield case(
         "all but a conflict, by two proxies in turn, with the tags of one server",
         turns(
-            sequence(0, tagged), offers(0), finish(0), sequence(1, late), offers(1), finish(1), sequence(1, lock), offers(2), finish(1),
+            sequence(0, tagged), offers(0), finish(0), sequence(1, late), offers(1), finish(1), sequence(1, lock), offers(2),
+            finish(1),
             sequence(0, plain, aware), offers(3), finish(0), ask=["a"], window=10,
         ),
         sequenced(1), offered_to_both(0, "committed"),
         finished(
-            0, 10, "txn 0 committed 10 0", "mutation 0 0 tags 0:1", private_tag(0, 0, SERVER_1, "0:1"), "mutation 0 1 tags 0:1",
+            0, 10, "txn 0 committed 10 0", "mutation 0 0 tags 0:1", private_tag(0, 0, SERVER_1, "0:1"),
+            "mutation 0 1 tags 0:1",
             "mutation 0 2 tags 0:1",
         ),
         sequenced(2)[1:], offered(1, 0, "too_old", "10"), offered(1, 1, "none", "10"), finished(1, 20, "txn 0 too_old 1007"),
@@ -300,7 +332,7 @@ def outcomes():
 
 
 def locks_among_rows():
-    """A lock counts from the next batch on, for the own rows and for those that a proxy is told of; only an applied lock counts."""
+    """A lock counts from the next batch on, and for the rows of both proxies."""
     lock = transaction(0, [], [], [put(LOCKED, "L")], True)
     yield case(
         "a lock, and a state transaction of its batch that is not lock aware",
@@ -313,27 +345,40 @@ def locks_among_rows():
         "a lock, and then a batch of another proxy of which one transaction is lock aware",
         turns(
             sequence(0, lock),
-            sequence(1, transaction(10, [], [], [put_servers("", SERVER_1)]), transaction(10, [], [], [put(METADATA_VERSION, "v")], True)),
+            sequence(
+                1, transaction(10, [], [], [put_servers("", SERVER_1)]),
+                transaction(10, [], [], [put(METADATA_VERSION, "v")], True),
+            ),
             sequence(0, transaction(0, [], [], [put("a", "1")])), offers(0, 1, 2), finish(0), finish(0),
         ),
-        sequenced(3), offered_to_both(0, "committed"), offered_to_both(1, "committed committed", "10"), offered_to_both(2, "none", "20"),
+        sequenced(3), offered_to_both(0, "committed"), offered_to_both(1, "committed committed", "10"),
+        offered_to_both(2, "none", "20"),
         finished(0, 10, "txn 0 committed 10 0", "mutation 0 0 tags none"), finished(0, 30, "txn 0 locked 1038"),
         shown(0, 30, locked="yes", metadata_version='"v"'), shown(1, 0),
     )
+
+
+def locks_of_both():
+    """A lock holds for the rows of both proxies, and only one that every resolver committed."""
+    lock = transaction(0, [], [], [put(LOCKED, "L")], True)
     yield case(
         "a row of keys that is set under the lock, of which both proxies learn",
         turns(
-            sequence(0, lock), sequence(1, transaction(10, [], [], [put_servers("", SERVER_1)])), sequence(0), offers(0, 1, 2),
+            sequence(0, lock), sequence(1, transaction(10, [], [], [put_servers("", SERVER_1)])), sequence(0),
+            offers(0, 1, 2),
             finish(0), finish(1), finish(0),
         ),
-        sequenced(3), offered_to_both(0, "committed"), offered_to_both(1, "committed", "10"), offered_to_both(2, "none", "20"),
-        finished(0, 10, "txn 0 committed 10 0", "mutation 0 0 tags none"), finished(1, 20, "txn 0 locked 1038"), finished(0, 30),
+        sequenced(3), offered_to_both(0, "committed"), offered_to_both(1, "committed", "10"),
+        offered_to_both(2, "none", "20"),
+        finished(0, 10, "txn 0 committed 10 0", "mutation 0 0 tags none"), finished(1, 20, "txn 0 locked 1038"),
+        finished(0, 30),
         shown(0, 30, locked="yes"), shown(1, 20, locked="yes"),
     )
     yield case(
         "a lock that one resolver alone committed",
         turns(
-            move("m", "t", 1), sequence(0, written("n")), sequence(1, transaction(5, [one_key("n")], [], [put(LOCKED, "L")], True)),
+            move("m", "t", 1), sequence(0, written("n")),
+            sequence(1, transaction(5, [one_key("n")], [], [put(LOCKED, "L")], True)),
             sequence(0, transaction(0, [], [], [put("a", "1")])), offers(0, 1, 2), finish(0), finish(0),
         ),
         "move date 1", sequenced(3), offered(0, 0), offered(0, 1, "committed"), offered(1, 0, "committed", "10"),
@@ -358,301 +403,74 @@ def told_rows():
     yield case(
         "a request again, one before its turn, and one whose reply was acknowledged",
         turns(
-            sequence(0), sequence(1), sequence(1), offer(0, 0), offer(0, 0), offer(2, 0), offer(0, 1), finish(0), sequence(0),
+            sequence(0), sequence(1), sequence(1), offer(0, 0), offer(0, 0), offer(2, 0), offer(0, 1), finish(0),
+            sequence(0),
             offer(1, 0), offer(2, 0), offer(3, 0), offer(0, 0),
         ),
         sequenced(3), offered(0, 0), offered(0, 0, how="again"), "refused 30 Early 10", offered(0, 1), finished(0, 10),
-        sequenced(4)[3:], offered(1, 0, "none", "10"), offered(2, 0), offered(3, 0, "none", "20 30"), "refused 31 GivenUp 10",
+        sequenced(4)[3:], offered(1, 0, "none", "10"), offered(2, 0), offered(3, 0, "none", "20 30"),
+        "refused 31 GivenUp 10",
         shown(0, 10), shown(1, 0),
     )
     yield case(
         "two records of one proxy begun before the first is finished",
         turns(
-            *[sequence(proxy, transaction(0, [], [], [put(METADATA_VERSION, value)], True)) for proxy, value in ((0, "a"), (1, "b"), (0, "c"))],
+            *[
+                sequence(proxy, transaction(0, [], [], [put(METADATA_VERSION, value)], True))
+                for proxy, value in ((0, "a"), (1, "b"), (0, "c"))
+            ],
             offers(0, 1, 2), offer(0, 0), finish(0), finish(0),
         ),
-        sequenced(3), offered_to_both(0, "committed"), offered_to_both(1, "committed", "10"), offered_to_both(2, "committed", "20"),
+        sequenced(3), offered_to_both(0, "committed"), offered_to_both(1, "committed", "10"),
+        offered_to_both(2, "committed", "20"),
         offered(0, 0, "committed", how="again"), finished(0, 10, "txn 0 committed 10 0", "mutation 0 0 tags none"),
         finished(0, 30, "txn 0 committed 30 0", "mutation 0 0 tags none"), shown(0, 30, metadata_version='"c"'), shown(1, 0),
     )
-
-
-def four_servers():
-    """A batch that gives four servers their tags and keys, with two servers at one key."""
-    tags = [put_tag(server, "\\x00\\x00\\x0%d" % number) for number, server in enumerate((SERVER_1, SERVER_2, SERVER_3, SERVER_4), 1)]
-    rows = [put_servers("", SERVER_1), put_servers("b", SERVER_2), put_servers("f", SERVER_1, SERVER_3), put_servers("q", SERVER_4)]
-    return transaction(0, [], [], tags + rows)
-
-
-# what a proxy routes after it
-FOUR_ROUTES = ['route "" 0:1', 'route "b" 0:2', 'route "f" 0:1 0:3', 'route "q" 0:4']
-FOUR_FINISHED = finished(
-    0, 10, "txn 0 committed 10 0",
-    "mutation 0 0 tags 0:4", private_tag(0, 0, SERVER_1, "0:1"), "mutation 0 1 tags 0:4", private_tag(0, 1, SERVER_2, "0:2"),
-    "mutation 0 2 tags 0:4", private_tag(0, 2, SERVER_3, "0:3"), "mutation 0 3 tags 0:4", private_tag(0, 3, SERVER_4, "0:4"),
-    *["mutation 0 %d tags 0:4" % place for place in range(4, 8)],
-)
-
-# a lock and a metadata version, and a Clear of them and of all else
-MARKED = transaction(0, [], [], [put(LOCKED, "L"), put(METADATA_VERSION, "v")], True)
-ALL_CLEARED = transaction(0, [], [], [clear("", "\\xff\\xff")], True)
-
-
-def tags():
-    """Tags come from the metadata after the whole batch; a Clear has those of all keys of its range."""
-    yield case(
-        "a Clear over four servers, and a Set and a Clear of all rows",
-        turns(
-            sequence(0, four_servers()), sequence(0, transaction(0, [], [], [clear("a", "\\xff")])),
-            sequence(0, transaction(0, [], [], [put("a", "1"), clear(KEY_SERVERS, "\\xff/keyServers0")], True)),
-            offers(0, 1, 2), [finish(0)] * 3,
-        ),
-        sequenced(3), offered_to_both(0, "committed"), offered_to_both(1, "none"), offered_to_both(2, "committed"), FOUR_FINISHED,
-        finished(0, 20, "txn 0 committed 20 0", "mutation 0 0 tags 0:1 0:2 0:3 0:4"),
-        finished(0, 30, "txn 0 committed 30 0", "mutation 0 0 tags none", "mutation 0 1 tags none"), shown(0, 30), shown(1, 0),
-    )
-    yield case(
-        "a Clear of all keys", turns(
-            sequence(0, four_servers()), sequence(0, transaction(0, [], [], [clear("", "\\xff\\xff")], True)), offers(0, 1),
-            finish(0), finish(0),
-        ),
-        sequenced(2), offered_to_both(0, "committed"), offered_to_both(1, "committed"), FOUR_FINISHED,
-        finished(0, 20, "txn 0 committed 20 0", "mutation 0 0 tags none"), shown(0, 20), shown(1, 0),
-    )
-    yield case(
-        "a Clear of all keys behind a lock and a metadata version, of which another proxy learns", turns(
-            sequence(0, four_servers()), sequence(0, MARKED), sequence(0, ALL_CLEARED), sequence(1), offers(0, 1, 2, 3), [finish(0)] * 3,
-            finish(1),
-        ),
-        sequenced(4), *[offered_to_both(row, "committed") for row in range(3)], offered_to_both(3, "none", "10 20 30"), FOUR_FINISHED,
-        finished(0, 20, "txn 0 committed 20 0", "mutation 0 0 tags 0:4", "mutation 0 1 tags 0:4"),
-        finished(0, 30, "txn 0 committed 30 0", "mutation 0 0 tags none"), finished(1, 40), shown(0, 30), shown(1, 40),
-    )
-    asked = [
-        ("", "0:1"), ("a", "0:1"), ("a\\xff", "0:1"), ("b", "0:2"), ("b\\x00", "0:2"), ("e", "0:2"), ("f", "0:1 0:3"), ("q", "0:4"),
-        ("\\xff\\xff\\xff", "0:4"),
-    ]
-    cleared = [
-        (("a", "b"), "0:1"), (("b", "b\\x00"), "0:2"), (("b", "f"), "0:2"), (("b", "f\\x00"), "0:1 0:2 0:3"), (("c", "d"), "0:2"),
-        (("c", "q"), "0:1 0:2 0:3"), (("p", "z"), "0:1 0:3 0:4"),
-    ]
-    sets = transaction(0, [], [], [put(key, "1") for key, _ in asked[:-1]] + [clear(*ends) for ends, _ in cleared])
-    listed = [found for _, found in asked[:-1] + cleared]
-    yield case(
-        "a mutation at each border", turns(
-            sequence(0, four_servers()), sequence(0, sets), offers(0, 1), finish(0), finish(0), ask=[key for key, _ in asked], proxies=1,
-        ),
-        sequenced(2), offered_to_both(0, "committed"), offered_to_both(1, "none"), FOUR_FINISHED,
-        finished(0, 20, "txn 0 committed 20 0", *["mutation 0 %d tags %s" % pair for pair in enumerate(listed)]),
-        shown(0, 20, *FOUR_ROUTES, *['tags "%s" %s' % pair for pair in asked]),
-    )
-
-
-def listed_tags():
-    """A row that lists tags has them, whatever tags servers get; a Clear has those of rows of both forms."""
-    rows = transaction(0, [], [], [put(KEY_SERVERS, LISTING), put_servers("m", SERVER_1), put("a", "1"), put("z", "1")], True)
-    tagged = transaction(0, [], [], [put("z", "2"), put_tag(SERVER_1, "\\x00\\x00\\x07"), clear("a", "z"), put("a", "2")], True)
-    joined = transaction(0, [], [], [put(KEY_SERVERS + "m", LISTING), put("z", "3"), clear("a", "z")], True)
-    routes = ['route "" 0:1 0:2 3:258', 'route "m" %s']
-    yield case(
-        "listed tags, and the tag of a server beside them",
-        turns(
-            sequence(0, rows), offers(0), finish(0), sequence(1, tagged), offers(1), finish(1), sequence(0, joined), offers(2), finish(0),
-            ask=["b", "y"],
-        ),
-        "sequence row 0 version 10", offered_to_both(0, "committed"),
-        finished(
-            0, 10, "txn 0 committed 10 0", "mutation 0 0 tags none", "mutation 0 1 tags none", "mutation 0 2 tags 0:1 0:2 3:258",
-            "mutation 0 3 tags none",
-        ),
-        "sequence row 1 version 20", offered_to_both(1, "committed", "10"),
-        finished(
-            1, 20, "txn 0 committed 20 0", "mutation 0 0 tags 0:7", "mutation 0 1 tags 0:7", private_tag(0, 1, SERVER_1, "0:7"),
-            "mutation 0 2 tags 0:1 0:2 0:7 3:258", "mutation 0 3 tags 0:1 0:2 3:258",
-        ),
-        "sequence row 2 version 30", offered_to_both(2, "committed", "20"),
-        finished(
-            0, 30, "txn 0 committed 30 0", *["mutation 0 %d tags 0:1 0:2 3:258" % place for place in range(3)],
-        ),
-        shown(0, 30, routes[0], routes[1] % "0:1 0:2 3:258", 'tags "b" 0:1 0:2 3:258', 'tags "y" 0:1 0:2 3:258'),
-        shown(1, 20, routes[0], routes[1] % "0:7", 'tags "b" 0:1 0:2 3:258', 'tags "y" 0:7'),
-    )
-
-
-# the keys split at `m`, in a batch of three transactions, and what a proxy routes then
-SPLIT = [
-    transaction(0, [], [], [put("a", "1")]),
-    transaction(0, [], [], [put_tag(SERVER_1, "\\x00\\x00\\x01"), put_tag(SERVER_2, "\\x00\\x00\\x02")], True),
-    transaction(0, [], [], [put_servers("", SERVER_1), put_servers("m", SERVER_2)], True),
-]
-ALL_TO_1, REST_TO_1, REST_TO_2 = 'route "" 0:1', 'route "m" 0:1', 'route "m" 0:2'
-WRITTEN, JOINED, NOTHING = put("z", "1"), clear(KEY_SERVERS + "m", KEY_SERVERS + "n"), put(METADATA_VERSION, "v")
-
-# what another proxy changes and then the own batch, the tags of each of its mutations, and the routes after it
-AFTER_THE_SPLIT = {
-    "a key after a boundary": (NOTHING, [NOTHING, WRITTEN], ["0:2", "0:2"], [ALL_TO_1, REST_TO_2]),
-    "tags after a Clear of the batch": (NOTHING, [WRITTEN, JOINED, WRITTEN], ["0:1", "0:1", "0:1"], [ALL_TO_1]),
-    "a Set after a Clear": (NOTHING, [JOINED, put_servers("m", SERVER_1), WRITTEN], ["0:1", "0:1", "0:1"], [ALL_TO_1, REST_TO_1]),
-    "a Set before a Clear": (NOTHING, [put_servers("m", SERVER_1), JOINED, WRITTEN], ["0:1", "0:1", "0:1"], [ALL_TO_1]),
-    "a Clear of another proxy": (JOINED, [NOTHING, WRITTEN], ["0:1", "0:1"], [ALL_TO_1]),
-    "a Set after a Clear of another proxy": (JOINED, [put_servers("m", SERVER_2), WRITTEN], ["0:2", "0:2"], [ALL_TO_1, REST_TO_2]),
-    "Clears of both": (JOINED, [clear(SERVER_TAG, "\\xff/serverTag0"), WRITTEN], ["none", "none"], ['route "" none']),
-}
-
-
-# a Set of a server's tag and of what servers have, and what is printed of it, at its place
-SERVER_KEYS, SERVER_0 = "\\xff/serverKeys/", "\\x00" * 15 + "/"
-TAG_1, TAG_2 = put_tag(SERVER_1, "\\x00\\x00\\x01"), put_tag(SERVER_1, "\\x03\\x01\\x02")
-KEYS_1, KEYS_2 = (put(SERVER_KEYS + server + "/m", "1") for server in (SERVER_1, SERVER_2))
-COPY_OF_KEYS = (SERVER_KEYS + SERVER_1 + "/m", "0:1")
-COPY_OF_TAG_1, COPY_OF_TAG_2 = (SERVER_TAG + SERVER_1, "0:1"), (SERVER_TAG + SERVER_1, "3:258")
-
-# the mutations of a transaction, and the key and the tag of the private copy of each, if it has one
-COPIES = {
-    "a server with a tag and one without": [(TAG_1, COPY_OF_TAG_1), (KEYS_1, COPY_OF_KEYS), (KEYS_2, None)],
-    "keys before the tag": [(KEYS_1, COPY_OF_KEYS), (TAG_1, COPY_OF_TAG_1), (KEYS_2, None)],
-    "keys between two tags": [
-        (TAG_1, COPY_OF_TAG_1), (KEYS_1, (SERVER_KEYS + SERVER_1 + "/m", "3:258")), (TAG_2, COPY_OF_TAG_2),
-    ],
-    "a tag that is cleared": [(TAG_1, COPY_OF_TAG_1), (KEYS_1, None), (clear(SERVER_TAG, "\\xff/serverTag0"), None)],
-    "a tag that is cleared and set again": [
-        (TAG_1, COPY_OF_TAG_1), (clear(SERVER_TAG, "\\xff/serverTag0"), None), (KEYS_1, (SERVER_KEYS + SERVER_1 + "/m", "3:258")),
-        (TAG_2, COPY_OF_TAG_2),
-    ],
-    "bytes without a character of their own": [
-        (TAG_1, COPY_OF_TAG_1),
-        (put(SERVER_KEYS + SERVER_1 + "/\\x20\\x22\\x5c", "1"), (SERVER_KEYS + SERVER_1 + "/\\x20\\x22\\x5c", "0:1")),
-    ],
-    "a Clear of keys": [(TAG_1, COPY_OF_TAG_1), (clear(SERVER_KEYS, "\\xff/serverKeys0"), None)],
-    "a slash and nothing after it": [
-        (TAG_1, COPY_OF_TAG_1), (put(SERVER_KEYS + SERVER_1 + "/", ""), (SERVER_KEYS + SERVER_1 + "/", "0:1")),
-    ],
-    "slashes in the id": [
-        (put_tag(SERVER_0, "\\x00\\x00\\x01"), (SERVER_TAG + SERVER_0, "0:1")),
-        (put(SERVER_KEYS + SERVER_0 + "/", "1"), (SERVER_KEYS + SERVER_0 + "/", "0:1")), (put(SERVER_KEYS + SERVER_0, "1"), None),
-    ],
-    "a key without a slash": [(TAG_1, COPY_OF_TAG_1), (put(SERVER_KEYS + SERVER_1, "1"), None)],
-    "a byte in place of the slash": [(TAG_1, COPY_OF_TAG_1), (put(SERVER_KEYS + SERVER_1 + "0m", "1"), None)],
-    "ids of 15 and of 17 bytes": [
-        (TAG_1, COPY_OF_TAG_1), (put(SERVER_KEYS + SERVER_1[:-1] + "/m", "1"), None), (put(SERVER_KEYS + SERVER_1 + "1/m", "1"), None),
-    ],
-    "a stamp of keys": [
-        (TAG_1, COPY_OF_TAG_1),
-        (stamp(SERVER_KEYS + SERVER_1 + "/m", "\\x00" * 14), COPY_OF_KEYS),
-    ],
-}
-
-
-def private_copies():
-    """A Set of what a server has, or of its tag, has a copy with the tag after the whole batch, if the server has one."""
-    for name, pairs in COPIES.items():
-        printed = []
-        for place, (_, copy) in enumerate(pairs):
-            printed += ["mutation 0 %d tags none" % place, *([private(0, place, *copy)] if copy else [])]
-        yield case(
-            name,
-            turns(
-                sequence(0, transaction(0, [], [], [mutation for mutation, _ in pairs])), offer(0, 0), finish(0), proxies=1, resolvers=1,
-            ),
-            sequenced(1), offered(0, 0, "committed"), finished(0, 10, "txn 0 committed 10 0", *printed), shown(0, 10),
-        )
-    told, own = (transaction(0, [], [], [mutation], True) for mutation in (TAG_2, KEYS_1))
-    yield case(
-        "copies of its own mutations alone, by a tag that another proxy set",
-        turns(sequence(0, told), sequence(1, own), sequence(0), offers(0, 1, 2), finish(1), finish(0), finish(0)),
-        sequenced(3), offered_to_both(0, "committed"), offered_to_both(1, "committed", "10"), offered_to_both(2, unseen="20"),
-        finished(1, 20, "txn 0 committed 20 0", "mutation 0 0 tags none", private(0, 0, SERVER_KEYS + SERVER_1 + "/m", "3:258")),
-        finished(0, 10, "txn 0 committed 10 0", "mutation 0 0 tags none", private(0, 0, *COPY_OF_TAG_2)),
-        finished(0, 30), shown(0, 30), shown(1, 20),
-    )
-    first = transaction(0, [], [one_key("a")], [TAG_1], True)
-    late = transaction(0, [one_key("a")], [], [TAG_2], True)
-    yield case(
-        "a copy by the tag before a transaction that is refused",
-        turns(
-            sequence(0, first), sequence(0, late, transaction(0, [], [], [KEYS_1])), offer(0, 0), offer(1, 0), finish(0), finish(0),
-            proxies=1, resolvers=1,
-        ),
-        sequenced(2), offered(0, 0, "committed"), offered(1, 0, "conflict committed"),
-        finished(0, 10, "txn 0 committed 10 0", "mutation 0 0 tags none", private(0, 0, *COPY_OF_TAG_1)),
-        finished(0, 20, "txn 0 conflict 1020", "txn 1 committed 20 1", "mutation 1 0 tags none", private(1, 0, *COPY_OF_KEYS)), shown(0, 20),
-    )
-    yield case(
-        "no copy for a server without a tag, though all keys have listed tags",
-        turns(
-            sequence(0, transaction(0, [], [], [put(KEY_SERVERS, LISTING), KEYS_1])), offer(0, 0), finish(0), proxies=1, resolvers=1,
-        ),
-        sequenced(1), offered(0, 0, "committed"),
-        finished(0, 10, "txn 0 committed 10 0", *["mutation 0 %d tags 0:1 0:2 3:258" % place for place in range(2)]),
-        shown(0, 10, 'route "" 0:1 0:2 3:258'),
-    )
-    longest = SERVER_KEYS + SERVER_1 + "/" + "k" * (10_000 - 30)
-    yield case(
-        "a copy of the longest key",
-        turns(sequence(0, transaction(0, [], [], [TAG_1, put(longest, "v" * 100_000)])), offer(0, 0), finish(0), proxies=1, resolvers=1),
-        sequenced(1), offered(0, 0, "committed"),
-        finished(
-            0, 10, "txn 0 committed 10 0", "mutation 0 0 tags none", private(0, 0, *COPY_OF_TAG_1), "mutation 0 1 tags none",
-            private(0, 1, longest, "0:1"),
-        ),
-        shown(0, 10),
-    )
-
-
-def clears_and_sets():
-    """The metadata after the rows of two proxies, of which one splits the keys and the other one joins them or not."""
-    for name, (told, own, listed, routes) in AFTER_THE_SPLIT.items():
-        mark = '"v"' if NOTHING in [told, *own] else "none"
-        yield case(
-            name,
-            turns(
-                sequence(0, *SPLIT), sequence(1, transaction(0, [], [], [told], True)), sequence(0, transaction(0, [], [], own, True)),
-                offers(0, 1, 2), finish(0), finish(0),
-            ),
-            sequenced(3), offered(0, 0, "committed committed"), offered(0, 1, "committed committed"),
-            offered_to_both(1, "committed", "10"), offered_to_both(2, "committed", "20"),
-            finished(
-                0, 10, "txn 0 committed 10 0", "mutation 0 0 tags 0:1", "txn 1 committed 10 1",
-                "mutation 1 0 tags 0:2", private_tag(1, 0, SERVER_1, "0:1"), "mutation 1 1 tags 0:2", private_tag(1, 1, SERVER_2, "0:2"),
-                "txn 2 committed 10 2", "mutation 2 0 tags 0:2", "mutation 2 1 tags 0:2",
-            ),
-            finished(0, 30, "txn 0 committed 30 0", *["mutation 0 %d tags %s" % pair for pair in enumerate(listed)]),
-            shown(0, 30, *routes, metadata_version=mark), shown(1, 0),
-        )
 
 
 def refused_events():
     """A refused event has its line and changes nothing, and the events behind it are carried out."""
     yield case(
         "each refusal", turns(
-            move("a", "b", 2), finish(0), sequence(0), offer(0, 0), finish(0), offer(9, 0), offer(0, 2), offer(9, 2), sequence(2),
+            move("a", "b", 2), finish(0), sequence(0), offer(0, 0), finish(0), offer(9, 0), offer(0, 2), offer(9, 2),
+            sequence(2),
             finish(2), offer(0, 1), finish(0), finish(0),
         ),
         "refused 20 NoSuchResolver", "refused 42 OutOfTurn none", sequenced(1), offered(0, 0), "refused 43 MissingReply 1",
-        "refused 35 NoSuchRow", "refused 33 WrongResolver", "refused 35 NoSuchRow", "refused 32 NoSuchProxy", "refused 32 NoSuchProxy",
+        "refused 35 NoSuchRow", "refused 33 WrongResolver", "refused 35 NoSuchRow", "refused 32 NoSuchProxy",
+        "refused 32 NoSuchProxy",
         offered(0, 1), finished(0, 10), "refused 42 OutOfTurn none", shown(0, 10), shown(1, 0),
     )
+
+
+def last_versions():
+    """A step to a version past the last is refused, and other events go on."""
     half = 4611686018427387904
     yield case(
         "a step after which no version is left",
         turns(sequence(0), sequence(0), offer(0, 0), sequence(1), sequence(2), move("a", "b", 0), step=half),
-        "sequence row 0 version %d" % half, "refused 51 VersionsEnd", offered(0, 0), "refused 51 VersionsEnd", "refused 32 NoSuchProxy",
-        "move date %d" % (half + 1),
-        shown(0, 0), shown(1, 0),
+        "sequence row 0 version %d" % half, "refused 51 VersionsEnd", offered(0, 0), "refused 51 VersionsEnd",
+        "refused 32 NoSuchProxy", "move date %d" % (half + 1), shown(0, 0), shown(1, 0),
     )
     last = 2**63 - 1
     yield case(
         "the greatest version", turns(sequence(0), move("a", "b", 1), sequence(1), offers(0), finish(0), step=last),
-        "sequence row 0 version %d" % last, "move date %d" % (last + 1), "refused 51 VersionsEnd", offered_to_both(0), finished(0, last),
-        shown(0, last), shown(1, 0),
+        "sequence row 0 version %d" % last, "move date %d" % (last + 1), "refused 51 VersionsEnd", offered_to_both(0),
+        finished(0, last), shown(0, last), shown(1, 0),
     )
+
+
+def refused_finishes_and_offers():
+    """A finish names the first resolver that has not judged, and an early offer the version of its resolver."""
     yield case(
-        "the first resolver of those that have not judged", turns(sequence(0), finish(0), offer(0, 0), finish(0), resolvers=3, proxies=1),
+        "the first resolver of those that have not judged",
+        turns(sequence(0), finish(0), offer(0, 0), finish(0), resolvers=3, proxies=1),
         sequenced(1), "refused 43 MissingReply 0", offered(0, 0), "refused 43 MissingReply 1", shown(0, 0),
     )
     yield case(
         "early offers name the version of the resolver", turns(
-            sequence(0), sequence(0), sequence(0), offer(1, 0), offer(0, 0), offer(2, 0), offer(1, 0), offer(2, 1), finish(0),
+            sequence(0), sequence(0), sequence(0), offer(1, 0), offer(0, 0), offer(2, 0), offer(1, 0), offer(2, 1),
+            finish(0),
         ),
         sequenced(3), "refused 30 Early 0", offered(0, 0), "refused 30 Early 10", offered(1, 0), "refused 30 Early 0",
         "refused 43 MissingReply 1", shown(0, 0), shown(1, 0),
@@ -668,17 +486,21 @@ def small_ones():
     first = sequence(63, transaction(0, [], [], [put(METADATA_VERSION, "v")]), written("n"))
     yield case(
         "batches among 64 proxies and 64 resolvers", turns(
-            move("m", "t", 63), first, offers(0, resolvers=64), finish(63), sequence(0, read("n", 5)), offers(1, resolvers=64), finish(0),
+            move("m", "t", 63), first, offers(0, resolvers=64), finish(63), sequence(0, read("n", 5)),
+            offers(1, resolvers=64), finish(0),
             proxies=64, resolvers=64,
         ),
-        "move date 1", sequenced(1), [offered(0, resolver, "committed") for resolver in range(63)], offered(0, 63, "committed committed"),
+        "move date 1", sequenced(1), [offered(0, resolver, "committed") for resolver in range(63)],
+        offered(0, 63, "committed committed"),
         finished(63, 10, "txn 0 committed 10 0", "mutation 0 0 tags none", "txn 1 committed 10 1"), sequenced(2)[1:],
         [offered(1, resolver, unseen="10") for resolver in range(63)], offered(1, 63, "conflict", "10"),
-        finished(0, 20, "txn 0 conflict 1020"), shown(0, 20, metadata_version='"v"'), *[shown(proxy, 0) for proxy in range(1, 63)],
+        finished(0, 20, "txn 0 conflict 1020"), shown(0, 20, metadata_version='"v"'),
+        *[shown(proxy, 0) for proxy in range(1, 63)],
         shown(63, 10, metadata_version='"v"'),
     )
     yield case(
-        "an empty transaction is committed, and asks nobody", turns(sequence(0, transaction()), offers(0), finish(0), proxies=1),
+        "an empty transaction is committed, and asks nobody",
+        turns(sequence(0, transaction()), offers(0), finish(0), proxies=1),
         sequenced(1), offered_to_both(0), finished(0, 10, "txn 0 committed 10 0"), shown(0, 10),
     )
     unlock = transaction(0, [], [], [clear(LOCKED, LOCKED + "\\x00")], True)
@@ -695,20 +517,26 @@ def last_numbers():
     last = 2**63 - 1
     yield case(
         "the greatest numbers", turns(
-            sequence(last), move("a", "b", last), offer(last, last), finish(last), sequence(0, transaction(last, [one_key("a")])),
+            sequence(last), move("a", "b", last), offer(last, last), finish(last),
+            sequence(0, transaction(last, [one_key("a")])),
             offer(0, last), offers(0), finish(0), proxies=1, window=10**9,
         ),
-        "refused 32 NoSuchProxy", "refused 20 NoSuchResolver", "refused 35 NoSuchRow", "refused 32 NoSuchProxy", sequenced(1),
-        "refused 33 WrongResolver", offered(0, 0, "committed"), offered(0, 1), finished(0, 10, "txn 0 committed 10 0"), shown(0, 10),
+        "refused 32 NoSuchProxy", "refused 20 NoSuchResolver", "refused 35 NoSuchRow", "refused 32 NoSuchProxy",
+        sequenced(1),
+        "refused 33 WrongResolver", offered(0, 0, "committed"), offered(0, 1), finished(0, 10, "txn 0 committed 10 0"),
+        shown(0, 10),
     )
 
 
 def many_events():
-    """A batch of one proxy for each key, and one of the other proxy that is told of them all: more text than one write takes."""
+    """A batch of one proxy for each key, and one of the other proxy that is told of them all:
+    more text than one write takes.
+    """
     count = 400
     keys = ["%060d" % number for number in range(count)]
     events = [
-        [sequence(0, transaction(0, [], [], [put_servers(key, SERVER_1)], True)), offer(row, 0), finish(0)] for row, key in enumerate(keys)
+        [sequence(0, transaction(0, [], [], [put_servers(key, SERVER_1)], True)), offer(row, 0), finish(0)]
+        for row, key in enumerate(keys)
     ]
     answers = [
         ["sequence row %d version %d" % (row, row + 1), offered(row, 0, "committed"),
@@ -717,8 +545,10 @@ def many_events():
     routes = ['route "%s" none' % key for key in keys] + ['tags "%s" none' % key for key in keys]
     versions = " ".join(str(row + 1) for row in range(count))
     yield case(
-        "%d batches" % count, turns(*events, sequence(1), offer(count, 0), finish(1), ask=keys, resolvers=1, window=10, step=1),
-        *answers, "sequence row %d version %d" % (count, count + 1), offered(count, 0, "none", versions), finished(1, count + 1),
+        "%d batches" % count,
+        turns(*events, sequence(1), offer(count, 0), finish(1), ask=keys, resolvers=1, window=10, step=1),
+        *answers, "sequence row %d version %d" % (count, count + 1), offered(count, 0, "none", versions),
+        finished(1, count + 1),
         shown(0, count, *routes), shown(1, count + 1, *routes),
     )
 
@@ -729,12 +559,15 @@ def repeats():
     yield case(
         "a request again at each of 64 resolvers",
         turns(sequence(0, state), offers(0, resolvers=64), offers(0, resolvers=64), finish(0), proxies=1, resolvers=64),
-        sequenced(1), [offered(0, it, "committed") for it in range(64)], [offered(0, it, "committed", how="again") for it in range(64)],
+        sequenced(1), [offered(0, it, "committed") for it in range(64)],
+        [offered(0, it, "committed", how="again") for it in range(64)],
         finished(0, 10, "txn 0 committed 10 0", "mutation 0 0 tags none"), shown(0, 10, metadata_version='"v"'),
     )
 
 
 CASES = (
-    small_ones, repeats, stamps, moved_ranges, owners_in_the_window, verdicts, many_parts, refused_writes, state_transactions, locks, outcomes,
-    locks_among_rows, told_rows, tags, listed_tags, private_copies, clears_and_sets, refused_events, last_numbers, many_events,
+    small_ones, repeats, stamps, moved_ranges, owners_in_the_window, verdicts, many_parts, refused_writes,
+    state_transactions, locks, outcomes,
+    locks_among_rows, locks_of_both, told_rows, refused_events, refused_finishes_and_offers, last_versions,
+    last_numbers, many_events,
 )

@@ -12,7 +12,9 @@ MOST = {"proxies": 64, "resolvers": 64, "window": 10**9, "step": 2**63 - 1}
 
 def numbers_of_the_cluster():
     for name, most in MOST.items():
-        for number in sorted({0, most + 1, 2**32 + 1 if most < 2**32 else 2**63, 2**63 - 1, 2**63, 2**64 - 1, 2**64, 2**64 + 1} - {most}):
+        for number in sorted(
+            {0, most + 1, 2**32 + 1 if most < 2**32 else 2**63, 2**63 - 1, 2**63, 2**64 - 1, 2**64, 2**64 + 1} - {most}
+        ):
             yield "%s %d" % (name, number), write(TURNS.changed((name,), number)), BAD_SHAPE
             yield "%s %d, without events" % (name, number), write(dict(turns(), **{name: number})), BAD_SHAPE
         for number in (1, most):
@@ -71,7 +73,9 @@ def events_of_wrong_form():
     events = [sequence(0), move("a", "b", 0), offer(0, 0), finish(0)]
     for event in events:
         (name, inner), = event.items()
-        for other in ("Sequence", "seq", "moves", "move_range", "offers", "resolve", "commit", "begin", "event", "", name + "_"):
+        for other in (
+            "Sequence", "seq", "moves", "move_range", "offers", "resolve", "commit", "begin", "event", "", name + "_",
+        ):
             yield "%r for %s" % (other, name), write(turns({other: inner})), BAD_SHAPE
         for value in (None, [], [inner], list(inner.values()), {}, True, 0, "0"):
             yield "%s of %r" % (name, value), write(turns({name: value})), BAD_SHAPE
@@ -90,7 +94,10 @@ def events_of_wrong_form():
 def wrong_mutations():
     """A mutation by another name, two in one object, and the forms of other mutations."""
     pair = ["k", "l"]
-    for other in ("Set", "setStamped", "set-stamped", "set_stamp", "stamped", "SetStamped", "clear_range", "set_versionstamped_value", "add", ""):
+    for other in (
+        "Set", "setStamped", "set-stamped", "set_stamp", "stamped", "SetStamped", "clear_range", "set_versionstamped_value",
+        "add", "",
+    ):
         yield "%r for a mutation" % other, {other: pair}
     for first, second in (("set", "clear"), ("set", "set_stamped"), ("clear", "set_stamped")):
         yield "%s and %s in one" % (first, second), {first: pair, second: pair}

@@ -1,5 +1,5 @@
-"""What random turns scripts come to inside a cluster, which no line of an answer names: reads from before several moves, what
-leaves the window, what a read conflicts with, and what happens at proxies and resolvers after the third.
+"""What random turns scripts come to inside a cluster, which no line of an answer names: reads from before several moves,
+what leaves the window, what a read conflicts with, and what happens at proxies and resolvers after the third.
 
 The reference carries out the events; each situation is then counted from its records and verdicts.
 """
@@ -9,7 +9,8 @@ from tests.scripts.fold.reference import read_json
 from tests.scripts.turns import reference as turns_reference
 
 MUST_BE_MET = [
-    "a read from before three moves", "an owner before the window", "a write before the window", "a conflict after such a write",
+    "a read from before three moves", "an owner before the window", "a write before the window",
+    "a conflict after such a write",
     "a conflict with its own share alone", "a conflict from past the version", "five unseen rows", "five unseen rows again",
     "a reply given again after the third resolver", "an early request after the third resolver",
     "a reply given up after the third resolver", "a second record finished after the third proxy",
@@ -48,10 +49,12 @@ class Counted(turns_reference.Cluster):
             for span in turns_reference.all_reads(transaction):
                 lists = [turns_reference.owners(record, key) for key in turns_reference.keys_that_differ(record, span)]
                 self.found["a read from before three moves"] += any(
-                    date >= max(transaction.snapshot, record.previous - self.window) for it in lists for date, _ in it[1:][-3:-2]
+                    date >= max(transaction.snapshot, record.previous - self.window) for it in lists
+                    for date, _ in it[1:][-3:-2]
                 )
                 asked, all_of_them = (
-                    turns_reference.readers(record, span, transaction.snapshot, window) for window in (self.window, record.version)
+                    turns_reference.readers(record, span, transaction.snapshot, window)
+                    for window in (self.window, record.version)
                 )
                 self.found["an owner before the window"] += asked != all_of_them
 

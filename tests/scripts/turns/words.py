@@ -9,7 +9,8 @@ def one_key(key):
 
 def transaction(snapshot=0, reads=(), writes=(), mutations=(), lock_aware=False):
     return {
-        "snapshot": snapshot, "reads": list(reads), "writes": list(writes), "mutations": list(mutations), "lock_aware": lock_aware,
+        "snapshot": snapshot, "reads": list(reads), "writes": list(writes), "mutations": list(mutations),
+        "lock_aware": lock_aware,
     }
 
 
@@ -95,7 +96,9 @@ def private_tag(number, place, server, tag):
 
 def shown(proxy, version, *more, locked="no", metadata_version="none"):
     """What is printed of a proxy at the end."""
-    return ["proxy %d" % proxy, "version %d" % version, "locked %s" % locked, "metadata_version %s" % metadata_version, *more]
+    return [
+        "proxy %d" % proxy, "version %d" % version, "locked %s" % locked, "metadata_version %s" % metadata_version, *more,
+    ]
 
 
 def lines(*parts):
