@@ -110,8 +110,7 @@ def stored_run():
             (False, [clear_rows("s", "z"), tag(SERVER_2, "\\x00\\x00\\x09")]),
         ],
         [(True, [LOCKING, {"set": [METADATA_VERSION, "v"]}])],
-        [(False, [clear_rows("", "z")]), (True, [row("p", [SERVER_2])])],
-        ask=["a", "m", "z"], resolvers=2,
+        [(False, [clear_rows("", "z")]), (True, [row("p", [SERVER_2])])], ask=["a", "m", "z"], resolvers=2,
     ).encode()
     return Example("a stored run", [], whole, reference.answer(whole).encode(), 0)
 
@@ -126,10 +125,9 @@ def owners_and_moves():
     reads = [transaction(snapshot, [["a", "z"]], [one_key("p")]) for snapshot in (0, 11, 21, 30)]
     return of_turns(
         "owners and moves", move("m", "t", 1), sequence(0, *reads[:1]), move("n", "p", 2), move("p", "q", 1),
-        sequence(0, *reads),
-        move("m", "t", 1), move("a", "n", 2), move("n", "p", 0), sequence(0, *reads), offers(0, 1, 2, resolvers=3),
-        finish(0), finish(0),
-        sequence(0, *reads), offers(3, resolvers=3), finish(0), finish(0), proxies=1, resolvers=3, window=25,
+        sequence(0, *reads), move("m", "t", 1), move("a", "n", 2), move("n", "p", 0), sequence(0, *reads),
+        offers(0, 1, 2, resolvers=3), finish(0), finish(0), sequence(0, *reads), offers(3, resolvers=3), finish(0),
+        finish(0), proxies=1, resolvers=3, window=25,
     )
 
 
@@ -138,11 +136,9 @@ def repeats_given_up():
     rows = [transaction(0, [], [one_key(key)], [put_servers(key, SERVER_1)], True) for key in "abc"]
     return of_turns(
         "repeats given up", sequence(0, *rows, transaction(0, [], [], [put_tag(SERVER_1, "\\x00\\x00\\x01")], True)),
-        sequence(1, *rows[:2]),
-        sequence(0, transaction(0, [["a", "c"]])), offers(0, 1, 2), offers(0, 1, 2), finish(0), finish(1), sequence(0),
-        sequence(1),
-        offers(3, 4), offers(0, 1, 2, 3, 4), offer(9, 0), offer(5, 0), finish(0), finish(0), finish(1), finish(1),
-        ask=["a", "z"],
+        sequence(1, *rows[:2]), sequence(0, transaction(0, [["a", "c"]])), offers(0, 1, 2), offers(0, 1, 2), finish(0),
+        finish(1), sequence(0), sequence(1), offers(3, 4), offers(0, 1, 2, 3, 4), offer(9, 0), offer(5, 0), finish(0),
+        finish(0), finish(1), finish(1), ask=["a", "z"],
     )
 
 

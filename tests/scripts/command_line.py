@@ -22,8 +22,7 @@ REFUSED += [
 REFUSED += [b"threads\xff", b"\xffthreads"]
 REFUSED_TOGETHER = [
     ["fold", "fold"], ["fold", ""], ["fold", "--help"], ["", "fold"], ["--", "Threads"], ["fold", "turns"],
-    ["turns", "fold"],
-    ["turns", "turns"], ["turns", ""], ["turns", "--help"], ["--", "fold", "turns"],
+    ["turns", "fold"], ["turns", "turns"], ["turns", ""], ["turns", "--help"], ["--", "fold", "turns"],
     ["threads", "threads"], ["threads", "turns"], ["fold", "threads"], ["threads", "4"], ["threads", "--help"],
     ["--", "threads", "turns"],
 ]

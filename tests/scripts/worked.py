@@ -35,8 +35,7 @@ pub(super) const {name}: &[Worked] = &[
 """
 WHAT = {
     "fold": "Scripts of the mode `fold`.", "turns": "Scripts of the mode `turns`.",
-    "threads": "Scripts of the mode `threads`.",
-    "changed": "Scripts of the mode `turns` that are others with a change.",
+    "threads": "Scripts of the mode `threads`.", "changed": "Scripts of the mode `turns` that are others with a change.",
 }
 
 

@@ -298,8 +298,7 @@ def riddles_are_clicked_through(page):
 
 CHECKS = (
     stored_pages, arrows_lead_to_causes, first_difference_is_seen, later_parts_are_made, wide_clusters_fit, keys_are_enough,
-    pages_print,
-    play_is_clicked_through, play_refuses_and_opens, riddles_are_clicked_through,
+    pages_print, play_is_clicked_through, play_refuses_and_opens, riddles_are_clicked_through,
 )
 
 

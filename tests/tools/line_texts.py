@@ -241,8 +241,7 @@ def private_copies():
     cleared = setting([put_tag(SERVER_1, "\\x00\\x00\\x01")], [clear(SERVER_TAG, "\\xff/serverTag0"), put(KEYS_1, "1")])
     yield added(
         "keys of a server whose tag is cleared", cleared, turns_answer, "mutation 0 1 tags none",
-        private(0, 1, KEYS_1, "0:1"),
-        "  Server %s has no tag." % SERVER_1, earlier,
+        private(0, 1, KEYS_1, "0:1"), "  Server %s has no tag." % SERVER_1, earlier,
     )
     yield from no_copies()
 

@@ -25,13 +25,13 @@ def cases(changed):
 def too_old(changed):
     """Verdicts and outcomes that are too old, or not: the version, the window and the snapshot are named."""
     rows = turns(sequence(0), sequence(0, transaction(4, [A]), transaction(5, [A])), offers(0, 1, resolvers=1), finish(0),
-                 finish(0),
-                 proxies=1, resolvers=1, window=15)
+                 finish(0), proxies=1, resolvers=1,
+                 window=15)
     edge = "The version 20 less the window 15 is 5. A read is too old if its snapshot is below that: %s."
     yield changed(
         "an outcome that is too old", rows, answer, "txn 0 too_old 1007", "txn 0 committed 20 0",
-        "Resolver 0 gave too_old (line 4).",
-        edge % "4 is", "The least of these in the order conflict, too_old, committed is too_old.",
+        "Resolver 0 gave too_old (line 4).", edge % "4 is",
+        "The least of these in the order conflict, too_old, committed is too_old.",
     )
     yield changed(
         "a conflict in place of too old", rows, answer, "offer row 1 resolver 0 judged too_old committed unseen none",
@@ -95,14 +95,13 @@ def of_the_batch(changed):
         'has its end.',
     )
     many = turns(*(sequence(0, transaction(0, [], [A])) for _ in range(4)), sequence(0, transaction(0, [A])),
-                 offers(*range(5), resolvers=1),
-                 proxies=1, resolvers=1)
+                 offers(*range(5), resolvers=1), proxies=1,
+                 resolvers=1)
     hit = OF_A + ' overlaps the read ["a", "b"): resolver 0 committed it (line %d), and it is above the snapshot 0.'
     yield changed(
         "several writes that count", many, answer, "offer row 4 resolver 0 judged conflict unseen none",
         "offer row 4 resolver 0 judged committed unseen none", hit % (0, 10, 6), hit % (1, 20, 7), hit % (2, 30, 8),
-        "(and 1 more)",
-        NOT + hit % (3, 40, 9),
+        "(and 1 more)", NOT + hit % (3, 40, 9),
     )
 
 
@@ -147,7 +146,7 @@ def missing_verdicts(changed):
     )
     yield changed(
         "a large batch", large, answer, line % " ".join(["committed"] * 11 + ["conflict"]),
-        line % " ".join(["committed"] * 11),
-        "TEXT lacks the verdict on transaction 11.", "Transaction 6 asks it.", "Transaction 11 asks it.",
-        '  The read ["a", "b") goes to resolver 0.', "(and 4 more)", NOT + "Transaction 7 asks it.",
+        line % " ".join(["committed"] * 11), "TEXT lacks the verdict on transaction 11.", "Transaction 6 asks it.",
+        "Transaction 11 asks it.", '  The read ["a", "b") goes to resolver 0.', "(and 4 more)",
+        NOT + "Transaction 7 asks it.",
     )

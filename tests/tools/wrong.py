@@ -38,8 +38,7 @@ def differences_are_marked():
     script, text = example("turns/spreading_lock")
     for old, new, event in (
         ("txn 0 locked 1038", "txn 0 conflict 1020", 4), ("unseen 20", "unseen 10", 7),
-        ("row 2 version 30", "row 2 version 40", 6),
-        ("finish proxy 1 version 20", "finish proxy 1 version 30", 4),
+        ("row 2 version 30", "row 2 version 40", 6), ("finish proxy 1 version 20", "finish proxy 1 version 30", 4),
     ):
         page, wrong = draw(script, text.decode().replace(old, new))
         want(wrong and "at event %d" % event in page and "≠" in page, old)
@@ -67,11 +66,10 @@ def differing_text_ends_with_status_1():
 # changes of a text that leave it without the known form, for a text of turns, one with private copies and one of threads
 WRONG_TURNS = [
     (b"row 0", b"row 1"), (b"proxy 1\n", b"proxy 2\n"), (b"tags 0:1", b"tags 0;1"),
-    (b"committed conflict", b"committed maybe"),
-    (b"resolver 0", b"resolver 7"), (b"locked no\n", b""), (b"finish proxy 1", b"finish proxy 0"),
-    (b"version 10", b"version x"),
-    (b"version 10", b"version " + b"1" * 5000), (b'route ""', b'route "k'), (b'route ""', b'route "\\x6d"'),
-    (b"conflict 1020", b"conflict 1021"), (b"mutation 0 0", b"mutation 0"), (b"version 0\n", b"version 0\nversion 0\n"),
+    (b"committed conflict", b"committed maybe"), (b"resolver 0", b"resolver 7"), (b"locked no\n", b""),
+    (b"finish proxy 1", b"finish proxy 0"), (b"version 10", b"version x"), (b"version 10", b"version " + b"1" * 5000),
+    (b'route ""', b'route "k'), (b'route ""', b'route "\\x6d"'), (b"conflict 1020", b"conflict 1021"),
+    (b"mutation 0 0", b"mutation 0"), (b"version 0\n", b"version 0\nversion 0\n"),
 ]
 WRONG_COPIES = [
     (b"private 0 0", b"private 0"), (b"0:1\nmutation", b"0:1 0:2\nmutation"), (b"0:1\nmutation", b"none\nmutation"),
@@ -80,8 +78,7 @@ WRONG_COPIES = [
 WRONG_THREADS = [
     (b"batch 0 0", b"batch 0 1"), (b"committed conflict", b"committed"), (b"closing 0 version 50", b"closing 0 version 55"),
     (b"audit 0 ok", b"audit 0 fine"), (b"closing 0 version 50", b"closing 0 version 9000000000000000000"),
-    (b"proxy 1\n", b""),
-    (b"meet 0 1 behind\n", b""), (b"batch 0 0 committed", b"batch 0 0 lost"), (b'tags "a" 0:1\n', b""),
+    (b"proxy 1\n", b""), (b"meet 0 1 behind\n", b""), (b"batch 0 0 committed", b"batch 0 0 lost"), (b'tags "a" 0:1\n', b""),
 ]
 
 
@@ -124,8 +121,7 @@ def wrong_inputs_end_with_status_2():
     right = [script + ".json", script + ".out"]
     for words in (
         [], right[:1], right[::-1], [threads + ".json", script + ".out"], [right[0], "/nowhere"], ["-", "-"],
-        [right[0], "-"],
-        [ROOT, ROOT], ["--check"], ["--other"], [*right, "--all"], [*right, "--from", "x"],
+        [right[0], "-"], [ROOT, ROOT], ["--check"], ["--other"], [*right, "--all"], [*right, "--from", "x"],
         [*right, "--from", "20", "--to", "10"],
     ):
         status, page, said = called(words)
@@ -180,7 +176,6 @@ def checks():
     """Each check with its name."""
     for check in (
         lines_of_no_known_form_are_shown, differences_are_marked, differing_text_ends_with_status_1,
-        wrong_inputs_are_refused,
-        wrong_inputs_end_with_status_2, changed_texts_never_fail,
+        wrong_inputs_are_refused, wrong_inputs_end_with_status_2, changed_texts_never_fail,
     ):
         yield check.__name__, check

@@ -35,8 +35,7 @@ OF_FOLDS = (
             "not applied, since it is not lock aware and the database was locked before version 20.",
             "    The lock is read once, before the row, after version 10: the database was locked.",
             '      Transaction 0 of row 0 (version 10) sets it to "L": applied, since every resolver committed it and it is '
-            'lock aware.',
-            "    The transaction is not lock aware.",
+            'lock aware.', "    The transaction is not lock aware.",
             NOT + "    The lock is read once, before the batch, after version 10: the database was locked.",
         ),
     ),
@@ -52,8 +51,7 @@ OF_FOLDS = (
         "servers_of(kept[max(before)])", "servers_of(kept[max(before)])[: kept[max(before)][0]]", "moving_range", (
             '  Gakyhera: route "" 0:9 0:258 1:0', '  TEXT:     route "" 1:0',
             '  The keyServers row "" has sources server0000000001, destinations server0000000002, server0000000003 and '
-            'server0000000004.',
-            "TEXT lacks 0:9 and 0:258.",
+            'server0000000004.', "TEXT lacks 0:9 and 0:258.",
         ),
     ),
     WrongRule(
@@ -64,8 +62,8 @@ OF_FOLDS = (
     ),
     WrongRule(
         "tags stand in the order of their ids", FOLD, "    return sorted(found)",
-        "    return sorted(found, key=lambda it: it[::-1])",
-        "moving_range", (
+        "    return sorted(found, key=lambda it: it[::-1])", "moving_range",
+        (
             '  TEXT:     route "" 1:0 0:9 0:258',
             "TEXT has the same tags in another order: each tag stands once, by its locality and then by its id, as numbers.",
         ),
@@ -191,8 +189,7 @@ OF_OWNERS = (
         "an old owner is not asked", TURNS, "            if date < bound:", "            if True:", "turns/moved_range", (
             "Event 8 offers row 2 to resolver 0.",
             "The resolver gives 1 verdict on this row, one for each transaction that asks it. TEXT has 0.",
-            "Transaction 0 asks it.",
-            '  The read ["n", "n\\x00") goes to resolvers 0 and 1.',
+            "Transaction 0 asks it.", '  The read ["n", "n\\x00") goes to resolvers 0 and 1.',
             '    The owners of "n", the last one first: 1 (dated 11) and 0 (dated 0).',
             "    A read asks the owners from the last one back to the first that is dated before its snapshot 10.",
             "Transaction 1 does not ask it.",
@@ -219,15 +216,15 @@ OF_OWNERS = (
         "return {it for key in keys_that_differ(record, span) for _, it in owners(record, key)}", "turns/moved_range", (
             "Event 6 offers row 1 to resolver 0.",
             "The resolver gives 0 verdicts on this row, one for each transaction that asks it. TEXT has 1.",
-            "Transaction 0 does not ask it.",
-            '  The write ["n", "n\\x00") goes to resolver 1.', "    A write asks the last owner of each key.",
+            "Transaction 0 does not ask it.", '  The write ["n", "n\\x00") goes to resolver 1.',
+            "    A write asks the last owner of each key.",
         ),
     ),
     WrongRule(
         "a write goes only to the owner of its begin", TURNS,
         "return {owners(record, key)[-1][1] for key in keys_that_differ(record, span)}",
-        "return {owners(record, span[0])[-1][1]}",
-        "turns/straddling_write", (
+        "return {owners(record, span[0])[-1][1]}", "turns/straddling_write",
+        (
             "Transaction 0 asks it.", '  The write ["k", "p") goes to resolvers 0 and 1.',
             '    The owners of "k", the last one first: 0 (dated 0).',
             '    The owners of "m", the last one first: 1 (dated 1) and 0 (dated 0).',
@@ -272,8 +269,7 @@ OF_OWNERS = (
         "an ordinary system key makes no state transaction", TURNS,
         'return first.startswith(b"\\xff") and not', 'return first.startswith(b"\\xff/k") and not', "turns/state_or_not", (
             "Transaction 0 does not ask it.", "  It is no state transaction, and reads and writes no range.",
-            "Transaction 1 asks it.",
-            "  It is a state transaction, which asks every resolver.",
+            "Transaction 1 asks it.", "  It is a state transaction, which asks every resolver.",
         ),
     ),
 )
@@ -320,8 +316,8 @@ OF_REPLIES = (
     WrongRule(
         "a reply is given up when it is finished", TURNS,
         "max(it.received for it in self.history[:judged] if it.proxy == record.proxy)",
-        "self.finished_version(record.proxy)",
-        "turns/acknowledged_at_one", (
+        "self.finished_version(record.proxy)", "turns/acknowledged_at_one",
+        (
             "  TEXT:     refused 31 GivenUp 10", "Event 7 offers row 0 to resolver 1.",
             "The last record of proxy 0 that this resolver judged before this event is row 0 (line 3).",
             "It was sequenced when the proxy had finished version 0.",
@@ -330,8 +326,8 @@ OF_REPLIES = (
     ),
     WrongRule(
         "another proxy acknowledges replies too", TURNS, "self.history[:judged] if it.proxy == record.proxy)",
-        "self.history[:judged])",
-        "turns/late_repeat", (
+        "self.history[:judged])", "turns/late_repeat",
+        (
             "  TEXT:     refused 31 GivenUp 20",
             "The last record of proxy 0 that this resolver judged before this event is row 0 (line 3).",
             "So the replies up to version 0 are acknowledged: that of version 10 is not.", "So it repeats its reply.",
@@ -461,8 +457,8 @@ OF_FINISHES = (
     ),
     WrongRule(
         "versions are one step late", TURNS, "version = previous + self.step",
-        "version = previous + self.step * bool(self.history)",
-        "turns/two_proxies", (
+        "version = previous + self.step * bool(self.history)", "turns/two_proxies",
+        (
             "The next row is 0, and its version the last one plus the step: 0 + 10 = 10.",
         ),
     ),
@@ -498,8 +494,7 @@ OF_COPIES = (
             "  Gakyhera: proxy 0", '  TEXT:     private 0 2 "\\xff\\xff/serverKeys/server0000000002/m" 0:0',
             "Event 2 finishes a batch of proxy 0.", "Row 0 has version 10 and is of proxy 0; event 0 sequenced it.",
             'Mutation 2 of transaction 0 sets "\\xff/serverKeys/server0000000002/m".',
-            "  Server server0000000002 has no tag.",
-            "    No state transaction up to version 10 sets or clears it.",
+            "  Server server0000000002 has no tag.", "    No state transaction up to version 10 sets or clears it.",
             NOT + "The line of a private copy stands right after that of its mutation.",
         ),
     ),
@@ -526,12 +521,11 @@ OF_COPIES = (
 OF_THREADS = (
     WrongRule(
         "the lock does not refuse", THREADS, 'return "locked" if joined == "committed" and locked',
-        'return "locked" if False',
-        "threads/lock_of_one", (
+        'return "locked" if False', "threads/lock_of_one",
+        (
             "Line 2 differs:", "  Gakyhera: batch 0 1 locked committed", "  TEXT:     batch 0 1 committed committed",
             "The batches can come in 3 orders. The texts of 3 begin as TEXT does up to line 1, and none goes on as TEXT "
-            "does.",
-            "  The lock is read once, before the batch, after version 10: the database was locked.",
+            "does.", "  The lock is read once, before the batch, after version 10: the database was locked.",
             "  The transaction is not lock aware.",
         ),
     ),

@@ -185,9 +185,8 @@ def object_of(told, folder):
     return {
         "name": told.case.name, "mode": told.case.mode, "source": told.case.source, "kind": told.found.kind,
         "line": None if told.found.line is None else told.found.line + 1,
-        "script": told.script.decode(errors="backslashreplace"),
-        "right": right, "theirs": theirs, "status": told.found.ended.status, "explanation": told.explanation,
-        "folder": folder,
+        "script": told.script.decode(errors="backslashreplace"), "right": right, "theirs": theirs,
+        "status": told.found.ended.status, "explanation": told.explanation, "folder": folder,
     }
 
 

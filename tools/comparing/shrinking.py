@@ -13,21 +13,19 @@ PASSES = {
     "fold": [cuts.fold_rows, cuts.items_of("states"), cuts.columns, cuts.items_of("mutations"), cuts.items_of("ask")],
     "turns": [
         cuts.tail, cuts.batches_of_turns, cuts.events, cuts.items_of("batch"), cuts.resolvers_of_turns,
-        cuts.proxies_of_turns,
-        cuts.items_of("mutations"), cuts.items_of("reads"), cuts.items_of("writes"), cuts.items_of("ask"),
+        cuts.proxies_of_turns, cuts.items_of("mutations"), cuts.items_of("reads"), cuts.items_of("writes"),
+        cuts.items_of("ask"),
     ],
     "threads": [
         cuts.batches_of_threads, cuts.rounds_of_threads, cuts.proxies_of_threads, cuts.transactions_of_threads,
-        cuts.items_of("moves"),
-        cuts.resolvers_of_threads, cuts.items_of("mutations"), cuts.items_of("reads"), cuts.items_of("writes"),
-        cuts.items_of("ask"),
+        cuts.items_of("moves"), cuts.resolvers_of_threads, cuts.items_of("mutations"), cuts.items_of("reads"),
+        cuts.items_of("writes"), cuts.items_of("ask"),
     ],
 }
 # the order in which fields are written
 FIELDS = (
     "proxies", "resolvers", "window", "step", "proxy", "batch", "snapshot", "reads", "writes", "version", "states",
-    "mutations",
-    "lock_aware", "verdicts", "range", "row", "resolver", "ask", "moves", "work", "rows", "events",
+    "mutations", "lock_aware", "verdicts", "range", "row", "resolver", "ask", "moves", "work", "rows", "events",
 )
 # a text that is no JSON, or whose spelling matters, is cut in pieces of so many characters at first
 FIRST_PIECE = 4096

@@ -12,8 +12,7 @@ MEANINGS = {
     13: "the begin of a range is not below its end",
     14: "a keyServers or serverTag value does not decode, or a SetStamped has such a row",
     15: "a stamped value is under four bytes, or its ten bytes go past its end",
-    16: "a batch has more than 1,024 transactions",
-    20: "a move goes to a missing resolver", 70: "it is not JSON",
+    16: "a batch has more than 1,024 transactions", 20: "a move goes to a missing resolver", 70: "it is not JSON",
     71: "it does not have the form of its mode, or a number is outside its limits",
 }
 

@@ -4,8 +4,7 @@ from typing import NamedTuple
 # the first word of each kind of line that can be explained. Lines of other kinds are compared, and counted as no event's
 KINDS = {
     "sequence", "move", "offer", "finish", "txn", "mutation", "private", "refused", "proxy", "version", "locked",
-    "metadata_version",
-    "route", "tags",
+    "metadata_version", "route", "tags",
 }
 # how much of a long line is shown before and after the place where it differs
 BEFORE, AFTER = 120, 180

@@ -156,8 +156,7 @@ def key(threads):
         "A batch stands at its version. If the text does not tell it and several orders give the text, the batch stands at "
         "the first "
         "version that it may have had, its frame is dotted, and the bar beside it spans all. Click it to see its "
-        "transactions.",
-        "Closings come after all batches, in the order of the proxies; their frames are dashed.",
+        "transactions.", "Closings come after all batches, in the order of the proxies; their frames are dashed.",
         "An outcome has a letter: %s. The number before it is that of the transaction in its batch." % letters(),
         "There are no arrows, since a threads text does not say which requests and replies there were.",
         "%s in a thick frame is the first batch that no order explains." % chip("≠", "wrong"),

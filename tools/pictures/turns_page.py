@@ -39,8 +39,8 @@ def draw(name, turns, first, last, about=None):
     place, where = (first_place(turns) or (None, None))
     return page(
         name, heading(name, 1), paragraph(about or summary(turns), "see"),
-        differences(words_of_differences(turns), place, where),
-        bar(facts, key()), both(left, "Routing by version", hint, routing(turns, first, last)),
+        differences(words_of_differences(turns), place, where), bar(facts, key()),
+        both(left, "Routing by version", hint, routing(turns, first, last)),
     )
 
 

@@ -47,9 +47,9 @@ def state(known, page_name, text, count, layout, have):
     return turns, {
         "layout": lanes.key(), "first": first, "width": lanes.width, "many": not lanes.is_wide,
         "names": turns_page.names(lanes, "names"),
-        "strips": [turns_page.strip(turns, lanes, it) for it in turns.events[first:]],
-        "routing": "".join(routing(turns)), "next": clusters.choices(turns), "version": turns.run.cluster.last_version(),
-        "proxies": turns.proxies, "resolvers": turns.resolvers, "text": said,
+        "strips": [turns_page.strip(turns, lanes, it) for it in turns.events[first:]], "routing": "".join(routing(turns)),
+        "next": clusters.choices(turns), "version": turns.run.cluster.last_version(), "proxies": turns.proxies,
+        "resolvers": turns.resolvers, "text": said,
     }
 
 

@@ -30,8 +30,7 @@ KINDS = {
     "fold": {"right": spelled(fold.right_script), "wrong": fold.wrong_script},
     "turns": {
         "right": spelled(turns.right_script), "nested": of_class(Nested), "cleared": of_class(Cleared),
-        "wide": of_class(Wide),
-        "moved": of_class(Moved), "wrong": turns.wrong_script,
+        "wide": of_class(Wide), "moved": of_class(Moved), "wrong": turns.wrong_script,
     },
     "threads": {"right": spelled(threads.right_script), "wrong": threads.wrong_script},
 }

@@ -9,9 +9,8 @@ def plant_form(rng, script):
     path, value = rng.choice([(path, value) for path, value in places(script) if path])
     wrong = {
         "list": [None, {}, "a", 1], "dict": [None, [], "a", {}, {"x": 1}],
-        "number": [None, "1", True, -1, 1.5, 2**63, 2**64],
-        "bool": [None, 0, 1, "true", []], "verdict": [None, True, "Committed", "", ["committed"]],
-        "bytes": [None, 7, "\\", "a b", "\\x6d", []],
+        "number": [None, "1", True, -1, 1.5, 2**63, 2**64], "bool": [None, 0, 1, "true", []],
+        "verdict": [None, True, "Committed", "", ["committed"]], "bytes": [None, 7, "\\", "a b", "\\x6d", []],
         "batches": [None, {}, "a", 1, [{}]],
     }
     at(script, path[:-1])[path[-1]] = rng.choice(wrong[kind_at(path, value)])

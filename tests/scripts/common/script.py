@@ -55,8 +55,8 @@ def places(value, path=()):
 
 KINDS = {
     "resolvers": "number", "version": "number", "lock_aware": "bool", "verdicts": "verdict", "proxies": "number",
-    "window": "number",
-    "step": "number", "proxy": "number", "resolver": "number", "row": "number", "rows": "number", "snapshot": "number",
+    "window": "number", "step": "number", "proxy": "number", "resolver": "number", "row": "number", "rows": "number",
+    "snapshot": "number",
 }
 
 

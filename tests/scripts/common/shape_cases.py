@@ -130,6 +130,5 @@ def doubled_fields(form):
 
 OF_EACH_FORM = (
     missing_fields, extra_fields, misspelled_fields, wrong_types, lists_of_wrong_length, lists_for_elements,
-    spellings_of_numbers,
-    doubled_fields,
+    spellings_of_numbers, doubled_fields,
 )

@@ -103,11 +103,9 @@ def changed_lines(text):
 
 OTHERS = {
     "committed": ["conflict", "too_old", "locked"], "conflict": ["committed", "too_old"],
-    "too_old": ["committed", "conflict"],
-    "locked": ["committed", "locks"], "yes": ["no"], "no": ["yes"], "0:1": ["0:2", "none", "0:1 0:2"],
-    "none": ["0:1", "committed"],
-    "behind": ["ahead", "same"], "ahead": ["behind"], "ok": ["behind 0 0"], "LedgerFull": ["VersionsEnd"],
-    "VersionsEnd": ["LedgerFull"],
+    "too_old": ["committed", "conflict"], "locked": ["committed", "locks"], "yes": ["no"], "no": ["yes"],
+    "0:1": ["0:2", "none", "0:1 0:2"], "none": ["0:1", "committed"], "behind": ["ahead", "same"], "ahead": ["behind"],
+    "ok": ["behind 0 0"], "LedgerFull": ["VersionsEnd"], "VersionsEnd": ["LedgerFull"],
 }
 
 

@@ -41,8 +41,7 @@ def full_batches():
     )
     yield case(
         "1,024 transactions that each read and write, of each of two proxies", threads([chains[0]], [chains[1]]),
-        outcomes(0, said),
-        outcomes(1, said), closings(30, 40), shown(0, 30), shown(1, 40),
+        outcomes(0, said), outcomes(1, said), closings(30, 40), shown(0, 30), shown(1, 40),
     )
     every = [one_key(key_of(it)) for it in range(1000)]
     yield case(
@@ -61,8 +60,8 @@ def many_states():
     for count in (3, 60, 1024):
         yield case(
             "%d state transactions of a batch" % count, threads([[row_put(it) for it in range(count)]], []),
-            outcomes(0, words(count)),
-            closings(20, 30), shown(0, 20, *routed(range(count))), shown(1, 30, *routed(range(count))),
+            outcomes(0, words(count)), closings(20, 30), shown(0, 20, *routed(range(count))),
+            shown(1, 30, *routed(range(count))),
         )
     for count in (9, 60, 1024):
         aware = range(0, count, 2)
@@ -77,8 +76,7 @@ def many_states():
     yield case(
         "1,000 mutations of a transaction, and a Clear of 999 rows",
         threads([[transaction(0, [], [], puts, True)], [transaction(0, [], [], [cleared], True)]], []),
-        outcomes(0, COMMITTED, COMMITTED),
-        closings(30, 40), shown(0, 30, *routed([0])), shown(1, 40, *routed([0])),
+        outcomes(0, COMMITTED, COMMITTED), closings(30, 40), shown(0, 30, *routed([0])), shown(1, 40, *routed([0])),
     )
 
 
@@ -112,8 +110,8 @@ def many_batches():
         yield case(
             "%d batches of one proxy, and two that learn of them at once" % count,
             threads([[row_put(it, lock_aware=True)] for it in range(count)], [], [], rows=count + 3),
-            outcomes(0, *[COMMITTED] * count),
-            closings(end, end + 10, end + 20), *[shown(it, end + 10 * it, *routed(range(count))) for it in range(3)],
+            outcomes(0, *[COMMITTED] * count), closings(end, end + 10, end + 20),
+            *[shown(it, end + 10 * it, *routed(range(count))) for it in range(3)],
         )
     yield case(
         "101 batches of each of two proxies",

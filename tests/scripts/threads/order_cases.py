@@ -68,8 +68,7 @@ def faults_at_the_ends():
 # places in the order of the checks: the moves come first, however the fields stand
 CHECKED = [
     *MOVES, place(0, 0, 0, "reads", 0), place(0, 0, 0, "writes", 1), place(0, 0, 1, "mutations", 0),
-    place(0, 1, 0, "mutations", 1),
-    place(1, 0, 0, "reads", 1), place(1, 1, 1, "mutations", 1),
+    place(0, 1, 0, "mutations", 1), place(1, 0, 0, "reads", 1), place(1, 1, 1, "mutations", 1),
 ]
 
 

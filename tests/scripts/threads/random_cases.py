@@ -14,8 +14,7 @@ def random_cases(seeds):
 MUST_BE_MET = [
     *("refused %d" % number for number in (10, 11, 12, 13, 14, 15, 16, 20, 70, 71)), "batch refused 50", "batch refused 51",
     "closing refused 50", "closing refused 51", "closing", "committed", "conflict", "too_old", "locked", "none",
-    "locked yes",
-    "metadata_version", "route with tags", "route with listed tags",
+    "locked yes", "metadata_version", "route with tags", "route with listed tags",
 ]
 
 

@@ -47,8 +47,8 @@ def small_ones():
         *[shown(it, 10 * it + 650) for it in every],
     )
     yield case("batches of the last proxy alone", threads([], [[], []]), ["batch 1 0 none", "batch 1 1 none"],
-               closings(30, 40),
-               shown(0, 30), shown(1, 40))
+               closings(30, 40), shown(0, 30),
+               shown(1, 40))
     asked = ['tags "%s" none' % key for key in ("", "\\xff\\xff\\xff", "k" * 20_000)]
     yield case(
         "any bytes may be asked", threads([], ask=["", "\\xff\\xff\\xff", "k" * 20_000]), closings(10), shown(0, 10, *asked),
@@ -121,8 +121,7 @@ def full_ledgers():
     )
     yield case(
         "a row for each batch and none for the closing", threads([[], []], rows=2), outcomes(0, "none", "none"),
-        closings(full % 2),
-        shown(0, 20),
+        closings(full % 2), shown(0, 20),
     )
     last, half = 2**63 - 1, 2**62
     yield case(
@@ -142,8 +141,8 @@ def full_ledgers():
     yield from each_time("two rows for four batches", threads([[], []], [[], []], rows=2), tuple(
         lines(
             outcomes(0, *["none"] * count, *[full % 2] * (2 - count)),
-            outcomes(1, *["none"] * (2 - count), *[full % 2] * count),
-            closings(full % 2, full % 2), shown(0, first), shown(1, second),
+            outcomes(1, *["none"] * (2 - count), *[full % 2] * count), closings(full % 2, full % 2), shown(0, first),
+            shown(1, second),
         )
         for count, first, second in ((2, 20, 0), (0, 0, 20), (1, 10, 20), (1, 20, 10))
     ))
@@ -282,14 +281,12 @@ def metadata():
     known = ['route "" 0:1', 'route "b" 0:2', 'route "f" 0:1 0:3', 'route "q" 0:4', 'tags "a" 0:1', 'tags "z" 0:4']
     yield case(
         "rows of the first of three proxies", threads([first], [], [], ask=["a", "z"]), outcomes(0, "committed"),
-        closings(20, 30, 40),
-        *[shown(proxy, 20 + 10 * proxy, *known) for proxy in range(3)],
+        closings(20, 30, 40), *[shown(proxy, 20 + 10 * proxy, *known) for proxy in range(3)],
     )
     cleared = [transaction(0, [], [], [clear(*ALL_KEY_SERVERS)], True)]
     yield case(
         "rows that are cleared", threads([first, cleared], [], ask=["a"]), outcomes(0, "committed", "committed"),
-        closings(30, 40),
-        shown(0, 30, 'tags "a" none'), shown(1, 40, 'tags "a" none'),
+        closings(30, 40), shown(0, 30, 'tags "a" none'), shown(1, 40, 'tags "a" none'),
     )
     marked = [transaction(0, [], [], [put(LOCKED, "L"), put(METADATA_VERSION, "v")], True)]
     everything = [transaction(0, [], [], [clear("", "\\xff\\xff")], True)]

@@ -108,12 +108,11 @@ def other_forms():
 RANGE = ["a", "b"]
 NO_MOVES = [
     {}, [], None, 0, "", [RANGE, 0], {"range": RANGE}, {"resolver": 0}, {"range": RANGE, "dest": 0},
-    {"Range": RANGE, "resolver": 0},
-    {"range": RANGE, "resolver": 0, "date": 1}, {"range": ["a"], "resolver": 0}, {"range": ["a", "b", "c"], "resolver": 0},
-    {"range": {"begin": "a", "end": "b"}, "resolver": 0}, {"range": ["a", "\\xFF"], "resolver": 0},
-    {"range": RANGE, "resolver": -1},
-    {"range": RANGE, "resolver": 2**63}, {"range": RANGE, "resolver": "0"}, {"range": RANGE, "resolver": [0]},
-    {"move": {"range": RANGE, "resolver": 0}}, {"range": RANGE, "resolver": None}, {"range": None, "resolver": 0},
+    {"Range": RANGE, "resolver": 0}, {"range": RANGE, "resolver": 0, "date": 1}, {"range": ["a"], "resolver": 0},
+    {"range": ["a", "b", "c"], "resolver": 0}, {"range": {"begin": "a", "end": "b"}, "resolver": 0},
+    {"range": ["a", "\\xFF"], "resolver": 0}, {"range": RANGE, "resolver": -1}, {"range": RANGE, "resolver": 2**63},
+    {"range": RANGE, "resolver": "0"}, {"range": RANGE, "resolver": [0]}, {"move": {"range": RANGE, "resolver": 0}},
+    {"range": RANGE, "resolver": None}, {"range": None, "resolver": 0},
 ]
 
 
@@ -146,6 +145,5 @@ def beginnings():
 
 CASES = (
     numbers_of_the_cluster, numbers_of_lists, lists_of_work, moved_fields, other_forms, moves_of_wrong_form,
-    mutations_of_wrong_form,
-    beginnings,
+    mutations_of_wrong_form, beginnings,
 )

@@ -126,8 +126,8 @@ def many_ranges():
     ]
     yield case(
         "1,000 reads and 1,000 writes of a transaction",
-        turns(sequence(0, *batch), offer(0, 0), finish(0), proxies=1, resolvers=1),
-        sequenced(1), offered(0, 0, " ".join(said)), finished(0, 10, *numbered), shown(0, 10),
+        turns(sequence(0, *batch), offer(0, 0), finish(0), proxies=1, resolvers=1), sequenced(1),
+        offered(0, 0, " ".join(said)), finished(0, 10, *numbered), shown(0, 10),
     )
     puts = [put_servers(key_of(it), SERVER_1) for it in range(count)]
     cleared = clear(KEY_SERVERS + key_of(1), KEY_SERVERS + key_of(count))
@@ -168,9 +168,9 @@ def many_states():
                 finish(1),
             ),
             sequenced(2), offered(0, 0, said), offered(0, 1, " ".join(["committed"] * count)),
-            offered_to_both(1, unseen="10"),
-            finished(0, 10, *done), finished(1, 20, "txn 0 committed 20 0", "mutation 0 0 tags 0:1"),
-            shown(0, 10, *routed(fine)), shown(1, 20, *routed(fine)),
+            offered_to_both(1, unseen="10"), finished(0, 10, *done),
+            finished(1, 20, "txn 0 committed 20 0", "mutation 0 0 tags 0:1"), shown(0, 10, *routed(fine)),
+            shown(1, 20, *routed(fine)),
         )
 
 
@@ -197,8 +197,7 @@ def under_the_lock():
             ),
             sequenced(3), offered_to_both(0, "committed"), offered_to_both(1, words), offered_to_both(2, unseen="10 20"),
             finished(0, 10, "txn 0 committed 10 0", "mutation 0 0 tags none"), finished(0, 20, *done),
-            finished(1, 30, *later),
-            shown(0, 20, *routed(aware), locked="yes"), shown(1, 30, *routed(aware), locked="yes"),
+            finished(1, 30, *later), shown(0, 20, *routed(aware), locked="yes"), shown(1, 30, *routed(aware), locked="yes"),
         )
 
 
@@ -277,8 +276,7 @@ def greatest_dates():
     yield case(
         "the greatest version, the greatest date and the greatest snapshots", turns(
             [sequence(0)] * 6, move("m", "t", 1), sequence(0, *batch), move("m", "t", 0), sequence(0), offers(*range(7)),
-            [finish(0)] * 7,
-            window=10**9, step=step, proxies=1,
+            [finish(0)] * 7, window=10**9, step=step, proxies=1,
         ),
         sequenced(6, step), "move date %d" % (begun + 1), "sequence row 6 version %d" % GREATEST, "move date %d" % 2**63,
         "refused 51 VersionsEnd", *[offered_to_both(row) for row in range(6)], offered(6, 0, "too_old too_old"),
@@ -294,8 +292,7 @@ def greatest_dates():
     yield case(
         "100 reads at the greatest snapshot, behind a write and a move", turns(
             sequence(0, transaction(0, [], [["a", "z"]])), move("m", "t", 1), sequence(0, *many), sequence(0, *many),
-            offers(0, 1, 2),
-            [finish(0)] * 3, proxies=1,
+            offers(0, 1, 2), [finish(0)] * 3, proxies=1,
         ),
         sequenced(1), "move date 11", sequenced(3)[1:], offered(0, 0, "committed"), offered(0, 1),
         *[offered_to_both(row, " ".join(["committed"] * 100)) for row in (1, 2)], finished(0, 10, "txn 0 committed 10 0"),
@@ -333,16 +330,13 @@ def begun_before_any_is_finished():
     yield case(
         "200 records of one proxy begun before any is finished, and their replies again", turns(
             [sequence(0, marking(row)) for row in rows], offers(*rows), [offer(row, 0) for row in rows], [finish(0)] * half,
-            sequence(0),
-            offers(count), [offer(row, 0) for row in rows], [finish(0)] * (half + 1), proxies=1,
+            sequence(0), offers(count), [offer(row, 0) for row in rows], [finish(0)] * (half + 1), proxies=1,
         ),
         sequenced(count), *[offered_to_both(row, "committed") for row in rows],
         [offered(row, 0, "committed", how="again") for row in rows], *done[:half],
-        "sequence row %d version %d" % (count, end),
-        offered_to_both(count),
-        ["refused 31 GivenUp %d" % (10 * half)] * half, [offered(row, 0, "committed", how="again") for row in rows[half:]],
-        *done[half:],
-        finished(0, end), shown(0, end, metadata_version='"%d"' % (count - 1)),
+        "sequence row %d version %d" % (count, end), offered_to_both(count), ["refused 31 GivenUp %d" % (10 * half)] * half,
+        [offered(row, 0, "committed", how="again") for row in rows[half:]], *done[half:], finished(0, end),
+        shown(0, end, metadata_version='"%d"' % (count - 1)),
     )
     proxies, ended = [row % 3 for row in rows], [199, 197, 198]
     yield case(
@@ -433,6 +427,5 @@ def spelled(number):
 
 CASES = (
     full_cluster, full_batches, many_ranges, many_states, under_the_lock, thousand_moves, moves_after_batches,
-    greatest_dates, told_of_many,
-    begun_before_any_is_finished, many_rows, many_events, many_tags,
+    greatest_dates, told_of_many, begun_before_any_is_finished, many_rows, many_events, many_tags,
 )

@@ -19,8 +19,7 @@ def wide():
 
     return turns(
         sequence(9, *batch()), move("m", "t", 9), sequence(9, *batch()), move("m", "t", 9), sequence(9, *batch()),
-        offer(0, 0), finish(0),
-        ask=["a", "b"],
+        offer(0, 0), finish(0), ask=["a", "b"],
     )
 
 

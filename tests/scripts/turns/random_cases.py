@@ -40,8 +40,7 @@ MUST_BE_MET = [
     *("refused %d" % number for number in EVENT_REFUSALS + SCRIPT_REFUSALS), "sequence", "move", "judged", "again", "finish",
     "verdict conflict", "verdict too_old", "verdict committed", "unseen rows", "txn conflict", "txn too_old", "txn locked",
     "txn committed", "mutation with tags", "mutation without tags", "mutation with listed tags", "copy of a tag",
-    "copy of keys",
-    "locked yes", "metadata_version", "route with tags",
+    "copy of keys", "locked yes", "metadata_version", "route with tags",
 ]
 
 

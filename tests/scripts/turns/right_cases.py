@@ -27,8 +27,8 @@ def stamps():
     second = transaction(0, [], [], [stamp(METADATA_VERSION, "ab0123456789c\\x02\\x00\\x00\\x00")], True)
     yield case(
         "a stamp within a value, by the second transaction",
-        turns(sequence(0, transaction(), second), offers(0), finish(0), step=258),
-        sequenced(1, 258), offered_to_both(0, "committed"),
+        turns(sequence(0, transaction(), second), offers(0), finish(0), step=258), sequenced(1, 258),
+        offered_to_both(0, "committed"),
         finished(0, 258, "txn 0 committed 258 0", "txn 1 committed 258 1", "mutation 1 0 tags none"),
         shown(0, 258, metadata_version='"ab\\x00\\x00\\x00\\x00\\x00\\x00\\x01\\x02\\x00\\x01c"'), shown(1, 0),
     )
@@ -55,10 +55,8 @@ def moved_ranges():
             sequence(0, read("b", 10)), offers(0, 1, 2), [finish(0)] * 3,
         ),
         "move date 1", sequenced(3), offered(0, 0), offered(0, 1, "committed"), offered(1, 0, "committed"),
-        offered(1, 1, "conflict"),
-        offered(2, 0, "conflict"), offered(2, 1), finished(0, 10, "txn 0 committed 10 0"),
-        finished(0, 20, "txn 0 conflict 1020"),
-        finished(0, 30, "txn 0 conflict 1020"), shown(0, 30), shown(1, 0),
+        offered(1, 1, "conflict"), offered(2, 0, "conflict"), offered(2, 1), finished(0, 10, "txn 0 committed 10 0"),
+        finished(0, 20, "txn 0 conflict 1020"), finished(0, 30, "txn 0 conflict 1020"), shown(0, 30), shown(1, 0),
     )
     yield case(
         "moves to and fro, and a range over the borders of all",
@@ -83,8 +81,7 @@ def owners_in_the_window():
     def moved_twice(window):
         return turns(
             [sequence(0)] * 2, move("m", "t", 1), [sequence(0)] * 2, move("p", "q", 2), sequence(0, *batch),
-            offers(*range(5), resolvers=3),
-            [finish(0)] * 5, resolvers=3, proxies=1, window=window,
+            offers(*range(5), resolvers=3), [finish(0)] * 5, resolvers=3, proxies=1, window=window,
         )
 
     begun = [sequenced(2), "move date 21", sequenced(4)[2:], "move date 41", sequenced(5)[4:]]
@@ -109,8 +106,7 @@ def owners_in_the_window():
         ),
         ["move date 1"] * 63, sequenced(1), [offered(0, resolver, "committed committed") for resolver in range(63)],
         offered(0, 63, "committed committed committed"),
-        finished(0, 10, *["txn %d committed 10 %d" % (it, it) for it in range(3)]),
-        shown(0, 10),
+        finished(0, 10, *["txn %d committed 10 %d" % (it, it) for it in range(3)]), shown(0, 10),
     )
 
 
@@ -129,8 +125,7 @@ def verdicts():
             finish(0),
         ),
         sequenced(2), offered(0, 0, "committed conflict"), offered(0, 1), offered(1, 0, "committed committed"),
-        offered(1, 1),
-        finished(0, 10, "txn 0 committed 10 0", "txn 1 conflict 1020"),
+        offered(1, 1), finished(0, 10, "txn 0 committed 10 0", "txn 1 conflict 1020"),
         finished(0, 20, "txn 0 committed 20 0", "txn 1 committed 20 1"), shown(0, 20), shown(1, 0),
     )
     yield case(
@@ -198,13 +193,11 @@ def refused_writes():
         "the write of a batch before that was in conflict",
         turns(
             sequence(0, written("b")), sequence(0, transaction(9, [one_key("b")], [one_key("d")])),
-            sequence(0, read("d", 9)),
-            offers(0, 1, 2, resolvers=1), [finish(0)] * 3, resolvers=1, proxies=1,
+            sequence(0, read("d", 9)), offers(0, 1, 2, resolvers=1), [finish(0)] * 3, resolvers=1, proxies=1,
         ),
         sequenced(3), offered(0, 0, "committed"), offered(1, 0, "conflict"), offered(2, 0, "committed"),
         finished(0, 10, "txn 0 committed 10 0"), finished(0, 20, "txn 0 conflict 1020"),
-        finished(0, 30, "txn 0 committed 30 0"),
-        shown(0, 30),
+        finished(0, 30, "txn 0 committed 30 0"), shown(0, 30),
     )
     yield case(
         "a read outside the window behind a write of its batch, and one inside",
@@ -228,16 +221,14 @@ def refused_writes():
 # mutations, each with whether it makes a state transaction
 STATES = [
     (put("\\xff", "v"), True), (put("\\xff\\x01\\xff", "v"), True), (put("\\xff\\x02", "v"), False),
-    (put("\\xff\\x02a", "v"), False),
-    (put("\\xff\\x03", "v"), True), (put("\\xfe\\xff", "v"), False), (put("a", "v"), False), (put("", ""), False),
-    (stamp("\\xff/x", "\\x00" * 14), True), (stamp("\\xff\\x02/x", "\\x00" * 14), False), (stamp("k", "\\x00" * 14), False),
-    (clear("a", "\\xff"), False), (clear("a", "\\xff\\x00"), True), (clear("a", "\\xff\\x02"), True),
-    (clear("\\xff", "\\xff\\x02"), True),
+    (put("\\xff\\x02a", "v"), False), (put("\\xff\\x03", "v"), True), (put("\\xfe\\xff", "v"), False),
+    (put("a", "v"), False), (put("", ""), False), (stamp("\\xff/x", "\\x00" * 14), True),
+    (stamp("\\xff\\x02/x", "\\x00" * 14), False), (stamp("k", "\\x00" * 14), False), (clear("a", "\\xff"), False),
+    (clear("a", "\\xff\\x00"), True), (clear("a", "\\xff\\x02"), True), (clear("\\xff", "\\xff\\x02"), True),
     (clear("\\xff\\x02", "\\xff\\x03"), False), (clear("\\xff\\x02a", "\\xff\\x02b"), False),
-    (clear("\\xff\\x02a", "\\xff\\x03"), False),
-    (clear("\\xff\\x02", "\\xff\\x03\\x00"), True), (clear("\\xff\\x01\\xff", "\\xff\\x03"), True),
-    (clear("\\xff\\x02", "\\xff\\x04"), True),
-    (clear("", "a"), False), (clear("a", "\\xfe\\xff"), False), (clear("", "\\xff\\xff"), True),
+    (clear("\\xff\\x02a", "\\xff\\x03"), False), (clear("\\xff\\x02", "\\xff\\x03\\x00"), True),
+    (clear("\\xff\\x01\\xff", "\\xff\\x03"), True), (clear("\\xff\\x02", "\\xff\\x04"), True), (clear("", "a"), False),
+    (clear("a", "\\xfe\\xff"), False), (clear("", "\\xff\\xff"), True),
 ]
 
 
@@ -256,8 +247,7 @@ def locked(snapshot):
     tag = transaction(snapshot, [], [], [put_tag(SERVER_1, "\\x00\\x00\\x01")])
     return turns(
         sequence(0, LOCK, transaction(0, [], [one_key("a")], [put("a", "1")])), sequence(1, tag), sequence(0),
-        offers(0, 1, 2),
-        finish(0), finish(1), finish(0),
+        offers(0, 1, 2), finish(0), finish(1), finish(0),
     )
 
 
@@ -284,9 +274,8 @@ def locks():
     yield case(
         "a state transaction that has not seen the lock", locked(9),
         sequenced(3), offered_first, offered(1, 0, "conflict", "10"), offered(1, 1, "committed", "10"),
-        offered_to_both(2, "none", "20"),
-        first, finished(1, 20, "txn 0 conflict 1020"), finished(0, 30), shown(0, 30, locked="yes"),
-        shown(1, 20, locked="yes"),
+        offered_to_both(2, "none", "20"), first, finished(1, 20, "txn 0 conflict 1020"), finished(0, 30),
+        shown(0, 30, locked="yes"), shown(1, 20, locked="yes"),
     )
 
 
@@ -297,8 +286,7 @@ def outcomes():
         "a write before a move, and a read after it",
         turns(
             sequence(0), sequence(0, write_of_n), move("m", "t", 1), sequence(0, read("n", 10)), offers(0, 1, 2),
-            [finish(0)] * 3,
-            ask=["n"], proxies=1,
+            [finish(0)] * 3, ask=["n"], proxies=1,
         ),
         sequenced(2), "move date 21", sequenced(3)[2:], offered_to_both(0), offered(1, 0, "committed"), offered(1, 1),
         offered(2, 0, "conflict"), offered(2, 1, "committed"), finished(0, 10),
@@ -320,8 +308,7 @@ def outcomes():
         sequenced(1), offered_to_both(0, "committed"),
         finished(
             0, 10, "txn 0 committed 10 0", "mutation 0 0 tags 0:1", private_tag(0, 0, SERVER_1, "0:1"),
-            "mutation 0 1 tags 0:1",
-            "mutation 0 2 tags 0:1",
+            "mutation 0 1 tags 0:1", "mutation 0 2 tags 0:1",
         ),
         sequenced(2)[1:], offered(1, 0, "too_old", "10"), offered(1, 1, "none", "10"), finished(1, 20, "txn 0 too_old 1007"),
         sequenced(3)[2:], offered_to_both(2, "committed"), finished(1, 30, "txn 0 committed 30 0", "mutation 0 0 tags 0:1"),
@@ -352,9 +339,8 @@ def locks_among_rows():
             sequence(0, transaction(0, [], [], [put("a", "1")])), offers(0, 1, 2), finish(0), finish(0),
         ),
         sequenced(3), offered_to_both(0, "committed"), offered_to_both(1, "committed committed", "10"),
-        offered_to_both(2, "none", "20"),
-        finished(0, 10, "txn 0 committed 10 0", "mutation 0 0 tags none"), finished(0, 30, "txn 0 locked 1038"),
-        shown(0, 30, locked="yes", metadata_version='"v"'), shown(1, 0),
+        offered_to_both(2, "none", "20"), finished(0, 10, "txn 0 committed 10 0", "mutation 0 0 tags none"),
+        finished(0, 30, "txn 0 locked 1038"), shown(0, 30, locked="yes", metadata_version='"v"'), shown(1, 0),
     )
 
 
@@ -365,14 +351,11 @@ def locks_of_both():
         "a row of keys that is set under the lock, of which both proxies learn",
         turns(
             sequence(0, lock), sequence(1, transaction(10, [], [], [put_servers("", SERVER_1)])), sequence(0),
-            offers(0, 1, 2),
-            finish(0), finish(1), finish(0),
+            offers(0, 1, 2), finish(0), finish(1), finish(0),
         ),
         sequenced(3), offered_to_both(0, "committed"), offered_to_both(1, "committed", "10"),
-        offered_to_both(2, "none", "20"),
-        finished(0, 10, "txn 0 committed 10 0", "mutation 0 0 tags none"), finished(1, 20, "txn 0 locked 1038"),
-        finished(0, 30),
-        shown(0, 30, locked="yes"), shown(1, 20, locked="yes"),
+        offered_to_both(2, "none", "20"), finished(0, 10, "txn 0 committed 10 0", "mutation 0 0 tags none"),
+        finished(1, 20, "txn 0 locked 1038"), finished(0, 30), shown(0, 30, locked="yes"), shown(1, 20, locked="yes"),
     )
     yield case(
         "a lock that one resolver alone committed",
@@ -404,13 +387,11 @@ def told_rows():
         "a request again, one before its turn, and one whose reply was acknowledged",
         turns(
             sequence(0), sequence(1), sequence(1), offer(0, 0), offer(0, 0), offer(2, 0), offer(0, 1), finish(0),
-            sequence(0),
-            offer(1, 0), offer(2, 0), offer(3, 0), offer(0, 0),
+            sequence(0), offer(1, 0), offer(2, 0), offer(3, 0), offer(0, 0),
         ),
         sequenced(3), offered(0, 0), offered(0, 0, how="again"), "refused 30 Early 10", offered(0, 1), finished(0, 10),
         sequenced(4)[3:], offered(1, 0, "none", "10"), offered(2, 0), offered(3, 0, "none", "20 30"),
-        "refused 31 GivenUp 10",
-        shown(0, 10), shown(1, 0),
+        "refused 31 GivenUp 10", shown(0, 10), shown(1, 0),
     )
     yield case(
         "two records of one proxy begun before the first is finished",
@@ -422,8 +403,8 @@ def told_rows():
             offers(0, 1, 2), offer(0, 0), finish(0), finish(0),
         ),
         sequenced(3), offered_to_both(0, "committed"), offered_to_both(1, "committed", "10"),
-        offered_to_both(2, "committed", "20"),
-        offered(0, 0, "committed", how="again"), finished(0, 10, "txn 0 committed 10 0", "mutation 0 0 tags none"),
+        offered_to_both(2, "committed", "20"), offered(0, 0, "committed", how="again"),
+        finished(0, 10, "txn 0 committed 10 0", "mutation 0 0 tags none"),
         finished(0, 30, "txn 0 committed 30 0", "mutation 0 0 tags none"), shown(0, 30, metadata_version='"c"'), shown(1, 0),
     )
 
@@ -433,13 +414,11 @@ def refused_events():
     yield case(
         "each refusal", turns(
             move("a", "b", 2), finish(0), sequence(0), offer(0, 0), finish(0), offer(9, 0), offer(0, 2), offer(9, 2),
-            sequence(2),
-            finish(2), offer(0, 1), finish(0), finish(0),
+            sequence(2), finish(2), offer(0, 1), finish(0), finish(0),
         ),
         "refused 20 NoSuchResolver", "refused 42 OutOfTurn none", sequenced(1), offered(0, 0), "refused 43 MissingReply 1",
         "refused 35 NoSuchRow", "refused 33 WrongResolver", "refused 35 NoSuchRow", "refused 32 NoSuchProxy",
-        "refused 32 NoSuchProxy",
-        offered(0, 1), finished(0, 10), "refused 42 OutOfTurn none", shown(0, 10), shown(1, 0),
+        "refused 32 NoSuchProxy", offered(0, 1), finished(0, 10), "refused 42 OutOfTurn none", shown(0, 10), shown(1, 0),
     )
 
 
@@ -464,8 +443,8 @@ def refused_finishes_and_offers():
     """A finish names the first resolver that has not judged, and an early offer the version of its resolver."""
     yield case(
         "the first resolver of those that have not judged",
-        turns(sequence(0), finish(0), offer(0, 0), finish(0), resolvers=3, proxies=1),
-        sequenced(1), "refused 43 MissingReply 0", offered(0, 0), "refused 43 MissingReply 1", shown(0, 0),
+        turns(sequence(0), finish(0), offer(0, 0), finish(0), resolvers=3, proxies=1), sequenced(1),
+        "refused 43 MissingReply 0", offered(0, 0), "refused 43 MissingReply 1", shown(0, 0),
     )
     yield case(
         "early offers name the version of the resolver", turns(
@@ -487,21 +466,19 @@ def small_ones():
     yield case(
         "batches among 64 proxies and 64 resolvers", turns(
             move("m", "t", 63), first, offers(0, resolvers=64), finish(63), sequence(0, read("n", 5)),
-            offers(1, resolvers=64), finish(0),
-            proxies=64, resolvers=64,
+            offers(1, resolvers=64), finish(0), proxies=64, resolvers=64,
         ),
         "move date 1", sequenced(1), [offered(0, resolver, "committed") for resolver in range(63)],
         offered(0, 63, "committed committed"),
         finished(63, 10, "txn 0 committed 10 0", "mutation 0 0 tags none", "txn 1 committed 10 1"), sequenced(2)[1:],
         [offered(1, resolver, unseen="10") for resolver in range(63)], offered(1, 63, "conflict", "10"),
         finished(0, 20, "txn 0 conflict 1020"), shown(0, 20, metadata_version='"v"'),
-        *[shown(proxy, 0) for proxy in range(1, 63)],
-        shown(63, 10, metadata_version='"v"'),
+        *[shown(proxy, 0) for proxy in range(1, 63)], shown(63, 10, metadata_version='"v"'),
     )
     yield case(
         "an empty transaction is committed, and asks nobody",
-        turns(sequence(0, transaction()), offers(0), finish(0), proxies=1),
-        sequenced(1), offered_to_both(0), finished(0, 10, "txn 0 committed 10 0"), shown(0, 10),
+        turns(sequence(0, transaction()), offers(0), finish(0), proxies=1), sequenced(1), offered_to_both(0),
+        finished(0, 10, "txn 0 committed 10 0"), shown(0, 10),
     )
     unlock = transaction(0, [], [], [clear(LOCKED, LOCKED + "\\x00")], True)
     yield case(
@@ -518,12 +495,11 @@ def last_numbers():
     yield case(
         "the greatest numbers", turns(
             sequence(last), move("a", "b", last), offer(last, last), finish(last),
-            sequence(0, transaction(last, [one_key("a")])),
-            offer(0, last), offers(0), finish(0), proxies=1, window=10**9,
+            sequence(0, transaction(last, [one_key("a")])), offer(0, last), offers(0), finish(0), proxies=1, window=10**9,
         ),
         "refused 32 NoSuchProxy", "refused 20 NoSuchResolver", "refused 35 NoSuchRow", "refused 32 NoSuchProxy",
-        sequenced(1),
-        "refused 33 WrongResolver", offered(0, 0, "committed"), offered(0, 1), finished(0, 10, "txn 0 committed 10 0"),
+        sequenced(1), "refused 33 WrongResolver", offered(0, 0, "committed"), offered(0, 1),
+        finished(0, 10, "txn 0 committed 10 0"),
         shown(0, 10),
     )
 
@@ -548,8 +524,7 @@ def many_events():
         "%d batches" % count,
         turns(*events, sequence(1), offer(count, 0), finish(1), ask=keys, resolvers=1, window=10, step=1),
         *answers, "sequence row %d version %d" % (count, count + 1), offered(count, 0, "none", versions),
-        finished(1, count + 1),
-        shown(0, count, *routes), shown(1, count + 1, *routes),
+        finished(1, count + 1), shown(0, count, *routes), shown(1, count + 1, *routes),
     )
 
 
@@ -567,7 +542,6 @@ def repeats():
 
 CASES = (
     small_ones, repeats, stamps, moved_ranges, owners_in_the_window, verdicts, many_parts, refused_writes,
-    state_transactions, locks, outcomes,
-    locks_among_rows, locks_of_both, told_rows, refused_events, refused_finishes_and_offers, last_versions,
-    last_numbers, many_events,
+    state_transactions, locks, outcomes, locks_among_rows, locks_of_both, told_rows, refused_events,
+    refused_finishes_and_offers, last_versions, last_numbers, many_events,
 )

@@ -47,8 +47,7 @@ def tags():
             offers(0, 1, 2), [finish(0)] * 3,
         ),
         sequenced(3), offered_to_both(0, "committed"), offered_to_both(1, "none"), offered_to_both(2, "committed"),
-        FOUR_FINISHED,
-        finished(0, 20, "txn 0 committed 20 0", "mutation 0 0 tags 0:1 0:2 0:3 0:4"),
+        FOUR_FINISHED, finished(0, 20, "txn 0 committed 20 0", "mutation 0 0 tags 0:1 0:2 0:3 0:4"),
         finished(0, 30, "txn 0 committed 30 0", "mutation 0 0 tags none", "mutation 0 1 tags none"), shown(0, 30),
         shown(1, 0),
     )
@@ -63,12 +62,10 @@ def tags():
     yield case(
         "a Clear of all keys behind a lock and a metadata version, of which another proxy learns", turns(
             sequence(0, four_servers()), sequence(0, MARKED), sequence(0, ALL_CLEARED), sequence(1), offers(0, 1, 2, 3),
-            [finish(0)] * 3,
-            finish(1),
+            [finish(0)] * 3, finish(1),
         ),
         sequenced(4), *[offered_to_both(row, "committed") for row in range(3)], offered_to_both(3, "none", "10 20 30"),
-        FOUR_FINISHED,
-        finished(0, 20, "txn 0 committed 20 0", "mutation 0 0 tags 0:4", "mutation 0 1 tags 0:4"),
+        FOUR_FINISHED, finished(0, 20, "txn 0 committed 20 0", "mutation 0 0 tags 0:4", "mutation 0 1 tags 0:4"),
         finished(0, 30, "txn 0 committed 30 0", "mutation 0 0 tags none"), finished(1, 40), shown(0, 30), shown(1, 40),
     )
 
@@ -110,20 +107,17 @@ def listed_tags():
         "listed tags, and the tag of a server beside them",
         turns(
             sequence(0, rows), offers(0), finish(0), sequence(1, tagged), offers(1), finish(1), sequence(0, joined),
-            offers(2), finish(0),
-            ask=["b", "y"],
+            offers(2), finish(0), ask=["b", "y"],
         ),
         "sequence row 0 version 10", offered_to_both(0, "committed"),
         finished(
             0, 10, "txn 0 committed 10 0", "mutation 0 0 tags none", "mutation 0 1 tags none",
-            "mutation 0 2 tags 0:1 0:2 3:258",
-            "mutation 0 3 tags none",
+            "mutation 0 2 tags 0:1 0:2 3:258", "mutation 0 3 tags none",
         ),
         "sequence row 1 version 20", offered_to_both(1, "committed", "10"),
         finished(
             1, 20, "txn 0 committed 20 0", "mutation 0 0 tags 0:7", "mutation 0 1 tags 0:7",
-            private_tag(0, 1, SERVER_1, "0:7"),
-            "mutation 0 2 tags 0:1 0:2 0:7 3:258", "mutation 0 3 tags 0:1 0:2 3:258",
+            private_tag(0, 1, SERVER_1, "0:7"), "mutation 0 2 tags 0:1 0:2 0:7 3:258", "mutation 0 3 tags 0:1 0:2 3:258",
         ),
         "sequence row 2 version 30", offered_to_both(2, "committed", "20"),
         finished(
@@ -176,8 +170,7 @@ COPIES = {
     "a tag that is cleared": [(TAG_1, COPY_OF_TAG_1), (KEYS_1, None), (clear(SERVER_TAG, "\\xff/serverTag0"), None)],
     "a tag that is cleared and set again": [
         (TAG_1, COPY_OF_TAG_1), (clear(SERVER_TAG, "\\xff/serverTag0"), None),
-        (KEYS_1, (SERVER_KEYS + SERVER_1 + "/m", "3:258")),
-        (TAG_2, COPY_OF_TAG_2),
+        (KEYS_1, (SERVER_KEYS + SERVER_1 + "/m", "3:258")), (TAG_2, COPY_OF_TAG_2),
     ],
     "bytes without a character of their own": [
         (TAG_1, COPY_OF_TAG_1),
@@ -241,8 +234,7 @@ def copies_by_earlier_tags():
         "a copy by the tag before a transaction that is refused",
         turns(
             sequence(0, first), sequence(0, late, transaction(0, [], [], [KEYS_1])), offer(0, 0), offer(1, 0), finish(0),
-            finish(0),
-            proxies=1, resolvers=1,
+            finish(0), proxies=1, resolvers=1,
         ),
         sequenced(2), offered(0, 0, "committed"), offered(1, 0, "conflict committed"),
         finished(0, 10, "txn 0 committed 10 0", "mutation 0 0 tags none", private(0, 0, *COPY_OF_TAG_1)),
@@ -289,16 +281,14 @@ def clears_and_sets():
             name,
             turns(
                 sequence(0, *SPLIT), sequence(1, transaction(0, [], [], [told], True)),
-                sequence(0, transaction(0, [], [], own, True)),
-                offers(0, 1, 2), finish(0), finish(0),
+                sequence(0, transaction(0, [], [], own, True)), offers(0, 1, 2), finish(0), finish(0),
             ),
             sequenced(3), offered(0, 0, "committed committed"), offered(0, 1, "committed committed"),
             offered_to_both(1, "committed", "10"), offered_to_both(2, "committed", "20"),
             finished(
                 0, 10, "txn 0 committed 10 0", "mutation 0 0 tags 0:1", "txn 1 committed 10 1",
                 "mutation 1 0 tags 0:2", private_tag(1, 0, SERVER_1, "0:1"), "mutation 1 1 tags 0:2",
-                private_tag(1, 1, SERVER_2, "0:2"),
-                "txn 2 committed 10 2", "mutation 2 0 tags 0:2", "mutation 2 1 tags 0:2",
+                private_tag(1, 1, SERVER_2, "0:2"), "txn 2 committed 10 2", "mutation 2 0 tags 0:2", "mutation 2 1 tags 0:2",
             ),
             finished(0, 30, "txn 0 committed 30 0", *["mutation 0 %d tags %s" % pair for pair in enumerate(listed)]),
             shown(0, 30, *routes, metadata_version=mark), shown(1, 0),

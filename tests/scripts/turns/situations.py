@@ -10,10 +10,10 @@ from tests.scripts.turns import reference as turns_reference
 
 MUST_BE_MET = [
     "a read from before three moves", "an owner before the window", "a write before the window",
-    "a conflict after such a write",
-    "a conflict with its own share alone", "a conflict from past the version", "five unseen rows", "five unseen rows again",
-    "a reply given again after the third resolver", "an early request after the third resolver",
-    "a reply given up after the third resolver", "a second record finished after the third proxy",
+    "a conflict after such a write", "a conflict with its own share alone", "a conflict from past the version",
+    "five unseen rows", "five unseen rows again", "a reply given again after the third resolver",
+    "an early request after the third resolver", "a reply given up after the third resolver",
+    "a second record finished after the third proxy",
 ]
 
 # what stands in the line of an offer to a resolver after the third one, and what that is
