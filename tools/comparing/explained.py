@@ -95,10 +95,8 @@ def compare_threads(given, theirs):
     difference = first_difference(
         lines_of(printed(script, order_in_turns(script), meetings=True).encode()), lines_of(theirs),
     )
-    number = (
-        refusals.script_refusal(decoded(difference.theirs), "threads") if difference and not difference.at
-        and difference.theirs else None
-    )
+    is_of_first = difference and not difference.at and difference.theirs
+    number = refusals.script_refusal(decoded(difference.theirs), "threads") if is_of_first else None
     if number:
         return 1, [*shown(difference), *refusals.no_fault_words("threads", given, number)]
     return 1, list(threads.explain(script, theirs, wrong))

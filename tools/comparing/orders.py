@@ -39,9 +39,8 @@ class Orders:
         self.total = self.count(self.first)
         if self.total > sys.maxsize and sample is None:
             raise TooLarge("the cluster has %d orders: take --sample" % self.total)
-        self.given, rng = (
-            drawn_batches(batches, resolvers, random.Random("orders %s" % seed)), random.Random("sample %s" % seed),
-        )
+        self.given = drawn_batches(batches, resolvers, random.Random("orders %s" % seed))
+        rng = random.Random("sample %s" % seed)
         self.sample = None if sample is None or sample >= self.total else [rng.randrange(self.total) for _ in range(sample)]
 
     def __len__(self):

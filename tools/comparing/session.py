@@ -62,9 +62,8 @@ class Session:
             if differs:
                 waiting.append(pool.tell(*differs))
             if len(waiting) + self.told == self.options.keep_going:
-                self.stopped = "Stopped at the %s difference: --keep-going N goes on to the Nth." % ordinal(
-                    self.options.keep_going
-                )
+                which = ordinal(self.options.keep_going)
+                self.stopped = "Stopped at the %s difference: --keep-going N goes on to the Nth." % which
                 break
             while waiting and waiting[0].done():
                 self.tell(waiting.pop(0).result())
@@ -89,12 +88,9 @@ class Session:
         )
         for source in self.sources:
             if isinstance(source, Orders):
-                yield "A cluster of %s and a move%s has %s, with %s between their events%s (seed %d)." % (
-                    "%s, %s"
-                    % (
-                        "1 batch" if source.batches == 1 else "%d batches" % source.batches,
-                        count(source.resolvers, "resolver"),
-                    ),
+                batches = "1 batch" if source.batches == 1 else "%d batches" % source.batches
+                yield "A cluster of %s, %s and a move%s has %s, with %s between their events%s (seed %d)." % (
+                    batches, count(source.resolvers, "resolver"),
                     ", each offer given twice," if source.repeats else "", count(source.total, "order"),
                     count(len(source.counts), "state"),
                     "" if source.sample is None else "; %d of them are drawn" % len(source.sample), source.seed)

@@ -132,8 +132,8 @@ def with_keys(value, rename):
     if not isinstance(value, dict):
         return value
     return {
-        name: [with_keys(inner[0], rename), inner[1]] if name in PAIRS else inner if name == "verdicts"
-        else with_keys(inner, rename)
+        name: [with_keys(inner[0], rename), inner[1]] if name in PAIRS
+        else inner if name == "verdicts" else with_keys(inner, rename)
         for name, inner in value.items()
     }
 
@@ -177,8 +177,8 @@ def own_part(key, is_left):
 def values(shrinker, value):
     """Makes the values of Sets short."""
     for path in [
-        (*it, name) for it in all_places(value) for name in PAIRS if isinstance(at(value, it), dict)
-        and name in at(value, it)
+        (*it, name) for it in all_places(value) for name in PAIRS
+        if isinstance(at(value, it), dict) and name in at(value, it)
     ]:
         key, given = at(value, path)
         if path[-1] == "set_stamped":
@@ -220,8 +220,8 @@ def servers(shrinker, value):
 
 def set_pairs(value):
     return [
-        at(value, path)["set"] for path in all_places(value) if isinstance(at(value, path), dict)
-        and "set" in at(value, path)
+        at(value, path)["set"] for path in all_places(value)
+        if isinstance(at(value, path), dict) and "set" in at(value, path)
     ]
 
 

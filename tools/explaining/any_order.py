@@ -66,9 +66,8 @@ class Bounds:
         oldest = [version - self.script.window for version in (least, greatest)]
         if reads and transaction.snapshot < oldest[0]:
             return {"too_old"}
-        found, hits = (
-            set(), [self.hit(it, sure, proxy, number, transaction) for it, sure in self.before(proxy, number, place)],
-        )
+        found = set()
+        hits = [self.hit(it, sure, proxy, number, transaction) for it, sure in self.before(proxy, number, place)]
         if reads and transaction.snapshot < oldest[1]:
             found.add("too_old")
         if any(hits):

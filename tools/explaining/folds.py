@@ -24,8 +24,8 @@ def explain(fold, at, theirs):
     if not at:
         last = len(fold.journal.rows) - 1
         yield (
-            "The script has no rows, so the version is 0." if last < 0 else "The version is that of the last row, row %d."
-            % last
+            "The script has no rows, so the version is 0." if last < 0
+            else "The version is that of the last row, row %d." % last
         )
         return
     yield "The script has %s, and the last version is %d." % (count(len(fold.journal.rows), "row"), fold.version)

@@ -42,9 +42,8 @@ class Lanes:
         self.middles.update((number, middle) for number in run)
         words = names[run[0]] if len(run) == 1 else "%s to %s" % (names[run[0]], names[run[-1]])
         if is_busy:
-            name = words if self.is_wide else words.replace("proxy ", "P").replace("resolver ", "R").replace(
-                "sequencer", "seq.",
-            )
+            short = words.replace("proxy ", "P").replace("resolver ", "R").replace("sequencer", "seq.")
+            name = words if self.is_wide else short
             self.places.append(Lane(name, words, middle, False))
         else:
             self.places.append(Lane("%d idle" % len(run), "%s: nothing happens there" % words, middle, True))
