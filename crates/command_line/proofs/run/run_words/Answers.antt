@@ -23,7 +23,7 @@ told_by : (words : List Text) (given : Rejection) (text given_text : String Glob
 told_by words given text given_text chosen is same some =
     let faults = fault_of (command_line chosen.names) words in
     subst (λ (t : String Global). IsTextOf faults (string_bytes t)) (sym same)
-      (subst (λ (r : Rejection). RejectsBy faults (Err r)) is (chosen.told some))
+    (subst (λ (r : Rejection). RejectsBy faults (Err r)) is (chosen.told some))
 
 pub returns-in-Ok-Fold-clause-mode : goal.returns-in-Ok-Fold-clause-mode
 returns-in-Ok-Fold-clause-mode g c =
