@@ -37,5 +37,5 @@ returns-clause-refused g c =
     c.ask_all.ensures.refused
   where
     asked : (config : Config) (requests : List RequestView) (refusal : Refusal) → IsAskAllRefusal config None requests refusal → IsAskedRefusal config requests refusal
-    asked config requests refusal (inl (same, foreign)) = let (place, q, at, apart) = foreign in absurd (apart tt)
+    asked config requests refusal (inl (same, foreign)) = absurd (foreign.1.2 tt)
     asked config requests refusal (inr (taken, refused)) = refused
