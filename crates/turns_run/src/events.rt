@@ -1,13 +1,14 @@
 //! Each event of a script is carried out, and its answer or its refusal is printed: which line that
 //! is, and the lines of a finish.
 
-ghost use Rattle.std.specs.Prelude.{◌≡◌, ◌++◌, IsSome, OnOk, string_bytes, map};
+ghost use Rattle.std.specs.Prelude.{◌≡◌, ◌++◌, IsSome, OnOk, string_bytes, map, true};
 ghost use Rattle.model.specs.Turns.{after_event};
 ghost use Rattle.model.specs.World.{answers, handle_event, world_after};
 ghost use Rattle.turn_world.specs.Events.{answer_of, event_of, refusal_number};
 ghost use Rattle.turns_run.specs.Lines.{answer_text, completed_text, event_text, events_text};
 ghost use Rattle.turns_run.specs.Lines.{finish_text, finished_text, finishing_proxy};
 ghost use Rattle.turns_run.specs.Lines.{refusal_line, refusal_value};
+ghost use Rattle.turns_run.specs.OrderOfMutations.{are_in_order, FitsFinish};
 
 use crate::lines::{print_move, print_offer, print_sequence};
 use crate::numbers::push_numbered;
@@ -73,6 +74,7 @@ fn print_answer(
     finishing: Option<ProxyNumber>,
     answer: &Answer,
 ) -> Result<(), OutOfMemory>
+    requires { FitsFinish finishing (answer_of answer.now) }
     ensures { OnOk result (string_bytes text.new
         ≡ string_bytes text.old ++ answer_text finishing (answer_of answer.now)) }
 {
@@ -85,23 +87,26 @@ fn print_answer(
     }
 }
 
-// Prints a finished record, if it was a finish that was carried out.
+// Prints a finished record, whose proxy is given.
 fn print_completed(
     text: &mut String,
     finishing: Option<ProxyNumber>,
     finished: &Finished,
 ) -> Result<(), OutOfMemory>
+    requires finish { IsSome finishing }
+    requires in_order { are_in_order 0 finished.now.tagged ≡ true }
     ensures { OnOk result (string_bytes text.new
         ≡ string_bytes text.old ++ completed_text finishing finished.now) }
 {
     match finishing {
         Some(proxy) => print_finished(text, proxy, finished),
-        None => Ok(()),
+        None => unreachable!(),
     }
 }
 
 /// Prints the line of a finish, and then those of the transactions of its batch.
 fn print_finished(text: &mut String, proxy: usize, finished: &Finished) -> Result<(), OutOfMemory>
+    requires { are_in_order 0 finished.now.tagged ≡ true }
     ensures { OnOk result (string_bytes text.new
         ≡ string_bytes text.old ++ finished_text proxy finished.now) }
 {

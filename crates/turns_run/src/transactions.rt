@@ -15,40 +15,9 @@ use scripts::{push_quoted, push_tag, push_tags};
 use system_keys::OutOfMemory;
 
 /// Prints the outcome of each transaction of a batch, and after it the tags and the private copy of
-/// each of its mutations. Fails only with `OutOfMemory`.
-pub fn print_transactions(
-    text: &mut String,
-    tagged: &[Tagged],
-    outcomes: &[Outcome],
-) -> Result<(), OutOfMemory>
-    ensures { OnOk result (string_bytes text.new
-        ≡ string_bytes text.old ++ transactions_text tagged.now 0 outcomes.now) }
-{
-    // A finished batch has its mutations in the order of their transactions, but its type does not
-    // say so.
-    if are_in_order(tagged) {
-        print_in_order(text, tagged, outcomes)
-    } else {
-        print_in_any_order(text, tagged, outcomes)
-    }
-}
-
-/// Whether the numbers of the transactions of these mutations never fall.
-fn are_in_order(tagged: &[Tagged]) -> bool
-    ensures { result ≡ are_in_order 0 tagged.now }
-{
-    let mut least = 0;
-    for mutation in tagged {
-        if mutation.number < least {
-            return false;
-        }
-        least = mutation.number;
-    }
-    true
-}
-
-// Prints the transactions of a batch, whose mutations come in their order: each is looked at once.
-fn print_in_order(
+/// each of its mutations, which are in the order of their transactions: each is looked at once. Fails
+/// only with `OutOfMemory`.
+pub(crate) fn print_transactions(
     text: &mut String,
     tagged: &[Tagged],
     outcomes: &[Outcome],
@@ -87,37 +56,6 @@ fn print_first_mutations<'a>(
         later = rest;
     }
     Ok(later)
-}
-
-// Prints the transactions of a batch: all mutations are looked at for each of them.
-fn print_in_any_order(
-    text: &mut String,
-    tagged: &[Tagged],
-    outcomes: &[Outcome],
-) -> Result<(), OutOfMemory>
-    ensures { OnOk result (string_bytes text.new
-        ≡ string_bytes text.old ++ transactions_text tagged.now 0 outcomes.now) }
-{
-    let mut number = 0;
-    for outcome in outcomes {
-        print_transaction(text, number, *outcome)?;
-        print_mutations(text, number, tagged)?;
-        number += 1;
-    }
-    Ok(())
-}
-
-// Prints the mutations of this transaction.
-fn print_mutations(text: &mut String, number: usize, tagged: &[Tagged]) -> Result<(), OutOfMemory>
-    ensures { OnOk result (string_bytes text.new
-        ≡ string_bytes text.old ++ flat_map mutation_text (mutations_of number tagged.now)) }
-{
-    for mutation in tagged {
-        if mutation.number == number {
-            print_mutation(text, mutation)?;
-        }
-    }
-    Ok(())
 }
 
 /// Prints the line of a transaction: its number and its outcome.

@@ -2,7 +2,7 @@ use Rattle.std.proofs.Common.{◌≡◌, ◌++◌, true, drop}
 use Rattle.std.specs.Prelude.{string_bytes}
 use Rattle.turns_run.specs.Lines.{transactions_text}
 use Rattle.turns_run.specs.OrderOfMutations.{are_in_order}
-use Rattle.turns_run.proofs.transactions.print_in_order.Given as goal
+use Rattle.turns_run.proofs.transactions.print_transactions.Given as goal
 
 abbrev pub invariant-loop-outcome : goal.invariant-loop-outcome
 invariant-loop-outcome l = record {

@@ -1,7 +1,7 @@
 use Rattle.std.proofs.Common.{◌∙◌, ◌+◌, ap, add-one}
 use Rattle.std.proofs.lemmas.List.{drop_more}
 use Rattle.turns_run.proofs.OrderLemmas.{printed_transaction}
-use Rattle.turns_run.proofs.transactions.print_in_order.Goals as goal
+use Rattle.turns_run.proofs.transactions.print_transactions.Goals as goal
 
 pub loop-outcome-preserved : goal.loop-outcome-preserved
 loop-outcome-preserved c =
