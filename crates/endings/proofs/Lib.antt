@@ -1,0 +1,10 @@
+pub mod Sums
+pub mod Steps
+pub mod Progress
+pub mod Completion
+pub mod Orders
+pub mod Batches
+pub mod Replies
+pub mod Once
+pub mod Distances
+pub mod Lag

@@ -1,0 +1,44 @@
+//! Laws of distances: how far apart proxies can be, and what resolvers keep for the slowest. No
+//! code: each function's contract is a law of the definitions.
+
+ghost use Rattle.endings.specs.Distances.{NothingFinishedNothingKnown};
+ghost use Rattle.endings.specs.Distances.{AProxyKnowsUpToItsLastRecord, TheLaterVersionKnowsMore};
+ghost use Rattle.endings.specs.Distances.{AFinishCatchesUp, EachJournalIsAPrefix};
+ghost use Rattle.endings.specs.Distances.{TheOneAheadHasTheJournalOfTheOther};
+ghost use Rattle.endings.specs.Distances.{TheOneAheadHasTheMetadataOfTheOther};
+ghost use Rattle.endings.specs.Distances.{ItLacksItsUnfinishedRecords};
+ghost use Rattle.endings.specs.Distances.{OnceFinishedItLacksOnlyOthers, TheyMayBeAnyRowsApart};
+
+/// A proxy knows every row up to that of the last record that it finished, and no further one. Of
+/// two proxies the one at the later version knows at least as many rows.
+pub fn known_law()
+    ensures none { NothingFinishedNothingKnown }
+    ensures known { AProxyKnowsUpToItsLastRecord }
+    ensures later { TheLaterVersionKnowsMore }
+{}
+
+/// A proxy that finishes a record then knows every row up to that record's.
+pub fn catch_up_law()
+    ensures { AFinishCatchesUp }
+{}
+
+/// The journal of each proxy is a prefix of one journal. So of two proxies the one ahead has the
+/// journal of the other, and then the rows between; its metadata is the other's, changed by these.
+pub fn prefix_law()
+    ensures prefix { EachJournalIsAPrefix }
+    ensures journal { TheOneAheadHasTheJournalOfTheOther }
+    ensures metadata { TheOneAheadHasTheMetadataOfTheOther }
+{}
+
+/// Of its own records a proxy lacks exactly the unfinished ones. So once all records are finished,
+/// it lacks only records of other proxies.
+pub fn lacked_law()
+    ensures unfinished { ItLacksItsUnfinishedRecords }
+    ensures finished { OnceFinishedItLacksOnlyOthers }
+{}
+
+/// Nothing but the versions bounds how many rows one proxy knows and another does not, not even if
+/// all records are finished.
+pub fn lag_law()
+    ensures { TheyMayBeAnyRowsApart }
+{}
