@@ -14,20 +14,11 @@ use Rattle.model.proofs.Worlds.Histories.{happens_sound, run_sound}
 use Rattle.model.proofs.Worlds.Runs.{world_after_append}
 use Rattle.endings.specs.Work.{is_work, AreWork, is_done, rows_left, records_left, sum_below, work_left, AllFinished}
 use Rattle.endings.specs.Progress.{AllFinishedLeavesNothing, AllCanBeFinished, EveryRunCanBeFinished}
+use Rattle.endings.proofs.OwnRecords.{kept_at}
 use Rattle.endings.proofs.Sums.{none_summed, sum_some}
 use Rattle.endings.proofs.Progress.{next_is_judged, not_stuck, takes_one, nothing_left}
 
 -- ---- all rows are judged once all records are finished
-
--- what passes a test stands among all that do
-kept_at : {X : Type 0} (test : X → Bool) (xs : List X) (i : ℕ) (x : X) → slice_get xs i ≡ Some x → test x ≡ true → (k : ℕ) × (slice_get (filter test xs) k ≡ Some x)
-kept_at test [] i x at passes = absurd (cc)
-kept_at {X} test (y ∷ ys) zero x at passes = let same : y ≡ x = cc in (0, rw (ap test same ∙ passes) at)
-kept_at {X} test (y ∷ ys) (suc i) x at passes = by (test y) (kept_at test ys i x at passes)
-  where
-    by : (t : Bool) → (k : ℕ) × (slice_get (filter test ys) k ≡ Some x) → (k : ℕ) × (slice_get (cond t (y ∷ filter test ys) (filter test ys)) k ≡ Some x)
-    by true found = (suc found.0, found.1)
-    by false found = found
 
 pub all_judged : (config : Config) (w : World) → IsSound config w → AllFinished config w → (r : ℕ) → r < config.resolvers → slice_index w.judged_counts r ≡ length w.history
 all_judged config w sound all r there = by (cases_order (slice_index w.judged_counts r) (length w.history))
@@ -61,7 +52,7 @@ none_left config w sound all =
 
 -- ---- all can be finished
 
-some_step : (config : Config) (w : World) → IsSound config w → 0 < work_left config w → (event : Event) × (is_work event ≡ true) × (is_done (handle_event config w event).answer ≡ true)
+pub some_step : (config : Config) (w : World) → IsSound config w → 0 < work_left config w → (event : Event) × (is_work event ≡ true) × (is_done (handle_event config w event).answer ≡ true)
 some_step config w sound some = by (cases_order 0 (sum_below (rows_left w) config.resolvers))
   where
     judges : (r : ℕ) × (r < config.resolvers) × (0 < rows_left w r) → (event : Event) × (is_work event ≡ true) × (is_done (handle_event config w event).answer ≡ true)
@@ -75,7 +66,7 @@ some_step config w sound some = by (cases_order 0 (sum_below (rows_left w) confi
     by (inr (inl rows)) = judges (sum_some (rows_left w) config.resolvers rows)
     by (inr (inr past)) = absurd (omega (arith, past))
 
-both_so : (a b : Bool) → a ≡ true → b ≡ true → (a && b) ≡ true
+pub both_so : (a b : Bool) → a ≡ true → b ≡ true → (a && b) ≡ true
 both_so a b first second = rw (first, second) refl
 
 abbrev pub CanFinish : Config → World → ℕ → Type 0

@@ -108,7 +108,7 @@ ahead_metadata config w p q limits sound fewer =
 
 -- ---- the later version
 
-up_to_more : (low high : ℕ) (h : List Record) → low ≤ high → rows_up_to low h ≤ rows_up_to high h
+pub up_to_more : (low high : ℕ) (h : List Record) → low ≤ high → rows_up_to low h ≤ rows_up_to high h
 up_to_more low high [] order = omega arith
 up_to_more low high (rec ∷ h) order = by (nat_le rec.version low) refl (nat_le rec.version high) refl (up_to_more low high h order)
   where

@@ -1,10 +1,17 @@
 pub mod Sums
 pub mod Steps
+pub mod OwnRecords
 pub mod Progress
 pub mod Completion
 pub mod Orders
+pub mod Counters
 pub mod Batches
 pub mod Replies
 pub mod Once
 pub mod Distances
 pub mod Lag
+pub mod Remembered
+pub mod Fair
+pub mod ByRows
+pub mod Rounds
+pub mod Scenarios

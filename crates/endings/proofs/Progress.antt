@@ -38,7 +38,7 @@ unfolding handle_event
 finish_waits config w p rec r rs there turn some = let known : nat_le config.proxies p ≡ false = lt-leb config.proxies p there in rw (known, turn, some) refl
 
 -- a number of the list of all below n is below n
-within_below : (n r : ℕ) → Has (each_below n) r → r < n
+pub within_below : (n r : ℕ) → Has (each_below n) r → r < n
 within_below zero r has = absurd has
 within_below (suc n) r has = by (Has-append_cases (each_below n) (n ∷ []) r has) (λ (front : Has (each_below n) r). within_below n r front)
   where

@@ -1,140 +1,139 @@
--- The replies that resolvers give to offers are those to the unjudged rows.
-use Rattle.std.proofs.Common.{◌≡◌, refl, sym, ap, ◌∙◌, subst, ℕ, suc, ◌<◌, ◌≤◌, ◌⊎◌, inl, inr, List, [], ◌∷◌, length, take, true, slice_get, slice_index, slice_set, Some, arith}
-use Rattle.std.proofs.lemmas.Bool.{cases_order, cases_eq}
+-- The replies of resolvers that judge are those to the unjudged rows, each given once.
+use Rattle.std.proofs.Common.{◌≡◌, refl, sym, ap, ◌∙◌, subst, ℕ, suc, ◌<◌, ◌≤◌, ◌⊎◌, inl, inr, List, length, take, Bool, true, false, slice_get, slice_index, slice_set, Option, Some, None, arith}
+use Rattle.std.specs.Prelude.{Contains}
 use Rattle.std.proofs.lemmas.Option.{slice_get_within}
 use Rattle.model.specs.Configs.{Config}
 use Rattle.model.specs.declared.reply.Reply.{Reply}
-use Rattle.model.specs.Records.{Record}
+use Rattle.model.specs.Records.{Record, IsHistory}
 use Rattle.model.specs.Journal.{history_verdicts}
-use Rattle.model.specs.World.{World, Event, Handled, Answer, Judged, IsSound, reply_of, handle_event, answers, world_after}
-use Rattle.model.proofs.Members.{Has, Has-from_Contains, Contains-from_Has}
+use Rattle.model.specs.World.{World, Event, Handled, Answer, Sequenced, Moved, Judged, Again, Completed, Refused, NoSuchRow, IsSound, reply_of, handle_event, answers, world_after}
+use Rattle.model.proofs.Members.{Has-from_Contains, Contains-from_Has}
 use Rattle.model.proofs.Verdicts.Places.{row_at}
-use Rattle.model.proofs.Worlds.Histories.{happens_sound, world_after_sound}
+use Rattle.model.proofs.Worlds.Histories.{world_after_sound}
 use Rattle.model.proofs.Worlds.Runs.{set_other, set_same}
-use Rattle.endings.specs.Work.{is_work, AreWork, is_done}
-use Rattle.endings.specs.Orders.{TheUnjudgedRowsAreJudged, TheSameRepliesAreGiven}
-use Rattle.endings.proofs.Steps.{HasJudged, Did, work_did}
+use Rattle.endings.specs.Work.{is_work, is_done}
+use Rattle.endings.specs.Orders.{IsUnjudgedReply, TheUnjudgedRowsAreJudged, TheSameRepliesAreGiven}
+use Rattle.endings.proofs.Steps.{HasJudged, HasCompleted, HasDoneNothing, Did, work_did}
 use Rattle.endings.proofs.Completion.{all_judged}
-use Rattle.endings.proofs.Orders.{first_work, event_keeps, work_keeps}
+use Rattle.endings.proofs.Orders.{work_keeps}
+use Rattle.endings.proofs.Counters.{Raised, Left, Counters, Passed, tells, passed}
 
--- the reply of a resolver to a record of a row, as the history has it
+-- the reply of a resolver to a record of a row, by the history
 abbrev pub reply_in : Config → List Record → (r row : ℕ) → Record → Reply
 reply_in config h r row rec = reply_of config (history_verdicts config h) r (take row h) rec
 
--- ---- the counts of judged rows
+-- ---- the counters of judged rows
 
--- the resolver that judged a row has one more
-pub next_count : (config : Config) (w : World) (handled : Handled) → IsSound config w → (did : HasJudged config w handled) → (r : ℕ) → r ≡ did.r → slice_index handled.world.judged_counts r ≡ suc (slice_index w.judged_counts r)
-next_count config w handled sound did r own =
-    let count : slice_index handled.world.judged_counts r ≡ slice_index (slice_set w.judged_counts did.r (suc (slice_index w.judged_counts did.r))) r = ap (λ (x : World). slice_index x.judged_counts r) did.world in
-    let at_own : slice_index (slice_set w.judged_counts did.r (suc (slice_index w.judged_counts did.r))) did.r ≡ suc (slice_index w.judged_counts did.r) = set_same w.judged_counts did.r (suc (slice_index w.judged_counts did.r)) (omega (arith, did.there, sound.judged_counts)) in
-    count ∙ ap (λ (s : ℕ). slice_index (slice_set w.judged_counts did.r (suc (slice_index w.judged_counts did.r))) s) own ∙ at_own ∙ ap (λ (s : ℕ). suc (slice_index w.judged_counts s)) (sym own)
+abbrev pub is_judged : Answer → Bool
+is_judged (Sequenced row version) = false
+is_judged (Moved date) = false
+is_judged (Judged reply) = true
+is_judged (Again reply) = false
+is_judged (Completed finished) = false
+is_judged (Refused refusal) = false
 
--- any other has as many as before
-other_count : (config : Config) (w : World) (handled : Handled) → (did : HasJudged config w handled) → (r : ℕ) → (r ≡ did.r → ⊥) → slice_index handled.world.judged_counts r ≡ slice_index w.judged_counts r
-other_count config w handled did r apart = ap (λ (x : World). slice_index x.judged_counts r) did.world ∙ set_other w.judged_counts did.r (suc (slice_index w.judged_counts did.r)) r apart
+-- the answer of a resolver that judges a row
+abbrev answer_at : Config → List Record → (r row : ℕ) → Option Record → Answer
+answer_at config h r row None = Refused NoSuchRow
+answer_at config h r row (Some rec) = Judged (reply_in config h r row rec)
 
--- ---- the reply to each row that is judged afterwards is among the answers
+abbrev answer_in : Config → List Record → (r row : ℕ) → Answer
+answer_in config h r row = answer_at config h r row (slice_get h row)
 
--- the first event judges the row, or leaves it unjudged
-first_judges : (config : Config) (h : List Record) (w : World) (event : Event) (r row : ℕ) (rec : Record) (later : List Answer) → IsSound config w → w.history ≡ h → is_work event ≡ true → slice_get h row ≡ Some rec → slice_index w.judged_counts r ≤ row
-    → (slice_index (handle_event config w event).world.judged_counts r ≤ row → Has later (Judged (reply_in config h r row rec))) → Has ((handle_event config w event).answer ∷ later) (Judged (reply_in config h r row rec))
-first_judges config h w event r row rec later sound history work at unjudged rest = by (work_did config w event sound work)
+undone_unjudged : (answer : Answer) → is_done answer ≡ false → is_judged answer ≡ false
+undone_unjudged (Sequenced row version) undone = refl
+undone_unjudged (Moved date) undone = refl
+undone_unjudged (Judged reply) undone = absurd (cc)
+undone_unjudged (Again reply) undone = refl
+undone_unjudged (Completed finished) undone = refl
+undone_unjudged (Refused refusal) undone = refl
+
+-- the number of rows that a resolver has judged
+abbrev judged_count : World → ℕ → ℕ
+judged_count w r = slice_index w.judged_counts r
+
+pub judged_step : (config : Config) (h : List Record) (w : World) (handled : Handled) → IsSound config w → w.history ≡ h → Did config w handled → Raised config.resolvers judged_count (answer_in config h) w handled ⊎ Left judged_count is_judged w handled
+judged_step config h w handled sound history (inl did) = inl (record {
+  i = did.r;
+  there = did.there;
+  own = ap (λ (x : World). judged_count x did.r) did.world ∙ set_same w.judged_counts did.r (suc (judged_count w did.r)) (omega (arith, did.there, sound.judged_counts));
+  others = λ s apart. ap (λ (x : World). judged_count x s) did.world ∙ set_other w.judged_counts did.r (suc (judged_count w did.r)) s apart;
+  answer = did.answer ∙ ap (answer_at config w.history did.r (judged_count w did.r)) (sym did.at) ∙ ap (λ (g : List Record). answer_in config g did.r (judged_count w did.r)) history;
+})
+judged_step config h w handled sound history (inr (inl did)) = inr (record { same = λ s. ap (λ (x : World). judged_count x s) did.world; answer = ap is_judged did.answer })
+judged_step config h w handled sound history (inr (inr none)) = inr (record { same = λ s. ap (λ (x : World). judged_count x s) none.world; answer = undone_unjudged handled.answer none.answer })
+
+-- an answer that judges is a reply of this resolver to this row
+record IsReply (config : Config) (h : List Record) (r row : ℕ) (reply : Reply) : Type 0 where
+  rec : Record
+  at : slice_get h row ≡ Some rec
+  is : reply ≡ reply_in config h r row rec
+  resolver : reply.resolver ≡ r
+  row_is : reply.row ≡ row
+
+is_reply : (config : Config) (h : List Record) (r row : ℕ) (reply : Reply) → IsHistory config h → Judged reply ≡ answer_in config h r row → IsReply config h r row reply
+is_reply config h r row reply history answer = by (slice_get h row) refl answer
   where
-    of_resolver : (did : HasJudged config w (handle_event config w event)) → (r ≡ did.r) ⊎ (r ≡ did.r → ⊥) → Has ((handle_event config w event).answer ∷ later) (Judged (reply_in config h r row rec))
-    of_resolver did (inl own) = own_turn (cases_order row (slice_index w.judged_counts r))
-      where
-        here : row ≡ slice_index w.judged_counts r → (handle_event config w event).answer ≡ Judged (reply_in config h r row rec)
-        here turn =
-            let place : slice_index w.judged_counts did.r ≡ row = ap (slice_index w.judged_counts) (sym own) ∙ sym turn in
-            let same : Some did.rec ≡ Some rec = sym did.at ∙ (λ i. slice_get (history i) (place i)) ∙ at in
-            let one : did.rec ≡ rec = cc in
-            did.answer ∙ (λ i. Judged (reply_in config (history i) (sym own i) (place i) (one i)))
+    by : (found : Option Record) → slice_get h row ≡ found → Judged reply ≡ answer_at config h r row found → IsReply config h r row reply
+    by None at same = absurd (cc)
+    by (Some rec) at same =
+        let is : reply ≡ reply_in config h r row rec = cc in
+        record {
+          rec = rec;
+          at = at;
+          is = is;
+          resolver = ap (λ (x : Reply). x.resolver) is;
+          row_is = ap (λ (x : Reply). x.row) is ∙ row_at config h row rec history at;
+        }
 
-        own_turn : (row ≡ slice_index w.judged_counts r) ⊎ ((row < slice_index w.judged_counts r) ⊎ (slice_index w.judged_counts r < row)) → Has ((handle_event config w event).answer ∷ later) (Judged (reply_in config h r row rec))
-        own_turn (inl turn) = inl (here turn)
-        own_turn (inr (inl past)) = absurd (omega (arith, past, unjudged))
-        own_turn (inr (inr more)) = inr (rest (omega (arith, next_count config w (handle_event config w event) sound did r own, more)))
-    of_resolver did (inr apart) = inr (rest (omega (arith, other_count config w (handle_event config w event) did r apart, unjudged)))
-
-    by : Did config w (handle_event config w event) → Has ((handle_event config w event).answer ∷ later) (Judged (reply_in config h r row rec))
-    by (inl did) = of_resolver did (cases_eq r did.r)
-    by (inr (inl did)) = inr (rest (omega (arith, ap (λ (x : World). slice_index x.judged_counts r) did.world, unjudged)))
-    by (inr (inr none)) = inr (rest (omega (arith, ap (λ (x : World). slice_index x.judged_counts r) none.world, unjudged)))
-
-judges : (config : Config) (h : List Record) (w : World) (events : List Event) (r row : ℕ) (rec : Record) → IsSound config w → w.history ≡ h → AreWork events → slice_get h row ≡ Some rec → slice_index w.judged_counts r ≤ row → row < slice_index (world_after config w events).judged_counts r
-    → Has (answers config w events) (Judged (reply_in config h r row rec))
-unfolding answers world_after
-judges config h w [] r row rec sound history work at unjudged done = absurd (omega (arith, unjudged, done))
-judges config h w (event ∷ events) r row rec sound history work at unjudged done =
-    let works = first_work event events work in
-    let next : World = (handle_event config w event).world in
-    first_judges config h w event r row rec (answers config next events) sound history works.0 at unjudged
-    (λ below. judges config h next events r row rec (happens_sound config w event sound) ((event_keeps config w event sound works.0).history ∙ history) works.1 at below done)
-
--- ---- each reply that is given is to an unjudged row
-
--- the reply is to a row of this history that the resolver has not judged in this world
-pub record FromUnjudged (config : Config) (h : List Record) (w : World) (reply : Reply) : Type 0 where
-  pub rec : Record
-  pub resolver : reply.resolver < config.resolvers
-  pub at : slice_get h reply.row ≡ Some rec
-  pub unjudged : slice_index w.judged_counts reply.resolver ≤ reply.row
-  pub is : reply ≡ reply_in config h reply.resolver reply.row rec
-
--- no count of judged rows falls
-grown : (config : Config) (w : World) (event : Event) (s : ℕ) → IsSound config w → is_work event ≡ true → slice_index w.judged_counts s ≤ slice_index (handle_event config w event).world.judged_counts s
-grown config w event s sound work = by (work_did config w event sound work)
+pub judged_one : (config : Config) (h : List Record) (r row s other : ℕ) → IsHistory config h → is_judged (answer_in config h r row) ≡ true → answer_in config h r row ≡ answer_in config h s other → (r ≡ s) × (row ≡ other)
+judged_one config h r row s other history told same = by (answer_in config h r row) refl told
   where
-    of_resolver : (did : HasJudged config w (handle_event config w event)) → (s ≡ did.r) ⊎ (s ≡ did.r → ⊥) → slice_index w.judged_counts s ≤ slice_index (handle_event config w event).world.judged_counts s
-    of_resolver did (inl own) = omega (arith, next_count config w (handle_event config w event) sound did s own)
-    of_resolver did (inr apart) = omega (arith, other_count config w (handle_event config w event) did s apart)
+    by : (answer : Answer) → answer_in config h r row ≡ answer → is_judged answer ≡ true → (r ≡ s) × (row ≡ other)
+    by (Sequenced n version) is judged = absurd (cc)
+    by (Moved date) is judged = absurd (cc)
+    by (Again reply) is judged = absurd (cc)
+    by (Completed finished) is judged = absurd (cc)
+    by (Refused refusal) is judged = absurd (cc)
+    by (Judged reply) is judged =
+        let one = is_reply config h r row reply history (sym is) in
+        let two = is_reply config h s other reply history (sym is ∙ same) in
+        (sym one.resolver ∙ two.resolver, sym one.row_is ∙ two.row_is)
 
-    by : Did config w (handle_event config w event) → slice_index w.judged_counts s ≤ slice_index (handle_event config w event).world.judged_counts s
-    by (inl did) = of_resolver did (cases_eq s did.r)
-    by (inr (inl did)) = omega (arith, ap (λ (x : World). slice_index x.judged_counts s) did.world)
-    by (inr (inr none)) = omega (arith, ap (λ (x : World). slice_index x.judged_counts s) none.world)
+abbrev pub judged_rows : (config : Config) (h : List Record) → IsHistory config h → Counters config h
+judged_rows config h history = record {
+  size = config.resolvers;
+  count = judged_count;
+  told = answer_in config h;
+  is_told = is_judged;
+  step = λ w event sound same work. judged_step config h w (handle_event config w event) sound same (work_did config w event sound work);
+  one = λ r row s other told same. judged_one config h r row s other history told same;
+}
 
--- the reply that an event gives
-first_from : (config : Config) (h : List Record) (w : World) (event : Event) (reply : Reply) → IsSound config w → w.history ≡ h → is_work event ≡ true → (handle_event config w event).answer ≡ Judged reply → FromUnjudged config h w reply
-first_from config h w event reply sound history work told = by (work_did config w event sound work)
-  where
-    by : Did config w (handle_event config w event) → FromUnjudged config h w reply
-    by (inr (inl did)) = absurd (cc (sym did.answer ∙ told))
-    by (inr (inr none)) = absurd (cc (sym none.answer ∙ ap is_done told))
-    by (inl did) =
-        let both : Judged (reply_in config w.history did.r (slice_index w.judged_counts did.r) did.rec) ≡ Judged reply = sym did.answer ∙ told in
-        let same : reply_in config w.history did.r (slice_index w.judged_counts did.r) did.rec ≡ reply = cc in
-        let row : did.rec.row ≡ slice_index w.judged_counts did.r = row_at config w.history (slice_index w.judged_counts did.r) did.rec sound.sequencer.history did.at in
-        subst (FromUnjudged config h w) same
-        (record {
-          rec = did.rec;
-          resolver = did.there;
-          at = (λ i. slice_get (sym history i) (row i)) ∙ did.at;
-          unjudged = omega (arith, row);
-          is = λ i. reply_in config (history i) did.r (sym row i) did.rec;
-        })
+-- ---- the law
 
-pub from_unjudged : (config : Config) (h : List Record) (w : World) (events : List Event) (reply : Reply) → IsSound config w → w.history ≡ h → AreWork events → Has (answers config w events) (Judged reply) → FromUnjudged config h w reply
-unfolding answers
-from_unjudged config h w [] reply sound history work has = absurd has
-from_unjudged config h w (event ∷ events) reply sound history work (inl told) = first_from config h w event reply sound history (first_work event events work).0 told
-from_unjudged config h w (event ∷ events) reply sound history work (inr later) =
-    let works = first_work event events work in
-    let rest = from_unjudged config h (handle_event config w event).world events reply (happens_sound config w event sound) ((event_keeps config w event sound works.0).history ∙ history) works.1 later in
-    record { rec = rest.rec; resolver = rest.resolver; at = rest.at; unjudged = omega (arith, grown config w event reply.resolver sound works.0, rest.unjudged); is = rest.is }
-
--- ---- both
+unjudged_from : (config : Config) (w : World) (reply : Reply) (sound : IsSound config w) → Passed config w.history (judged_rows config w.history sound.sequencer.history) w (Judged reply) → IsUnjudgedReply config w reply
+unjudged_from config w reply sound from =
+    let is = is_reply config w.history from.i from.n reply sound.sequencer.history from.is in
+    let low : slice_index w.judged_counts from.i ≤ from.n = from.low in
+    let same : slice_index w.judged_counts reply.resolver ≡ slice_index w.judged_counts from.i = ap (slice_index w.judged_counts) is.resolver in
+    record {
+      rec = is.rec;
+      resolver = omega (arith, is.resolver, from.there);
+      at = ap (slice_get w.history) is.row_is ∙ is.at;
+      unjudged = omega (arith, same, low, is.row_is);
+      is = is.is ∙ (λ i. reply_in config w.history (sym is.resolver i) (sym is.row_is i) is.rec);
+    }
 
 pub unjudged_judged : TheUnjudgedRowsAreJudged
 unjudged_judged config w events reply sound work all = (
-  λ told. let from = from_unjudged config w.history w events reply sound refl work (Has-from_Contains (answers config w events) (Judged reply) told) in
-      record { rec = from.rec; resolver = from.resolver; at = from.at; unjudged = from.unjudged; is = from.is },
+  λ told. unjudged_from config w reply sound (passed config w.history (judged_rows config w.history sound.sequencer.history) w events (Judged reply) (record { sound = sound; history = refl; work = work }) refl (Has-from_Contains (answers config w events) (Judged reply) told)),
   λ is.
       let end : World = world_after config w events in
       let count : slice_index end.judged_counts reply.resolver ≡ length w.history = all_judged config end (world_after_sound config w events sound) all reply.resolver is.resolver ∙ ap length (work_keeps config w events sound work).history in
-      let has = judges config w.history w events reply.resolver reply.row is.rec sound refl work is.at is.unjudged (omega (arith, count, slice_get_within w.history reply.row is.rec is.at)) in
-      Contains-from_Has (answers config w events) (Judged reply) (subst (λ (other : Reply). Has (answers config w events) (Judged other)) (sym is.is) has),
+      let has = tells config w.history (judged_rows config w.history sound.sequencer.history) w events reply.resolver reply.row (record { sound = sound; history = refl; work = work }) is.unjudged (omega (arith, count, slice_get_within w.history reply.row is.rec is.at)) in
+      let answer : answer_in config w.history reply.resolver reply.row ≡ Judged reply = ap (answer_at config w.history reply.resolver reply.row) is.at ∙ ap (λ (x : Reply). Judged x) (sym is.is) in
+      subst (Contains (answers config w events)) answer (Contains-from_Has (answers config w events) (answer_in config w.history reply.resolver reply.row) has),
 )
 
 pub same_replies : TheSameRepliesAreGiven

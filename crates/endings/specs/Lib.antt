@@ -6,3 +6,7 @@ pub mod Progress
 pub mod Orders
 -- statements: how far apart proxies can be, and what resolvers remember for the slowest
 pub mod Distances
+-- rounds, segments and schedules that are fair; statements: they finish all
+pub mod Fairness
+-- scenarios: a small cluster whose work is done in several orders
+pub mod Scenarios

@@ -3,3 +3,6 @@
 #![tactic(auto)]
 
 pub mod laws;
+mod stories;
+
+pub use stories::{order_scenarios, round_scenarios};

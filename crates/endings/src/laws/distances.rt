@@ -8,6 +8,8 @@ ghost use Rattle.endings.specs.Distances.{TheOneAheadHasTheJournalOfTheOther};
 ghost use Rattle.endings.specs.Distances.{TheOneAheadHasTheMetadataOfTheOther};
 ghost use Rattle.endings.specs.Distances.{ItLacksItsUnfinishedRecords};
 ghost use Rattle.endings.specs.Distances.{OnceFinishedItLacksOnlyOthers, TheyMayBeAnyRowsApart};
+ghost use Rattle.endings.specs.Distances.{RememberedRowsFollowTheSlowest};
+ghost use Rattle.endings.specs.Distances.{FinishedRowsWereReached, TheSlowestBoundsWhatIsRemembered};
 
 /// A proxy knows every row up to that of the last record that it finished, and no further one. Of
 /// two proxies the one at the later version knows at least as many rows.
@@ -41,4 +43,13 @@ pub fn lacked_law()
 /// all records are finished.
 pub fn lag_law()
     ensures { TheyMayBeAnyRowsApart }
+{}
+
+/// A resolver remembers the rows that it has judged after the last record of the slowest proxy. A
+/// proxy has reached each row that it knows. So what a resolver remembers, and what the slowest proxy
+/// knows, are together at most the rows judged.
+pub fn remembered_law()
+    ensures rows { RememberedRowsFollowTheSlowest }
+    ensures reached { FinishedRowsWereReached }
+    ensures bound { TheSlowestBoundsWhatIsRemembered }
 {}
