@@ -1,5 +1,5 @@
 -- The batches that finish are those of the unfinished records, each once.
-use Rattle.std.proofs.Common.{◌≡◌, refl, sym, ap, ◌∙◌, subst, ℕ, suc, ◌<◌, ◌≤◌, ◌⊎◌, inl, inr, List, length, take, Bool, true, false, slice_get, slice_index, slice_set, Option, Some, None, arith}
+use Rattle.std.proofs.Common.{◌≡◌, refl, sym, ap, ◌∙◌, subst, ℕ, suc, ◌≤◌, ◌⊎◌, inl, inr, List, length, take, Bool, true, false, slice_get, slice_index, Option, Some, None, arith}
 use Rattle.std.specs.Prelude.{Contains}
 use Rattle.std.proofs.lemmas.List.{length-take-le}
 use Rattle.std.proofs.lemmas.Option.{slice_get_within}
@@ -7,13 +7,13 @@ use Rattle.model.specs.Configs.{Config}
 use Rattle.model.specs.declared.outcome.Finished.{Finished}
 use Rattle.model.specs.Records.{Record, IsHistory, records_of_proxy}
 use Rattle.model.specs.Journal.{history_verdicts}
-use Rattle.model.specs.World.{World, Event, Handled, Answer, Sequenced, Moved, Judged, Again, Completed, Refused, NoSuchRow, IsSound, finished_after, finished_batch, handle_event, answers, world_after}
+use Rattle.model.specs.World.{World, Handled, Answer, Sequenced, Moved, Judged, Again, Completed, Refused, NoSuchRow, IsSound, finished_after, finished_batch, handle_event, answers, world_after}
 use Rattle.model.proofs.Members.{Has-from_Contains, Contains-from_Has}
 use Rattle.model.proofs.Verdicts.Places.{row_at}
 use Rattle.model.proofs.Worlds.Runs.{own_place, set_other, set_same}
-use Rattle.endings.specs.Work.{is_work, is_done}
+use Rattle.endings.specs.Work.{is_done}
 use Rattle.endings.specs.Orders.{IsUnfinishedBatch, TheUnfinishedBatchesFinish, TheSameBatchesFinish}
-use Rattle.endings.proofs.Steps.{HasJudged, HasCompleted, HasDoneNothing, Did, work_did}
+use Rattle.endings.proofs.Steps.{Did, work_did}
 use Rattle.endings.proofs.Orders.{work_keeps}
 use Rattle.endings.proofs.Counters.{Raised, Left, Counters, Passed, tells, passed}
 

@@ -1,5 +1,5 @@
 -- After n fair segments each resolver has judged the first n rows, and the records of the rows before the last of these are finished.
-use Rattle.std.proofs.Common.{◌≡◌, refl, sym, ap, ◌∙◌, subst, ℕ, zero, suc, ◌<◌, ◌≤◌, ◌+◌, ◌⊎◌, inl, inr, List, [], ◌∷◌, length, take, Bool, true, false, nat_le, nat_lt, slice_get, slice_index, slice_set, Some, arith}
+use Rattle.std.proofs.Common.{◌≡◌, refl, sym, ap, ◌∙◌, subst, ℕ, zero, suc, ◌<◌, ◌≤◌, ◌+◌, ◌⊎◌, inl, inr, List, [], ◌∷◌, length, take, true, false, nat_le, nat_lt, slice_get, slice_index, slice_set, Some, arith}
 use Rattle.std.proofs.lemmas.Bool.{cases_order, le-ltb, lt-leb}
 use Rattle.std.proofs.lemmas.Option.{slice_get_within}
 use Rattle.model.specs.Configs.{Config}
@@ -14,7 +14,7 @@ use Rattle.model.proofs.Resolvers.Offers.{offer_is}
 use Rattle.model.proofs.Verdicts.Places.{row_at}
 use Rattle.model.proofs.Worlds.Histories.{world_after_sound}
 use Rattle.model.proofs.Worlds.Runs.{own_place, finish_is, finished_within, set_same, world_after_append}
-use Rattle.endings.specs.Work.{is_work, AreWork, is_done, record_count, AllFinished}
+use Rattle.endings.specs.Work.{is_work, is_done, record_count, AllFinished}
 use Rattle.endings.specs.Fairness.{CanBeDone, joined, IsFairSegment, AreFair, FairSegmentsFinishByRows}
 use Rattle.endings.proofs.Progress.{next_is_judged, within_below}
 use Rattle.endings.proofs.Orders.{work_keeps}

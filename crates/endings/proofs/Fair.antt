@@ -1,18 +1,17 @@
 -- Fair segments and fair schedules take work away until none is left.
-use Rattle.std.proofs.Common.{◌≡◌, refl, sym, ap, ◌∙◌, subst, ℕ, zero, suc, ◌+◌, ◌-◌, ◌<◌, ◌≤◌, ◌⊎◌, inl, inr, List, [], ◌∷◌, ◌++◌, map, length, filter, Bool, true, false, arith}
+use Rattle.std.proofs.Common.{◌≡◌, refl, sym, ap, ◌∙◌, subst, ℕ, zero, suc, ◌+◌, ◌-◌, ◌<◌, ◌≤◌, ◌⊎◌, inl, inr, List, [], ◌∷◌, length, Bool, true, false, arith}
 use Rattle.std.proofs.lemmas.Bool.{cases_order}
 use Rattle.std.proofs.lemmas.List.{map-append}
-use Rattle.std.specs.List.{list_all}
 use Rattle.model.specs.Configs.{Config}
 use Rattle.model.specs.Shares.{each_below}
-use Rattle.model.specs.World.{World, Event, IsSound, handle_event, answers, world_after}
+use Rattle.model.specs.World.{World, Event, IsSound, handle_event, world_after}
 use Rattle.model.proofs.Members.{Has, Has-from_Contains}
 use Rattle.model.proofs.Worlds.Histories.{happens_sound, world_after_sound}
 use Rattle.model.proofs.Worlds.Runs.{world_after_append}
 use Rattle.endings.specs.Work.{is_work, AreWork, is_done, work_left, AllFinished}
-use Rattle.endings.specs.Fairness.{CanBeDone, joined, IsFairSegment, AreFair, FairSegmentsFinishByWork, Schedule, first_events, IsFair, FairSchedulesFinishAll}
+use Rattle.endings.specs.Fairness.{CanBeDone, joined, IsFairSegment, FairSegmentsFinishByWork, Schedule, first_events, IsFair, FairSchedulesFinishAll}
 use Rattle.endings.proofs.Progress.{takes_one, others_nothing, nothing_left}
-use Rattle.endings.proofs.Completion.{some_step, both_so}
+use Rattle.endings.proofs.Completion.{some_step}
 use Rattle.endings.proofs.Orders.{first_work, as_many_done}
 
 -- ---- segments

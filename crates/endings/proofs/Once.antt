@@ -1,7 +1,6 @@
 -- Nothing is done twice.
-use Rattle.std.proofs.Common.{◌≡◌, refl, ℕ, true, slice_get, Some}
-use Rattle.model.specs.Configs.{Config}
-use Rattle.model.specs.World.{World, Event, Answer, Sequenced, Moved, Judged, Again, Completed, Refused, answers}
+use Rattle.std.proofs.Common.{refl}
+use Rattle.model.specs.World.{Sequenced, Moved, Judged, Again, Completed, Refused}
 use Rattle.endings.specs.Orders.{EachIsDoneOnce}
 use Rattle.endings.proofs.Counters.{told_once}
 use Rattle.endings.proofs.Batches.{finished_records}

@@ -1,5 +1,5 @@
 -- A resolver remembers the rows that the slowest proxy has not reached.
-use Rattle.std.proofs.Common.{◌≡◌, refl, sym, ap, ◌∙◌, ℕ, zero, suc, ◌+◌, ◌<◌, ◌≤◌, List, length, take, drop, filter, nat_eq, slice_get, slice_index, Some, length-append, arith}
+use Rattle.std.proofs.Common.{◌≡◌, refl, sym, ap, ◌∙◌, ℕ, zero, suc, ◌+◌, ◌<◌, ◌≤◌, List, length, drop, filter, nat_eq, slice_get, slice_index, Some, length-append, arith}
 use Rattle.std.proofs.lemmas.Bool.{eq-eqb}
 use Rattle.std.proofs.lemmas.List.{length-take-le}
 use Rattle.std.proofs.Math.Seq.{drop-append_seam}
@@ -15,7 +15,7 @@ use Rattle.model.proofs.Resolvers.Offers.{judged_within}
 use Rattle.model.proofs.Resolvers.Remembered.{reached_up_to, reached_by}
 use Rattle.model.proofs.Verdicts.Places.{row_at, slice_get-take_back}
 use Rattle.model.proofs.Worlds.Runs.{own_place, finished_within}
-use Rattle.endings.specs.Distances.{rows_known, judged_by, rows_reached, IsSlowest, RememberedRowsFollowTheSlowest, FinishedRowsWereReached, TheSlowestBoundsWhatIsRemembered}
+use Rattle.endings.specs.Distances.{rows_known, judged_by, rows_reached, RememberedRowsFollowTheSlowest, FinishedRowsWereReached, TheSlowestBoundsWhatIsRemembered}
 use Rattle.endings.proofs.Distances.{none_known, known_up_to, up_to_more}
 use Rattle.endings.proofs.OwnRecords.{kept_at, own_up_to}
 

@@ -1,19 +1,19 @@
 -- The replies of resolvers that judge are those to the unjudged rows, each given once.
-use Rattle.std.proofs.Common.{◌≡◌, refl, sym, ap, ◌∙◌, subst, ℕ, suc, ◌<◌, ◌≤◌, ◌⊎◌, inl, inr, List, length, take, Bool, true, false, slice_get, slice_index, slice_set, Option, Some, None, arith}
+use Rattle.std.proofs.Common.{◌≡◌, refl, sym, ap, ◌∙◌, subst, ℕ, suc, ◌≤◌, ◌⊎◌, inl, inr, List, length, take, Bool, true, false, slice_get, slice_index, Option, Some, None, arith}
 use Rattle.std.specs.Prelude.{Contains}
 use Rattle.std.proofs.lemmas.Option.{slice_get_within}
 use Rattle.model.specs.Configs.{Config}
 use Rattle.model.specs.declared.reply.Reply.{Reply}
 use Rattle.model.specs.Records.{Record, IsHistory}
 use Rattle.model.specs.Journal.{history_verdicts}
-use Rattle.model.specs.World.{World, Event, Handled, Answer, Sequenced, Moved, Judged, Again, Completed, Refused, NoSuchRow, IsSound, reply_of, handle_event, answers, world_after}
+use Rattle.model.specs.World.{World, Handled, Answer, Sequenced, Moved, Judged, Again, Completed, Refused, NoSuchRow, IsSound, reply_of, handle_event, answers, world_after}
 use Rattle.model.proofs.Members.{Has-from_Contains, Contains-from_Has}
 use Rattle.model.proofs.Verdicts.Places.{row_at}
 use Rattle.model.proofs.Worlds.Histories.{world_after_sound}
 use Rattle.model.proofs.Worlds.Runs.{set_other, set_same}
-use Rattle.endings.specs.Work.{is_work, is_done}
+use Rattle.endings.specs.Work.{is_done}
 use Rattle.endings.specs.Orders.{IsUnjudgedReply, TheUnjudgedRowsAreJudged, TheSameRepliesAreGiven}
-use Rattle.endings.proofs.Steps.{HasJudged, HasCompleted, HasDoneNothing, Did, work_did}
+use Rattle.endings.proofs.Steps.{Did, work_did}
 use Rattle.endings.proofs.Completion.{all_judged}
 use Rattle.endings.proofs.Orders.{work_keeps}
 use Rattle.endings.proofs.Counters.{Raised, Left, Counters, Passed, tells, passed}

@@ -1,10 +1,10 @@
 -- Rounds are fair segments: they make every offer and every finish that can be done.
-use Rattle.std.proofs.Common.{◌≡◌, refl, sym, ap, ◌∙◌, subst, ℕ, zero, suc, ◌<◌, inl, inr, List, [], ◌∷◌, ◌++◌, map, length, Bool, true, false, nat_le, if◌then◌else◌, slice_get, slice_index, Option, Some, None, leb-false, arith}
-use Rattle.std.specs.Prelude.{flat_map, Contains}
+use Rattle.std.proofs.Common.{◌≡◌, refl, sym, ap, ◌∙◌, subst, ℕ, zero, suc, ◌<◌, inl, inr, List, [], ◌∷◌, ◌++◌, map, length, Bool, true, false, nat_le, if◌then◌else◌, slice_get, Option, Some, None, leb-false, arith}
+use Rattle.std.specs.Prelude.{flat_map}
 use Rattle.std.proofs.lemmas.Option.{slice_get_within}
 use Rattle.std.specs.List.{list_all}
 use Rattle.model.specs.Configs.{Config}
-use Rattle.model.specs.Records.{Record, records_of_proxy}
+use Rattle.model.specs.Records.{Record}
 use Rattle.model.specs.Shares.{each_below}
 use Rattle.model.specs.World as world
 use Rattle.model.specs.World.{World, Event, Sequence, MoveRange, Offer, Finish, Handled, IsSound, refuse, handle_offer, handle_finish, handle_event, world_after}

@@ -1,6 +1,6 @@
 -- Scenarios: a small cluster whose work is done in several orders. It is the cluster of the model's
 -- examples: two proxies, two resolvers, a step of 10.
-use Rattle.std.specs.Prelude.{◌≡◌, ℕ, List, [], ◌∷◌, ◌++◌, map, length, replicate, Bool, true, false}
+use Rattle.std.specs.Prelude.{◌≡◌, ℕ, List, [], ◌∷◌, ◌++◌, map, replicate, true, false}
 use Rattle.std.specs.Prelude.{Some, None}
 use Rattle.std.specs.List.{list_all}
 use Rattle.system_keys.specs.declared.change.Change.{Change}
@@ -10,7 +10,7 @@ use Rattle.model.specs.declared.reply.Reply.{Reply}
 use Rattle.model.specs.declared.unseen.UnseenRow.{UnseenRow}
 use Rattle.model.specs.declared.verdict.Verdict.TheVariants.{Committed}
 use Rattle.model.specs.declared.outcome.Outcome.TheVariants as outcomes
-use Rattle.model.specs.Stamps.{Set, Given}
+use Rattle.model.specs.Stamps.{Set}
 use Rattle.model.specs.Records.{Record}
 use Rattle.model.specs.World.{World, Event, Sequence, Offer, Finish, Answer, Again, Refused, Early}
 use Rattle.model.specs.World.{MissingReply, initial_world, answers, world_after, proxy_metadata}
