@@ -5,7 +5,7 @@ use Rattle.std.proofs.lemmas.List.{length-map}
 use Rattle.facts.specs.Stretches.{Agree, HasAt, Lacks, Stretch}
 use Rattle.model.specs.Configs.{Config, IsConfig}
 use Rattle.model.specs.declared.journal.JournalRow.{JournalRow}
-use Rattle.model.specs.Records.{Record, IsHistory, last_version, last_moves}
+use Rattle.model.specs.Records.{Record, IsHistory, last_version, last_moves, records_of_proxy}
 use Rattle.model.specs.Shares.{each_below}
 use Rattle.model.specs.Requests.{Request, request, request_back_to}
 use Rattle.model.specs.Journal.{history_verdicts, journal}
@@ -114,6 +114,11 @@ begun_keeps config v t rec new is may begun =
       verdicts = subst (λ (rows : List JournalRow). AreVerdicts config (take (length rows) t.records) v.columns) (sym begun.journal) verdicts;
       journal_is = subst (λ (rows : List JournalRow). IsKnownJournal config t.records v.columns (length rows) rows) (sym begun.journal) known;
       version = begun.version ∙ is.keeps.version ∙ ap (λ (rows : List JournalRow). length rows * config.step) (sym begun.journal);
+      own_version =
+          begun.version ∙ is.keeps.own_version
+          ∙ ap (λ (rs : List Record). last_version (records_of_proxy v.proxy.number rs)) first
+          ∙ ap (λ (p : ℕ). last_version (records_of_proxy p (take n t.records))) (sym begun.number)
+          ∙ ap (λ (rows : List JournalRow). last_version (records_of_proxy new.number (take (length rows) t.records))) (sym begun.journal);
       own = own;
       begun = stand;
       follow =
@@ -181,6 +186,7 @@ new_keeps config v columns limits same number last_begun none version empty move
       verdicts = subst (λ (rows : List JournalRow). AreVerdicts config (take (length rows) []) columns) (sym empty) (no_verdicts config columns);
       journal_is = subst (λ (rows : List JournalRow). IsKnownJournal config [] columns (length rows) rows) (sym empty) refl;
       version = version ∙ start ∙ ap (λ (rows : List JournalRow). length rows * config.step) (sym empty);
+      own_version = version ∙ ap (λ (rows : List JournalRow). last_version (records_of_proxy v.number (take (length rows) no_records))) (sym empty);
       own = λ place rec at. absurd (nothing place rec (ap (λ (rs : List Record). slice_get rs place) (sym none) ∙ at));
       begun = λ place rec at. absurd (nothing place rec (ap (λ (rs : List Record). slice_get rs place) (sym none) ∙ at));
       follow = subst (λ (rs : List Record). FollowOneAnother v.version v.last_begun rs) (sym none) (last_begun ∙ sym version);

@@ -6,7 +6,7 @@ use Rattle.model.specs.Configs.{Config}
 use Rattle.model.specs.declared.reply.Reply.{Reply}
 use Rattle.model.specs.declared.outcome.Finished.{Finished}
 use Rattle.model.specs.declared.journal.JournalRow.{JournalRow}
-use Rattle.model.specs.Records.{Record, last_moves, last_version}
+use Rattle.model.specs.Records.{Record, last_moves, last_version, records_of_proxy}
 use Rattle.model.specs.Journal.{history_verdicts, journal}
 use Rattle.model.specs.World.{finished_batch, up_to_version}
 use Rattle.model.specs.Agreed.{IsAgreed, AreVerdicts}
@@ -23,7 +23,7 @@ use Rattle.locked_cluster.specs.Answers.{IsNotedFinished}
 use Rattle.locked_cluster.specs.Proxies.{LockedProxyView, IsLockedProxy, IsFinishRefusal, FinishesReady, FollowOneAnother, first_row}
 use Rattle.locked_resolvers.specs.declared.refusal.Refusal.TheVariants as refusals
 use Rattle.locked_resolvers.proofs.Lists.{first_same, take_all}
-use Rattle.locked_cluster.proofs.ProxyRows.{fewer_rows, first_rows, journal_of, known_by_history}
+use Rattle.locked_cluster.proofs.ProxyRows.{fewer_rows, first_rows, journal_of, known_by_history, own_last}
 
 -- A locked proxy, the record that it finishes next, and the replies to this record. The numbers of the
 -- cluster are those of the proxy.
@@ -167,6 +167,10 @@ finished_keeps_at v x rec rest new finished is has =
       verdicts = verdicts;
       journal_is = known_by_history c v.records x.columns (length new.journal) new.journal is.keeps.agreed.history verdicts (journal_after v x rec rest new finished is has ∙ ap (λ (rs : List Record). journal c (history_verdicts c rs) rs) (sym first));
       version = done.0.at ∙ (versions_at c x.records rec.row rec is.ready.history here).1 ∙ ap (λ (n : ℕ). n * c.step) (sym count);
+      own_version =
+          done.0.at
+          ∙ sym (own_last v.records new.number rec.row rec (in_lock v x rec rest is) mine)
+          ∙ ap (λ (n : ℕ). last_version (records_of_proxy new.number (take n v.records))) (sym count);
       own = λ place s at. is.keeps.own (suc place) s (ap (λ (rs : List Record). slice_get rs (suc place)) is.begun ∙ ap (λ (rs : List Record). slice_get rs place) (sym done.0.begun) ∙ at) ∙ ap (λ (u : ProxyView). u.number) (sym has.after);
       begun = λ place s at. is.keeps.begun (suc place) s (ap (λ (rs : List Record). slice_get rs (suc place)) is.begun ∙ ap (λ (rs : List Record). slice_get rs place) (sym done.0.begun) ∙ at);
       follow =
@@ -182,6 +186,9 @@ finished_keeps_at v x rec rest new finished is has =
 
     here : slice_get x.records rec.row ≡ Some rec
     here = in_ready v x rec rest is
+
+    mine : rec.proxy ≡ new.number
+    mine = is.keeps.own 0 rec (ap (λ (rs : List Record). slice_get rs 0) is.begun) ∙ ap (λ (u : ProxyView). u.number) (sym has.after)
 
     done : IsAfter (history_verdicts c x.records) x.records v.proxy new rec rest × (finished ≡ finished_batch c (history_verdicts c x.records) (take rec.row x.records) rec)
     done = after v x rec rest new finished is has

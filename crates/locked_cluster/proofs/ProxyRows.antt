@@ -1,21 +1,23 @@
 -- Rows and versions of a locked proxy, and its journal by the history of the records that it knows.
-use Rattle.std.proofs.Common.{◌≡◌, sym, ap, ◌∙◌, subst, ℕ, ◌*◌, ◌≤◌, List, ◌++◌, length, take, drop, take-append-drop, arith}
+use Rattle.std.proofs.Common.{◌≡◌, sym, ap, ◌∙◌, subst, ℕ, suc, ◌+◌, ◌*◌, ◌≤◌, Bool, true, nat_eq, if◌then◌else◌, List, [], ◌∷◌, ◌++◌, length, take, drop, slice_get, Some, take-append-drop, arith}
 use Rattle.std.proofs.Math.Nat.{mul-lt-mul_of_pos_right}
 use Rattle.std.proofs.Math.Seq.{take-append_seam}
+use Rattle.std.proofs.lemmas.Bool.{eq-eqb}
 use Rattle.std.proofs.lemmas.List.{length-take-le}
 use Rattle.facts.specs.Stretches.{Agree, Stretch, StretchesAgree}
 use Rattle.model.specs.Configs.{Config}
 use Rattle.model.specs.declared.journal.JournalRow.{JournalRow}
-use Rattle.model.specs.Records.{Record, IsHistory, last_version}
+use Rattle.model.specs.Records.{Record, IsHistory, last_version, records_of_proxy}
 use Rattle.model.specs.Journal.{history_verdicts, journal}
 use Rattle.model.specs.World.{up_to_version}
 use Rattle.model.specs.Agreed.{Columns, IsKnownJournal, AreVerdicts}
 use Rattle.model.proofs.History.Chain.{up_to_front_are, version_before}
+use Rattle.model.proofs.History.Growth.{last_version-push, records_of_proxy-append}
 use Rattle.model.proofs.History.Rows.{journal_counted}
 use Rattle.model.proofs.Agreement.Agreed.{agreed_journal}
 use Rattle.model.proofs.Agreement.Sources.{history_take, journal_known, journal_later, journal_take}
 use Rattle.locked_cluster.specs.Proxies.{LockedProxyView, IsLockedProxy}
-use Rattle.locked_resolvers.proofs.Lists.{take_all}
+use Rattle.locked_resolvers.proofs.Lists.{take_all, take_next}
 
 -- no more steps are no more rows
 pub fewer_rows : (a b step : ℕ) → 1 ≤ step → a * step ≤ b * step → a ≤ b
@@ -67,6 +69,20 @@ all_up_to config v keeps =
 
     at : last_version (take (length v.proxy.journal) (known_records v)) ≡ length v.proxy.journal * config.step
     at = version_before config (known_records v) (length v.proxy.journal) (known_history config v keeps) within
+
+-- of the rows up to a record of a proxy, this is the proxy's last one
+pub own_last : (records : List Record) (p row : ℕ) (rec : Record) → slice_get records row ≡ Some rec → rec.proxy ≡ p → last_version (records_of_proxy p (take (suc row) records)) ≡ rec.version
+own_last records p row rec at own =
+    ap (λ (k : ℕ). last_version (records_of_proxy p (take k records))) next
+    ∙ ap (λ (rs : List Record). last_version (records_of_proxy p rs)) (take_next records row rec at)
+    ∙ ap last_version (records_of_proxy-append p (take row records) (rec ∷ []) ∙ ap (λ (t : Bool). records_of_proxy p (take row records) ++ (if t then rec ∷ [] else [])) is)
+    ∙ last_version-push (records_of_proxy p (take row records)) rec
+  where
+    next : suc row ≡ row + 1
+    next = omega arith
+
+    is : nat_eq rec.proxy p ≡ true
+    is = eq-eqb rec.proxy p own
 
 -- two stretches from row 0 agree as lists
 pub agree_from_zero : {X : Type 0} (s t : Stretch X) (known : List X) → s.first ≡ 0 → t ≡ record { first = 0; known = known } → StretchesAgree s t → Agree 0 s.known 0 known

@@ -5,7 +5,7 @@ use Rattle.std.specs.Prelude.{slice_get, replicate, Bool, false, nat_lt}
 use Rattle.model.specs.Numbers.{ProxyNumber, RowNumber, Version}
 use Rattle.model.specs.Configs.{Config, IsConfig}
 use Rattle.model.specs.declared.journal.JournalRow.{JournalRow}
-use Rattle.model.specs.Records.{Record, last_moves, last_version}
+use Rattle.model.specs.Records.{Record, last_moves, last_version, records_of_proxy}
 use Rattle.model.specs.Metadata.{metadata, routing}
 use Rattle.model.specs.Agreed.{Columns, IsAgreed, IsKnownJournal, AreVerdicts}
 use Rattle.model.specs.Finishing.{ProxyView, HoldsMoves, HasBegun, HasFinished}
@@ -43,9 +43,9 @@ FollowOneAnother version last (rec ∷ later) =
 
 -- The view is agreed with the ledger up to the row of the proxy's version, the cells of these rows
 -- hold the definition's verdicts, and the journal is that of these rows by the cells. (The metadata is
--- always that of the journal.) The records begun and not finished are of this proxy, stand among the
--- records, and follow one another; the last record is the one begun last, and the map of owners holds
--- its moves.
+-- always that of the journal.) The version is that of the last record of this proxy among these rows,
+-- or 0. The records begun and not finished are of this proxy, stand among the records, and follow one
+-- another; the last record is the one begun last, and the map of owners holds its moves.
 pub record IsLockedProxy (config : Config) (v : LockedProxyView) : Type 0 where
   pub config_is : IsConfig config
   pub config_of : v.proxy.config ≡ config
@@ -55,6 +55,9 @@ pub record IsLockedProxy (config : Config) (v : LockedProxyView) : Type 0 where
   pub journal_is :
       IsKnownJournal config v.records v.columns (length v.proxy.journal) v.proxy.journal
   pub version : v.proxy.version ≡ length v.proxy.journal * config.step
+  pub own_version :
+      let finished = take (length v.proxy.journal) v.records in
+      v.proxy.version ≡ last_version (records_of_proxy v.proxy.number finished)
   pub own : AreOwn v.proxy.number v.proxy.begun
   pub begun : StandAmong v.records v.proxy.begun
   pub follow : FollowOneAnother v.proxy.version v.proxy.last_begun v.proxy.begun
