@@ -1,13 +1,13 @@
 -- What the checks of a whole run find.
-use Rattle.std.proofs.Common.{◌≡◌, ◌∙◌, ◌++◌, ◌+◌, ◌-◌, ◌<◌, ◌≤◌, [], ◌∷◌, ℕ, suc, List, refl, sym, ap, subst, take, map, length, filter, get_or, append-nil, inl, inr, arith}
+use Rattle.std.proofs.Common.{◌≡◌, ◌≢◌, ◌∙◌, ◌++◌, ◌+◌, ◌-◌, ◌<◌, ◌≤◌, [], ◌∷◌, ℕ, suc, List, refl, sym, ap, subst, take, map, length, filter, get_or, append-nil, inl, inr, arith}
 use Rattle.std.specs.Prelude.{◌⊎◌, All, true, false, nat_eq, slice_get, Some}
 use Rattle.std.proofs.Math.Nat.{suc-mul}
 use Rattle.std.proofs.lemmas.Bool.{cases_order, eq-eqb, ne_eqb}
 use Rattle.std.proofs.lemmas.Bool.Decides.{eqb_tells}
 use lib.Dec.{eqb}
-use Rattle.std.proofs.lemmas.List.{map-append}
+use Rattle.std.proofs.lemmas.List.{length-map, map-append}
 use Rattle.std.proofs.lemmas.List.Elements.{All-cons, All-head, All-nil, All-push, All-same, All-tail, filter-append}
-use Rattle.std.proofs.lemmas.Option.{get_or_from_slice_get, same_Some, slice_get-get_or, slice_get_within}
+use Rattle.std.proofs.lemmas.Option.{get_or_from_slice_get, same_Some, slice_get-get_or, slice_get-map, slice_get_within}
 use Rattle.facts.specs.Stretches.{HasAt, Lacks, Stretch}
 use Rattle.model.specs.Configs.{Config}
 use Rattle.model.specs.Records.{Record, IsHistory, last_version, records_of_proxy}
@@ -133,3 +133,14 @@ one_more_dated moves undated k m one at there is earlier =
 pub all_are_dated : (moves : List Move) (undated : List UndatedMove) (k : ℕ) → length moves ≡ length undated → length undated ≤ k → take k moves ≡ map (dated 1) (take k undated) → moves ≡ map (dated 1) undated
 all_are_dated moves undated k same all is =
     sym (take_all moves k (omega (arith, same, all))) ∙ is ∙ ap (map (dated 1)) (take_all undated k all)
+
+-- there are more moves, or fewer
+pub other_count : (moves : List Move) (undated : List UndatedMove) → length moves ≢ length undated → moves ≢ map (dated 1) undated
+other_count moves undated apart same = apart (ap (λ (ms : List Move). length ms) same ∙ length-map undated (dated 1))
+
+-- one move is another
+pub other_move : (moves : List Move) (undated : List UndatedMove) (k : ℕ) (m : Move) (one : UndatedMove)
+    → slice_get moves k ≡ Some m → slice_get undated k ≡ Some one → m ≢ dated 1 one → moves ≢ map (dated 1) undated
+other_move moves undated k m one at there apart same =
+    let here : slice_get (map (dated 1) undated) k ≡ Some (dated 1 one) = rw (slice_get-map (dated 1) undated k, there) refl in
+    apart (same_Some m (dated 1 one) (sym at ∙ ap (λ (ms : List Move). slice_get ms k) same ∙ here))

@@ -1,12 +1,11 @@
 //! What must hold of the whole history of a run, once all batches are answered and the proxies and the
 //! resolvers are locked. No run is known to find otherwise; one that does fails.
 
-ghost use Rattle.std.specs.Prelude.{◌≡◌, ◌-◌, length, map, Some, All, IsTrue, IfErr, OnOk};
+ghost use Rattle.std.specs.Prelude.{◌≡◌, ◌≢◌, ◌-◌, length, map, Some, All, MatchBool, IfErr, OnOk};
 ghost use Rattle.model.specs.Records.{last_version, records_of_proxy};
 ghost use Rattle.threads_lines.specs.Faults.{FailsCheckOf};
 ghost use Rattle.threads_lines.specs.Histories.{HasFinishedAll, HasJudgedAll};
 ghost use Rattle.threads_lines.specs.Moves.{AreAfterMoves, dated};
-ghost use Rattle.threads_lines.specs.declared.faults.RunFault.TheVariants as faults;
 
 use crate::faults::RunFault;
 use crate::run_history::RunHistory;
@@ -124,14 +123,15 @@ fn version_after(rec: &Record, proxy: ProxyNumber, before: Version) -> Version
     }
 }
 
-/// Each record of the history has the moves of the script, and no others. Fails only with `Refused`.
+/// Each record of the history has the moves of the script, and no others. Fails exactly if one has not,
+/// with `Refused`.
 pub fn check_moves<N: Naming>(
     history: &RunHistory<N>,
     ledger: &Ledger<N>,
     moves: &[UndatedMove],
 ) -> Result<(), RunFault>
     ensures checked { OnOk result (AreAfterMoves moves.now history.now.records) }
-    ensures err { IfErr result (λ fault. fault ≡ faults.Refused) }
+    ensures err { IfErr result (FailsCheckOf (AreAfterMoves moves.now history.now.records)) }
 {
     let records = history.records();
     let Some(last) = records.end().checked_sub(1) else {
@@ -140,15 +140,20 @@ pub fn check_moves<N: Naming>(
     // (its contract says that the step is at least 1: so a move behind a record would be dated above 1,
     // and the moves of the last record tell those of each)
     let _step = ledger.config().step();
-    match records.get(ledger, last) {
-        Some(rec) if are_dated(rec.moves(), moves) => Ok(()),
-        _ => Err(RunFault::Refused),
+    let Some(rec) = records.get(ledger, last) else {
+        unreachable!();
+    };
+    if are_dated(rec.moves(), moves) {
+        Ok(())
+    } else {
+        Err(RunFault::Refused)
     }
 }
 
-/// Returns true only if these are the moves, each with date 1.
+/// Whether these are the moves, each with date 1.
 fn are_dated(moves: &Moves, undated: &[UndatedMove]) -> bool
-    ensures { IsTrue result → moves.now ≡ map (dated 1) undated.now }
+    ensures { MatchBool result (moves.now ≡ map (dated 1) undated.now)
+        (moves.now ≢ map (dated 1) undated.now) }
 {
     if moves.len() != undated.len() {
         return false;
@@ -165,16 +170,16 @@ fn are_dated(moves: &Moves, undated: &[UndatedMove]) -> bool
     true
 }
 
-/// Returns true only if this is the move, with date 1.
+/// Whether this is the move, with date 1.
 fn is_dated(one: &Move, undated: &UndatedMove) -> bool
-    ensures { IsTrue result → one.now ≡ dated 1 undated.now }
+    ensures { MatchBool result (one.now ≡ dated 1 undated.now) (one.now ≢ dated 1 undated.now) }
 {
     one.date == 1 && one.dest == undated.dest && are_same(&one.range, &undated.range)
 }
 
-/// Returns true only if the ranges begin and end alike.
+/// Whether the ranges begin and end alike.
 fn are_same(range: &KeyRange, other: &KeyRange) -> bool
-    ensures { IsTrue result → range.now ≡ other.now }
+    ensures { MatchBool result (range.now ≡ other.now) (range.now ≢ other.now) }
 {
     range.begin() == other.begin() && range.end() == other.end()
 }
