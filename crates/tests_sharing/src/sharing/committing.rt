@@ -51,6 +51,10 @@ impl<'a, 'l, N: Naming, C: Clock> InOrder<'a, 'l, N, C> {
 }
 
 impl<N: Naming, C: Clock> Asking<N> for InOrder<'_, '_, N, C> {
+    ghost use Rattle.std.specs.Prelude.{None};
+
+    ghost takes = { λ _. None };
+
     fn ask_all<R: Wait>(
         &self,
         rt: &R,

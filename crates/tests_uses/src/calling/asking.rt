@@ -29,6 +29,10 @@ impl<'a, 'l, N: Naming> SecondTime<'a, 'l, N> {
 }
 
 impl<N: Naming> Asking<N> for SecondTime<'_, '_, N> {
+    ghost use Rattle.std.specs.Prelude.{None};
+
+    ghost takes = { λ _. None };
+
     fn ask_all<R: Wait>(
         &self,
         rt: &R,
