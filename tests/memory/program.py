@@ -49,8 +49,9 @@ ASKING = {
 # the modes whose scripts have a list of which none is kept where the numbers of the script stand before it, and its field
 TAKEN_AS_THEY_COME = {"": "rows", "turns": "events"}
 
-# how many growths fewer a run of threads takes at least, whose growths have no fixed number, if it is read as its tokens come
-FEWER_IN_THREADS = 20
+# A run of threads, whose growths have no fixed number, takes at least 20 fewer if its script is read as its tokens come;
+# a script of fewer than 320 bytes cannot save as many, and takes at least one fewer for every 16 bytes.
+FEWER_IN_THREADS, BYTES_FOR_ONE = 20, 16
 
 
 def build_shim(folder):
@@ -161,7 +162,8 @@ def read_by_tokens(trial, example):
     if status == 0:
         count = count_growths(trial, script, words)
         by_tree = count_growths(trial, first_field_twice(script), words)
-        fewer = FEWER_IN_THREADS if words == ["threads"] else by_tree // 10
+        of_threads = min(FEWER_IN_THREADS, len(script) // BYTES_FOR_ONE)
+        fewer = of_threads if words == ["threads"] else by_tree // 10
         trial.expect(count + fewer < by_tree, "%s: is read through a tree: %d growths, and %d" % (name, count, by_tree))
 
 

@@ -1,7 +1,12 @@
+#!/usr/bin/env python3
 """A second program: what a fold script comes to, by docs/FORMATS.md. It shares nothing with the first.
 
-It is made to be read, not to be fast. Run by itself it answers the script on standard input.
+    python3 tests/scripts/reference.py < examples/moving_range.json
+
+It prints the text of the script on standard input. It is made to be read, not to be fast. The status is 0, or 1 for a refused
+script.
 """
+import argparse
 import json
 import math
 import re
@@ -317,11 +322,14 @@ def answer(script):
         return "refused %d %s\n" % (refused.args[0], NAMES[refused.args[0]])
 
 
-def main():
+def run(answer, words):
+    """The program with these words of help: prints the answer to the script on standard input. Its exit status is returned."""
+    how = {"formatter_class": argparse.RawDescriptionHelpFormatter}
+    argparse.ArgumentParser(description=words, **how).parse_args()
     text = answer(sys.stdin.buffer.read())
     sys.stdout.write(text)
-    return 1 if text.startswith("refused ") else 0
+    return 1 if text.startswith("refused ") and text.count("\n") == 1 else 0
 
 
 if __name__ == "__main__":
-    sys.exit(main())
+    sys.exit(run(answer, __doc__))

@@ -15,10 +15,10 @@ import random
 import sys
 
 import turns_reference
+from random_cases import random_scripts
 from reference import fold, metadata_lines
 from script import LOCKED, METADATA_VERSION, SERVER_1, SERVER_2, write
 from threads_orders import UNKNOWN, what_is_wrong
-from threads_random import random_threads
 from threads_reference import committed_rows, refused_after, script_of
 from threads_words import closings, committed, meetings, move, reading_and_writing, routes, three_by_nine, threads
 from turns_words import LOCK, lines, one_key, put, put_servers, put_tag, shown, stamp, transaction
@@ -211,14 +211,16 @@ SMALL = {
         [[transaction(20, [], [], [put_servers("", SERVER_1)])]], ask=["a"],
     ),
     "a lock that is taken and given up": threads(
-        [[LOCK], [transaction(10, [], [one_key(LOCKED)], [put(LOCKED, "")], True)]], [[transaction(0, [], [], [put("k", "v")])]] * 3,
+        [[LOCK], [transaction(10, [], [one_key(LOCKED)], [put(LOCKED, "")], True)]],
+        [[transaction(0, [], [], [put("k", "v")])]] * 3,
     ),
     "snapshots between the versions": threads(
         [[transaction(0, [], [one_key("a")])], [transaction(15, [one_key("a")])]], [[transaction(25, [one_key("a")])]],
         [[transaction(25, [one_key("a")], [one_key("a")])], [transaction(45, [one_key("a")])]],
     ),
     "a short window": threads(
-        [[transaction(0, [one_key("a")])], [transaction(5, [one_key("a")])]], [[transaction(20, [one_key("b")], [one_key("a")])], []],
+        [[transaction(0, [one_key("a")])], [transaction(5, [one_key("a")])]],
+        [[transaction(20, [one_key("b")], [one_key("a")])], []],
         window=15,
     ),
     "a move, and owners of before": threads(
@@ -265,14 +267,14 @@ def by_all_orders(name, script, every, rng=random):
 def random_small(seeds):
     for seed in seeds:
         rng = random.Random("small threads %d" % seed)
-        script = random_threads(rng, *rng.choice([(1, 3), (2, 2), (2, 3), (3, 2), (5, 1)]))
+        script = random_scripts.threads.random_threads(rng, *rng.choice([(1, 3), (2, 2), (2, 3), (3, 2), (5, 1)]))
         yield from by_all_orders("small, seed %d" % seed, script, every=20)
 
 
 def random_large(seeds):
     for seed in seeds:
         rng = random.Random("large threads %d" % seed)
-        script = random_threads(rng, *rng.choice([(3, 9), (3, 9), (2, 14), (4, 4), (5, 3), (8, 2), (1, 30)]))
+        script = random_scripts.threads.random_threads(rng, *rng.choice([(3, 9), (3, 9), (2, 14), (4, 4), (5, 3), (8, 2), (1, 30)]))
         found, _ = script_of(write(script).encode())
         with_meetings = rng.random() < 0.5
         text = text_of(found, random_order(rng, found), with_meetings)

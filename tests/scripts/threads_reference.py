@@ -1,4 +1,10 @@
+#!/usr/bin/env python3
 """A second program: what a threads script comes to if its batches come in one order, by docs/FORMATS.md.
+
+    python3 tests/scripts/threads_reference.py < examples/threads/two_proxies.json
+
+It prints one right text of the script on standard input: that of the order in which the proxies take turns, each with its next
+batch. The status is 0, or 1 for a refused script.
 
 The text depends on the order in which the sequencer takes the batches of the proxies, which no script says. Here an order is a
 list of proxies: each takes the next of its batches. `printed` is the text of one order; threads_orders.py finds whether there
@@ -7,9 +13,10 @@ is an order of which a text is.
 It shares nothing with the first program, and with turns_reference.py what a transaction is, whom it asks and how a script is
 read. Verdicts are found otherwise than there: each resolver has the last version of each range that it committed a write of.
 """
+import sys
 from typing import NamedTuple
 
-from reference import Refused, apply, check_change, fields, is_locked, items, metadata_lines, read_bytes, read_json, want
+from reference import Refused, apply, check_change, fields, is_locked, items, metadata_lines, read_bytes, read_json, run, want
 from turns_reference import (
     VERSION_LIMIT, WORST_FIRST, Move, Record, all_reads, check_batch, is_state, read_batch, read_move, read_numbers, refusal,
     share, stamped,
@@ -212,3 +219,23 @@ def meeting_lines(versions):
             yield "meet %d %d %s" % (first, second, "same" if version == other else "behind" if version < other else "ahead")
     for proxy in range(len(versions)):
         yield "audit %d ok" % proxy
+
+
+# ---- the answer
+
+
+def order_in_turns(script):
+    """The order in which the proxies take turns, of the batches that get a row."""
+    turns = max(map(len, script.work), default=0)
+    whole = [proxy for turn in range(turns) for proxy, batches in enumerate(script.work) if turn < len(batches)]
+    return whole[: committed_rows(script)]
+
+
+def answer(text):
+    """What may be printed for the bytes of a script: the text of the order in which the proxies take turns."""
+    script, refused = script_of(text)
+    return refused + "\n" if refused else printed(script, order_in_turns(script), meetings=True)
+
+
+if __name__ == "__main__":
+    sys.exit(run(answer, __doc__))

@@ -8,8 +8,8 @@ import json
 import random
 
 import turns_reference
+from random_cases import random_scripts
 from script import METADATA_VERSION, SERVER_1, write
-from turns_random import right_script
 from turns_words import LOCK, finish, move, offer, one_key, put, put_servers, put_tag, sequence, transaction, turns
 
 
@@ -99,7 +99,7 @@ def reordered(rng, script, lines):
 def reordered_offers(seeds):
     for seed in seeds:
         rng = random.Random("reordered %d" % seed)
-        script = right_script(rng)
+        script = random_scripts.turns.Drawn(rng).script()
         lines, end = lines_of_events(turns_reference.answer(write(script).encode()))
         other, moved = reordered(rng, script, lines)
         yield "turns", "offers_before", "seed %d" % seed, write(script).encode(), "".join(lines) + end

@@ -1,14 +1,17 @@
+#!/usr/bin/env python3
 """A second program: what a turns script comes to, by docs/FORMATS.md. It shares nothing with the first.
 
-It is made to be read, not to be fast: every record is kept, and each verdict compares all pairs. Run by itself it
-answers the script on standard input.
+    python3 tests/scripts/turns_reference.py < examples/turns/two_proxies.json
+
+It prints the text of the script on standard input. It is made to be read, not to be fast: every record is kept, and each verdict
+compares all pairs. The status is 0, or 1 for a refused script.
 """
 import sys
 from typing import NamedTuple
 
 from reference import (
     KEY_SERVERS, LOCKED, NAMES, SERVER_TAG, Refused, check_change, fields, fold, is_locked, is_server_tag, items, listed,
-    metadata_lines, quoted, read_bool, read_bytes, read_json, read_number, read_pair, read_tag, tags_of, want,
+    metadata_lines, quoted, read_bool, read_bytes, read_json, read_number, read_pair, read_tag, run, tags_of, want,
 )
 
 REFUSALS = {
@@ -421,11 +424,5 @@ def answer(script):
     return "".join(line + "\n" for line in lines)
 
 
-def main():
-    text = answer(sys.stdin.buffer.read())
-    sys.stdout.write(text)
-    return 1 if text.count("\n") == 1 and text.startswith("refused ") else 0
-
-
 if __name__ == "__main__":
-    sys.exit(main())
+    sys.exit(run(answer, __doc__))

@@ -1,15 +1,14 @@
 """Texts of small scripts with one line changed, each for a sentence that no wrong rule asks for."""
 import os
 
+import verdict_texts
 from reference import answer as fold_answer
 from script import KEY_SERVERS, LISTING, SERVER_1, SERVER_TAG, write
 from turns_reference import answer as turns_answer
 from turns_words import (
     LOCK, clear, finish, offer, offers, private, private_tag, put, put_servers, put_tag, sequence, transaction, turns,
 )
-
-# before a line that must not be printed
-NOT = "not: "
+from verdict_texts import NOT
 
 
 def cases(examples):
@@ -17,6 +16,8 @@ def cases(examples):
     yield from refused_events(examples)
     yield from small_scripts()
     yield from private_copies()
+    yield from verdict_texts.cases(changed)
+    yield from later_versions()
 
 
 def changed(name, script, answer, line, other, *said, kept=()):
@@ -144,6 +145,26 @@ def lock_of_another_row():
         "Resolver 0 was not asked.", "A transaction that asks no resolver is committed, unless the lock refuses it.",
         "The lock is read once, before the batch, after version 10: the database was locked.",
         NOT + "Transaction 0 of the same batch changes the lock. That counts from the next batch on.",
+    )
+
+
+def later_versions():
+    """Tags that the metadata has only later: no version is named by whose metadata they would be right."""
+    given, later = [put_servers("", SERVER_1), put_tag(SERVER_1, "\\x00\\x00\\x01")], [put_tag(SERVER_1, "\\x00\\x00\\x02")]
+    never = "By the metadata after version %d, the "
+    yield changed(
+        "tags of a later version", setting(given, later), turns_answer, "mutation 0 0 tags 0:1", "mutation 0 0 tags 0:2",
+        "TEXT lacks 0:1.", "TEXT also has 0:2.", *(NOT + never % version + "tags would be those of TEXT." for version in (0, 10, 20)),
+    )
+    yield changed(
+        "a private copy of a later version", setting([*given, put(KEYS_1, "1")], later), turns_answer,
+        private(0, 2, KEYS_1, "0:1"), private(0, 2, KEYS_1, "0:2"), "  Server %s has the tag 0:1." % SERVER_1,
+        *(NOT + never % version + "private copy would be that of TEXT." for version in (0, 10, 20)),
+    )
+    cleared = setting(given, [put_servers("m"), put("k", "1"), clear("a", "z")], later)
+    yield changed(
+        "a Clear's tags of an earlier version", cleared, turns_answer, "mutation 0 2 tags 0:1", "mutation 0 2 tags none",
+        "TEXT lacks 0:1.", '  The keyServers row "" has it.', NOT + never % 0 + "tags would be those of TEXT.",
     )
 
 

@@ -143,8 +143,10 @@ def of_threads():
     ], ""
     neither = text.replace(b"batch 0 0 conflict", b"batch 0 0 too_old")
     yield "threads of which none fits", [script, neither], 1, [
-        "Line 1 differs:", "  Gakyhera: batch 0 0 committed (in 1 order)", "  Gakyhera: batch 0 0 conflict (in 1 order)",
+        "Line 1 differs:", "  Gakyhera: batch 0 0 conflict (in 1 order)", "  Gakyhera: batch 0 0 committed (in 1 order)",
         "  TEXT:     batch 0 0 too_old",
+        "Of these the order nearest to TEXT: row 0 is batch 0 of proxy 1 and row 1 is batch 0 of proxy 0.",
+        "  Transaction 0 is in row 1, at version 20.",
     ], ""
     beginning = text[: text.index(b"meet")]
     yield "threads without the lines of meetings", [script, beginning], 1, ["  TEXT:     (the text has ended)"], ""
@@ -154,8 +156,47 @@ def of_threads():
     many = write(three_by_nine(100)).encode()
     right = printed(script_of(many)[0], [0, 1, 2] * 9, True).encode()
     yield "many orders, a right text", [many, right], 0, [NO_DIFFERENCE], ""
-    yield "many orders, a wrong text", [many, right.replace(b'"k13" 0:1', b'"k13" 0:2')], 1, [
-        "The script has more than 2000 orders, so the line at which TEXT leaves them all is not looked for."], ""
+    yield from of_many_orders(many, right)
+
+
+def of_many_orders(script, right):
+    """Texts of a script with too many orders to go through: the lines that no order changes are still looked at."""
+    many = "The script has more than 2000 orders, so only what is the same in all of them was compared up to here."
+    order = "One of these orders: the first 20 rows are of the proxies 0 1 2 0 1 2 0 1 2 0 1 2 0 1 2 0 1 2 0 1."
+    for name, old, new, said in (
+        ("tags", b'"k13" 0:1', b'"k13" 0:2', [
+            "Line 48 differs:", '  Gakyhera: route "k13" 0:1', '  TEXT:     route "k13" 0:2', many, order, "  TEXT also has 0:2.",
+            "    No state transaction up to version 280 gives 0:2 to a server or lists it."]),
+        ("an outcome", b"batch 1 4 committed", b"batch 1 4 conflict", [
+            "Line 14 differs:", "  Gakyhera: batch 1 4 committed", "  TEXT:     batch 1 4 conflict", many,
+            "  Transaction 0 is in row 13, at version 140.", "  What decided the verdict of resolver 0:",
+            "    No write that counts overlaps a read of it."]),
+        ("a closing", b"closing 1 version 290", b"closing 1 version 280", [
+            "Line 29 differs:", "  Gakyhera: closing 1 version 290", many,
+            "  The closings follow, in the order of the proxies: that of proxy 1 is row 28, at 29 times the step 10."]),
+        ("a meeting", b"meet 0 1 behind", b"meet 0 1 same", [
+            "Line 127 differs:", "  Gakyhera: meet 0 1 behind", many, "  Proxy 0 is at version 280, and proxy 1 at 290."]),
+        ("a missing line", b"batch 1 4 committed\n", b"", [
+            "Line 14 differs:", "  Gakyhera: batch 1 4 committed", "  TEXT:     batch 1 5 committed", many,
+            "  The line of batch 4 of proxy 1 must stand here. It is in row 13, at version 140."]),
+        ("a missing route", b'route "k20" 0:1\n', b"", [
+            "Line 55 differs:", '  Gakyhera: route "k20" 0:1', '  TEXT:     route "k21" 0:1', many]),
+        ("a route of no row", b'route "k20" 0:1\n', b'route "k20" 0:1\nroute "k20a" 0:1\n', [
+            "Line 56 differs:", '  Gakyhera: route "k21" 0:1', '  TEXT:     route "k20a" 0:1', many]),
+    ):
+        yield "many orders, %s" % name, [script, right.replace(old, new, 1)], 1, said, ""
+    yield orders_that_differ()
+
+
+def orders_that_differ():
+    """A text that no order gives, though each of its lines stands in that of some order."""
+    batches = [[reading_and_writing("a", "a") for _ in range(9)] for _ in range(3)]
+    script = write(threads(*batches, window=1000)).encode()
+    text = printed(script_of(script)[0], [0, 1, 2] * 9, True).replace("batch 0 0 committed", "batch 0 0 conflict").encode()
+    return "many orders, a wrong text", [script, text], 1, [
+        "No order of the batches gives TEXT.",
+        "The script has more than 2000 orders, so the line at which TEXT leaves them all is not looked for.",
+        "Each line by itself may stand in some order's text, as far as is known."], ""
 
 
 # ---- the mode, and long lines

@@ -7,6 +7,8 @@ SVG, HTML = "{http://www.w3.org/2000/svg}", "{http://www.w3.org/1999/xhtml}"
 LETTERS = {"committed": "C", "conflict": "X", "too_old": "T", "locked": "L"}
 # the widest that a character of a monospaced face is, in its height, and how far two words may touch
 WIDTH, TOUCH = 0.605, 1
+# so many chips stand beside each other as they are
+MOST = 12
 
 
 # ---- what a text says
@@ -14,8 +16,8 @@ WIDTH, TOUCH = 0.605, 1
 
 def said_of_turns(text):
     """How often each thing stands in a turns text, and the letters of its verdicts and outcomes in order."""
-    said = collections.Counter()
-    verdicts = outcomes = ""
+    said, ended = collections.Counter(), []
+    verdicts = ""
     for line in text.split("\n"):
         words = line.split(" ")
         if line.startswith("sequence row "):
@@ -24,18 +26,34 @@ def said_of_turns(text):
             said["request"] += 1
             said["reply"] += 1
             unseen = line.partition(" unseen ")[2].split(" ")
-            verdicts += "".join(LETTERS[word] for word in words[6 : words.index("unseen")] if word != "none")
+            verdicts += folded([word for word in words[6 : words.index("unseen")] if word != "none"])
             said["tells"] += unseen != ["none"]
-            said.update(("unseen", version) for version in unseen if version != "none")
+            said.update(unseen_said([version for version in unseen if version != "none"]))
         if line.startswith(("refused 30 ", "refused 31 ")):
             said["request"] += 1
         if line.startswith("refused "):
             said["refusal"] += 1
         if line.startswith("finish proxy "):
             said["finished", words[4]] += 1
+            ended.append([])
         if line.startswith("txn "):
-            outcomes += LETTERS[words[2]]
-    return +said, verdicts, outcomes
+            ended[-1].append(words[2])
+    return +said, verdicts, "".join(map(folded, ended))
+
+
+def folded(words):
+    """The letters of verdicts or outcomes in the order in which they are drawn: many that change often stand by their words."""
+    changes = sum(one != other for one, other in zip(words, words[1:]))
+    ordered = [it for word in dict.fromkeys(words) for it in words if it == word] if changes >= MOST else words
+    return "".join(LETTERS[it] for it in ordered)
+
+
+def unseen_said(versions):
+    """Unseen rows by their versions; of many those in the middle are counted only."""
+    if len(versions) <= MOST:
+        return collections.Counter(("unseen", it) for it in versions)
+    shown = collections.Counter(("unseen", it) for it in (*versions[:4], versions[-1]))
+    return shown + collections.Counter({("unseen", "more"): len(versions) - 5})
 
 
 def said_of_threads(text):
@@ -60,39 +78,59 @@ def tree_of(page):
 
 
 def lanes_of(tree):
-    return next(it for it in tree.iter(SVG + "svg") if it.get("class") == "lanes")
+    """The picture of a page: the box with the strips of a turns page, and the lanes of a threads page."""
+    strips = [it for it in tree.iter(HTML + "div") if classes(it) & {"strips"} and not classes(it) & {"batches"}]
+    return strips[0] if strips else next(it for it in tree.iter(SVG + "svg") if it.get("class") == "lanes")
+
+
+def classes(element):
+    return set((element.get("class") or "").split(" "))
 
 
 def of_class(svg, *names):
     """The groups with all of these classes, in order."""
-    return [it for it in svg.iter(SVG + "g") if set(names) <= set((it.get("class") or "").split(" "))]
+    return [it for it in svg.iter(SVG + "g") if set(names) <= classes(it)]
+
+
+def count_of(group):
+    """How many verdicts, outcomes or rows a chip stands for."""
+    return int(group.get("data-n") or 1)
 
 
 def letters_of(svg, kind):
-    return "".join(it.text for group in of_class(svg, kind) for it in group.iter(SVG + "text") if it.get("class") == "letter")
+    return "".join(
+        it.text * count_of(group) for group in of_class(svg, kind) for it in group.iter(SVG + "text") if it.get("class") == "letter"
+    )
 
 
-def shown_of_turns(svg):
+def shown_of_turns(tree):
     """What `said_of_turns` counts, counted in the picture."""
-    shown = collections.Counter()
+    svg, shown = lanes_of(tree), collections.Counter()
     shown.update(("record", it.get("data-row"), it.get("data-version")) for it in of_class(svg, "record"))
     shown.update(("finished", it.get("data-version")) for it in of_class(svg, "finished"))
-    shown.update(("unseen", it.get("data-u")) for it in of_class(svg, "unseen"))
+    for it in of_class(svg, "unseen"):
+        shown["unseen", "more" if it.get("data-n") else it.get("data-u")] += count_of(it)
     for name in ("request", "reply", "tells", "refusal"):
         shown[name] = len(of_class(svg, name))
     return +shown, letters_of(svg, "verdict"), letters_of(svg, "outcome")
 
 
-def shown_of_threads(svg):
+def shown_of_threads(tree):
+    svg = lanes_of(tree)
     shown = collections.Counter(closing=len(of_class(svg, "record", "closing")), refused=len(of_class(svg, "record", "refused")))
     shown["batch"] = len(of_class(svg, "record")) - shown["closing"] - shown["refused"]
-    shown["meet"], shown["audit"] = len(of_class(svg, "meeting")), len(of_class(svg, "audit"))
+    shown["meet"] = sum(it.text in ("same", "behind", "ahead") for row in rows_of(tree, "meeting") for it in row.iter(HTML + "td"))
+    shown["audit"] = len(rows_of(tree, "audit"))
     return +shown, "", "".join(sorted(letters_of(svg, "outcome")))
 
 
-def is_told_of(tree, line):
-    """Whether a line stands in the page's picture and in its tables."""
-    in_picture = any(line in "".join(it.itertext()) for it in lanes_of(tree).iter(SVG + "g"))
+def rows_of(tree, kind):
+    return [it for it in tree.iter(HTML + "tr") if kind in classes(it)]
+
+
+def is_told_of(tree, line, in_picture=True):
+    """Whether a line stands in the page's picture and in its tables, or in these alone."""
+    in_picture = not in_picture or any(line in "".join(it.itertext()) for it in lanes_of(tree).iter(SVG + "g"))
     tables = "\n".join("".join(it.itertext()) for it in tree.iter(HTML + "pre"))
     rows = "\n".join(" ".join("".join(cell.itertext()) for cell in row) for row in tree.iter(HTML + "tr"))
     return in_picture and (line in tables or line in rows)
@@ -117,10 +155,11 @@ def copies_shown(tree):
 def routing_of(tree, version):
     """The table of a version: for each proxy its locked, metadata version and routes."""
     section = next(it for it in tree.iter(HTML + "section") if it.get("data-v") == str(version))
-    head, *rows = [["".join(cell.itertext()) for cell in row] for row in section.iter(HTML + "tr")]
+    head, *rows = section.iter(HTML + "tr")
+    rows = [["".join(cell.itertext()) for cell in row] for row in rows]
     found = {}
     for place, heading in enumerate(head):
-        for proxy in re.findall(r"proxy (\d+)", heading):
+        for proxy in (heading.get("data-proxies") or "").split():
             found[int(proxy)] = {row[0]: row[place] for row in rows if row[place] != "no row"}
     return found
 
@@ -171,7 +210,7 @@ def words_of(svg):
 
 def frames_of(svg):
     for it in svg.iter(SVG + "rect"):
-        if not {"ground", "moved", "span"} & set(it.get("class").split(" ")):
+        if not {"ground", "moved", "span", "window"} & classes(it):
             left, top, width, height = (float(it.get(name)) for name in ("x", "y", "width", "height"))
             yield Box(left, top, left + width, top + height, None)
 

@@ -13,14 +13,14 @@ import threads_random
 import threads_reference
 import turns_random
 import turns_reference
-from random_cases import random_scripts
+from random_cases import random_folds
 from wrong_rules import ROOT, answer_by, changed_modules
 
 TOOL = os.path.join(ROOT, "tools", "first_difference")
 # how many random scripts of each mode are tried by each wrong rule
-SEEDS = {"fold": 20, "turns": 12, "threads": 6}
+SEEDS = {"fold": 16, "turns": 9, "threads": 6}
 # how many more of turns clear many rows, and set rows with private copies
-CLEARED = 6
+CLEARED = 4
 # how many texts must differ at least, and how many lines the tool must say of each that is not of threads: three are where
 LEAST, LEAST_LINES = 100, 4
 CANNOT = "cannot be shown"
@@ -40,7 +40,7 @@ def scripts(mode):
     """Right random scripts of a mode, each with its text; of threads ones each with an order and its text."""
     seeds = range(SEEDS[mode])
     if mode == "fold":
-        return [(it[3], None, reference.answer(it[3])) for it in random_scripts(seeds) if it[1] == "random_right"]
+        return [(it[3], None, reference.answer(it[3])) for it in random_folds(seeds) if it[1] == "random_right"]
     if mode == "turns":
         right = [it for it in turns_random.random_turns(seeds) if it[1] == "random_right"]
         right += turns_random.cleared_turns(range(CLEARED))
@@ -49,16 +49,9 @@ def scripts(mode):
     for _, kind, _, script, _ in threads_random.random_cases(seeds):
         read = threads_reference.script_of(script)[0]
         if kind == "random_right" and read:
-            order = one_order(read)
+            order = threads_reference.order_in_turns(read)
             found.append((script, order, threads_reference.printed(read, order, True)))
     return found
-
-
-def one_order(script):
-    """An order in which the batches of the proxies come in turn."""
-    turns = max(map(len, script.work), default=0)
-    whole = [proxy for turn in range(turns) for proxy, batches in enumerate(script.work) if turn < len(batches)]
-    return whole[: threads_reference.committed_rows(script)]
 
 
 def in_files(folder, texts):

@@ -4,15 +4,15 @@ import io
 import os
 import random
 import re
+import subprocess
 import tempfile
 import time
 
 import pages
 from tool import ROOT, called, draw, example, examples, tool, want
 
-import threads_random
+import random_scripts
 import threads_reference
-import turns_random
 import turns_reference
 from script import write
 from turns_words import finish, offer, put, sequence, transaction, turns
@@ -21,6 +21,8 @@ from turns_words import finish, offer, put, sequence, transaction, turns
 LARGEST, SEEDS = 80_000, 15
 # how many events the large script has, and how many seconds of a processor its page may take on a slow machine
 EVENTS, SECONDS = 400, 10
+# what would make a page open another address
+OUTSIDE = r'src=|href="(?!#)|url\(|@import|https?://(?!www\.w3\.org/)'
 COUNTS = {
     "turns": (pages.said_of_turns, pages.shown_of_turns), "threads": (pages.said_of_threads, pages.shown_of_threads),
 }
@@ -39,17 +41,24 @@ def a_stale_page_is_found():
         stored = tool.stored
         kept, stored.FOLDER = stored.FOLDER, folder
         try:
-            want(len(stored.stale(tool.draw)) == len(stored.PAGES) + 1, "pages that are not there")
-            stored.write(tool.draw)
-            want(stored.stale(tool.draw) == [], "pages that were just written")
+            want(len(stored.stale(tool.draw, tool.draw_svg)) == len(stored.PAGES) + 2, "pages that are not there")
+            stored.write(tool.draw, tool.draw_svg)
+            want(stored.stale(tool.draw, tool.draw_svg) == [], "pages that were just written")
             with open(os.path.join(folder, "README.md"), "a") as file:
                 file.write("more")
             open(os.path.join(folder, "other.html"), "w").close()
-            want(stored.stale(tool.draw) == ["README.md", "other.html"], "a page that was changed, and one that is not of the tool")
+            found = stored.stale(tool.draw, tool.draw_svg)
+            want(found == ["README.md", "other.html"], "a page that was changed, and one that is not of the tool")
             with contextlib.redirect_stdout(io.StringIO()) as said:
                 want(tool.check() == 1 and said.getvalue().count("\n") == 2, "the status of a check")
         finally:
             stored.FOLDER = kept
+
+
+def the_layers_are_up_to_date():
+    drawn = subprocess.run([os.path.join(ROOT, "tools", "layers")], capture_output=True, text=True, timeout=60)
+    with open(os.path.join(ROOT, "docs", "layers.svg")) as kept:
+        want(drawn.returncode == 0 and drawn.stdout == kept.read(), "docs/layers.svg is old: tools/layers > docs/layers.svg")
 
 
 def stored_pages_are_small():
@@ -66,9 +75,9 @@ def check_page(mode, script, text):
     text = text.decode() if isinstance(text, bytes) else text
     page, wrong = draw(script, text)
     want(wrong is None, wrong)
-    want(not re.search(r"(src|href)=|url\(|@import|https?://(?!www\.w3\.org/)", page), "the page asks for something outside")
+    want(not re.search(OUTSIDE, page), "the page asks for something outside")
     tree = pages.tree_of(page)
-    said, shown = COUNTS[mode][0](text), COUNTS[mode][1](pages.lanes_of(tree))
+    said, shown = COUNTS[mode][0](text), COUNTS[mode][1](tree)
     lost, added = said[0] - shown[0], shown[0] - said[0]
     want(not lost and not added, "the text also says %s, and the picture also shows %s" % (dict(lost), dict(added)))
     want(said == shown, "the text has the letters %s, and the picture %s" % (said[1:], shown[1:]))
@@ -111,7 +120,7 @@ def random_turns(kind, seed):
 
 def random_threads(seed):
     rng = random.Random("threads %d" % seed)
-    script = write(threads_random.random_threads(rng, *rng.choice(threads_random.SIZES))).encode()
+    script = write(random_scripts.threads.random_threads(rng, *rng.choice(random_scripts.threads.SIZES))).encode()
     read, _ = threads_reference.script_of(script)
     order = [proxy for proxy, batches in enumerate(read.work) for _ in batches]
     rng.shuffle(order)
@@ -121,7 +130,7 @@ def random_threads(seed):
 def large_script():
     """A script of some hundred events."""
     rng = random.Random("large")
-    drawn = turns_random.Drawn(rng)
+    drawn = random_scripts.turns.Drawn(rng)
     drawn.proxies, drawn.resolvers, drawn.step, drawn.window = 3, 3, 10, 300
     drawn.judged, drawn.finished = [0] * 3, [0] * 3
     draws = [drawn.sequence] * 5 + [drawn.move] + [drawn.offer] * 12 + [drawn.any_offer] + [drawn.finish] * 5
@@ -194,14 +203,15 @@ def windows_cut_threads():
 def checks():
     """Each check with its name."""
     for check in (
-        stored_pages_are_up_to_date, a_stale_page_is_found, stored_pages_are_small, overlapping_words_are_found,
-        a_large_script_is_drawn_soon, a_large_cluster_is_drawn, windows_cut, flags_cut, windows_cut_threads,
+        stored_pages_are_up_to_date, a_stale_page_is_found, the_layers_are_up_to_date, stored_pages_are_small,
+        overlapping_words_are_found, a_large_script_is_drawn_soon, a_large_cluster_is_drawn, windows_cut, flags_cut,
+        windows_cut_threads,
     ):
         yield check.__name__, check
     for name, is_refused in examples():
         if not is_refused:
             yield "page of %s" % name, lambda name=name: page_of_example(name)
     for seed in range(SEEDS):
-        for kind in (turns_random.Drawn, turns_random.Nested, turns_random.Cleared):
+        for kind in (random_scripts.turns.Drawn, random_scripts.Nested, random_scripts.Cleared):
             yield "random turns %s %d" % (kind.__name__, seed), lambda kind=kind, seed=seed: random_turns(kind, seed)
         yield "random threads %d" % seed, lambda seed=seed: random_threads(seed)

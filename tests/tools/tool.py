@@ -7,7 +7,7 @@ import sys
 
 ROOT = os.path.dirname(os.path.dirname(os.path.dirname(os.path.abspath(__file__))))
 TOOL = os.path.join(ROOT, "tools", "picture")
-sys.path.insert(1, os.path.join(ROOT, "tests", "scripts"))
+sys.path[1:1] = [os.path.join(ROOT, "tests", "scripts"), os.path.join(ROOT, "tools")]
 
 
 def loaded(path):

@@ -1,23 +1,7 @@
 """Small changes of the rules, each with an example that shows it and with what the tool must say of the first line that differs."""
-from typing import NamedTuple
-
+import lone_rules
 from line_texts import NOT
-
-
-class WrongRule(NamedTuple):
-    # what is wrong, in words
-    name: str
-    # the change: a module of the second program, a text of it, and what stands there then
-    module: str
-    old: str
-    new: str
-    # the example whose text is another by this rule, without its ending
-    example: str
-    # lines that the tool must print, in this order, after the one with the number of the line; others may stand between
-    said: tuple
-
-
-FOLD, TURNS, THREADS = "reference", "turns_reference", "threads_reference"
+from wrong_rule import FOLD, THREADS, TURNS, WrongRule
 
 OF_FOLDS = (
     WrongRule(
@@ -36,6 +20,9 @@ OF_FOLDS = (
             '  Gakyhera: route "" 0:1', '  TEXT:     tags "a" none',
             "    Transaction 1 of row 0 (version 10) sets it to sources server0000000001, destinations none: "
             "applied, since every resolver committed it and the database was not locked before version 10.",
+            "      The lock is read once, before the row, after version 0: the database was not locked.",
+            "      The transaction is not lock aware.",
+            "      Transaction 0 of the same row changes the lock. That counts from the next row on.",
         ),
     ),
     WrongRule(
@@ -44,6 +31,10 @@ OF_FOLDS = (
             "This is decided by the metadata version after version 20.",
             '  Transaction 0 of row 1 (version 20) sets it to "v": '
             "not applied, since it is not lock aware and the database was locked before version 20.",
+            "    The lock is read once, before the row, after version 10: the database was locked.",
+            '      Transaction 0 of row 0 (version 10) sets it to "L": applied, since every resolver committed it and it is lock aware.',
+            "    The transaction is not lock aware.",
+            NOT + "    The lock is read once, before the batch, after version 10: the database was locked.",
         ),
     ),
     WrongRule(
@@ -227,6 +218,15 @@ OF_OWNERS = (
         ),
     ),
     WrongRule(
+        "a read goes only to the owners of its begin", TURNS,
+        "for key in keys_that_differ(record, span):\n        for", "for key in span[:1]:\n        for", "turns/around_a_range", (
+            "The resolver gives 2 verdicts on this row, one for each transaction that asks it. TEXT has 1.",
+            "TEXT lacks the verdict on transaction 0.", '  The read ["a", "z") goes to resolvers 0 and 1.',
+            '    The owners of "a", the last one first: 0 (dated 0).', '    The owners of "m", the last one first: 1 (dated 1) and 0 (dated 0).',
+            '    The owners of "t", the last one first: 0 (dated 0).',
+        ),
+    ),
+    WrongRule(
         "the end of a moved range moves too", TURNS, "if it.begin <= key < it.end]", "if it.begin <= key <= it.end]",
         "turns/straddling_write", (
             "Event 4 offers row 0 to resolver 1.",
@@ -272,6 +272,14 @@ OF_REPLIES = (
         "it.version > record.own_previous]", "it.version > record.received]", "turns/unseen_once", (
             "Proxy 0 had seen the rows up to that of its record before, row 0 (version 10) (line 1).",
             "TEXT also has 10: row 0, of proxy 0, which proxy 0 had seen.",
+        ),
+    ),
+    WrongRule(
+        "unseen rows without state transactions are left out", TURNS,
+        "if it.version > record.own_previous]", "if it.version > record.own_previous and any(map(is_state, it.batch))]",
+        "turns/unseen_once", (
+            "Row 1 is the first record of proxy 1, so it had seen no row.",
+            "TEXT lacks 10: row 0, of proxy 0, which has no state transaction and is listed all the same.",
         ),
     ),
     WrongRule(
@@ -354,6 +362,12 @@ OF_FINISHES = (
         "turns/spreading_lock", ("  TEXT:     txn 1 locked 1038", "The transaction is lock aware."),
     ),
     WrongRule(
+        "the lock comes before conflict", TURNS, 'if outcome == "committed" and locked and', "if locked and", "turns/lock_conflict", (
+            "  Gakyhera: txn 0 conflict 1020", "  TEXT:     txn 0 locked 1038", "Resolver 0 gave conflict (line 4).",
+            "The lock refuses only what would be committed.",
+        ),
+    ),
+    WrongRule(
         "the outcome is the greatest verdict", TURNS,
         "return min(said, key=WORST_FIRST.index", "return max(said, key=WORST_FIRST.index", "turns/half_committed", (
             "  TEXT:     txn 0 committed 20 0", "Resolver 0 gave conflict (line 7).",
@@ -392,7 +406,7 @@ OF_FINISHES = (
             "  Server server0000000002 has the tag 0:2.",
             "    Transaction 0 of row 0 (version 10) sets it to 0:2: "
             "applied, since every resolver committed it (lines 3 and 5) and the database was not locked before version 10.",
-            "TEXT lacks 0:2.", "By the metadata after version 20, the tags would be those of TEXT.",
+            "TEXT lacks 0:2.", '  The keyServers row "m" has it.', NOT + "By the metadata after version 20, the tags would be those of TEXT.",
         ),
     ),
     WrongRule(
@@ -506,4 +520,4 @@ OF_THREADS = (
     ),
 )
 
-ALL = OF_FOLDS + OF_VERDICTS + OF_OWNERS + OF_REPLIES + OF_FINISHES + OF_COPIES + OF_THREADS
+ALL = OF_FOLDS + OF_VERDICTS + OF_OWNERS + OF_REPLIES + OF_FINISHES + OF_COPIES + OF_THREADS + lone_rules.ALL

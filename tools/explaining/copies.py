@@ -4,7 +4,7 @@ import re
 from reference import SERVER_TAG, is_server_tag, listed, quoted
 from turns_reference import SERVER_KEYS, private_copy, server_of_keys
 
-from .journal import indented, mutation_words, other_versions, server_story
+from .journal import earlier_versions, indented, mutation_words, server_story
 from .texts import count, words_in
 
 LINE = re.compile(r"private (\d+) (\d+) (\S+) (.+)")
@@ -35,7 +35,7 @@ def explain_copy(run, record, number, place, theirs):
     tags = words_in(found[4])
     if len(tags) != 1:
         yield "A private copy has one tag, and TEXT has %s." % count(len(tags), "tag")
-    yield from other_version(run.journal, version, change, found)
+    yield from earlier_version(run.journal, version, change, found)
 
 
 def explain_added(run, record, before, theirs):
@@ -47,7 +47,7 @@ def explain_added(run, record, before, theirs):
         yield "A mutation has at most one private copy."
         return
     yield from copy_story(run.journal, record.version, change)
-    yield from other_version(run.journal, record.version, change, LINE.fullmatch(theirs))
+    yield from earlier_version(run.journal, record.version, change, LINE.fullmatch(theirs))
 
 
 def copy_story(journal, version, change):
@@ -78,9 +78,9 @@ def words_of(copy):
     return quoted(copy[0]), listed([copy[1]])
 
 
-def other_version(journal, version, change, found):
-    """The version by whose metadata the private copy is that of TEXT, if there is one."""
-    for other in other_versions(journal, version):
+def earlier_version(journal, version, change, found):
+    """The earlier version by whose metadata the private copy is that of TEXT, if there is one."""
+    for other in earlier_versions(journal, version):
         copy = private_copy(journal.kept(other), change)
         if copy and words_of(copy) == found.group(3, 4):
             yield "By the metadata after version %d, the private copy would be that of TEXT." % other

@@ -12,7 +12,7 @@ class Fold:
     def __init__(self, rows, ask):
         self.journal = Journal([
             (version, [(number, *state, set()) for number, state in enumerate(states)]) for version, states in rows
-        ])
+        ], unit="row")
         self.version = rows[-1][0] if rows else 0
         self.lines = list(metadata_lines(self.version, self.journal.kept(self.version), ask))
         # the numbers of these lines in the text of the program

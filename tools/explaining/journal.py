@@ -32,18 +32,25 @@ class State(NamedTuple):
     def name(self):
         return "transaction %d of row %d (version %d)" % (self.number, self.row, self.version)
 
+    def is_committed(self):
+        return all(it == "committed" for it in self.verdicts)
+
     def is_applied(self):
-        return all(it == "committed" for it in self.verdicts) and (self.lock_aware or not self.locked)
+        return self.is_committed() and (self.lock_aware or not self.locked)
+
+    def depends_on_lock(self):
+        return self.is_committed() and not self.lock_aware
 
 
 class Journal:
     """The state transactions of all rows, each as the fields of a State from `number` to `stamped`.
 
-    `lines_of` gives the lines with the verdicts of some resolvers on a row, in brackets, or no text.
+    `lines_of` gives the lines with the verdicts of some resolvers on a row, in brackets, or no text. `unit` is what the script
+    has for each row.
     """
 
-    def __init__(self, rows, lines_of=lambda row, resolvers: ""):
-        self.rows, self.states, self.lines_of = [], [], lines_of
+    def __init__(self, rows, lines_of=lambda row, resolvers: "", unit="batch"):
+        self.rows, self.states, self.lines_of, self.unit = [], [], lines_of, unit
         for row, (version, states) in enumerate(rows):
             locked = is_locked(fold(self.rows))
             self.rows.append((version, [state[1:4] for state in states]))
@@ -69,7 +76,7 @@ class Journal:
         where = self.lines_of(state.row, range(len(state.verdicts)))
         return "applied, since every resolver committed it%s and %s" % (where, lock)
 
-    def story(self, key, version):
+    def story(self, key, version, with_lock=True):
         """What decides a row at a version: the last change of it that is applied, and later ones that are not."""
         touching = [(it, last_change(key, it.changes)) for it in self.states if it.version <= version]
         touching = [(state, change) for state, change in touching if change]
@@ -78,8 +85,33 @@ class Journal:
             yield "%s %s: %s." % (first_upper(state.name()), change_words(change), self.why(state))
             if key in state.stamped:
                 yield "  That has a stamp: the version in eight bytes and the transaction's number in two, high byte first."
+            if with_lock and state.depends_on_lock():
+                yield from indented(self.lock_of(state))
         if not touching:
             yield "No state transaction up to version %d sets or clears it." % version
+
+    def lock_of(self, state):
+        """What decides whether the lock refuses a state transaction, if there is more to say than that no row has set it."""
+        same = list(self.lock_changes(state.version, state.number))
+        if not state.locked and not same:
+            return
+        previous = max((version for version, _ in self.rows if version < state.version), default=0)
+        yield from self.lock_story(previous, state.lock_aware)
+        yield from same
+
+    def lock_story(self, previous, lock_aware):
+        """Whether the database was locked before the batch that follows a version, and what decided that."""
+        yield "The lock is read once, before the %s, after version %d: the database was %slocked." % (
+            self.unit, previous, "" if is_locked(self.kept(previous)) else "not ")
+        yield from indented(self.story(LOCKED, previous, with_lock=False))
+        yield "The transaction is %slock aware." % ("" if lock_aware else "not ")
+
+    def lock_changes(self, version, but=None):
+        """The state transactions of a batch that change the lock, but the one with this number, in words."""
+        for state in self.states:
+            if state.version == version and state.number != but and last_change(LOCKED, state.changes):
+                yield "Transaction %d of the same %s changes the lock. That counts from the next %s on." % (
+                    state.number, self.unit, self.unit)
 
 
 # ---- words for rows
@@ -204,6 +236,8 @@ def tags_compared(journal, version, change, theirs):
     lacking, added = [it for it in ours if it not in theirs], [it for it in theirs if it not in ours]
     if lacking:
         yield "TEXT lacks %s." % joined(lacking)
+    for tag in lacking[:MOST] if change[0] == "clear" else ():
+        yield from indented(givers(journal, version, change, tag))
     if added:
         yield "TEXT also has %s." % joined(added)
     for tag in added[:MOST]:
@@ -212,7 +246,9 @@ def tags_compared(journal, version, change, theirs):
         twice = len(set(theirs)) < len(theirs)
         yield "TEXT has %s: each tag stands once, by its locality and then by its id, as numbers." % (
             "a tag twice" if twice else "the same tags in another order")
-    for other in other_versions(journal, version):
+    # (of the many rows of a Clear, those of an earlier version say nothing: tags can be left out for other reasons)
+    earlier = earlier_versions(journal, version) if change[0] == "set" else ()
+    for other in earlier:
         if tag_words(journal, other, change) == theirs != ours:
             yield "By the metadata after version %d, the tags would be those of TEXT." % other
             break
@@ -222,10 +258,17 @@ def tag_words(journal, version, change):
     return ["%d:%d" % tag for tag in tags_of_change(journal.kept(version), change)]
 
 
-def other_versions(journal, version):
-    """The versions but this one, the nearest earlier ones first."""
-    versions = [0] + [it for it, _ in journal.rows]
-    return [it for it in reversed(versions) if it < version] + [it for it in versions if it > version]
+def earlier_versions(journal, version):
+    """The versions before this one, the nearest first."""
+    return [it for it in reversed([0] + [it for it, _ in journal.rows]) if it < version]
+
+
+def givers(journal, version, change, tag):
+    """The rows of a Clear whose tags have this one."""
+    kept = journal.kept(version)
+    for row in rows_touched(kept, change):
+        if tag in tag_words(journal, version, ("set", row[len(KEY_SERVERS) :], b"")):
+            yield "%s has it." % first_upper(row_name(row))
 
 
 def holders(journal, version, tag):

@@ -1,15 +1,17 @@
 """What decides a line of an offer: who is asked, the verdicts, and the rows that the proxy has not seen."""
+import itertools
 import re
 
-from reference import LOCKED
-from turns_reference import all_reads, is_state, keys_that_differ, owners, readers, writers
+from turns_reference import is_state
 
-from .journal import indented, key_words, range_words
-from .texts import count, joined, some, words_in
+from .journal import indented
+from .owners import ranges_sent
+from .texts import count, joined, words_in
+from .verdicts import explain_verdict
 
 OFFER = re.compile(r"offer row (\d+) resolver (\d+) (judged|again) (.*) unseen (.*)")
-# how many of the writes that do not count are named, and of how many keys the owners
-WRITES, KEYS = 4, 3
+# of how many transactions it is told whether they ask a resolver, and how many ways to read a list of verdicts are tried
+TRANSACTIONS, WAYS = 8, 2000
 
 
 def explain_offer(run, event, theirs):
@@ -18,7 +20,7 @@ def explain_offer(run, event, theirs):
     cluster = run.before(event)
     line = run.told[run.first_lines[event]].line
     if line.startswith("refused "):
-        yield from refused_words(run, cluster, row, resolver)
+        yield from refused_words(run, cluster, event)
         return
     record, ours, other = cluster.history[row], OFFER.fullmatch(line), OFFER.fullmatch(theirs or "")
     yield run.record_words(record)
@@ -28,6 +30,7 @@ def explain_offer(run, event, theirs):
         return
     if ours[3] == "again" == other[3]:
         yield repeated_words(run, record, resolver)
+        yield from reply_of_another(run, cluster, record, resolver, other)
     yield from explain_verdicts(run, record, resolver, words_in(ours[4]), words_in(other[4]))
     if ours[5] != other[5]:
         yield from explain_unseen(run, record, words_in(ours[5]), words_in(other[5]))
@@ -44,11 +47,11 @@ def judged_words(cluster, resolver):
         resolver, count(judged, "row"), cluster.history[judged - 1].version)
 
 
-def refused_words(run, cluster, row, resolver):
+def refused_words(run, cluster, event):
     """Why an offer is refused."""
+    _, row, resolver = run.events[event]
     if row >= len(cluster.history):
-        yield "Before this event %s a record. Rows count from 0." % (
-            "1 row has" if len(cluster.history) == 1 else "%d rows have" % len(cluster.history))
+        yield from missing_row_words(run, cluster, event)
         return
     yield run.record_words(cluster.history[row])
     if resolver >= cluster.resolvers:
@@ -58,6 +61,17 @@ def refused_words(run, cluster, row, resolver):
         yield "So row %d comes next, and the refusal names that version, or 0." % cluster.judged[resolver]
     else:
         yield from acknowledged_words(run, cluster, cluster.history[row], resolver)
+        yield "The refusal names the version that is acknowledged."
+
+
+def missing_row_words(run, cluster, event):
+    """Why an offer is one of a missing row."""
+    yield "Before this event %s a record. Rows count from 0." % (
+        "1 row has" if len(cluster.history) == 1 else "%d rows have" % len(cluster.history))
+    if any(it.line.startswith("refused ") and run.events[it.event][0] == "sequence" for it in run.told_before(event)):
+        yield "A sequence that is refused takes no row."
+    if run.events[event][2] >= cluster.resolvers:
+        yield "The resolver is missing too, and the row is looked for first."
 
 
 def acknowledged_words(run, cluster, record, resolver):
@@ -87,17 +101,29 @@ def repeated_words(run, record, resolver):
         run.line_of(record.row, resolver), record.row)
 
 
+def reply_of_another(run, cluster, record, resolver, other):
+    """The row of the same proxy whose reply TEXT has here, if there is one."""
+    for row in reversed(cluster.of_proxy(record.proxy)):
+        reply = OFFER.fullmatch(cluster.reply_line(row, resolver, "judged"))
+        if row.row != record.row and row.row < cluster.judged[resolver] and reply.group(4, 5) == other.group(4, 5):
+            yield "What TEXT has is the reply on row %d%s." % (row.row, run.line_of(row.row, resolver))
+            return
+
+
 # ---- verdicts
 
 
 def explain_verdicts(run, record, resolver, ours, theirs):
     """What decides the verdicts, if TEXT's are others: who is asked if it has more or fewer, else the first that differs."""
+    asked = [part.number for part in run.share(record, resolver)]
     if len(ours) != len(theirs):
         yield "The resolver gives %s on this row, one for each transaction that asks it. TEXT has %d." % (
             count(len(ours), "verdict"), len(theirs))
-        yield from explain_share(run, record, resolver)
+        ways = ways_to_read(asked, [it for it in range(len(record.batch)) if it not in asked], ours, theirs)
+        if ways:
+            yield counts_compared(ways, len(theirs) - len(ours))
+        yield from explain_share(run, record, asked, sorted({number for way in ways for number in way}))
         return
-    asked = [part.number for part in run.share(record, resolver)]
     for at, (mine, other) in enumerate(zip(ours, theirs)):
         if mine != other:
             yield "Verdict %d is on transaction %d, with snapshot %d." % (at, asked[at], record.batch[asked[at]].snapshot)
@@ -105,10 +131,39 @@ def explain_verdicts(run, record, resolver, ours, theirs):
             return
 
 
-def explain_share(run, record, resolver):
-    """Which transactions of a record ask a resolver, and why."""
-    asked = [it.number for it in run.share(record, resolver)]
-    for number, transaction in enumerate(record.batch):
+def ways_to_read(asked, others, ours, theirs):
+    """The transactions of which TEXT lacks the verdict, or has one too, for each way in which its other verdicts are ours."""
+    more = len(theirs) - len(ours)
+    ways = list(itertools.islice(itertools.combinations(others if more > 0 else asked, abs(more)), WAYS + 1))
+    if len(ways) > WAYS:
+        return []
+    return [it for it in ways if is_read_so(asked, it, *((ours, theirs) if more > 0 else (theirs, ours)))]
+
+
+def is_read_so(asked, way, shorter, longer):
+    """Whether the longer list is the shorter one with the verdicts on these transactions too."""
+    numbers = sorted({*asked, *way})
+    return [verdict for number, verdict in zip(numbers, longer) if number not in way] == shorter
+
+
+def counts_compared(ways, more):
+    """Of which transactions TEXT lacks the verdict, or has one too."""
+    numbers, many = sorted({number for way in ways for number in way}), "s" if abs(more) > 1 else ""
+    which = "transaction%s %s" % ("s" if len(numbers) > 1 else "", joined(numbers))
+    if len(ways) > 1:
+        which = "%s of the %s" % (abs(more) if many else "one", which)
+    if more > 0:
+        return "TEXT also has %s on %s." % ("verdicts" if many else "a verdict", which)
+    return "TEXT lacks the verdict%s on %s." % (many, which)
+
+
+def explain_share(run, record, asked, first):
+    """Which transactions of a record ask a resolver, and why; of a large batch the first ones alone."""
+    numbers = range(len(record.batch))
+    if len(numbers) > TRANSACTIONS:
+        numbers = [*first, *(it for it in numbers if it not in first)][:TRANSACTIONS]
+    for number in sorted(numbers):
+        transaction = record.batch[number]
         yield "Transaction %d %s." % (number, "asks it" if number in asked else "does not ask it")
         if is_state(transaction):
             yield "  It is a state transaction, which asks every resolver."
@@ -116,132 +171,8 @@ def explain_share(run, record, resolver):
         yield from indented(ranges_sent(run, record, transaction))
         if not transaction.reads and not transaction.writes:
             yield "  It is no state transaction, and reads and writes no range."
-
-
-def ranges_sent(run, record, transaction):
-    """Where the ranges of a transaction are sent."""
-    for span in all_reads(transaction):
-        yield "The read %s goes to %s." % (
-            range_words(span), resolvers_words(readers(record, span, transaction.snapshot, run.cluster.window)))
-        yield from indented(owners_words(run, record, span, transaction.snapshot))
-    for span in transaction.writes:
-        yield "The write %s goes to %s." % (range_words(span), resolvers_words(writers(record, span)))
-        yield from indented(owners_words(run, record, span, None))
-
-
-def resolvers_words(numbers):
-    return "resolver%s %s" % ("s" if len(numbers) > 1 else "", joined(sorted(numbers)))
-
-
-def owners_words(run, record, span, snapshot):
-    """The owners of the keys of a range, the last one first; of a read, how far back it goes."""
-    if not record.moves:
-        return
-    yield from some((owner_words(record, key) for key in sorted(keys_that_differ(record, span))), KEYS)
-    if snapshot is None:
-        yield "A write asks the last owner of each key."
-        return
-    bound, oldest = "its snapshot %d" % snapshot, record.previous - run.cluster.window
-    if oldest > snapshot:
-        bound = "%d, the previous version %d less the window %d" % (oldest, record.previous, run.cluster.window)
-    yield "A read asks the owners from the last one back to the first that is dated before %s." % bound
-
-
-def owner_words(record, key):
-    each = ["%d (dated %d)" % (resolver, date) for date, resolver in reversed(owners(record, key))]
-    return "The owners of %s, the last one first: %s." % (key_words(key), joined(each))
-
-
-def explain_verdict(run, record, resolver, number, theirs):
-    """What decides the verdict of a resolver on a transaction; TEXT's may be too_old, which says more of the snapshot."""
-    part = next(it for it in run.share(record, resolver) if it.number == number)
-    ours, snapshot = run.verdict(record, resolver, number), record.batch[number].snapshot
-    if "too_old" in (ours, theirs):
-        yield from age_words(run, record, part, snapshot)
-    if LOCKED in [read[0] for read in part.reads]:
-        if (LOCKED, LOCKED + b"\x00") not in record.batch[number].reads:
-            yield "It is a state transaction that is not lock aware, so it also reads the row %s." % key_words(LOCKED)
-    if ours == "too_old" or (ours, theirs) == ("committed", "too_old"):
-        return
-    for read in part.reads:
-        yield "Its read %s is sent to resolver %d." % (range_words(read), resolver)
-        yield from indented(owners_words(run, record, read, snapshot))
-    hits = [it for it in overlaps(run, record, resolver, part) if not it[-1]]
-    if ours == "conflict":
-        yield hit_words(run, record, resolver, snapshot, hits[0])
-        return
-    told = [hit_words(run, record, resolver, snapshot, it) for it in overlaps(run, record, resolver, part)]
-    if part.reads:
-        yield "No write that counts overlaps a read of it%s." % ("; these do not count" if told else "")
-    yield from some(told, WRITES)
-    yield from unsent_reads(run, record, resolver, number)
-
-
-def age_words(run, record, part, snapshot):
-    """Whether a part is too old."""
-    if not part.reads:
-        yield "No read of it is sent to this resolver, so it is not too old, whatever its snapshot is."
-        return
-    oldest = record.version - run.cluster.window
-    yield "The version %d less the window %d is %d. A read is too old if its snapshot is below that: %d is%s." % (
-        record.version, run.cluster.window, oldest, snapshot, "" if snapshot < oldest else " not")
-
-
-def unsent_reads(run, record, resolver, number):
-    """The reads of a transaction that are not sent to a resolver."""
-    transaction = record.batch[number]
-    for span in all_reads(transaction):
-        sent = readers(record, span, transaction.snapshot, run.cluster.window)
-        if resolver not in sent:
-            yield "Its read %s is not sent to resolver %d, but to %s." % (range_words(span), resolver, resolvers_words(sent))
-            yield from indented(owners_words(run, record, span, transaction.snapshot))
-
-
-# ---- the writes that a read meets
-
-
-def overlaps(run, record, resolver, part):
-    """Each write, up to this record, that overlaps a read: its record, transaction, range, the read, and why it does not count.
-
-    Also each that only touches a read, and would count otherwise.
-    """
-    for other in run.cluster.history[: record.row + 1]:
-        for number, transaction in enumerate(other.batch):
-            for write in transaction.writes:
-                why = why_not(run, record, resolver, part, other, number, write)
-                read = next((it for it in part.reads if it[0] < write[1] and write[0] < it[1]), None)
-                touched = next((it for it in part.reads if it[0] == write[1] or write[0] == it[1]), None)
-                if read:
-                    yield other, number, write, read, why
-                elif touched and not why:
-                    yield other, number, write, touched, "it only touches the read %s, since no range has its end" % range_words(touched)
-
-
-def why_not(run, record, resolver, part, other, number, write):
-    """Why a write does not count for a read of a part, or no text."""
-    if other.row == record.row and number >= part.number:
-        return "it is its own" if number == part.number else "it comes later in the batch"
-    snapshot = record.batch[part.number].snapshot
-    if other.row < record.row and other.version <= snapshot:
-        return "its version is not above the snapshot %d" % snapshot
-    sent = writers(other, write)
-    if resolver not in sent:
-        return "it went to %s" % resolvers_words(sent)
-    verdict = run.verdict(other, resolver, number)
-    if verdict == "committed":
-        return ""
-    return "resolver %d gave its transaction %s%s" % (resolver, verdict, run.line_of(other.row, resolver))
-
-
-def hit_words(run, record, resolver, snapshot, hit):
-    """A write that overlaps a read, and why it counts, or does not."""
-    other, number, write, read, why = hit
-    words = "The write %s of transaction %d of row %d (version %d)" % (range_words(write), number, other.row, other.version)
-    if why:
-        return "  %s: %s." % (words, why)
-    return "%s overlaps the read %s: resolver %d committed it%s, and it is %s." % (
-        words, range_words(read), resolver, run.line_of(other.row, resolver),
-        "earlier in the batch" if other.row == record.row else "above the snapshot %d" % snapshot)
+    if len(record.batch) > TRANSACTIONS:
+        yield "(and %d more)" % (len(record.batch) - TRANSACTIONS)
 
 
 # ---- unseen rows
@@ -259,7 +190,8 @@ def explain_unseen(run, record, ours, theirs):
     lacking, added = [it for it in ours if it not in theirs], [it for it in theirs if it not in ours]
     for word in lacking:
         row = next(it for it in run.cluster.history if str(it.version) == word)
-        yield "TEXT lacks %s: row %d, of proxy %d." % (word, row.row, row.proxy)
+        more = "" if any(map(is_state, row.batch)) else ", which has no state transaction and is listed all the same"
+        yield "TEXT lacks %s: row %d, of proxy %d%s." % (word, row.row, row.proxy, more)
     for word in added:
         yield "TEXT also has %s%s." % (word, seen_words(run, record, word))
     if not lacking and not added:

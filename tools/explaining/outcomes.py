@@ -1,10 +1,10 @@
 """What decides a line of a finish, or one of a proxy after the events."""
-from reference import KEY_SERVERS, LOCKED, METADATA_VERSION, Refused, is_locked, quoted, read_bytes
-from threads_orders import last_change
+from reference import KEY_SERVERS, LOCKED, METADATA_VERSION, Refused, quoted, read_bytes
 
 from .copies import explain_added, explain_copy
 from .journal import first_upper, indented, key_words, mutation_words, row_name, tags_compared, tags_story
 from .texts import after, count, joined
+from .verdicts import too_old_words
 
 
 def first_waiting(cluster, proxy):
@@ -62,6 +62,8 @@ def explain_outcome(run, record, number):
         verdicts += [verdict] if verdict else []
         where = run.line_of(record.row, resolver)
         yield "Resolver %d %s%s." % (resolver, "gave %s" % verdict if verdict else "was not asked", where if verdict else "")
+    if "too_old" in verdicts:
+        yield too_old_words(run, record, transaction.snapshot)
     joint = run.cluster.joined(record, number)
     if not verdicts:
         yield "A transaction that asks no resolver is committed, unless the lock refuses it."
@@ -69,18 +71,14 @@ def explain_outcome(run, record, number):
         yield "The least of these in the order conflict, too_old, committed is %s." % joint
     if joint == "committed":
         yield from explain_lock(run, record, transaction)
+    else:
+        yield "The lock refuses only what would be committed."
 
 
 def explain_lock(run, record, transaction):
     """What the lock says of a transaction that the resolvers commit."""
-    locked = is_locked(run.journal.kept(record.previous))
-    yield "The lock is read once, before the batch, after version %d: the database was %slocked." % (
-        record.previous, "" if locked else "not ")
-    yield from indented(run.journal.story(LOCKED, record.previous))
-    yield "The transaction is %slock aware." % ("" if transaction.lock_aware else "not ")
-    same = [it for it in run.journal.states if it.version == record.version and last_change(LOCKED, it.changes)]
-    for state in same:
-        yield "Transaction %d of the same batch changes the lock. That counts from the next batch on." % state.number
+    yield from run.journal.lock_story(record.previous, transaction.lock_aware)
+    yield from run.journal.lock_changes(record.version)
 
 
 def explain_mutation(run, record, number, place, theirs):

@@ -42,6 +42,10 @@ class Run:
     def tell(self, lines, event, proxy):
         self.told += [Told(line, event, proxy) for line in lines if is_known(line)]
 
+    def told_before(self, event):
+        """The lines of the events before one."""
+        return [it for it in self.told if it.event is not None and it.event < event]
+
     def before(self, event):
         """The cluster as it is before an event."""
         cluster = Cluster(*self.numbers)

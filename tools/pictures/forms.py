@@ -1,16 +1,11 @@
 """What a script and a text are when they have the known form, and what is said of others.
 
-The second program in Python (tests/scripts) reads the script, and its folds give the metadata that no line of a text has.
+The second program in Python reads the script, and its folds give the metadata that no line of a text has.
 """
-import os
 import re
-import sys
 from typing import NamedTuple
 
-ROOT = os.path.dirname(os.path.dirname(os.path.dirname(os.path.abspath(__file__))))
-sys.path.insert(1, os.path.join(ROOT, "tests", "scripts"))
-
-from reference import METADATA_VERSION, Refused, is_locked, metadata_lines, quoted, read_bytes, read_json  # noqa: E402
+from pictures.second_program import METADATA_VERSION, Refused, is_locked, metadata_lines, quoted, read_bytes, read_json
 
 NUMBER = r"(\d{1,20})"
 REFUSAL = re.compile(r"refused (\d{1,3}) ([A-Za-z]+)(?: (\S+))?")

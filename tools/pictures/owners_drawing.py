@@ -3,8 +3,7 @@ from types import SimpleNamespace
 
 from pictures.svg import SMALL, box, element, fitted, picture, text, title, width_of
 
-import turns_reference
-from reference import END, quoted
+from pictures.second_program import END, quoted, turns_reference
 
 LINE, HEAD, PIECE = 26, 24, 78
 # so many colours there are; the number of the resolver stands in each piece

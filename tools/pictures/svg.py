@@ -50,6 +50,12 @@ def fitted(words, width, size=NORMAL):
     return words if len(words) <= room else words[: room - 1] + "…"
 
 
+def shortened(words, width, size=NORMAL):
+    """These words without their middle, if they are wider than this."""
+    room = max(3, int(width / (size * WIDTH)))
+    return words if len(words) <= room else words[: room // 2] + "…" + words[len(words) - (room - 1 - room // 2) :]
+
+
 def text(x, y, words, class_=None, size=NORMAL, anchor=None):
     """Words whose left end, or middle, stands here."""
     names = " ".join(filter(None, ["s" if size == SMALL else None, "m" if anchor == "middle" else None, class_]))
@@ -74,9 +80,9 @@ def ground(y, width, height, version, place):
     return element("rect", x=0, y=float(y), width=width, height=float(height), class_=names, data_v=version)
 
 
-def life_line(x, top, bottom):
-    """The line of a lane."""
-    return element("path", d="M%s %s V%s" % (x, top, bottom), class_="life")
+def life_lines(places, top, bottom):
+    """The lines of all lanes."""
+    return element("path", d="".join("M%s %sV%s" % (number(x), number(top), number(bottom)) for x in places), class_="life")
 
 
 # ---- chips: a verdict or an outcome with its letter, and other small boxes
@@ -86,8 +92,8 @@ def letter_width(label):
     return 14 + (width_of(label, SMALL) + 3 if label else 0)
 
 
-def letter_chip(word, label, kind, what):
-    """A chip for a verdict or an outcome: its width, and how it is drawn. `label` is the number of the transaction, if known."""
+def letter_chip(word, label, kind, what, **more):
+    """A chip for a verdict or an outcome: its width, and how it is drawn. `label` says of which transactions it is, if known."""
     width = letter_width(label)
 
     def draw(x, y):
@@ -95,7 +101,7 @@ def letter_chip(word, label, kind, what):
         if label:
             pieces.append(text(x + 3, y + 12.5, label, "n", SMALL))
         pieces.append(text(x + width - 10.5, y + 13, LETTERS[word], "letter"))
-        return element("g", *pieces, class_="%s %s" % (kind, word))
+        return element("g", *pieces, class_="%s %s" % (kind, word), **more)
 
     return width, draw
 
@@ -138,10 +144,13 @@ def height_of_chips(lines):
     return len(lines) * (CHIP + GAP) - GAP if lines else 0
 
 
+def drawn(width, height, *pieces, **more):
+    """A whole SVG."""
+    box_ = "0 0 %s %s" % (number(width), number(height))
+    return element("svg", *pieces, xmlns="http://www.w3.org/2000/svg", viewBox=box_, width=width, height=height, **more)
+
+
 def picture(width, height, pieces, name, words):
     """A whole SVG in a box in which it may scroll."""
-    drawn = element(
-        "svg", element("title", escaped(words)), *pieces, xmlns="http://www.w3.org/2000/svg", role="img", class_=name,
-        viewBox="0 0 %s %s" % (number(width), number(height)), width=width, height=height,
-    )
-    return element("div", drawn, class_="scroll", tabindex=0, role="region", aria_label=words)
+    inner = drawn(width, height, title(words), *pieces, role="img", class_=name)
+    return element("div", inner, class_="scroll", tabindex=0, role="region", aria_label=words)

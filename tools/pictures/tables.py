@@ -1,12 +1,13 @@
-"""The tables of a page: routing by version, and what the text says, event by event."""
+"""The tables of a page: routing by version, mutations with their tags, and lines that differ."""
 import bisect
+import difflib
+import itertools
 
 from pictures.forms import is_known
-from pictures.page import counted
-from pictures.svg import clean, element, escaped
+from pictures.page import kept_as_text
+from pictures.second_program import quoted, read_bytes
+from pictures.svg import clean, element, escaped, shortened
 from pictures.turns_text import KNOWN, MUTATION, PRIVATE
-
-from reference import quoted, read_bytes
 
 LONGEST = 48
 ROUTING = "<table><caption>%s</caption><thead><tr><td></td>%s</tr></thead><tbody>%s</tbody></table>"
@@ -28,21 +29,41 @@ def cut(words):
 # ---- routing
 
 
-def routing(version, reached, known, ask, title):
-    """The metadata at a version, and that of each proxy, by the version that each has reached; `known` has it by version."""
-    versions = sorted(known)
-    columns = []
+def routing(version, reached, known, ask, title, is_later=False):
+    """The metadata at a version, and that of each proxy, by the version that each has reached; `known` has it by version.
+
+    With `is_later` the page's script makes the table when it is shown.
+    """
+    versions, columns = sorted(known), []
     for at in sorted({version, *reached}):
-        who = ", ".join("proxy %d" % proxy for proxy, it in enumerate(reached) if it == at)
-        columns.append(("at %d: %s" % (at, who or "no proxy"), known[versions[max(bisect.bisect(versions, at) - 1, 0)]]))
-    keys = sorted({key for _, metadata in columns for key in metadata.routes}, key=spelled_bytes)
-    rows = [("locked", [it.locked for _, it in columns]), ("metadata version", [it.metadata_version for _, it in columns])]
-    rows += [("from %s" % key, [it.routes.get(key, "no row") for _, it in columns]) for key in keys]
-    rows += [("key %s" % quoted(key), [it.asked[place][1] for _, it in columns]) for place, key in enumerate(ask)]
-    head = "".join(cell(heading, "th", scope="col") for heading, _ in columns)
+        who = [proxy for proxy, it in enumerate(reached) if it == at]
+        columns.append((at, who, known[versions[max(bisect.bisect(versions, at) - 1, 0)]]))
+    shown = [metadata for _, _, metadata in columns]
+    keys = sorted({key for it in shown for key in it.routes}, key=spelled_bytes)
+    rows = [("locked", [it.locked for it in shown]), ("metadata version", [it.metadata_version for it in shown])]
+    rows += [("from %s" % key, [it.routes.get(key, "no row") for it in shown]) for key in keys]
+    rows += [("key %s" % quoted(key), [it.asked[place][1] for it in shown]) for place, key in enumerate(ask)]
+    head = "".join(heading(at, who) for at, who, _ in columns)
     body = "".join(routing_row(name, cells) for name, cells in rows)
     drawn = ROUTING % (escaped(title), head, body)
-    return element("section", element("div", drawn, class_="scroll"), class_="at", id="v%d" % version, data_v=version)
+    box = element("div", drawn, class_="scroll", tabindex=0, role="region", aria_label=title)
+    return element("section", kept_as_text(box) if is_later else box, class_="at", id="v%d" % version, data_v=version)
+
+
+def heading(at, who):
+    """The head of a column: a version, and the proxies that are at it."""
+    label, words = shortened(str(at), 90), proxies_words(who)
+    version = element("span", escaped("at %s" % label), title=None if label == str(at) else str(at))
+    return element("th", version, "<br/>", escaped(words), scope="col", data_proxies=" ".join(map(str, who)) or None)
+
+
+def proxies_words(who):
+    """Proxies in words, neighbours together."""
+    runs = []
+    for _, those in itertools.groupby(enumerate(who), key=lambda it: it[1] - it[0]):
+        numbers = [it for _, it in those]
+        runs.append(str(numbers[0]) if len(numbers) == 1 else "%d–%d" % (numbers[0], numbers[-1]))
+    return "%s %s" % ("proxy" if len(who) == 1 else "proxies", ", ".join(runs)) if who else "no proxy"
 
 
 def routing_row(name, cells):
@@ -58,41 +79,14 @@ def spelled_bytes(key):
 # ---- events
 
 
-def events(turns, shown):
-    """What the text says of each event, line by line."""
-    rows = []
-    for event in shown:
-        lines = [line for line in event.lines if is_outside(event, line)]
-        said = element("pre", escaped("\n".join(lines)))
-        if event.kind == "finish" and not event.refusal:
-            said += mutations(turns, event)
-        said += wanted(event.wanted)
-        what = "%d" % event.number, words_of_event(event)
-        rows.append(element("tr", cell(what[0]), cell(what[1]), element("td", said), id="e%d" % event.number, data_v=event.version))
-    head = "<thead><tr><th>event</th><th>in the script</th><th>in the text</th></tr></thead>"
-    return '<table class="events">%s<tbody>%s</tbody></table>' % (head, "".join(rows))
-
-
 def is_outside(event, line):
     """Whether a line stands above the table of an event's mutations, and not in it."""
     return event.kind != "finish" or event.refusal or is_known(line, ["finish", "refused", "txn"])
 
 
-def words_of_event(event):
-    """The script's event in words."""
-    words = event.words
-    if event.kind == "sequence":
-        return "sequence: proxy %d, %s" % (words[0], counted(len(words[1]), "transaction"))
-    if event.kind == "move":
-        return "move: [%s, %s) to resolver %d" % (short(words[0][0]), short(words[0][1]), words[1])
-    if event.kind == "offer":
-        return "offer: row %d to resolver %d" % tuple(words)
-    return "finish: proxy %d" % words[0]
-
-
 def mutations(turns, event):
     """The mutations of a finished batch with their tags, and below each its private copy and the lines that the tool does not know."""
-    record = next((it for it in turns.cluster.history if it.version == event.version), None)
+    record = turns.run.records.get(event.number)
     rows = []
     for line in event.lines[1:]:
         if is_known(line, ["mutation"]):
@@ -107,7 +101,8 @@ def mutations(turns, event):
     if not rows:
         return ""
     head = "<thead><tr><th>txn</th><th>mutation</th><th>what it does</th><th>tags</th></tr></thead>"
-    return '<table class="mutations">%s<tbody>%s</tbody></table>' % (head, "".join(rows))
+    table = '<table class="mutations">%s<tbody>%s</tbody></table>' % (head, "".join(rows))
+    return element("div", table, class_="scroll", tabindex=0, role="region", aria_label="mutations")
 
 
 def words_of_mutation(record, transaction, place):
@@ -118,17 +113,36 @@ def words_of_mutation(record, transaction, place):
     return "set %s to %s" % (short(first), short(second)) if kind == "set" else "clear [%s, %s)" % (short(first), short(second))
 
 
-def wanted(lines):
-    """What the second program says instead of an event's lines, where it says something else."""
-    if not lines:
-        return ""
-    return element("p", "The definitions come to:", class_="differs") + element("pre", escaped("\n".join(lines)))
+def compared(said, wanted):
+    """Lines of the text beside those that the definitions come to; where they differ, the words are marked."""
+    rows = []
+    for kind, begin, end, other, last in difflib.SequenceMatcher(None, said, wanted, False).get_opcodes():
+        for mine, right in itertools.zip_longest(said[begin:end], wanted[other:last]):
+            pair = (escaped(clean(mine)), escaped(right)) if kind == "equal" else marked(mine, right)
+            rows.append(element("tr", *(element("td", element("pre", it or "(no line)")) for it in pair)))
+    head = "<thead><tr><th>≠ the text</th><th>the definitions come to</th></tr></thead>"
+    return '<table class="compared">%s<tbody>%s</tbody></table>' % (head, "".join(rows))
+
+
+def marked(mine, right):
+    """Two lines with the words marked in which they differ. One that is not there is nothing."""
+    if mine is None or right is None:
+        return [it and element("mark", escaped(clean(it))) for it in (mine, right)]
+    one, other = clean(mine).split(" "), right.split(" ")
+    sides = [], []
+    for kind, begin, end, first, last in difflib.SequenceMatcher(None, one, other, False).get_opcodes():
+        for side, words in zip(sides, (one[begin:end], other[first:last])):
+            spelled = escaped(" ".join(words))
+            if words:
+                side.append(spelled if kind == "equal" else element("mark", spelled))
+    return [" ".join(side) for side in sides]
 
 
 def ends(turns):
     """The lines of each proxy at the end of the text."""
     rows = []
     for proxy, (metadata, lines, should) in enumerate(turns.ends):
-        said = element("pre", escaped("\n".join(map(clean, lines)))) + wanted(should)
-        rows.append(element("tr", cell("proxy %d" % proxy), element("td", said), data_v=metadata.version))
+        said = compared(lines, should) if should else element("pre", escaped("\n".join(map(clean, lines))))
+        name = cell("≠ proxy %d" % proxy, class_="differs") if should else cell("proxy %d" % proxy)
+        rows.append(element("tr", name, element("td", said), data_v=metadata.version, id="p%d" % proxy))
     return '<table class="ends"><tbody>%s</tbody></table>' % "".join(rows)

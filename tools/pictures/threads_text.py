@@ -1,13 +1,13 @@
 """What a threads script and its text say: of batches in the order of each proxy, and of no order between proxies."""
+import itertools
 import re
 from typing import NamedTuple
 
 from pictures.forms import METADATA, NUMBER, WrongForm, is_known, lines_of, match, read_proxies, wrong_line
 
-import threads_orders
-from reference import Refused
-from threads_reference import Work, check, committed_rows, printed, read_threads, words_of
-from turns_reference import refusal
+from pictures import causes
+from pictures.second_program import Refused, Work, refusal, threads_explained, threads_orders, threads_reference
+from pictures.turns_text import Cluster
 
 OUTCOME = "(?:committed|conflict|too_old|locked)"
 REFUSED = r"(refused (?:50 LedgerFull \d{1,20}|51 VersionsEnd))"
@@ -18,8 +18,10 @@ AUDIT = re.compile("audit %s (?:ok|behind %s %s)" % (NUMBER, NUMBER, NUMBER))
 KNOWN = {"batch", "closing", "proxy", "meet", "audit", *METADATA}
 # how many batches a search for all orders commits before it gives up
 COMMITS = 1500
-# how many states the search for one order looks at: a page has to be there in some seconds
+# how many states the search for one order looks at, and of how many orders each is printed to find the first wrong line: a page
+# has to be there in some seconds
 threads_orders.STATES = 1000
+ORDERS = 200
 
 
 class Given(NamedTuple):
@@ -39,12 +41,26 @@ class Given(NamedTuple):
     lines: list
 
 
+class Unexplained(NamedTuple):
+    """The first line of a text with which no possible text goes on."""
+
+    line: str
+    # how possible texts go on that begin as this one, each with the number of orders
+    wanted: list
+    # the proxy and the number of its batch, nothing for another line of the proxy; no proxy if the line is of none
+    proxy: int
+    number: int
+    # what decides the line in one of these orders, in sentences
+    why: list
+
+
 class Threads(NamedTuple):
     script: object
     given: list
-    # what a search says is wrong with the text, or nothing; and whether it knows
+    # what a search says is wrong with the text, or nothing, and whether it knows; and the first line that is wrong, if known
     wrong: str
     is_checked: bool
+    unexplained: object
     # the proxies of the rows, if only one order gives the text
     order: list
     # for each proxy what the text says of it at the end, and its lines
@@ -53,12 +69,26 @@ class Threads(NamedTuple):
     meetings: list
     audits: list
 
+    def is_unexplained(self, given):
+        """Whether no order explains a batch, or a closing."""
+        found = self.unexplained
+        return bool(found) and (found.proxy, found.number, found.line.split(" ")[0]) == (
+            given.proxy, given.number, "closing" if given.number is None else "batch")
+
+    def run(self):
+        """The batches as events, in the one order that gives the text."""
+        given = threads_explained.run_in_order(self.script, self.order)
+        run = causes.Followed(Cluster(*given.numbers), given.events)
+        for number in range(len(given.events)):
+            run.carry_out(number)
+        return run
+
 
 def read(value, text, script):
     """The picture of a script, by its JSON value and its bytes, and of its text."""
     try:
-        read_value = read_threads(value)
-        check(read_value)
+        read_value = threads_reference.read_threads(value)
+        threads_reference.check(read_value)
     except Refused as refused:
         raise WrongForm("the script is refused: %s" % refusal(refused.args[0])[0]) from None
     lines = lines_of(text)
@@ -72,7 +102,8 @@ def read(value, text, script):
     order, rows = rows_of(read_value, batches, known) if not wrong else (None, {})
     rows = rows or rows_by_count(read_value, batches)
     given = [it._replace(rows=rows.get((it.proxy, it.number))) for it in batches] + closings
-    return Threads(read_value, given, wrong if is_checked else None, is_checked, order, ends, meetings, audits)
+    found = unexplained(read_value, known) if wrong and is_checked else None
+    return Threads(read_value, given, wrong if is_checked else None, is_checked, found, order, ends, meetings, audits)
 
 
 def with_others(lines, at):
@@ -168,21 +199,48 @@ def all_orders(script, batches, text):
     work, words = Work(script), [[] for _ in script.work]
     for it in batches:
         if not it.refusal:
-            words[it.proxy].append(words_of(it.outcomes))
-    count, left, found = committed_rows(script), COMMITS, []
+            words[it.proxy].append(threads_reference.words_of(it.outcomes))
+    count, left, found = threads_reference.committed_rows(script), COMMITS, []
     ways = [([], work.begin(), (0,) * script.proxies)]
     while ways:
         order, known, had = ways.pop()
         if len(order) == count:
             left -= count
-            found += [order] if printed(script, order, meetings=True) == text else []
+            found += [order] if threads_reference.printed(script, order, meetings=True) == text else []
             continue
         for proxy in range(script.proxies):
             if had[proxy] < len(words[proxy]):
                 left -= 1
                 outcomes, then = work.commit(known, proxy, had[proxy])
-                if words_of(outcomes) == words[proxy][had[proxy]]:
+                if threads_reference.words_of(outcomes) == words[proxy][had[proxy]]:
                     ways.append(([*order, proxy], then, (*had[:proxy], had[proxy] + 1, *had[proxy + 1 :])))
         if left < 0:
             return []
     return found
+
+
+# ---- the first line that no order explains
+
+
+def unexplained(script, text):
+    """The first line with which no possible text goes on, if the orders are few enough to try each."""
+    orders = list(itertools.islice(threads_explained.orders_of(script), ORDERS + 1))
+    if len(orders) > ORDERS:
+        return None
+    texts = [(order, threads_reference.printed(script, order, True).split("\n")[:-1]) for order in orders]
+    theirs = text.split("\n")[:-1]
+    most, near = threads_explained.nearest(theirs, texts)
+    line = theirs[most] if most < len(theirs) else ""
+    wanted = [(line or "", count) for line, count in threads_explained.ways_on(most, near)]
+    order, lines = near[0]
+    why = list(threads_explained.explain_line(script, order, lines[: most + 1], line)) if most < len(lines) else []
+    return Unexplained(line, wanted, *owner_of(theirs, most), why)
+
+
+def owner_of(lines, at):
+    """The proxy that a line is of and the number of its batch, if it is of one."""
+    words = lines[at].split(" ") if at < len(lines) else [""]
+    if words[0] in ("batch", "closing", "proxy"):
+        return int(words[1]), int(words[2]) if words[0] == "batch" else None
+    before = [line for line in lines[:at] if line.startswith("proxy ")]
+    return (int(before[-1].split(" ")[1]) if words[0] in METADATA and before else None), None

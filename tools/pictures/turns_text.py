@@ -4,9 +4,8 @@ from typing import NamedTuple
 
 from pictures.forms import BYTES, METADATA, NUMBER, REFUSAL, WrongForm, is_known, lines_of, match, metadata_of, read_proxies, wrong_line
 
-import threads_reference
-import turns_reference
-from reference import Refused, fold
+from pictures import causes
+from pictures.second_program import Refused, fold, threads_reference, turns_reference
 
 VERDICTS = r"((?:conflict|too_old|committed)(?: (?:conflict|too_old|committed))*|none)"
 VERSIONS = r"(\d{1,20}(?: \d{1,20})*|none)"
@@ -57,8 +56,8 @@ class Turns(NamedTuple):
     events: list
     # for each proxy what the text says of it at the end, its lines, and those that the second program would say
     ends: list
-    # the second program's cluster after all events, and the keys that the script asks for
-    cluster: object
+    # the second program's run of the events, and the keys that the script asks for
+    run: object
     ask: list
     # the records that the text has: for each row its proxy, its version and the number of the event
     records: dict
@@ -66,19 +65,19 @@ class Turns(NamedTuple):
     finished: dict
 
 
-class Followed(turns_reference.Cluster):
+class Cluster(turns_reference.Cluster):
     """The second program's cluster, which keeps what each resolver gets, and judges as threads_reference.py does: in less time."""
 
     def __init__(self, *numbers):
         super().__init__(*numbers)
-        # for each row and resolver the numbers of the transactions that ask it
-        self.asked = {}
+        # for each row and resolver what it gets, and the numbers of the transactions that ask it
+        self.parts, self.asked = {}, {}
         self.writes = [{} for _ in range(self.resolvers)]
 
     def judge(self, record, resolver):
         parts, oldest = turns_reference.share(record, resolver, self.window), record.version - self.window
         said, self.writes[resolver] = threads_reference.judge(self.writes[resolver], parts, record.batch, record.version, oldest)
-        self.asked[record.row, resolver] = [part.number for part in parts]
+        self.parts[record.row, resolver], self.asked[record.row, resolver] = parts, [part.number for part in parts]
         return dict(zip(self.asked[record.row, resolver], said))
 
 
@@ -93,16 +92,16 @@ def read(value, text):
             turns_reference.check_event(event)
     except Refused as refused:
         raise WrongForm("the script is refused: %s" % turns_reference.refusal(refused.args[0])[0]) from None
-    lines, at, cluster, reader = lines_of(text), 0, Followed(*numbers), Reader(*numbers[:2])
+    lines, at, cluster, reader = lines_of(text), 0, Cluster(*numbers), Reader(*numbers[:2])
+    run = causes.Followed(cluster, events)
     for number, (kind, *words) in enumerate(events):
         after = end_of_event(lines, at)
-        wanted = list(getattr(cluster, kind)(*words))
-        reader.add(number, kind, words, lines, at, after, wanted)
+        reader.add(number, kind, words, lines, at, after, run.carry_out(number))
         at = after
     ends, _ = read_proxies(lines, at, cluster.proxies, ask, ())
     wanted = [list(cluster.routing_lines(proxy, ask)) for proxy in range(cluster.proxies)]
     ends = [(metadata, said, [] if agrees(said, should) else should) for (metadata, said), should in zip(ends, wanted)]
-    return Turns(*numbers, reader.events, ends, cluster, ask, reader.records, reader.finished)
+    return Turns(*numbers, reader.events, ends, run, ask, reader.records, reader.finished)
 
 
 def end_of_event(lines, at):
@@ -191,7 +190,7 @@ class Reader:
 
 def metadata_by_version(turns):
     """For version 0 and each version of the second program's records, the metadata at it."""
-    cluster, ask = turns.cluster, turns.ask
+    cluster, ask = turns.run.cluster, turns.ask
     journal = cluster.journal(cluster.last_version())
     known = {0: metadata_of(0, {}, ask)}
     last = known[0]
