@@ -53,8 +53,8 @@ ASKING = {
 # the modes whose scripts have a list of which none is kept where the numbers of the script stand before it, and its field
 TAKEN_AS_THEY_COME = {"": "rows", "turns": "events"}
 
-# How many growths fewer a run of threads takes at least, whose growths have no fixed number, if it is read as its tokens
-# come: these, and in a short script one for so many bytes of it.
+# A run of threads, whose growths have no fixed number, takes at least 20 fewer if its script is read as its tokens come;
+# a script of fewer than 320 bytes cannot save as many, and takes at least one fewer for every 16 bytes.
 FEWER_IN_THREADS, BYTES_FOR_ONE = 20, 16
 
 

@@ -41,7 +41,7 @@ def fault_of(script, end):
     """Words about an end that is not right, or nothing."""
     status, text, more = end
     if (status, more) != (0, b""):
-        return "status %s, %.1000r, %.200r" % (status, text, more)
+        return "status %s, it says %.200r beside its text %.1000r" % (status, more, text)
     return what_is_wrong(script, text, meetings=True)
 
 
