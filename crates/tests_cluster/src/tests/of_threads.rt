@@ -10,14 +10,16 @@ use crate::tests::stories::{Story, tell};
 use agreed_ledger::Naming;
 use locked_cluster::{Refusal, SharedResolver};
 use model::Outcome;
-use mutation::Batch;
+use mutation::{Batch, Mutation, admit};
 use std::alloc::Global;
 use std::process::Abort;
 use std::sync::Wait;
 use std::test::Fail;
 use std::thread::{Threads, join};
-use system_keys::Tag;
-use testing::{Given, NOTHING, Step, batch, room};
+use system_keys::{Items, Tag};
+use testing::{
+    NOTHING, Step, batch, batch_of, bytes, given_range, mutation, one, room, transaction,
+};
 
 // ---- closing
 
@@ -83,6 +85,9 @@ const TAG: Tag = Tag { locality: 0, id: 1 };
 /// The server has this tag.
 const TAGGED: Step<'static> = Step::Set(b"\xff/serverTag/server0000000001", b"\x00\x00\x01");
 
+/// The value that gives keys to the server.
+const SERVER: &[u8] = b"\x01server0000000001\x00";
+
 /// How many batches each of the three proxies commits.
 pub(crate) const OF_EACH: usize = 9;
 
@@ -100,14 +105,20 @@ pub(crate) fn own_batch(alloc: Global, number: usize) -> Result<Batch, Fail> {
     let mut end = *b"\xff/keyServers/k..\x00";
     end[14] = row[14];
     end[15] = row[15];
-    let steps = [Step::Set(&row, b"\x01server0000000001\x00"), TAGGED];
-    let mutations = if number == 0 { &steps[..] } else { &steps[..1] };
-    let given = Given {
-        writes: &[(&row, &end)],
-        mutations,
-        ..NOTHING
-    };
-    batch(alloc, &[given])
+    let mut mutations = room(alloc, 2)?;
+    mutations.push(Mutation::Set {
+        key: bytes(alloc, &row)?,
+        value: bytes(alloc, SERVER)?,
+    })?;
+    if number == 0 {
+        mutations.push(mutation(alloc, TAGGED)?)?;
+    }
+    let mut given = transaction(alloc, NOTHING)?;
+    given.writes = one(alloc, given_range(alloc, &row, &end)?)?;
+    given.mutations = Items::from(mutations);
+    let mut transactions = room(alloc, 1)?;
+    transactions.push(admit(alloc, &given)?)?;
+    batch_of(transactions)
 }
 
 /// The nine batches of a proxy.
