@@ -46,6 +46,14 @@ def wrong_words():
             yield "%r: is %.200r" % (script, call(script))
 
 
+def wrong_long_texts():
+    """Words about scripts whose texts are longer than themselves, and than the room that there is at first."""
+    for count in (10, 10_000, 100_000, 10):
+        script = b'{"resolvers":1,"rows":[],"ask":[%s]}' % b",".join([b'"k"'] * count)
+        if gakyhera.fold(script) != (SECOND["fold"](script).encode(), False):
+            yield "%d asked keys: another text" % count
+
+
 def wrong_in_threads():
     """Words about examples in several threads at once."""
     wrong = []
@@ -85,7 +93,7 @@ def tried_random(seeds):
 
 def main():
     seeds = int(sys.argv[1])
-    wrong = [*wrong_examples(), *wrong_words(), *wrong_in_threads(), *tried_random(seeds)]
+    wrong = [*wrong_examples(), *wrong_words(), *wrong_long_texts(), *wrong_in_threads(), *tried_random(seeds)]
     for words in wrong[:20]:
         print(words)
     return 1 if wrong else 0

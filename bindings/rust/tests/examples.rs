@@ -34,6 +34,15 @@ fn turns_scripts_come_to_their_texts() {
 }
 
 #[test]
+fn a_text_may_be_longer_than_its_script() {
+    let script = |asked: &str| format!(r#"{{"resolvers":1,"rows":[],"ask":[{asked}]}}"#).into_bytes();
+    let text_of = |script: &[u8]| String::from_utf8(gakyhera::fold(script).unwrap().text).unwrap();
+    let (none, one) = (text_of(&script("")), text_of(&script(r#""k""#)));
+    let line = one.strip_prefix(&none).unwrap();
+    assert_eq!(text_of(&script(&vec![r#""k""#; 1_000].join(","))), none + &line.repeat(1_000));
+}
+
+#[test]
 fn an_empty_script_is_refused() {
     let refused = Ok(Text { text: b"refused 70 NotJson\n".to_vec(), is_refused: true });
     assert_eq!(gakyhera::fold(b""), refused);
