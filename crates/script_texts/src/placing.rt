@@ -1,6 +1,6 @@
 //! Where a text is placed that a caller gave room for.
 
-ghost use Rattle.std.specs.Prelude.{◌≡◌, ◌≤◌, length, IfOk, IsErrOf};
+ghost use Rattle.std.specs.Prelude.{◌≡◌, IfOk, IsErrOf};
 ghost use Rattle.scripts.specs.Statuses.{IsAnswered};
 ghost use Rattle.script_texts.specs.Texts.{IsTextOf, Places};
 ghost use Rattle.scripts.specs.Answers.{Answer};
