@@ -43,21 +43,11 @@ def program():
     return None, "there is no program: the tools alone were tried"
 
 
-def library():
-    """The folder of the library for C, built without proof, if there is a kit."""
-    command = ["tools/library", "--unproved"]
-    if shutil.which("rt") and subprocess.run(command, cwd=ROOT, stdin=subprocess.DEVNULL).returncode == 0:
-        return os.path.join(ROOT, "out", "unproved")
-    return None
-
-
-def parts_on(tried, built):
+def parts_on(tried):
     """The parts of the run, started side by side, each with the file that has what it prints."""
     commands = {"tools": ["tests/tools/run", tried or "--without-program"]}
     if tried:
         commands["scripts"] = ["tests/scripts/run", tried]
-    if built:
-        commands["library"] = ["tests/library/run", built]
     with tempfile.TemporaryDirectory(prefix="tests-") as folder:
         parts = [Part(name) for name in commands]
         for part in parts:
@@ -72,7 +62,7 @@ def parts_on(tried, built):
 def run():
     """Tries all that needs no proof, and returns the status of the run."""
     tried, words = program()
-    parts = parts_on(tried, library())
+    parts = parts_on(tried)
     passed = sum(it.status == 0 for it in parts)
     for part in parts:
         print(f"{part.name}: {part.outcome()} in {part.seconds:.0f} s")
