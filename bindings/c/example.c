@@ -1,4 +1,4 @@
-/* Holds the text of an implementation against the right one, and prints the first line that differs.
+/* Compares what an implementation printed of a turns script with the right text, and prints the first line that differs.
 
    gcc example.c $(pkg-config --cflags --libs gakyhera) -o example && ./example SCRIPT.json TEXT */
 #include "gakyhera.h"
@@ -6,33 +6,44 @@
 #include <stdlib.h>
 #include <string.h>
 
-/* The bytes of a file, with a zero after them. */
+/* Room for `length` bytes and a zero byte after them. */
+static uint8_t *resized(uint8_t *bytes, size_t length) {
+    bytes = realloc(bytes, length + 1);
+    if (!bytes) exit(2);
+    return bytes;
+}
+
+/* The bytes of a file, with a zero byte after them. */
 static uint8_t *read_file(const char *path, size_t *length) {
     FILE *file = fopen(path, "rb");
-    uint8_t *bytes = malloc(1 << 20);
-    if (!file || !bytes) exit(2);
-    *length = fread(bytes, 1, (1 << 20) - 1, file);
+    if (!file || fseek(file, 0, SEEK_END)) exit(2);
+    *length = (size_t)ftell(file);
+    uint8_t *bytes = resized(NULL, *length);
+    rewind(file);
+    if (fread(bytes, 1, *length, file) != *length) exit(2);
     bytes[*length] = 0;
     fclose(file);
     return bytes;
 }
 
 int main(int count, char **words) {
-    size_t length, own_length, room = 1 << 20, made;
     if (count != 3) return 2;
-    uint8_t *script = read_file(words[1], &length), *own = read_file(words[2], &own_length), *out = malloc(room);
-    if (!out || gakyhera_turns(script, length, out, room - 1, &made) > GAKYHERA_REFUSED) return 2;
-    out[made] = 0;
-    char *right = (char *)out, *mine = (char *)own;
-    int line = 1, differs = 0;
-    for (; *right || *mine; line++) {
-        size_t of_right = strcspn(right, "\n"), of_mine = strcspn(mine, "\n");
-        differs = of_right != of_mine || memcmp(right, mine, of_right);
-        if (differs) break;
-        right += of_right + (right[of_right] != 0), mine += of_mine + (mine[of_mine] != 0);
+    size_t length, own_length, room, made = 4096, at = 0, line = 0, number = 1;
+    uint8_t *script = read_file(words[1], &length), *own = read_file(words[2], &own_length), *text = NULL;
+    int status;
+    do {
+        room = made;
+        text = resized(text, room);
+        status = gakyhera_turns(script, length, text, room, &made);
+    } while (status == GAKYHERA_TOO_SMALL);
+    if (status != GAKYHERA_DONE && status != GAKYHERA_REFUSED) return 2;
+    text[made] = 0;
+    for (; at < made && text[at] == own[at]; at++) {
+        if (text[at] == '\n') line = at + 1, number++;
     }
-    if (differs) printf("line %d must be: %.*s\n", line, (int)strcspn(right, "\n"), right);
+    int differs = at < made || own_length != made;
+    if (differs) printf("line %zu must be: %.*s\n", number, (int)strcspn((char *)text + line, "\n"), text + line);
     else puts("the same");
-    free(script), free(own), free(out);
+    free(script), free(own), free(text);
     return differs;
 }

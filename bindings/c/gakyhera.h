@@ -1,20 +1,25 @@
-/* The texts of fold and turns scripts, from memory to memory. docs/FORMATS.md of Gakyhera has both forms.
+/* Runs fold and turns scripts in memory: the bytes of a script in, its whole text out. docs/FORMATS.md of Gakyhera has
+   both forms; the program proxy_run prints the same texts.
 
    size_t made;
    int status = gakyhera_turns(script, length, out, room, &made);
 
-   A call returns
-     GAKYHERA_DONE           the script was carried out: `out` begins with its whole text, `made` is its length;
-     GAKYHERA_REFUSED        the script has a fault: the same, and the text is one line, `refused NUMBER NAME`;
-     GAKYHERA_TOO_SMALL      `out` is too small: `made` is the length that it needs, and `out` is unchanged;
-     GAKYHERA_OUT_OF_MEMORY  an allocation failed: nothing is changed;
-     GAKYHERA_TOO_LONG       the script is longer than 4,294,963,200 bytes: nothing is changed.
-   The first two are the statuses of the program `proxy_run`, and so is the text.
+   Each call returns one of
 
-   What the caller keeps: no pointer is null, not even where its length is 0; `script`, `out` and `made` do not
-   overlap; both lengths are at most PTRDIFF_MAX; and no call is made from a signal handler. Calls keep nothing
-   from one to the next, so any thread may call at any time. All memory is taken by malloc and realloc, and given
-   back before a call returns. */
+     GAKYHERA_DONE           the script was carried out, and out[0..made) is its whole text;
+     GAKYHERA_REFUSED        the script is wrong, and out[0..made) is one line, `refused NUMBER NAME`;
+     GAKYHERA_TOO_SMALL      the text needs `made` bytes, which is more than `room`: `out` is unchanged;
+     GAKYHERA_OUT_OF_MEMORY  an allocation failed: `out` and `made` are unchanged;
+     GAKYHERA_TOO_LONG       the script is longer than 4,294,963,200 bytes: `out` and `made` are unchanged.
+
+   What follows the text in `out` is unchanged; no zero byte ends it. Calls keep nothing from one to the next, so threads
+   may call at the same time. All memory comes from malloc and realloc, and is freed before a call returns.
+
+   A caller must see to it that
+     - no pointer is null, even if its length is 0;
+     - `script`, `out` and `made` do not overlap, and no other thread writes to them during the call;
+     - `length` and `room` are at most PTRDIFF_MAX;
+     - no call comes from a signal handler, or from a child that a process with threads has forked. */
 #ifndef GAKYHERA_H
 #define GAKYHERA_H
 
@@ -33,7 +38,7 @@ enum {
     GAKYHERA_TOO_SMALL = 6
 };
 
-/* The text of a fold script: the routing of its folded rows, and the tags of the keys that it asks for. */
+/* The text of a fold script: the routing that its rows fold to, and the tags of the keys that it asks for. */
 int gakyhera_fold(const uint8_t *script, size_t length, uint8_t *out, size_t room, size_t *made);
 
 /* The text of a turns script: the lines of its events, and then those of each proxy. */

@@ -1,4 +1,4 @@
-"""Holds the text of an implementation against the right one, and prints the first line that differs.
+"""Compares what an implementation printed of a turns script with the right text, and prints the first line that differs.
 
     python3 bindings/python/example.py SCRIPT.json TEXT
 """
@@ -13,10 +13,10 @@ def main():
         return 2
     with open(sys.argv[1], "rb") as script, open(sys.argv[2], "rb") as text:
         right, mine = gakyhera.turns(script.read()).text, text.read()
-    lines = itertools.zip_longest(right.splitlines(), mine.splitlines())
+    lines = itertools.zip_longest(right.splitlines(True), mine.splitlines(True), fillvalue=b"")
     for number, (line, own) in enumerate(lines, 1):
         if line != own:
-            print("line %d must be: %s" % (number, (line or b"").decode()))
+            print("line %d must be: %s" % (number, line.decode().rstrip("\n")))
             return 1
     print("the same")
     return 0

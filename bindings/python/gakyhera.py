@@ -1,11 +1,11 @@
-"""The texts of fold and turns scripts, by libgakyhera.so. docs/FORMATS.md of Gakyhera has both forms.
+"""Runs fold and turns scripts in memory, by libgakyhera.so. docs/FORMATS.md of Gakyhera has both forms.
 
     import gakyhera
     text, is_refused = gakyhera.turns(script)
 
-It needs nothing but this file and the library, which `tools/library` builds. It is looked for where the variable
-GAKYHERA_LIBRARY says, in out/ of the repository, and where the system looks. Any thread may call at any time, and other
-threads of Python run meanwhile.
+It needs this file and the library alone, which `tools/library` builds. The library is the file that the variable
+GAKYHERA_LIBRARY names, or that in out/ of the repository, or that which the system finds; where none is, the import fails.
+Threads may call at the same time, and other threads of Python run meanwhile. Each thread keeps room for its longest text.
 """
 import ctypes
 import os
@@ -24,7 +24,7 @@ ROOM = 1 << 16
 
 
 class Text(NamedTuple):
-    """What a script comes to."""
+    """The text of a script: of a wrong one the line `refused NUMBER NAME`."""
 
     text: bytes
     is_refused: bool
@@ -32,8 +32,11 @@ class Text(NamedTuple):
 
 def loaded():
     """The library."""
-    told = os.environ.get("GAKYHERA_LIBRARY")
-    library = ctypes.CDLL(told or (BUILT if os.path.exists(BUILT) else NAME))
+    path = os.environ.get("GAKYHERA_LIBRARY") or (BUILT if os.path.exists(BUILT) else NAME)
+    try:
+        library = ctypes.CDLL(path)
+    except OSError as why:
+        raise ImportError("%s; tools/library builds the library, and GAKYHERA_LIBRARY names it" % why) from why
     for call in (library.gakyhera_fold, library.gakyhera_turns):
         call.argtypes = [
             ctypes.c_char_p, ctypes.c_size_t, ctypes.c_void_p, ctypes.c_size_t, ctypes.POINTER(ctypes.c_size_t),
@@ -46,7 +49,8 @@ library, kept = loaded(), threading.local()
 
 
 def text_of(call, script):
-    script = script.encode() if isinstance(script, str) else bytes(script)
+    # (through a view: of a number, bytes() makes that many zero bytes)
+    script = script.encode() if isinstance(script, str) else bytes(memoryview(script))
     if not hasattr(kept, "out"):
         kept.out, kept.made = ctypes.create_string_buffer(ROOM), ctypes.c_size_t()
     out, made = kept.out, kept.made
@@ -63,10 +67,13 @@ def text_of(call, script):
 
 
 def fold(script):
-    """The text of a fold script (bytes, or a str as UTF-8), or its refusal. Raises MemoryError and OverflowError."""
+    """The text of a fold script (bytes, or a str as UTF-8).
+
+    Raises MemoryError if an allocation fails, OverflowError if the script is too long, and TypeError if it is no bytes.
+    """
     return text_of(library.gakyhera_fold, script)
 
 
 def turns(script):
-    """The text of a turns script (bytes, or a str as UTF-8), or its refusal. Raises MemoryError and OverflowError."""
+    """The text of a turns script (bytes, or a str as UTF-8). Raises what `fold` does."""
     return text_of(library.gakyhera_turns, script)

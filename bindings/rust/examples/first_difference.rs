@@ -1,4 +1,4 @@
-//! Holds the text of an implementation against the right one, and prints the first line that differs.
+//! Compares what an implementation printed of a turns script with the right text, and prints the first line that differs.
 //!
 //! `cargo run --example first_difference SCRIPT.json TEXT`
 
@@ -13,11 +13,11 @@ fn main() -> Result<ExitCode, Box<dyn Error>> {
     };
     let right = String::from_utf8(gakyhera::turns(&fs::read(script)?)?.text)?;
     let own = fs::read_to_string(own)?;
-    let (mut lines, mut own_lines) = (right.lines(), own.lines());
+    let (mut lines, mut own_lines) = (right.split_inclusive('\n'), own.split_inclusive('\n'));
     for number in 1.. {
         let (line, own_line) = (lines.next(), own_lines.next());
         if line != own_line {
-            println!("line {number} must be: {}", line.unwrap_or(""));
+            println!("line {number} must be: {}", line.unwrap_or("").trim_end());
             return Ok(ExitCode::from(1));
         }
         if line.is_none() {

@@ -1,4 +1,4 @@
-//! The texts of fold and turns scripts, by libgakyhera. docs/FORMATS.md of Gakyhera has both forms.
+//! Runs fold and turns scripts in memory, by libgakyhera. docs/FORMATS.md of Gakyhera has both forms.
 //!
 //! ```no_run
 //! let answer = gakyhera::turns(b"{}").unwrap();
@@ -6,7 +6,7 @@
 //! assert_eq!(answer.text, b"refused 71 BadShape\n");
 //! ```
 //!
-//! Any thread may call at any time.
+//! Threads may call at the same time.
 
 use std::ffi::c_int;
 use std::fmt;
@@ -16,14 +16,20 @@ extern "C" {
     fn gakyhera_turns(script: *const u8, length: usize, out: *mut u8, room: usize, made: *mut usize) -> c_int;
 }
 
+// What a call returns, as in gakyhera.h.
+const DONE: c_int = 0;
+const REFUSED: c_int = 1;
+const TOO_LONG: c_int = 3;
+const TOO_SMALL: c_int = 6;
+
 type Call = unsafe extern "C" fn(*const u8, usize, *mut u8, usize, *mut usize) -> c_int;
 
-/// What a script comes to.
+/// The text of a script.
 #[derive(Clone, Debug, PartialEq, Eq)]
 pub struct Text {
-    /// The whole text.
+    /// The whole text; of a wrong script the line `refused NUMBER NAME`.
     pub text: Vec<u8>,
-    /// Whether the text is the line of a refusal.
+    /// Whether the script is wrong.
     pub is_refused: bool,
 }
 
@@ -47,12 +53,12 @@ impl fmt::Display for Fault {
 
 impl std::error::Error for Fault {}
 
-/// The text of a fold script, or of its refusal.
+/// Returns the text of a fold script.
 pub fn fold(script: &[u8]) -> Result<Text, Fault> {
     text_of(gakyhera_fold, script)
 }
 
-/// The text of a turns script, or of its refusal.
+/// Returns the text of a turns script.
 pub fn turns(script: &[u8]) -> Result<Text, Fault> {
     text_of(gakyhera_turns, script)
 }
@@ -64,12 +70,12 @@ fn text_of(call: Call, script: &[u8]) -> Result<Text, Fault> {
         // SAFETY: the pointers of slices are never null, each goes with its slice's length, and no two of them overlap.
         let status = unsafe { call(script.as_ptr(), script.len(), text.as_mut_ptr(), text.len(), &mut made) };
         match status {
-            0 | 1 => {
+            DONE | REFUSED => {
                 text.truncate(made);
-                return Ok(Text { text, is_refused: status == 1 });
+                return Ok(Text { text, is_refused: status == REFUSED });
             }
-            6 => text.resize(made, 0),
-            3 => return Err(Fault::TooLong),
+            TOO_SMALL => text.resize(made, 0),
+            TOO_LONG => return Err(Fault::TooLong),
             _ => return Err(Fault::OutOfMemory),
         }
     }
