@@ -47,7 +47,7 @@ def judge(mode, script, right, ended, seconds, any_status):
 
 
 def fault_of_end(ended, seconds):
-    """What is wrong with a run that did not come to its end."""
+    """What is wrong with a run that did not reach its end."""
     if ended.stopped == "hangs":
         return Difference("hangs", ["It hangs: it has not ended in %g seconds." % seconds, *said_words(ended)])
     if ended.stopped:
@@ -75,7 +75,7 @@ def said_words(ended):
 
 
 def fault_of_text(mode, script, right, text):
-    """What is wrong with a text that came to its end."""
+    """What is wrong with a text that reached its end."""
     if right is None:
         return fault_of_order(script, text)
     if right == text:
@@ -103,7 +103,7 @@ def undecided_words(why):
 
 
 def where_it_stops(right, text):
-    """How far the text of a run that did not come to its end is right."""
+    """How far the text of a run that did not reach its end is right."""
     printed = count(len(lines_of(text)), "line")
     if right is None or not text:
         return "It printed %s." % (printed if text else "nothing")

@@ -30,7 +30,7 @@ class Found(NamedTuple):
 
 
 class Bounds:
-    """What the batches of a script may come to, whatever their order is."""
+    """What the batches of a script may give, whatever their order is."""
 
     def __init__(self, script):
         self.script, self.rows = script, committed_rows(script)

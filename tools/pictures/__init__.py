@@ -1,1 +1,1 @@
-"""Pages and diagrams of what a script comes to."""
+"""Pages and diagrams of scripts and their texts."""

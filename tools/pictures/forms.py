@@ -48,7 +48,7 @@ def kind_of(script):
 
 
 def lines_of(text):
-    """The lines of a text that is not that of a refused script."""
+    """The lines of the text of a script that is not refused."""
     try:
         lines = text.decode("utf-8").split("\n")
     except UnicodeDecodeError:

@@ -1,4 +1,4 @@
-"""What a turns script and its text say, event by event, beside what the second program in Python comes to."""
+"""What a turns script and its text say, event by event, beside the lines of the second program in Python."""
 import re
 from typing import NamedTuple
 

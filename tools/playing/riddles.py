@@ -1,4 +1,4 @@
-"""Three riddles from the examples. The answer to each is what its events come to, and is read from their lines."""
+"""Three riddles from the examples. The answer to each is the result of its events, and is read from their lines."""
 import os
 from typing import Callable, NamedTuple
 
@@ -73,7 +73,7 @@ def script_of(riddle):
 
 
 def judged(number, choice, turns):
-    """Whether a choice is what the events come to, the right choice in words, and the event that shows it."""
+    """Whether a choice is the result of the events, the right choice in words, and the event that shows it."""
     riddle = RIDDLES[number]
     answer, event = riddle.answer(turns)
     words = next((words for words, value in riddle.choices if value == answer), answer)

@@ -62,7 +62,7 @@ fn are_refused<N: Naming, M: Channels, R: Abort + AllocGlobal + Wait>(
     let asked = side.ask(rt, alloc, requests(rows.as_slice())).err();
     assert!(rt; asked == Some(Refusal::NotMine));
     let asked = foreign_all(rt, cluster, side, &mut rows);
-    assert!(rt; asked == Some(Refusal::Closed));
+    assert!(rt; asked == Some(Refusal::NotMine));
 }
 
 /// Ends come to another resolver, and requests are asked by another proxy.
