@@ -1,14 +1,10 @@
 /* Calls the library on each script of a list on standard input, whose lines are MODE STATUS SCRIPT TEXT, and compares
    what it gives with the text. It is linked with --wrap=malloc, --wrap=realloc and --wrap=free: with the word `fail` every
-   allocation of a call fails in turn, and with the word `leak` one block that a call gives back is kept. With the word
-   `long` it calls the library on scripts of spaces, of the greatest length and of one byte more. */
-#define _GNU_SOURCE
+   allocation of a call fails in turn, and with the word `leak` one block that a call gives back is kept. */
 #include "gakyhera.h"
 #include <stdio.h>
 #include <stdlib.h>
 #include <string.h>
-#include <sys/mman.h>
-#include <unistd.h>
 
 enum { NEVER = -1, MARK = 0xa5, BEHIND = 16, KEPT_BLOCK = 3 };
 
@@ -92,39 +88,10 @@ static long failed(call *run, text script, text right, int status, const char *p
     return lacked;
 }
 
-/* Spaces, a piece of memory again and again. */
-static uint8_t *spaces(size_t length) {
-    const size_t piece = 1 << 22;
-    int file = memfd_create("spaces", 0);
-    must(file >= 0 && !ftruncate(file, (off_t)piece), "no memory", "spaces");
-    uint8_t *one = mmap(NULL, piece, PROT_WRITE, MAP_SHARED, file, 0);
-    uint8_t *all = mmap(NULL, length + piece, PROT_NONE, MAP_PRIVATE | MAP_ANONYMOUS | MAP_NORESERVE, -1, 0);
-    must(one != MAP_FAILED && all != MAP_FAILED, "no memory", "spaces");
-    memset(one, ' ', piece);
-    for (size_t at = 0; at < length; at += piece) {
-        must(mmap(all + at, piece, PROT_READ, MAP_SHARED | MAP_FIXED, file, 0) == all + at, "no memory", "spaces");
-    }
-    return all;
-}
-
-/* Calls on scripts of the greatest length, and of one byte more. */
-static void try_long(void) {
-    const size_t longest = 4294963200;
-    text script = { spaces(longest + 1), longest }, refusal = { (uint8_t *)"refused 70 NotJson\n", 19 };
-    tried(gakyhera_fold, script, refusal, GAKYHERA_REFUSED, BEHIND + refusal.length, "the longest script");
-    uint8_t out[BEHIND];
-    size_t made = 12345;
-    memset(out, MARK, BEHIND);
-    int given = gakyhera_fold(script.bytes, longest + 1, out, BEHIND, &made);
-    must(given == GAKYHERA_TOO_LONG && made == 12345 && is_marked(out, BEHIND), "must be too long", "a longer script");
-    puts("the longest script, and a longer one");
-}
-
 int main(int count, char **words) {
     char mode[8], path[512], text_path[512];
     long scripts = 0, lacked = 0;
     int status, fails = count > 1 && !strcmp(words[1], "fail");
-    if (count > 1 && !strcmp(words[1], "long")) return try_long(), 0;
     if (count > 1 && !strcmp(words[1], "leak")) keep_at = KEPT_BLOCK;
     while (scanf("%7s %d %511s %511s", mode, &status, path, text_path) == 4) {
         call *run = strcmp(mode, "fold") ? gakyhera_turns : gakyhera_fold;
