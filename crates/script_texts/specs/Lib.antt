@@ -1,0 +1,4 @@
+-- The definitions, in reading order.
+
+-- what a text in memory is, and where it is placed
+pub mod Texts

@@ -1,0 +1,12 @@
+//! Texts of scripts in memory: the bytes of a script come to a text and a status, without devices of
+//! the caller.
+//!
+//! Source: this project's profile (scripts, lines and statuses).
+#![tactic(auto)]
+
+mod memory_sink;
+mod placing;
+mod text;
+
+pub use placing::{OUT_OF_MEMORY, TOO_LONG, TOO_SMALL, place};
+pub use text::{ScriptText, TextFault, fold_script, turns_script};

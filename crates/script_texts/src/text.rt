@@ -1,0 +1,79 @@
+//! The texts of fold and turns scripts in memory.
+
+ghost use Rattle.std.specs.Prelude.{◌≡◌, ◌≤◌, length, IfOk, IsErrOf, OnErr};
+ghost use Rattle.scripts.specs.Devices.{read_limit};
+ghost use Rattle.scripts.specs.Statuses.{IsAnswered};
+ghost use Rattle.fold_run.specs.Text.{fold_text};
+ghost use Rattle.turns_run.specs.Text.{turns_text};
+ghost use Rattle.script_texts.specs.Texts.{IsTextOf};
+
+use crate::memory_sink::MemorySink;
+use fold_run::run_fold;
+use scripts::{Reader, RunStatus, Sink, Source};
+use std::alloc::Global;
+use turns_run::run_turns;
+
+/// What a script comes to.
+#[derive(Debug, Drop)]
+pub struct ScriptText {
+    /// The whole text.
+    pub bytes: Vec<u8>,
+    /// How the run ended: `Done`, or `ScriptRefused` with the line of the refusal as text.
+    pub status: RunStatus,
+}
+
+/// Why there is no text.
+#[derive(Clone, Copy, Debug, PartialEq, Eq)]
+pub enum TextFault {
+    /// An allocation failed.
+    OutOfMemory,
+    /// The script is longer than the limit on read calls permits.
+    TooLong,
+}
+
+/// Returns the text of a fold script, or of its refusal (this project's profile).
+pub fn fold_script(alloc: Global, script: &[u8]) -> Result<ScriptText, TextFault>
+    ensures text { IfOk result (IsTextOf (fold_text script.now)) }
+    ensures answered { IfOk result (λ made. IsAnswered made.status) }
+    ensures long { IsErrOf result TextFault.TooLong → read_limit ≤ length script.now }
+{
+    let mut reader = Reader::new(script);
+    let mut sink = MemorySink::new(alloc);
+    match run_fold(alloc, &mut reader, &mut sink) {
+        RunStatus::DeviceFailed if reader.failures() == 0 && sink.failures() == 0 => Err(
+            TextFault::TooLong,
+        ),
+        status => text_of(sink, status),
+    }
+}
+
+/// Returns the text of a turns script, or of its refusal (this project's profile).
+pub fn turns_script(alloc: Global, script: &[u8]) -> Result<ScriptText, TextFault>
+    ensures text { IfOk result (IsTextOf (turns_text script.now)) }
+    ensures answered { IfOk result (λ made. IsAnswered made.status) }
+    ensures long { IsErrOf result TextFault.TooLong → read_limit ≤ length script.now }
+{
+    let mut reader = Reader::new(script);
+    let mut sink = MemorySink::new(alloc);
+    match run_turns(alloc, &mut reader, &mut sink) {
+        RunStatus::DeviceFailed if reader.failures() == 0 && sink.failures() == 0 => Err(
+            TextFault::TooLong,
+        ),
+        status => text_of(sink, status),
+    }
+}
+
+/// What a sink holds after a run that ended so. Without a whole text the fault is `OutOfMemory`.
+fn text_of(sink: MemorySink, status: RunStatus) -> Result<ScriptText, TextFault>
+    ensures text { IfOk result (λ made. (made.bytes ≡ sink.bytes) × (made.status ≡ status)) }
+    ensures answered { IfOk result (λ made. IsAnswered made.status) }
+    ensures memory { OnErr result (result ≡ Err TextFault.OutOfMemory) }
+{
+    match status {
+        RunStatus::Done | RunStatus::ScriptRefused => Ok(ScriptText {
+            bytes: sink.bytes,
+            status,
+        }),
+        _ => Err(TextFault::OutOfMemory),
+    }
+}

@@ -1,0 +1,1 @@
+"""The library for C and its bindings."""

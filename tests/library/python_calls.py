@@ -1,0 +1,103 @@
+"""Calls the Python binding in one process: on every example, from several threads, and on random scripts, whose texts the
+second program gives.
+
+usage: GAKYHERA_LIBRARY=FILE python3 tests/library/python_calls.py SEEDS
+"""
+import itertools
+import os
+import sys
+import threading
+import time
+
+ROOT = os.path.dirname(os.path.dirname(os.path.dirname(os.path.abspath(__file__))))
+sys.path[:0] = [ROOT, os.path.join(ROOT, "bindings", "python")]
+sys.dont_write_bytecode = True
+
+import gakyhera
+
+from tests.library.cases import examples
+from tests.scripts.fold import reference as fold_reference
+from tests.scripts.turns import reference as turns_reference
+from tools.random_scripts import CYCLES, drawn
+
+SECOND = {"fold": fold_reference.answer, "turns": turns_reference.answer}
+CALLS = {"fold": gakyhera.fold, "turns": gakyhera.turns}
+THREADS = 4
+
+
+def is_refusal(text):
+    return text.startswith(b"refused ") and text.count(b"\n") == 1
+
+
+def wrong_examples():
+    """Words about each example that does not come to its text."""
+    for mode, status, path, text_path in examples():
+        with open(path, "rb") as script, open(text_path, "rb") as text:
+            given, right = CALLS[mode](script.read()), text.read()
+        if given != (right, status == 1):
+            yield "%s: is %.200r" % (path, given)
+
+
+def wrong_words():
+    """Words about other arguments that are not answered as they must be."""
+    not_json = (b"refused 70 NotJson\n", True)
+    for call, script in itertools.product(CALLS.values(), ("", b"", bytearray(), memoryview(b"{"), "{", "\0", "é")):
+        if call(script) != not_json:
+            yield "%r: is %.200r" % (script, call(script))
+
+
+def wrong_long_texts():
+    """Words about scripts whose texts are longer than themselves, and than the room that there is at first."""
+    for count in (10, 10_000, 100_000, 10):
+        script = b'{"resolvers":1,"rows":[],"ask":[%s]}' % b",".join([b'"k"'] * count)
+        if gakyhera.fold(script) != (SECOND["fold"](script).encode(), False):
+            yield "%d asked keys: another text" % count
+
+
+def wrong_in_threads():
+    """Words about examples in several threads at once."""
+    wrong = []
+    threads = [threading.Thread(target=lambda: wrong.extend(wrong_examples())) for _ in range(THREADS)]
+    for it in threads:
+        it.start()
+    for it in threads:
+        it.join()
+    return wrong
+
+
+def random_scripts(seeds):
+    """Random scripts of the modes, with what the second program says of each."""
+    for mode, cycle in CYCLES.items():
+        for seed in range(seeds if mode in SECOND else 0):
+            script, known = drawn(mode, cycle[seed % len(cycle)], "library %d" % seed)
+            yield mode, script, known, SECOND[mode](script)
+
+
+def tried_random(seeds):
+    """Words about random scripts that do not come to their texts, and what the calls alone took."""
+    cases, wrong, refused = [*random_scripts(seeds)], [], 0
+    begun = time.perf_counter()
+    texts = [CALLS[mode](script) for mode, script, _, _ in cases]
+    seconds = time.perf_counter() - begun
+    for (mode, script, known, said), given in zip(cases, texts):
+        right = said.encode()
+        refused += is_refusal(right)
+        if known not in (None, said) or given != (right, is_refusal(right)):
+            wrong.append("%s %.200r: is %.200r, and must be %.200r" % (mode, script, given, right))
+    if seeds and not 0 < refused < len(cases):
+        wrong.append("%d of %d random scripts are refused" % (refused, len(cases)))
+    speed = 60 * len(cases) / seconds if seconds else 0
+    print("python: %d random scripts in one process, %d refused; %.0f a minute" % (len(cases), refused, speed))
+    return wrong
+
+
+def main():
+    seeds = int(sys.argv[1])
+    wrong = [*wrong_examples(), *wrong_words(), *wrong_long_texts(), *wrong_in_threads(), *tried_random(seeds)]
+    for words in wrong[:20]:
+        print(words)
+    return 1 if wrong else 0
+
+
+if __name__ == "__main__":
+    sys.exit(main())
