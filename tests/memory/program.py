@@ -27,8 +27,8 @@ READ_SIZE = 4_096
 # what a run takes beside its input, at most: the program, the C library and the stack
 BESIDE = 2**26
 
-# how many seconds a run may take
-LIMIT = 120
+# how many seconds a run may take: far more than any takes on a busy machine, the longest ones over gigabytes of input
+LIMIT = 600
 
 # for each mode, of which the default one is run without a word, a right script and a refused one, among the examples
 DEVICE_SCRIPTS = {
@@ -49,8 +49,8 @@ ASKING = {
 # the modes whose scripts have a list of which none is kept where the numbers of the script stand before it, and its field
 TAKEN_AS_THEY_COME = {"": "rows", "turns": "events"}
 
-# A run of threads, whose growths have no fixed number, takes at least 20 fewer if its script is read as its tokens come;
-# a script of fewer than 320 bytes cannot save as many, and takes at least one fewer for every 16 bytes.
+# Before its first thread a run of threads takes at least 20 fewer growths if its script is read as its tokens come; a script
+# of fewer than 320 bytes cannot save as many, and takes at least one fewer for every 16 bytes.
 FEWER_IN_THREADS, BYTES_FOR_ONE = 20, 16
 
 
@@ -156,12 +156,20 @@ def count_growths(trial, script, words):
     return below
 
 
+def count_before_threads(trial, script, words):
+    """How many growths a run has before its first thread starts: those later on have no fixed number."""
+    path = trial.mark + " count"
+    trial.run(script, words, COUNT_GROWTHS=path)
+    with open(path) as file:
+        return int(file.read())
+
+
 def read_by_tokens(trial, example):
     """A right script takes clearly fewer growths than through a tree of JSON values: it is read as its tokens come."""
     name, words, script, _, status = example
     if status == 0:
-        count = count_growths(trial, script, words)
-        by_tree = count_growths(trial, first_field_twice(script), words)
+        counted = count_before_threads if words == ["threads"] else count_growths
+        count, by_tree = (counted(trial, it, words) for it in (script, first_field_twice(script)))
         of_threads = min(FEWER_IN_THREADS, len(script) // BYTES_FOR_ONE)
         fewer = of_threads if words == ["threads"] else by_tree // 10
         trial.expect(count + fewer < by_tree, "%s: is read through a tree: %d growths, and %d" % (name, count, by_tree))
@@ -269,7 +277,7 @@ def run_endless(trial, source, space, words=()):
     """A run over an input without an end in this much address space: its status, what it wrote, and its peak of memory."""
     how = {"stdout": subprocess.PIPE, "stderr": subprocess.PIPE, "preexec_fn": functools.partial(limit_space, space)}
     started = subprocess.Popen([trial.program, *words], stdin=source, **how)
-    watch = threading.Timer(120, started.kill)
+    watch = threading.Timer(LIMIT, started.kill)
     watch.start()
     written = started.stdout.read() + started.stderr.read()
     _, ended, usage = os.wait4(started.pid, 0)
@@ -318,7 +326,7 @@ def try_endless_spaces(trial, words):
 def run_shell(trial, redirections, words=""):
     """One run with these redirections of a shell: its status, and what came on standard output and standard error."""
     line = 'exec "$0" %s %s' % (words, redirections)
-    ended = subprocess.run(["sh", "-c", line, trial.program], stdin=subprocess.DEVNULL, capture_output=True, timeout=120)
+    ended = subprocess.run(["sh", "-c", line, trial.program], stdin=subprocess.DEVNULL, capture_output=True, timeout=LIMIT)
     return ended.returncode, ended.stdout, ended.stderr
 
 
@@ -356,7 +364,7 @@ def run_in_parts(trial, words, parts, between):
             for part in parts:
                 process.stdin.write(part)
                 between(process)
-            output, _ = process.communicate(timeout=120)
+            output, _ = process.communicate(timeout=LIMIT)
         finally:
             process.kill()
     return output, process.returncode
@@ -382,7 +390,7 @@ def try_pipes(trial, example):
     trial.expect(got == (output, status), "%s: ends wrong byte by byte: %r" % (name, got))
     reader, writer = os.pipe()
     os.close(reader)
-    ended = subprocess.run([trial.program, *words], input=script, stdout=writer, stderr=subprocess.PIPE, timeout=120)
+    ended = subprocess.run([trial.program, *words], input=script, stdout=writer, stderr=subprocess.PIPE, timeout=LIMIT)
     os.close(writer)
     got = ended.returncode, ended.stderr
     trial.expect(got == (DEVICE_FAILED, b""), "%s: ends wrong where nobody reads: %r" % (name, got))

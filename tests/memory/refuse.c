@@ -11,6 +11,7 @@
  * REFUSE_THEN: how many more growths such a child makes at most. At the next one it ends, as if all were well.
  * REFUSE_FIRST, REFUSE_STEP, REFUSE_TURN: how many growths are refused so, each of them; of those that follow, one of
  * so many; and which, from 0.
+ * COUNT_GROWTHS: a file that gets the number of growths before the program starts its first thread.
  * SHORT_READ, SHORT_WRITE: how many bytes one call takes at most.
  * SHAKE: a number from 1, from which it is drawn in which growths, and in which calls that wait for another thread or
  * wake one, a thread sleeps for a moment or gives way to others. So runs differ in which thread comes first.
@@ -25,26 +26,29 @@
 #include <stdio.h>
 #include <stdlib.h>
 #include <string.h>
+#include <sys/time.h>
 #include <sys/wait.h>
 #include <time.h>
 #include <unistd.h>
 
-/* How long a child may take, in seconds. */
+/* How long a child may take, in seconds of a processor; and in seconds, of which most pass where it waits for ever, or where
+ * the machine is busy. */
 #define CHILD_LIMIT 30
+#define CHILD_PATIENCE 900
 
 /* Of a thousand calls of a thread that is shaken, how many sleep and how many give way, and how long a sleep is at most. */
 #define SLEEPS 10
 #define YIELDS 50
 #define NANOSECONDS 100000
 
-static long growths, reads, writes, threads;
+static long growths, reads, writes, threads, counted;
 static int is_child;
 
 /* What the variables say; a number is -1 where its variable is not set. */
 struct settings {
     long growth, read, write, thread, then, first, step, turn, short_read, short_write, shake;
     int on, error;
-    const char *mark, *each;
+    const char *mark, *each, *count;
 };
 
 static long number_of(const char *name)
@@ -74,6 +78,7 @@ static const struct settings *told(void)
         it.error = getenv("REFUSE_ERROR") == NULL ? EIO : (int)number_of("REFUSE_ERROR");
         it.mark = getenv("REFUSE_MARK");
         it.each = getenv("REFUSE_EACH");
+        it.count = getenv("COUNT_GROWTHS");
         is_read = 1;
     }
     return &it;
@@ -85,6 +90,20 @@ static void leave_mark(void)
     const char *mark = told()->mark;
     if (mark != NULL)
         close(open(mark, O_CREAT | O_WRONLY, 0600));
+}
+
+/* Leaves the number of the growths so far, at the first thread. */
+static void leave_count(void)
+{
+    static int is_left;
+    char text[32];
+    int file, used = snprintf(text, sizeof text, "%ld", __atomic_load_n(&counted, __ATOMIC_SEQ_CST));
+    if (told()->count == NULL || __atomic_exchange_n(&is_left, 1, __ATOMIC_SEQ_CST))
+        return;
+    file = open(told()->count, O_CREAT | O_TRUNC | O_WRONLY, 0600);
+    if (write(file, text, used) != used)
+        abort();
+    close(file);
 }
 
 /* Whether this call is the one with the wanted number, or a later one where all from it on are refused. */
@@ -137,6 +156,14 @@ static int is_tried(long growth)
     return it->first < 0 || growth <= it->first || growth % it->step == (growth / (100 * it->step) + it->turn) % it->step;
 }
 
+/* Ends a child in which the refusal leaves the program in a loop, or waiting for ever. */
+static void limit_child(void)
+{
+    struct itimerval limit = {{0, 0}, {CHILD_LIMIT, 0}};
+    setitimer(ITIMER_PROF, &limit, NULL);
+    alarm(CHILD_PATIENCE);
+}
+
 /* Whether this is the child in which this growth is refused. */
 static int is_refused_in_child(void)
 {
@@ -155,7 +182,7 @@ static int is_refused_in_child(void)
         abort();
     if (child == 0) {
         is_child = 1;
-        alarm(CHILD_LIMIT);
+        limit_child();
         dup2(ends[1], STDERR_FILENO);
         close(ends[0]);
         close(ends[1]);
@@ -170,6 +197,7 @@ static int is_refused_in_child(void)
 /* Whether this growth is refused. */
 static int is_growth_refused(void)
 {
+    __atomic_add_fetch(&counted, 1, __ATOMIC_SEQ_CST);
     return is_refused_in_child() || is_refused(told()->growth, &growths);
 }
 
@@ -254,6 +282,7 @@ int pthread_create(pthread_t *thread, const pthread_attr_t *attributes, void *(*
     static int (*next)(pthread_t *, const pthread_attr_t *, void *(*)(void *), void *);
     if (next == NULL)
         next = dlsym(RTLD_NEXT, "pthread_create");
+    leave_count();
     return is_refused(told()->thread, &threads) ? EAGAIN : next(thread, attributes, start, argument);
 }
 

@@ -2,6 +2,9 @@
 import os
 import subprocess
 
+# how many seconds a run may take, on a machine that is busy
+LIMIT = 300
+
 # for each mode an example, and the words that run it on the example
 RIGHT = {
     "two_servers.json": [[], ["fold"], ["--"], ["--", "fold"], ["fold", "--"]],
@@ -55,7 +58,7 @@ TEXTS = [
 
 
 def run(program, words, script=b""):
-    ended = subprocess.run([program, *words], input=script, capture_output=True, timeout=60)
+    ended = subprocess.run([program, *words], input=script, capture_output=True, timeout=LIMIT)
     return ended.returncode, ended.stdout, ended.stderr
 
 

@@ -93,7 +93,8 @@ class Started:
         return True
 
     def threads(self):
-        return sorted(map(int, os.listdir("/proc/%d/task" % self.process)))
+        """Its threads, the one that it began with first: the numbers of later ones may have begun anew from the least."""
+        return sorted(map(int, os.listdir("/proc/%d/task" % self.process)), key=lambda it: (it != self.process, it))
 
     def runs(self, thread):
         """Whether a thread runs, or could if it had a processor."""

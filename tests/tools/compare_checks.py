@@ -23,6 +23,8 @@ WRONG = os.path.join(HERE, "wrong_program")
 TURNS = os.path.join(ROOT, "examples", "turns")
 # how many seconds a run of a tool may take on a machine that is busy, and how many a run of an implementation that does not hang
 LIMIT, PATIENCE = 600, "300"
+# how many seconds it may take until a run is where a check wants it, and a command that goes on for longer in each mode
+WAIT, LONG = 300, "sleep 2000; :"
 RULE = "a read at the version of a write conflicts with it"
 # a share of the examples in which some differ by this rule, and how many shares there are of which one has a single fault
 SHARE, SHARES = "1/6", 12
@@ -143,21 +145,38 @@ def progress_is_shown_on_a_terminal(folder):
 
 
 def interrupted_run_leaves_nothing(folder):
-    words = [COMPARE, "--folder", folder, "--modes", "turns", "--seconds", "500", "--random", "0", "--", WRONG, "hang"]
-    with subprocess.Popen(words, stdout=subprocess.PIPE, stderr=subprocess.PIPE, env={**os.environ, "MARK": folder}) as process:
+    """It is interrupted while it runs commands that go on for far longer than is waited for the end of all."""
+    words = [COMPARE, "--folder", folder, "--modes", "turns", "--seconds", "3000", "--random", "0", "--", "sh", "-c", LONG]
+    streams = {"stdout": subprocess.PIPE, "stderr": subprocess.PIPE}
+    with subprocess.Popen(words, env={**os.environ, "MARK": folder}, **streams) as process:
         process.stdout.readline()
-        time.sleep(3)
+        is_running = is_reached(lambda: any(told(it, "cmdline").startswith(b"sleep\0") for it in marked(folder)))
         process.send_signal(signal.SIGTERM)
         out, _ = process.communicate(timeout=LIMIT)
+    want(is_running, "it has not begun to run a command")
     want(process.returncode == 130 and b"Interrupted." in out, "status %d: %s" % (process.returncode, out.decode()))
-    time.sleep(1)
-    left = [it for it in os.listdir("/proc") if it.isdigit() and ("MARK=%s" % folder).encode() in environment(it)]
-    want(not left, "the processes %s are left" % left)
+    want(is_reached(lambda: not marked(folder)), "the processes %s are left" % marked(folder))
 
 
-def environment(process):
+def is_reached(state):
+    """Whether there is a state within some time."""
+    end = time.monotonic() + WAIT
+    while not state():
+        if time.monotonic() > end:
+            return False
+        time.sleep(0.1)
+    return True
+
+
+def marked(folder):
+    """The processes that were started with this mark, while they have not ended."""
+    mark = ("MARK=%s" % folder).encode()
+    return [it for it in os.listdir("/proc") if it.isdigit() and mark in told(it, "environ").split(b"\0")]
+
+
+def told(process, name):
     try:
-        return read("/proc", process, "environ")
+        return read("/proc", process, name)
     except OSError:
         return b""
 

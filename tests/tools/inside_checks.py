@@ -14,7 +14,7 @@ import turns_reference
 import wrong_rule_cases
 from comparing import cases, right, running, trying
 from comparing.orders import Orders
-from compare_checks import COMPARE, SECOND, TURNS, called, want, want_last
+from compare_checks import COMPARE, PATIENCE, SECOND, TURNS, called, want, want_last
 
 # for numbers of batches and resolvers, and whether offers are repeated, how many orders there are: they were counted otherwise
 COUNTS = {
@@ -135,13 +135,14 @@ INSIDE = (
 def of_program(program):
     """Checks of the built program, each with its name."""
     def all_of_it(folder):
-        status, lines, said = called(COMPARE, "--orders", "--seed", "7", "--folder", folder, "--", program)
+        words = ["--orders", "--seed", "7", "--seconds", PATIENCE, "--folder", folder]
+        status, lines, said = called(COMPARE, *words, "--", program)
         want(status == 0, "\n".join([*lines, said]))
         want_last(lines, r"576 orders: 0 differ \(seed 7\)")
 
     def some_of_it(folder):
-        words = ["--orders", "--batches", "3", "--sample", str(SAMPLE), "--seed", "7", "--folder", folder]
-        status, lines, said = called(COMPARE, *words, "--", program)
+        words = ["--orders", "--batches", "3", "--sample", str(SAMPLE), "--seed", "7", "--seconds", PATIENCE]
+        status, lines, said = called(COMPARE, *words, "--folder", folder, "--", program)
         want(status == 0, "\n".join([*lines, said]))
         want("has 59670 orders" in "\n".join(lines), "\n".join(lines))
         want_last(lines, r"%d orders: 0 differ \(seed 7\)" % SAMPLE)

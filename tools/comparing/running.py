@@ -12,8 +12,9 @@ CHUNK = 65536
 KEPT = 4096
 
 
-# the command that runs, so that whoever ends this process can end it first
-running = []
+# the command that runs, so that whoever ends this process can end it first; and whether one is started just now, and whether
+# this process is to end once it has been
+running, starting, ending = [], [], []
 
 
 class NoStart(Exception):
@@ -46,10 +47,9 @@ def run(words, script, seconds, most):
     streams = {"stdout": subprocess.PIPE, "stderr": subprocess.PIPE}
     with file_of(script) as given:
         try:
-            process = subprocess.Popen(words, stdin=given, start_new_session=True, **streams)
+            process = start(words, stdin=given, start_new_session=True, **streams)
         except (OSError, ValueError) as error:
             raise NoStart("%s cannot be run: %s" % (words[0], getattr(error, "strerror", None) or error)) from None
-    running.append(process)
     with process:
         try:
             return read(process, time.monotonic() + seconds, most)
@@ -57,6 +57,19 @@ def run(words, script, seconds, most):
             kill(process)
             process.wait()
             running.remove(process)
+
+
+def start(words, **how):
+    """Starts a command. A signal that is to end this process meanwhile does so once the command is among those that run."""
+    starting.append(words)
+    try:
+        process = subprocess.Popen(words, **how)
+        running.append(process)
+    finally:
+        starting.pop()
+        if ending:
+            end_here()
+    return process
 
 
 def kill(process):
@@ -67,6 +80,9 @@ def kill(process):
 
 def end_here(*_signal):
     """Ends what runs, and this process: the handler of a signal. It waits for nothing, since it can interrupt a wait."""
+    if starting:
+        ending.append(True)
+        return
     for process in running:
         kill(process)
     os._exit(1)

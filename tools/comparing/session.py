@@ -42,8 +42,8 @@ class Session:
     # -- the run
 
     def run(self):
-        self.say(*self.first_words())
         try:
+            self.say(*self.first_words())
             with Pool(self.options.jobs, self.how, self.sources) as pool:
                 self.try_all(pool)
         except KeyboardInterrupt:
