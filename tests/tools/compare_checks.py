@@ -25,6 +25,20 @@ TURNS = os.path.join(ROOT, "examples", "turns")
 LIMIT, PATIENCE = 600, "300"
 # how many seconds it may take until a run is where a check wants it, and a command that goes on for longer in each mode
 WAIT, LONG = 300, "sleep 2000; :"
+# a process of tools/compare that is told to end before it knows of the command that it has started
+INTERRUPTED_START = """
+import os, signal, subprocess
+from tools.comparing import running
+
+class Interrupted(subprocess.Popen):
+    def __init__(self, *words, **how):
+        super().__init__(*words, **how)
+        os.kill(os.getpid(), signal.SIGTERM)
+
+signal.signal(signal.SIGTERM, running.end_here)
+subprocess.Popen = Interrupted
+running.run(["sleep", "2000"], b"", 3000, 0)
+"""
 RULE = "a read at the version of a write conflicts with it"
 # a share of the examples in which some differ by this rule, and how many shares there are of which one has a single fault
 SHARE, SHARES = "1/6", 12
@@ -158,6 +172,14 @@ def interrupted_run_leaves_nothing(folder):
     want(is_reached(lambda: not marked(folder)), "the processes %s are left" % marked(folder))
 
 
+def interrupted_start_leaves_nothing(folder):
+    """A process that is told to end when it has only just started a command ends that too."""
+    words = [sys.executable, "-B", "-c", INTERRUPTED_START]
+    status, _, said = called(*words, cwd=ROOT, env={**os.environ, "MARK": folder})
+    want((status, said) == (1, ""), "status %d: %s" % (status, said))
+    want(is_reached(lambda: not marked(folder)), "the processes %s are left" % marked(folder))
+
+
 def is_reached(state):
     """Whether there is a state within some time."""
     end = time.monotonic() + WAIT
@@ -248,7 +270,8 @@ def checks():
     for check in (
         right_implementation_does_not_differ, wrong_implementation_is_told, same_seed_does_the_same,
         json_has_an_object_for_each_difference, any_status_passes, minutes_end_a_run, progress_is_shown_on_a_terminal,
-        interrupted_run_leaves_nothing, misuse_ends_with_status_2, help_has_an_example, shrink_prints_a_small_script,
+        interrupted_run_leaves_nothing, interrupted_start_leaves_nothing, misuse_ends_with_status_2, help_has_an_example,
+        shrink_prints_a_small_script,
         random_script_is_the_same_again, second_programs_say_their_usage,
     ):
         yield check.__name__, check
