@@ -14,15 +14,20 @@ use std::sync::atomic::{AtomicU64, Ordering};
 use std::test::Fail;
 use std::thread;
 use std::thread::Threads;
+use testing::is_memory_refused;
 use workers::{Gate, Place};
 
 /// How often the gate looks before it gives up. Then the test fails, unless resolver 1 was refused
 /// memory, which nobody can see before resolver 0 has answered.
 const TURNS: usize = 10_000_000;
 
+/// How often it looks before it gives up if an allocation has failed.
+const TURNS_WITHOUT_MEMORY: usize = 1_000_000;
+
 /// Holds resolver 0 back until resolver 1 has judged row 0.
 #[derive(Drop)]
 struct Looks<'x, N: Naming> {
+    alloc: Global,
     ledger: &'x Ledger<N>,
     /// How often the gate was entered.
     entered: AtomicU64,
@@ -38,17 +43,20 @@ impl<'g, 'x, N: Naming> Gate for &'g Looks<'x, N> {
     fn enter(&self, place: Place) {
         let _ = self.entered.fetch_add(1, Ordering::SeqCst);
         let is_early = !has_judged(self.ledger, place.resolver);
-        if !is_early || place.resolver == 0 && !is_judged_in_time(self.ledger) {
+        if !is_early || place.resolver == 0 && !is_judged_in_time(self.alloc, self.ledger) {
             let _ = self.missed.fetch_add(1, Ordering::SeqCst);
         }
     }
 }
 
 /// Whether resolver 1 judges row 0 while somebody looks.
-fn is_judged_in_time<N: Naming>(ledger: &Ledger<N>) -> bool {
-    for _turn in 0..TURNS {
+fn is_judged_in_time<N: Naming>(alloc: Global, ledger: &Ledger<N>) -> bool {
+    for turn in 0..TURNS {
         if has_judged(ledger, 1) {
             return true;
+        }
+        if turn == TURNS_WITHOUT_MEMORY && is_memory_refused(alloc) {
+            return false;
         }
         thread::yield_now();
     }
@@ -79,6 +87,7 @@ pub(crate) fn hold_back<
     R: Abort + AllocGlobal + Threads + Wait + Sync,
 >(rt: &R, alloc: Global, cluster: &Cluster<'_, N>, inboxes: Inboxes<N, M>) -> Result<(), Fail> {
     let gate = Looks {
+        alloc,
         ledger: cluster.ledger,
         entered: AtomicU64::new(0),
         missed: AtomicU64::new(0),
