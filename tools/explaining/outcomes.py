@@ -2,7 +2,7 @@
 from reference import KEY_SERVERS, LOCKED, METADATA_VERSION, Refused, quoted, read_bytes
 
 from .copies import explain_added, explain_copy
-from .journal import first_upper, indented, key_words, mutation_words, row_name, tags_compared, tags_story
+from .journal import first_upper, indented, mutation_words, row_name, tags_compared, tags_story
 from .texts import after, count, joined
 from .verdicts import too_old_words
 
