@@ -154,7 +154,7 @@ impl<'l, N: Naming> SharedProxy<'l, N> {
     ) -> Result<(NotedFinished<N>, ProxyGuard<'_, N>), CommitFault<N>>
         ensures { MatchResult result
             (λ made. IsCommitted self.now batch made.0 made.1
-                × TakesProxy (A.takes asking.now) self.now)
+            × TakesProxy (A.takes asking.now) self.now)
             (HandsBack N.cells (A.takes asking.now) self.now batch) }
     {
         let begun = self.begin_batch(rt, sequencer, batch)?;

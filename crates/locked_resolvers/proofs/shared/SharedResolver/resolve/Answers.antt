@@ -13,7 +13,7 @@ returns-clause-refused g c =
     let keeps : IsLockedResolver g.N.Naming.cells.config c.wait_while-guard.result.value = search rules in
     let v = c.wait_while-guard.result.value in
     let refused = c.in-Err.refused in
-    let agree : Agree 0 v.records 0 c.args.request.records = agreed_before v c.offer.new.self c.args.request refused.request refused.refusal c.records.result.now c.records-2.result.now c.in-Err.ensures.left c.in-Err.ensures.back c.records.ensures.value c.records-2.ensures.value c.agree.ensures in
+    let agree : Agree 0 v.records 0 c.args.request.records = agreed_before v c.offer.new.self c.args.request refused.request refused.refusal c.records.result.now c.records-in-Err.result.now c.in-Err.ensures.left c.in-Err.ensures.back c.records.ensures.value c.records-in-Err.ensures.value c.agree.ensures in
     (not_early g.N.Naming.cells.config v c.args.request.plain refused.refusal keeps waited c.in-Err.ensures.refused, (v, keeps, number, agree, c.in-Err.ensures.refused))
 
 pub returns-clause-taken : goal.returns-clause-taken
