@@ -1,7 +1,8 @@
 -- The requests for a record that was begun, and the replies to them.
-use Rattle.std.proofs.Common.{◌≡◌, refl, sym, ap, ◌∙◌, ℕ, zero, suc, ◌<◌, List, [], ◌∷◌, ◌++◌, length, slice_get, Some, arith}
+use Rattle.std.proofs.Common.{◌≡◌, refl, sym, ap, ◌∙◌, ℕ, zero, suc, ◌<◌, ◌≤◌, List, [], ◌∷◌, ◌++◌, length, slice_get, Some, arith}
 use Rattle.std.proofs.lemmas.List.{length-map}
-use Rattle.std.proofs.lemmas.Option.{slice_get_within}
+use Rattle.std.specs.Prelude.{Option, None}
+use Rattle.std.proofs.lemmas.Option.{same_Some, slice_get_within}
 use Rattle.model.specs.Configs.{Config}
 use Rattle.model.specs.Records.{Record}
 use Rattle.model.specs.Shares.{each_below}
@@ -17,8 +18,8 @@ use Rattle.locked_resolvers.specs.Requests.{RequestView}
 use Rattle.locked_resolvers.specs.NotedReplies.{NotedReplyView}
 use Rattle.locked_cluster.specs.Begun.{BegunView, IsBegun, requests_to_all, with_records}
 use Rattle.locked_cluster.specs.Ready.{AreRepliesOfAll}
-use Rattle.locked_resolvers.specs.Asking.{AreOfOneRecord, AreRepliesInOrder}
-use Rattle.locked_cluster.specs.Commits.{HoldsBatch}
+use Rattle.locked_resolvers.specs.Asking.{AreOfOneRecord, AreRepliesInOrder, AreTaken, IsTaken, TakesProxy}
+use Rattle.locked_cluster.specs.Commits.{HoldsBatch, TakesRecord}
 use Rattle.locked_cluster.proofs.ProxyBegins.{request_at}
 
 -- the numbers of the request at a place
@@ -81,6 +82,27 @@ replies_of_all config v replies is answered =
         let numbers = numbers_at config v r asked.0 is asked.1 in
         let to = answered.each r asked.0 noted asked.1 at in
         (to.resolver ∙ numbers.resolver, to.row ∙ numbers.row)
+
+-- ---- whose requests the way to ask takes
+
+proxy_of : (config : Config) (rec : Record) (last_received r : ℕ) → (request config rec last_received r).proxy ≡ rec.proxy
+unfolding request_back_to
+proxy_of config rec last_received r = refl
+
+takes_one : (whose : Option ℕ) (q : Request) (p : ℕ) → q.proxy ≡ p → IsTaken whose q → TakesProxy whose p
+takes_one None q p same taken = taken
+takes_one (Some only) q p same taken = sym same ∙ taken
+
+-- it takes one of a record's requests, so it takes those of the record's proxy
+pub takes_record : (config : Config) (v : BegunView) (whose : Option ℕ) → 1 ≤ config.resolvers → IsBegun config v → AreTaken whose v.requests → TakesRecord whose v
+takes_record config v whose some is taken rec at =
+    let count = count_of config v is in
+    let (q, here) = element_at v.requests 0 (omega (arith, some, count)) in
+    let plain = plain_at v.records (requests_to_all config is.rec is.last_received) 0 q (ap (λ (qs : List RequestView). slice_get qs 0) (sym is.requests) ∙ here) in
+    let found = request_at config is.rec is.last_received 0 q.plain plain in
+    let own : q.plain.proxy ≡ is.rec.proxy = ap (λ (p : Request). p.proxy) found.1 ∙ proxy_of config is.rec is.last_received 0 in
+    let same : is.rec ≡ rec = same_Some is.rec rec (sym is.there ∙ at) in
+    takes_one whose q.plain rec.proxy (own ∙ ap (λ (r : Record). r.proxy) same) (taken 0 q here)
 
 -- ---- a batch that got its record
 

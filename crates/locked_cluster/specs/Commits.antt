@@ -8,8 +8,9 @@ use Rattle.agreed_ledger.specs.Cells.{Cells}
 use Rattle.agreed_ledger.specs.Refusals.{refusal_fault}
 use Rattle.agreed_ledger.specs.Sequencing.{SequencedView, TicketView, sequence_fault}
 use Rattle.agreed_ledger.specs.declared.refusal.Refusal.{Refusal as LedgerRefusal}
-use Rattle.locked_resolvers.specs.Asking.{IsAskAllRefusal}
+use Rattle.locked_resolvers.specs.Asking.{IsAskAllRefusal, TakesProxy}
 use Rattle.locked_cluster.specs.Answers.{NotedFinishedView}
+use Rattle.locked_cluster.specs.Begun.{BegunView}
 use Rattle.locked_cluster.specs.Ready.{ReadyView}
 use Rattle.locked_cluster.specs.Proxies.{LockedProxyView, IsLockedProxy, ShowsFinished}
 use Rattle.locked_cluster.specs.Proxies.{IsBeginRefusal, IsFinishRefusal, awaits_before}
@@ -25,6 +26,11 @@ pub record HoldsBatch
   pub there : slice_get records row ≡ Some rec
   pub own : rec.proxy ≡ p
   pub batch_is : rec.batch ≡ stamped_from rec.version 0 batch
+
+-- the way to ask takes the requests of the proxy whose record was begun
+abbrev pub TakesRecord : (whose : Option ProxyNumber) → BegunView → Type 0
+TakesRecord whose begun =
+    (rec : Record) → slice_get begun.records begun.row ≡ Some rec → TakesProxy whose rec.proxy
 
 -- the finished record is of this proxy and holds the batch, and this proxy is shown and has just
 -- finished it

@@ -1,3 +1,4 @@
 mod AskedRequests
 pub mod Lists
+pub mod RefusedOffers
 pub mod ServedRequests

@@ -36,16 +36,21 @@ pub record AreRepliesInOrder
       → IsReplyToRequest q.plain noted.reply
 
 -- An allocation failed; or a resolver of the number that the request names, in some state that its
--- lock may keep, refuses the request so.
+-- lock may keep and of the request's history, refuses the request so.
 abbrev pub IsAskRefusal : Config → RequestView → Refusal → Type 0
 IsAskRefusal config q refusal =
-    (refusal ≡ refusals.OutOfMemory) ⊎ IsResolveRefusal config q.plain.resolver q.plain refusal
+    (refusal ≡ refusals.OutOfMemory) ⊎ IsResolveRefusal config q.plain.resolver q refusal
 
 -- Whose requests a way to ask takes: those of this proxy alone, or, with None, those of every proxy. The
 -- request is one that it takes.
 abbrev pub IsTaken : (whose : Option ProxyNumber) → Request → Type 0
 IsTaken None q = Unit {0}
 IsTaken (Some p) q = q.proxy ≡ p
+
+-- the way to ask takes the requests of this proxy
+abbrev pub TakesProxy : (whose : Option ProxyNumber) → ProxyNumber → Type 0
+TakesProxy None p = Unit {0}
+TakesProxy (Some only) p = p ≡ only
 
 -- each request is one that it takes
 abbrev pub AreTaken : (whose : Option ProxyNumber) → List RequestView → Type 0
@@ -62,13 +67,13 @@ abbrev pub HasForeign : (whose : Option ProxyNumber) → List RequestView → Ty
 HasForeign whose requests = (place : ℕ) × IsForeignAt whose requests place
 
 -- An allocation failed; or a resolver of the number that one of the requests names, in some state
--- that its lock may keep, refuses that request so.
+-- that its lock may keep and of that request's history, refuses that request so.
 abbrev pub IsAskedRefusal : Config → List RequestView → Refusal → Type 0
 IsAskedRefusal config requests refusal =
     (refusal ≡ refusals.OutOfMemory)
     ⊎ ((place : ℕ) × (q : RequestView)
     × (slice_get requests place ≡ Some q)
-    × IsResolveRefusal config q.plain.resolver q.plain refusal)
+    × IsResolveRefusal config q.plain.resolver q refusal)
 
 -- One of the requests is one that the way to ask does not take, and so none was asked. Or it takes
 -- each, and an allocation failed, or a resolver refuses one of them so.

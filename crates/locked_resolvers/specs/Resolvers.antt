@@ -3,6 +3,7 @@
 use Rattle.std.specs.Prelude.{◌≡◌, ℕ, ◌+◌, ◌<◌, ◌≤◌, List, [], ◌∷◌, ◌++◌, length, map, take}
 use Rattle.std.specs.Prelude.{slice_get, Option, Some, None, Bool, true}
 use Rattle.std.specs.Prelude.{false, not, ◌&&◌, nat_eq, nat_lt, IsTrue, IsFalse, ◌⊎◌, Ok, Err, IsOk}
+use Rattle.facts.specs.Stretches.{Agree}
 use Rattle.model.specs.Numbers.{Version, ResolverNumber, RowNumber}
 use Rattle.model.specs.Configs.{Config, IsConfig}
 use Rattle.model.specs.Records.{Record, IsHistory}
@@ -169,13 +170,18 @@ abbrev pub IsNotEarly : Refusal → Type 0
 IsNotEarly (refusals.Early version) = ⊥
 IsNotEarly refusal = Unit {0}
 
--- A resolver of this number, in some state that its lock may keep, refuses an offer of the request
--- so, and not since the request is early.
-abbrev pub IsResolveRefusal : Config → ResolverNumber → Request → Refusal → Type 0
-IsResolveRefusal config r q refusal =
-    IsNotEarly refusal
-    × ((v : LockedResolverView)
-    × IsLockedResolver config v × (v.memory.number ≡ r) × IsOfferRefusal v q refusal)
+-- A resolver of this number, in some state that its lock may keep, refuses an offer of the request so.
+-- Its records and the request's are of one history: wherever both have a row, they have the same record.
+abbrev pub WasRefusedBy : Config → ResolverNumber → RequestView → Refusal → Type 0
+WasRefusedBy config r request refusal =
+    (v : LockedResolverView)
+    × IsLockedResolver config v × (v.memory.number ≡ r)
+    × Agree 0 v.records 0 request.records × IsOfferRefusal v request.plain refusal
+
+-- a resolver of this number refuses the request so, and not since the request is early
+abbrev pub IsResolveRefusal : Config → ResolverNumber → RequestView → Refusal → Type 0
+IsResolveRefusal config r request refusal =
+    IsNotEarly refusal × WasRefusedBy config r request refusal
 
 -- The resolver that is shown is the one that replied. It is open, has come to the reply's version or
 -- further, and has the records and the cells that the reply was made by.

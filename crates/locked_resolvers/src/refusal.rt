@@ -27,8 +27,8 @@ pub enum Refusal {
     /// and no reply to it is kept.
     #[error("the request is outside the chain of versions, which has come to {version}")]
     OutsideChain { version: Version },
-    /// The record is of another proxy.
-    #[error("the record is of another proxy")]
+    /// The record, or a request, is of another proxy.
+    #[error("the record, or a request, is of another proxy")]
     NotMine,
     /// The record does not follow the one that the proxy has begun last, at version `expected`.
     #[error("the record does not follow the last one begun, at version {expected}")]

@@ -114,7 +114,7 @@ impl<'l, N: Naming> SharedResolver<'l, N> {
         ensures kept { IfOk result (λ made. IsLockedResolver N.cells.config made.1) }
         ensures number { IfOk result (λ made. made.1.memory.number ≡ self.now) }
         ensures refused { IfErr result (λ refused.
-            IsResolveRefusal N.cells.config self.now request.plain refused.refusal) }
+            IsResolveRefusal N.cells.config self.now request refused.refusal) }
         ensures taken { IfErr result (λ refused.
             TellsTaken request.plain.row self.now refused.refusal refused.taken) }
         ensures back { IfErr result (λ refused. refused.request ≡ request) }
@@ -134,7 +134,11 @@ impl<'l, N: Naming> SharedResolver<'l, N> {
         };
         match shown.offer(request) {
             Ok(noted) => Ok((noted, shown)),
-            Err(refused) => Err(refused),
+            Err(refused) => {
+                // (by their types its records and the request's are of one ledger)
+                shown.records().agree(refused.request.records());
+                Err(refused)
+            }
         }
     }
 

@@ -128,7 +128,7 @@ never_asked cells whose p begun batch there kept holds (inr (taken, inr asked)) 
     let refuses = asked.3.1 in
     let v = refuses.0 in
     let keeps = refuses.1 in
-    let fault = refuses.3 in
+    let fault = refuses.4 in
     let stands = keeps.stands in
     let missing = missing_proxy v.memory.number (length v.memory.proxies) v.memory.written.window _ q.plain (fault.1 _ stands.requests) in
     let of = proxy_at cells.config begun asked.0 q kept asked.2 in

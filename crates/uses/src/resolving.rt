@@ -22,7 +22,7 @@ pub fn resolve_and_look<'a, N: Naming, R: Wait>(
 ) -> Result<(NotedReply<N>, ResolverGuard<'a, N>), Refused<N>>
     ensures shown { IfOk result (λ made. StandsInItsCell request made.0 made.1) }
     ensures refused { IfErr result (λ refused.
-        IsResolveRefusal N.cells.config resolver.now request.plain refused.refusal) }
+        IsResolveRefusal N.cells.config resolver.now request refused.refusal) }
     ensures back { IfErr result (λ refused. refused.request ≡ request) }
 {
     let (noted, guard) = resolver.resolve(rt, request)?;

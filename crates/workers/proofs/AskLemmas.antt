@@ -9,9 +9,9 @@ use Rattle.model.specs.Requests.{Request, request}
 use Rattle.model.proofs.History.Growth.{push_cases}
 use Rattle.locked_resolvers.specs.Requests.{RequestView, IsRequestFor}
 use Rattle.locked_resolvers.specs.NotedReplies.{NotedReplyView, IsReplyToRequest}
-use Rattle.locked_resolvers.specs.Asking.{AreRepliesInOrder, IsAskRefusal}
-use Rattle.locked_resolvers.specs.Resolvers.{IsResolveRefusal}
+use Rattle.locked_resolvers.specs.Asking.{AreRepliesInOrder}
 use Rattle.locked_resolvers.specs.declared.refusal.Refusal.{Refusal}
+use Rattle.locked_resolvers.proofs.Lists.{first_same, take_all}
 use Rattle.inboxes.specs.declared.tag.Tag.{Tag}
 use Rattle.inboxes.specs.Ends.{AreSenders, ProxyView, SenderView}
 use Rattle.inboxes.specs.Sending.{AreSent, ChangesEnd, IsSent, IsSentTo, with_gone, with_sent}
@@ -161,15 +161,14 @@ match_eq a b P Q holds fails = by (cases_eq a b)
 
 -- requests for one row to one resolver, by one version last received, with records that agree, are one
 pub one_request : (config : Config) (v w : RequestView) → IsRequestFor config v → IsRequestFor config w → Agree 0 v.records 0 w.records
-    → v.plain.row ≡ w.plain.row → v.plain.resolver ≡ w.plain.resolver → v.plain.last_received ≡ w.plain.last_received → v.plain ≡ w.plain
+    → v.plain.row ≡ w.plain.row → v.plain.resolver ≡ w.plain.resolver → v.plain.last_received ≡ w.plain.last_received → v ≡ w
 one_request config v w is_v is_w agree row resolver received =
     let same : is_v.rec ≡ is_w.rec = agree v.plain.row w.plain.row is_v.rec is_w.rec (ap (λ (k : ℕ). 0 + k) row) is_v.there is_w.there in
-    is_v.is ∙ (λ i. request config (same i) (received i) (resolver i)) ∙ sym is_w.is
-
--- what refuses a request refuses the same request with other records
-pub same_refusal : (config : Config) (q r : RequestView) (refusal : Refusal) → q.plain ≡ r.plain → IsAskRefusal config q refusal → IsAskRefusal config r refusal
-same_refusal config q r refusal same (inl memory) = inl memory
-same_refusal config q r refusal same (inr refused) = inr (subst (λ (p : Request). IsResolveRefusal config p.resolver p refusal) same refused)
+    let plain : v.plain ≡ w.plain = is_v.is ∙ (λ i. request config (same i) (received i) (resolver i)) ∙ sym is_w.is in
+    let (mine, theirs) = (is_v.last, is_w.last) in
+    let count : length v.records ≡ length w.records = omega (arith, mine, theirs, row) in
+    let records : v.records ≡ w.records = sym (take_all v.records (length v.records) (omega arith)) ∙ first_same (length v.records) v.records w.records agree (omega arith) (omega (arith, count)) ∙ take_all w.records (length v.records) (omega (arith, count)) in
+    λ i. record { plain = plain i; records = records i }
 
 -- ---- what an answer gives
 

@@ -2,16 +2,14 @@
 use Rattle.std.proofs.Common.{◌≡◌, refl, ap, ◌∙◌, ℕ, zero, suc, ◌<◌, inr, List, [], ◌∷◌, length, slice_get, Some, true, arith}
 use Rattle.model.specs.Configs.{Config, IsConfig}
 use Rattle.model.specs.Records.{Record}
-use Rattle.model.specs.Requests.{Request}
 use Rattle.model.specs.ResolverMemory.{ProxyMemory, ResolverView, StandsForRequests}
 use Rattle.model.specs.WriteHistories.{StandsForShares}
 use Rattle.model.proofs.Resolvers.Growth.{new_stands}
 use Rattle.locked_resolvers.specs.Requests.{RequestView}
-use Rattle.locked_resolvers.specs.Resolvers.{LockedResolverView, IsLockedResolver, IsNotEarly, IsResolveRefusal}
+use Rattle.locked_resolvers.specs.Resolvers.{LockedResolverView, IsLockedResolver, IsNotEarly, IsResolveRefusal, WasRefusedBy}
 use Rattle.locked_resolvers.specs.Asking.{IsAskRefusal}
 use Rattle.locked_resolvers.specs.declared.refusal.Refusal.{Refusal}
 use Rattle.locked_resolvers.specs.declared.refusal.Refusal.TheVariants as refusals
-use Rattle.workers.specs.Refusing.{WasRefusedBy}
 
 -- what is kept of so many proxies without requests
 no_requests : ℕ → List ProxyMemory
@@ -86,13 +84,13 @@ closed_kept config r limits there =
     }
 
 -- a closed resolver refuses the request
-pub closed_refuses : (config : Config) (q : Request) → IsConfig config → q.resolver < config.resolvers → IsResolveRefusal config q.resolver q refusals.Closed
+pub closed_refuses : (config : Config) (q : RequestView) → IsConfig config → q.plain.resolver < config.resolvers → IsResolveRefusal config q.plain.resolver q refusals.Closed
 unfolding closed_one new_memory
-closed_refuses config q limits there = (tt, (closed_one config q.resolver, closed_kept config q.resolver limits there, refl, refl))
+closed_refuses config q limits there = (tt, (closed_one config q.plain.resolver, closed_kept config q.plain.resolver limits there, refl, (λ i j x y same at_x at_y. absurd (cc)), refl))
 
 pub closed_asked : (config : Config) (q : RequestView) → IsConfig config → q.plain.resolver < config.resolvers → IsAskRefusal config q refusals.Closed
-closed_asked config q limits there = inr (closed_refuses config q.plain limits there)
+closed_asked config q limits there = inr (closed_refuses config q limits there)
 
 -- the resolver that the request names refused it, and not as early
-pub offer_refused : (config : Config) (r : ℕ) (q : RequestView) (refusal : Refusal) → IsNotEarly refusal → r ≡ q.plain.resolver → WasRefusedBy config r q.plain refusal → IsAskRefusal config q refusal
-offer_refused config r q refusal late same (v, kept, number, refused) = inr (late, (v, kept, number ∙ same, refused))
+pub offer_refused : (config : Config) (r : ℕ) (q : RequestView) (refusal : Refusal) → IsNotEarly refusal → r ≡ q.plain.resolver → WasRefusedBy config r q refusal → IsAskRefusal config q refusal
+offer_refused config r q refusal late same (v, kept, number, agree, refused) = inr (late, (v, kept, number ∙ same, agree, refused))

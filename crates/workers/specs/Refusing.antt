@@ -1,11 +1,10 @@
 -- What a resolver answers to the requests that its worker offers. *Profile*: all of it.
 use Rattle.std.specs.Prelude.{◌≡◌, ◌≢◌, ◌⊎◌, Bool, IsTrue, MatchBool, Option, None, Some}
-use Rattle.model.specs.Numbers.{ResolverNumber, Version}
-use Rattle.model.specs.Configs.{Config}
+use Rattle.model.specs.Numbers.{Version}
 use Rattle.model.specs.Requests.{Request}
 use Rattle.locked_resolvers.specs.Requests.{RequestView}
-use Rattle.locked_resolvers.specs.Resolvers.{LockedResolverView, HasOffered, IsLockedResolver}
-use Rattle.locked_resolvers.specs.Resolvers.{IsNotEarly, IsOfferRefusal, closed_resolver}
+use Rattle.locked_resolvers.specs.Resolvers.{LockedResolverView, HasOffered, IsNotEarly}
+use Rattle.locked_resolvers.specs.Resolvers.{IsOfferRefusal, closed_resolver}
 use Rattle.locked_resolvers.specs.NotedReplies.{NotedReplyView}
 use Rattle.locked_resolvers.specs.declared.refusal.Refusal.{Refusal}
 use Rattle.locked_resolvers.specs.declared.refusal.Refusal.TheVariants as refusals
@@ -24,13 +23,6 @@ IsSameOrClosed before after = (after ≡ before) ⊎ (after ≡ closed_resolver 
 -- with a closed worker the resolver is closed, and otherwise it is the same
 abbrev pub IsClosedWith : (closed : Bool) → (before after : LockedResolverView) → Type 0
 IsClosedWith closed before after = MatchBool closed (after ≡ closed_resolver before) (after ≡ before)
-
--- a resolver of this number, in some state that its lock may keep, refuses an offer of the request
--- so
-abbrev pub WasRefusedBy : Config → ResolverNumber → Request → Refusal → Type 0
-WasRefusedBy config r q refusal =
-    (v : LockedResolverView)
-    × IsLockedResolver config v × (v.memory.number ≡ r) × IsOfferRefusal v q refusal
 
 -- The refusal that is told of an offer of the request: the one that the resolver gave, as it was
 -- before. A request to another resolver, and one that came too early, are refused as closed.

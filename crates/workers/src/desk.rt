@@ -337,6 +337,8 @@ impl<N: Naming> Desk<N> {
                 Answer::Replied(noted)
             }
             Err(refused) => {
+                // (by their types the resolver's records and the request's are of one ledger)
+                guard.records().agree(refused.request.records());
                 self.catch_up(guard.column());
                 self.fail(refused.refusal, refused.request.row());
                 self.close_with(guard);

@@ -2,9 +2,9 @@
 
 ghost use Rattle.std.specs.Prelude.{◌≡◌, ◌≢◌, IsTrue};
 ghost use Rattle.model.specs.Numbers.{Version};
-ghost use Rattle.locked_resolvers.specs.Resolvers.{IsNotEarly};
+ghost use Rattle.locked_resolvers.specs.Resolvers.{IsNotEarly, WasRefusedBy};
 ghost use Rattle.locked_resolvers.specs.declared.refusal.Refusal.TheVariants as refusals;
-ghost use Rattle.workers.specs.Refusing.{IsSameOrClosed, WasRefusedBy};
+ghost use Rattle.workers.specs.Refusing.{IsSameOrClosed};
 
 use crate::answer::RefusedRequest;
 use agreed_ledger::Naming;
@@ -32,7 +32,7 @@ pub(crate) fn refused_by_offer<N: Naming>(
     refused: Refused<N>,
 ) -> RefusedRequest<N>
     requires was { WasRefusedBy N.cells.config guard.old.memory.number
-        refused.request.plain refused.refusal }
+        refused.request refused.refusal }
     requires closed { refused.refusal ≡ refusals.Closed → IsTrue guard.old.closed }
     ensures request { result.request ≡ refused.request }
     ensures refusal { refused.request.plain.resolver ≡ guard.old.memory.number

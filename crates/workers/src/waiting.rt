@@ -162,9 +162,9 @@ fn refusal_of<N: Naming>(refused: &RefusedRequest<N>, request: &Request<N>) -> O
     }
 }
 
-/// Whether the two requests are the same, but for their records, which agree.
+/// Whether the two requests are the same.
 fn is_same<N: Naming>(one: &Request<N>, other: &Request<N>) -> bool
-    ensures { MatchBool result (one.now.plain ≡ other.now.plain) (one.now.plain ≢ other.now.plain) }
+    ensures { MatchBool result (one.now ≡ other.now) (one.now.plain ≢ other.now.plain) }
 {
     one.records().agree(other.records());
     let (one, other) = (one.plain(), other.plain());

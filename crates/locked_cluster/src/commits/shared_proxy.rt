@@ -7,9 +7,10 @@ ghost use Rattle.model.specs.Numbers.{ProxyNumber};
 ghost use Rattle.model.specs.Metadata.{metadata as metadata_of};
 ghost use Rattle.proxy_state.specs.Beginning.{rows_up_to};
 ghost use Rattle.locked_cluster.specs.Audits.{IsConfirmed};
-ghost use Rattle.locked_resolvers.specs.Asking.{IsAskAllRefusal};
+ghost use Rattle.locked_resolvers.specs.Asking.{IsAskAllRefusal, TakesProxy};
 ghost use Rattle.locked_cluster.specs.Commits.{HandsBack, HoldsBatch, IsCommitted};
-ghost use Rattle.locked_cluster.specs.Commits.{WasFinishRefused, WasSequenceRefused};
+ghost use Rattle.locked_cluster.specs.Commits.{TakesRecord, WasFinishRefused};
+ghost use Rattle.locked_cluster.specs.Commits.{WasSequenceRefused};
 ghost use Rattle.locked_cluster.specs.Meetings.{Met};
 ghost use Rattle.locked_cluster.specs.Proxies.{BeginsTicket, FinishesReady, ShowsRouting};
 ghost use Rattle.locked_cluster.specs.Proxies.{IsBeginRefusal, IsFinishRefusal};
@@ -119,6 +120,7 @@ impl<'l, N: Naming> SharedProxy<'l, N> {
     ) -> Result<Ready<N>, (Refusal, Begun<N>)>
         ensures row { IfOk result (λ ready. ready.row ≡ begun.row) }
         ensures records { IfOk result (λ ready. ready.records ≡ begun.records) }
+        ensures taken { IfOk result (λ _. TakesRecord (A.takes asking.now) begun) }
         ensures refused { IfErr result (λ refused.
             IsAskAllRefusal N.cells.config (A.takes asking.now) begun.requests refused.0) }
         ensures back { IfErr result (λ refused. refused.1 ≡ begun) }
@@ -151,7 +153,8 @@ impl<'l, N: Naming> SharedProxy<'l, N> {
         batch: Batch,
     ) -> Result<(NotedFinished<N>, ProxyGuard<'_, N>), CommitFault<N>>
         ensures { MatchResult result
-            (λ made. IsCommitted self.now batch made.0 made.1)
+            (λ made. IsCommitted self.now batch made.0 made.1
+            × TakesProxy (A.takes asking.now) self.now)
             (HandsBack N.cells (A.takes asking.now) self.now batch) }
     {
         let begun = self.begin_batch(rt, sequencer, batch)?;

@@ -17,6 +17,6 @@ returns g c =
     let resolver : one.plain.resolver ≡ other.plain.resolver = sym (c.resolver.ensures ∙ ap (λ (q : Request). q.resolver) c.plain-one.ensures.value) ∙ c.if-resolver.false ∙ c.resolver-2.ensures ∙ ap (λ (q : Request). q.resolver) c.plain-other.ensures.value in
     let mine_last : c.last_received.result ≡ one.plain.last_received = c.last_received.ensures ∙ ap (λ (q : Request). q.last_received) c.plain-one.ensures.value in
     let their_last : c.last_received-2.result ≡ other.plain.last_received = c.last_received-2.ensures ∙ ap (λ (q : Request). q.last_received) c.plain-other.ensures.value in
-    match_eq c.last_received.result c.last_received-2.result (one.plain ≡ other.plain) (one.plain ≢ other.plain)
+    match_eq c.last_received.result c.last_received-2.result (one ≡ other) (one.plain ≢ other.plain)
     (λ same. one_request g.N.Naming.cells.config one other c.plain-one.ensures.kept c.plain-other.ensures.kept agree row resolver (sym mine_last ∙ same ∙ their_last))
     (λ apart both. apart (mine_last ∙ ap (λ (q : Request). q.last_received) both ∙ sym their_last))

@@ -3,19 +3,18 @@ use Rattle.std.specs.Prelude.{Bool, MatchBool}
 use Rattle.std.proofs.Common.{◌≡◌, ◌≢◌, ap, sym, ◌∙◌, subst}
 use Rattle.locked_resolvers.specs.Asking.{IsAskRefusal}
 use Rattle.locked_resolvers.specs.Requests.{RequestView}
-use Rattle.workers.proofs.AskLemmas.{same_refusal}
 use Rattle.workers.proofs.waiting.refusal_of.Goals as goal
 
 pub returns-then-is_same-clause-kept : goal.returns-then-is_same-clause-kept
 returns-then-is_same-clause-kept g c =
     let config = g.N.Naming.cells.config in
     let refused = c.args.refused.now in
-    let same : refused.request.plain ≡ c.args.request.now.plain = sym (ap (λ (q : RequestView). q.plain) c.request.ensures) ∙ subst (λ (t : Bool). MatchBool t (c.request.result.now.plain ≡ c.args.request.now.plain) (c.request.result.now.plain ≢ c.args.request.now.plain)) c.if-is_same.true c.is_same.ensures in
-    subst (IsAskRefusal config c.args.request.now) (sym c.refusal.ensures.value) (same_refusal config refused.request c.args.request.now refused.refusal same c.refusal.ensures.kept)
+    let same : refused.request ≡ c.args.request.now = sym c.request.ensures ∙ subst (λ (t : Bool). MatchBool t (c.request.result.now ≡ c.args.request.now) (c.request.result.now.plain ≢ c.args.request.now.plain)) c.if-is_same.true c.is_same.ensures in
+    subst (IsAskRefusal config c.args.request.now) (sym c.refusal.ensures.value) (subst (λ (q : RequestView). IsAskRefusal config q refused.refusal) same c.refusal.ensures.kept)
 
 pub returns-else-is_same-clause-given : goal.returns-else-is_same-clause-given
 returns-else-is_same-clause-given g c =
     let refused = c.args.refused.now in
     let asked = c.args.request.now in
-    let apart = subst (λ (t : Bool). MatchBool t (c.request.result.now.plain ≡ asked.plain) (c.request.result.now.plain ≢ asked.plain)) c.if-is_same.false c.is_same.ensures in
+    let apart = subst (λ (t : Bool). MatchBool t (c.request.result.now ≡ asked) (c.request.result.now.plain ≢ asked.plain)) c.if-is_same.false c.is_same.ensures in
     subst (λ (q : RequestView). q.plain ≢ asked.plain) c.request.ensures apart

@@ -2,6 +2,7 @@
 use Rattle.std.proofs.Common.{◌≡◌, ◌∙◌, ap, subst, ℕ, ◌<◌, List, length, slice_get, Some, false, true, nat_lt, inr, arith}
 use Rattle.std.proofs.lemmas.Bool.{lt-ltb}
 use Rattle.model.specs.Requests.{Request}
+use Rattle.locked_resolvers.specs.Requests.{RequestView}
 use Rattle.locked_resolvers.specs.Resolvers.{IsResolveRefusal}
 use Rattle.locked_resolvers.proofs.AskedRequests.{number_at, resolver_within}
 use Rattle.locked_resolvers.proofs.Lists.{got}
@@ -30,7 +31,6 @@ returns-in-Err-clause-refused g c =
     let within : r < length numbers = resolver_within numbers config.resolvers r c.args.self.now.all below in
     let at : slice_get numbers r ≡ Some c.in-Some.shared.now = got numbers r c.in-Some.shared.now within c.in-Some.ensures.lookup.1 in
     let same = number_at numbers config.resolvers r c.in-Some.shared.now c.args.self.now.all below at in
-    let copied : c.in_ok-copy.copy.plain ≡ c.args.request.now.plain = ap (λ q. q.plain) c.in_ok-copy.ensures in
     let refused = c.in-Err.ensures.refused in
-    inr (subst (λ (n : ℕ). IsResolveRefusal config n c.args.request.now.plain c.in-Err.refused.refusal) (same ∙ named)
-    (subst (λ (q : Request). IsResolveRefusal config c.in-Some.shared.now q c.in-Err.refused.refusal) copied refused))
+    inr (subst (λ (n : ℕ). IsResolveRefusal config n c.args.request.now c.in-Err.refused.refusal) (same ∙ named)
+    (subst (λ (q : RequestView). IsResolveRefusal config c.in-Some.shared.now q c.in-Err.refused.refusal) c.in_ok-copy.ensures refused))

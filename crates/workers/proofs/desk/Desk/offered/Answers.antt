@@ -1,10 +1,12 @@
 -- What the guard showed before is what refused the request.
 use Rattle.std.proofs.Common.{sym, ap, ◌∙◌, subst, inl}
 use Rattle.std.specs.Prelude.{IsTrue}
+use Rattle.facts.specs.Stretches.{Agree}
 use Rattle.locked_resolvers.specs.Requests.{RequestView}
 use Rattle.locked_resolvers.specs.Resolvers.{IsOfferRefusal, LockedResolverView}
 use Rattle.workers.specs.Desks.{DeskView}
 use Rattle.workers.specs.Refusing.{IsToldRefusal}
+use Rattle.locked_resolvers.proofs.RefusedOffers.{agreed_before}
 use Rattle.workers.proofs.DeskLemmas.{closed_both, closed_for, fails_keeps, keeps_trans, number_refused, refused_closed, same_number, stays_closed, told_refusal, with_closed, with_worker}
 use Rattle.workers.proofs.GivenUpLemmas.{given_up_stays}
 use Rattle.workers.proofs.desk.Desk.offered.Goals as goal
@@ -12,10 +14,13 @@ use Rattle.workers.proofs.desk.Desk.offered.Goals as goal
 pub refused_by_offer-requires-clause-was : goal.refused_by_offer-requires-clause-was
 refused_by_offer-requires-clause-was g c =
     let asked = c.args.guard.now in
-    let number = same_number c.offer.new.self c.close_with.new.guard (with_worker c.fail.new.self.closed c.offer.new.self c.close_with.new.guard c.close_with.ensures) ∙ ap (λ (v : LockedResolverView). v.memory.number) c.in-Err.ensures.left ∙ number_refused asked c.in-Err.refused.refusal in (
+    let number = same_number c.offer.new.self c.close_with.new.guard (with_worker c.fail.new.self.closed c.offer.new.self c.close_with.new.guard c.close_with.ensures) ∙ ap (λ (v : LockedResolverView). v.memory.number) c.in-Err.ensures.left ∙ number_refused asked c.in-Err.refused.refusal in
+    let given = c.in-Err.refused in
+    let agree : Agree 0 asked.records 0 c.args.request.records = agreed_before asked c.offer.new.self c.args.request given.request given.refusal c.records.result.now c.records-2.result.now c.in-Err.ensures.left c.in-Err.ensures.back c.records.ensures.value c.records-2.ensures.value c.agree.ensures in (
       asked,
       c.number-number.ensures.kept,
       sym number,
+      subst (λ (q : RequestView). Agree 0 asked.records 0 q.records) (sym c.in-Err.ensures.back) agree,
       subst (λ (q : RequestView). IsOfferRefusal asked q.plain c.in-Err.refused.refusal) (sym c.in-Err.ensures.back) c.in-Err.ensures.refused,
     )
 

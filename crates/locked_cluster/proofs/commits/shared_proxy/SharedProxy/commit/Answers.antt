@@ -15,7 +15,7 @@ returns-in_err-begun g c =
     let whose = g.A.Asking.takes c.args.asking.now in
     let fault = c.in_err-begun.field-0.0 in
     let is : c.from_residual.result ≡ Err fault = search rules in
-    match_err (λ made. IsCommitted c.args.self.now c.args.batch made.0 made.1) (HandsBack g.N.Naming.cells whose c.args.self.now c.args.batch) c.from_residual.result fault is (c.in_err-begun.ensures whose)
+    match_err (λ made. IsCommitted c.args.self.now c.args.batch made.0 made.1 × TakesProxy whose c.args.self.now) (HandsBack g.N.Naming.cells whose c.args.self.now c.args.batch) c.from_residual.result fault is (c.in_err-begun.ensures whose)
 
 pub returns-in-Err : goal.returns-in-Err
 returns-in-Err g c =

@@ -6,7 +6,7 @@ use Rattle.locked_resolvers.specs.Requests.{RequestView}
 use Rattle.locked_resolvers.specs.NotedReplies.{NotedReplyView}
 use Rattle.locked_cluster.specs.Ready.{AreRepliesOfAll}
 use Rattle.locked_resolvers.specs.Asking.{AreOfOneRecord, AreRepliesInOrder, AreTaken}
-use Rattle.locked_cluster.proofs.CommitRequests.{of_one_record, replies_of_all}
+use Rattle.locked_cluster.proofs.CommitRequests.{of_one_record, replies_of_all, takes_record}
 use Rattle.locked_cluster.proofs.commits.shared_proxy.SharedProxy.resolve_all.Goals as goal
 
 pub ask_all-requires : goal.ask_all-requires
@@ -26,3 +26,9 @@ collect_replies-made-requires-clause-replied g c =
 pub returns-in_default-clause-refused : goal.returns-in_default-clause-refused
 returns-in_default-clause-refused g c =
     inr (subst (λ (qs : List RequestView). AreTaken (g.A.Asking.takes c.args.asking.now) qs) c.requests.ensures.value c.in-Ok.ensures.taken, inl refl)
+
+pub returns-clause-taken : goal.returns-clause-taken
+returns-clause-taken g c =
+    let whose = g.A.Asking.takes c.args.asking.now in
+    let asked : AreTaken whose c.args.begun.requests = subst (λ (qs : List RequestView). AreTaken whose qs) c.requests.ensures.value c.in-Ok.ensures.taken in
+    takes_record g.N.Naming.cells.config c.args.begun whose c.config.ensures.kept.config.resolvers.0 c.requests.ensures.kept asked
