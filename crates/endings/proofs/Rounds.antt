@@ -20,14 +20,14 @@ use Rattle.endings.proofs.ByRows.{finish_by_rows}
 
 -- ---- a round is of offers and finishes
 
-append_work : (xs ys : List Event) → AreWork xs → AreWork ys → AreWork (xs ++ ys)
+pub append_work : (xs ys : List Event) → AreWork xs → AreWork ys → AreWork (xs ++ ys)
 append_work [] ys first second = second
 append_work (x ∷ xs) ys first second = both_so (is_work x) (list_all is_work (xs ++ ys)) (both.0) (append_work xs ys both.1 second)
   where
     both : (is_work x ≡ true) × AreWork xs
     both = first_work x xs first
 
-mapped_work : (f : ℕ → Event) (ns : List ℕ) → ((n : ℕ) → is_work (f n) ≡ true) → AreWork (map f ns)
+pub mapped_work : (f : ℕ → Event) (ns : List ℕ) → ((n : ℕ) → is_work (f n) ≡ true) → AreWork (map f ns)
 mapped_work f [] each = refl
 mapped_work f (n ∷ ns) each = both_so (is_work (f n)) (list_all is_work (map f ns)) (each n) (mapped_work f ns each)
 
