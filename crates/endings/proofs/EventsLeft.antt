@@ -307,7 +307,7 @@ left_done config w limits sound = (left_does config w limits sound).done
 pub left_finish : TheEventsLeftFinishAll
 left_finish config w limits sound = (left_does config w limits sound).after
 
-answers_counted : (config : Config) (w : World) (events : List Event) → length (answers config w events) ≡ length events
+pub answers_counted : (config : Config) (w : World) (events : List Event) → length (answers config w events) ≡ length events
 unfolding answers
 answers_counted config w [] = refl
 answers_counted config w (event ∷ events) = ap (λ (n : ℕ). suc n) (answers_counted config (handle_event config w event).world events)

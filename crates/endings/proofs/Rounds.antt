@@ -40,7 +40,7 @@ round_work config rows = append_work (flat_map (offers_of_row config) (each_belo
 
 -- ---- what can be done is in it
 
-Has-flat_map : {X Y : Type 0} (f : X → List Y) (xs : List X) (x : X) (y : Y) → Has xs x → Has (f x) y → Has (flat_map f xs) y
+pub Has-flat_map : {X Y : Type 0} (f : X → List Y) (xs : List X) (x : X) (y : Y) → Has xs x → Has (f x) y → Has (flat_map f xs) y
 Has-flat_map f [] x y has of = absurd has
 Has-flat_map {Y} f (z ∷ zs) x y (inl same) of = Has-append_left (f z) (flat_map f zs) y (subst (λ (ys : List Y). Has ys y) (ap f (sym same)) of)
 Has-flat_map f (z ∷ zs) x y (inr later) of = Has-append_right (f z) (flat_map f zs) y (Has-flat_map f zs x y later of)
