@@ -174,10 +174,7 @@ impl TurnWorld {
     /// comes to that with fewer events, and each one ends in the same cluster.
     ///
     /// It stops early as [`TurnWorld::run`] does; call it again to go on.
-    pub fn finish_all(
-        &mut self,
-        alloc: Global,
-    ) -> Result<Vec<Result<Answer, Refusal>>, Stopped>
+    pub fn finish_all(&mut self, alloc: Global) -> Result<Vec<Result<Answer, Refusal>>, Stopped>
         ensures results { MatchResult result
             (λ answers. HasFinishedAll self.old self.new answers.items)
             (λ stopped. HasStopped self.old self.new
