@@ -42,7 +42,7 @@ comes config h c i n event fits stays raises w (first ∷ events) works fit low 
 
 -- ---- offers
 
-judged_world : (w : World) (n r : ℕ) (reply : Reply) → n ≡ reply.row → (handle_offer_at w n r reply).world ≡ record w { judged_counts = slice_set w.judged_counts r (suc n) }
+pub judged_world : (w : World) (n r : ℕ) (reply : Reply) → n ≡ reply.row → (handle_offer_at w n r reply).world ≡ record w { judged_counts = slice_set w.judged_counts r (suc n) }
 judged_world w n r reply is = let early : nat_lt n reply.row ≡ false = le-ltb n reply.row (omega (arith, is)) in let again : nat_lt reply.row n ≡ false = le-ltb reply.row n (omega (arith, is)) in rw (early, again) refl
 
 -- the offer of the next row makes the resolver judge it
@@ -65,7 +65,7 @@ offer_raises config h history row r there within u sound same low = by (cases_or
     by (inr (inl before)) = omega (arith, before, event_rises config h (judged_rows config h history) u (Offer row r) r sound same refl)
     by (inr (inr past)) = absurd (omega (arith, past, low))
 
-can_offer : (config : Config) (w : World) (row r : ℕ) → IsSound config w → r < config.resolvers → row < length w.history → row ≡ slice_index w.judged_counts r → CanBeDone config w (Offer row r)
+pub can_offer : (config : Config) (w : World) (row r : ℕ) → IsSound config w → r < config.resolvers → row < length w.history → row ≡ slice_index w.judged_counts r → CanBeDone config w (Offer row r)
 can_offer config w row r sound there within next =
     let judged = next_is_judged config w r sound there (omega (arith, within, next)) in
     (refl, ap (λ (n : ℕ). is_done (handle_event config w (Offer n r)).answer) next ∙ ap is_done judged.1)
@@ -73,10 +73,10 @@ can_offer config w row r sound there within next =
 -- ---- finishes
 
 -- every resolver has judged the row
-abbrev AllJudged : Config → ℕ → World → Type 0
+abbrev pub AllJudged : Config → ℕ → World → Type 0
 AllJudged config row w = (r : ℕ) → r < config.resolvers → row < slice_index w.judged_counts r
 
-none_missing : (config : Config) (w : World) (row : ℕ) → AllJudged config row w → missing_replies w row (each_below config.resolvers) ≡ []
+pub none_missing : (config : Config) (w : World) (row : ℕ) → AllJudged config row w → missing_replies w row (each_below config.resolvers) ≡ []
 none_missing config w row judged = filter_no (λ (r : ℕ). nat_le (slice_index w.judged_counts r) row) (each_below config.resolvers) (λ k r at. lt-leb (slice_index w.judged_counts r) row (judged r (within_below config.resolvers r (has_at (each_below config.resolvers) k r at))))
 
 judged_stays : (config : Config) (h : List Record) (history : IsHistory config h) (row : ℕ) (u : World) (first : Event) → IsSound config u → u.history ≡ h → is_work first ≡ true → AllJudged config row u → AllJudged config row (handle_event config u first).world
@@ -97,7 +97,7 @@ finish_raises config h history p k rec there at u sound same judged low = by (ca
     by (inr (inl before)) = omega (arith, before, event_rises config h (finished_records config h history) u (Finish p) p sound same refl)
     by (inr (inr past)) = absurd (omega (arith, past, low))
 
-can_finish_now : (config : Config) (w : World) (p : ℕ) (rec : Record) → p < config.proxies → slice_get (records_of_proxy p w.history) (slice_index w.finished p) ≡ Some rec → AllJudged config rec.row w → CanBeDone config w (Finish p)
+pub can_finish_now : (config : Config) (w : World) (p : ℕ) (rec : Record) → p < config.proxies → slice_get (records_of_proxy p w.history) (slice_index w.finished p) ≡ Some rec → AllJudged config rec.row w → CanBeDone config w (Finish p)
 can_finish_now config w p rec there turn judged = (refl, ap (λ (handled : Handled). is_done handled.answer) (finish_is config w p rec there turn (none_missing config w rec.row judged)))
 
 -- ---- so far after n segments

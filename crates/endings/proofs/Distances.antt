@@ -26,10 +26,10 @@ take_next (y ∷ ys) (suc k) x at = ap (λ zs. y ∷ zs) (take_next ys k x at)
 -- ---- the rows that a proxy knows
 
 -- proxy p, which has finished so many records, knows the first n rows, and of its own exactly these
-record Knows (w : World) (p done n : ℕ) : Type 0 where
-  within : n ≤ length w.history
-  up_to : up_to_version (last_version (take done (records_of_proxy p w.history))) w.history ≡ take n w.history
-  own : records_of_proxy p (take n w.history) ≡ take done (records_of_proxy p w.history)
+pub record Knows (w : World) (p done n : ℕ) : Type 0 where
+  pub within : n ≤ length w.history
+  pub up_to : up_to_version (last_version (take done (records_of_proxy p w.history))) w.history ≡ take n w.history
+  pub own : records_of_proxy p (take n w.history) ≡ take done (records_of_proxy p w.history)
 
 knows_none : (config : Config) (w : World) (p : ℕ) → IsConfig config → IsSound config w → Knows w p 0 0
 knows_none config w p limits sound = record {
@@ -66,7 +66,7 @@ knows_done config w p (suc done) limits sound up_to = let last = element_at (rec
 count_is : (w : World) (p n : ℕ) → Knows w p (slice_index w.finished p) n → rows_known w p ≡ n
 count_is w p n knows = ap length knows.up_to ∙ length-take-le n w.history knows.within
 
-known : (config : Config) (w : World) (p : ℕ) → IsConfig config → IsSound config w → Knows w p (slice_index w.finished p) (rows_known w p)
+pub known : (config : Config) (w : World) (p : ℕ) → IsConfig config → IsSound config w → Knows w p (slice_index w.finished p) (rows_known w p)
 known config w p limits sound =
     let found = knows_done config w p (slice_index w.finished p) limits sound (finished_within config w p sound) in
     subst (Knows w p (slice_index w.finished p)) (sym (count_is w p found.0 found.1)) found.1

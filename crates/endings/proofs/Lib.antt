@@ -14,4 +14,5 @@ pub mod Remembered
 pub mod Fair
 pub mod ByRows
 pub mod Rounds
+pub mod EventsLeft
 pub mod Scenarios

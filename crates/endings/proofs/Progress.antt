@@ -54,7 +54,7 @@ missing_one config w row r rs some =
     let found = Has-from_filter (λ (s : ℕ). nat_le (slice_index w.judged_counts s) row) (each_below config.resolvers) r here in
     (within_below config.resolvers r found.0, leb-true (slice_index w.judged_counts r) row found.1)
 
-row_within : (config : Config) (w : World) (p k : ℕ) (rec : Record) → IsSound config w → slice_get (records_of_proxy p w.history) k ≡ Some rec → rec.row < length w.history
+pub row_within : (config : Config) (w : World) (p k : ℕ) (rec : Record) → IsSound config w → slice_get (records_of_proxy p w.history) k ≡ Some rec → rec.row < length w.history
 row_within config w p k rec sound at =
     let place = own_place p w.history k rec at in
     omega (arith, row_at config w.history place.i rec sound.sequencer.history place.at, slice_get_within w.history place.i rec place.at)

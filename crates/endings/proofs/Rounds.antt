@@ -20,14 +20,14 @@ use Rattle.endings.proofs.ByRows.{finish_by_rows}
 
 -- ---- a round is of offers and finishes
 
-append_work : (xs ys : List Event) → AreWork xs → AreWork ys → AreWork (xs ++ ys)
+pub append_work : (xs ys : List Event) → AreWork xs → AreWork ys → AreWork (xs ++ ys)
 append_work [] ys first second = second
 append_work (x ∷ xs) ys first second = both_so (is_work x) (list_all is_work (xs ++ ys)) (both.0) (append_work xs ys both.1 second)
   where
     both : (is_work x ≡ true) × AreWork xs
     both = first_work x xs first
 
-mapped_work : (f : ℕ → Event) (ns : List ℕ) → ((n : ℕ) → is_work (f n) ≡ true) → AreWork (map f ns)
+pub mapped_work : (f : ℕ → Event) (ns : List ℕ) → ((n : ℕ) → is_work (f n) ≡ true) → AreWork (map f ns)
 mapped_work f [] each = refl
 mapped_work f (n ∷ ns) each = both_so (is_work (f n)) (list_all is_work (map f ns)) (each n) (mapped_work f ns each)
 
@@ -40,7 +40,7 @@ round_work config rows = append_work (flat_map (offers_of_row config) (each_belo
 
 -- ---- what can be done is in it
 
-Has-flat_map : {X Y : Type 0} (f : X → List Y) (xs : List X) (x : X) (y : Y) → Has xs x → Has (f x) y → Has (flat_map f xs) y
+pub Has-flat_map : {X Y : Type 0} (f : X → List Y) (xs : List X) (x : X) (y : Y) → Has xs x → Has (f x) y → Has (flat_map f xs) y
 Has-flat_map f [] x y has of = absurd has
 Has-flat_map {Y} f (z ∷ zs) x y (inl same) of = Has-append_left (f z) (flat_map f zs) y (subst (λ (ys : List Y). Has ys y) (ap f (sym same)) of)
 Has-flat_map f (z ∷ zs) x y (inr later) of = Has-append_right (f z) (flat_map f zs) y (Has-flat_map f zs x y later of)

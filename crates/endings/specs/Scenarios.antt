@@ -20,6 +20,7 @@ use Rattle.model.specs.Examples.{cluster, mutating, completed, version_row}
 use Rattle.endings.specs.Work.{is_done, work_left}
 use Rattle.endings.specs.Distances.{rows_known, rows_reached}
 use Rattle.endings.specs.Fairness.{joined, round}
+use Rattle.endings.specs.EventsLeft.{events_left}
 
 -- the world after some events from the start
 abbrev pub after : List Event → World
@@ -144,6 +145,18 @@ AProxyWaitsForAResolver =
     × (left_after sequenced (Finish 0 ∷ []) ≡ 6)
     × (left_after sequenced (Finish 0 ∷ Offer 0 0 ∷ []) ≡ 5)
     × (left_after sequenced tries ≡ 3)
+
+-- ---- what is left
+
+-- all of it at first, row by row; what is done is left out; and at the end nothing is left
+abbrev pub WhatIsLeftInOrder : Type 0
+WhatIsLeftInOrder =
+    (events_left cluster sequenced ≡ in_order)
+    × (events_left cluster (world_after cluster sequenced (Offer 0 1 ∷ []))
+    ≡ Offer 0 0 ∷ Offer 1 0 ∷ Offer 1 1 ∷ Finish 0 ∷ Finish 1 ∷ [])
+    × (events_left cluster (world_after cluster sequenced tries)
+    ≡ Offer 1 0 ∷ Offer 1 1 ∷ Finish 1 ∷ [])
+    × (events_left cluster (world_after cluster sequenced mixed) ≡ [])
 
 -- ---- what is remembered
 

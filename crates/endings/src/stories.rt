@@ -3,12 +3,13 @@
 
 ghost use Rattle.endings.specs.Scenarios.{TwoOrdersEndAlike, AProxyWaitsForAResolver};
 ghost use Rattle.endings.specs.Scenarios.{OneRoundIsEnough, RoundsInReverseTakeOneMoreThanRows};
-ghost use Rattle.endings.specs.Scenarios.{RowsRememberedForTheSlowest};
+ghost use Rattle.endings.specs.Scenarios.{WhatIsLeftInOrder, RowsRememberedForTheSlowest};
 
 /// Two orders of one cluster's work: other answers, the same end.
 pub fn order_scenarios()
     ensures alike { TwoOrdersEndAlike }
     ensures waits { AProxyWaitsForAResolver }
+    ensures left { WhatIsLeftInOrder }
     ensures remembered { RowsRememberedForTheSlowest }
 {}
 

@@ -1,7 +1,9 @@
 pub mod AllKept
 pub mod DroppedParts
 pub mod EventRuns
+pub mod EventsLeft
 pub mod FinishedRecords
+pub mod FinishesLeft
 pub mod KeptNumbers
 pub mod MadeOfNothing
 pub mod MovedRanges

@@ -132,7 +132,7 @@ pub record Known (config : Config) (w : World) (row r : ℕ) (one : KeptRecord) 
   pub told : world_answer (answer_to v.number (length v.proxies) v.written.window (judged_requests config w r) q) ≡ Some (handle_event config w (Offer row r)).answer
   pub judged : (reply : Reply) → answer_to v.number (length v.proxies) v.written.window (judged_requests config w r) q ≡ Ok (offers.Judged reply) → (q ≡ sent_request config w r one.rec.known) × (slice_index w.judged_counts r ≤ row)
 
-own_request : (config : Config) (w : World) (rec : Record) (r : ℕ) → r < config.resolvers → slice_get (sent_requests config w rec) r ≡ Some (sent_request config w r rec)
+pub own_request : (config : Config) (w : World) (rec : Record) (r : ℕ) → r < config.resolvers → slice_get (sent_requests config w rec) r ≡ Some (sent_request config w r rec)
 own_request config w rec r there = slice_get-map (λ (s : ℕ). sent_request config w s rec) (each_below config.resolvers) r ∙ ap (option_map (λ (s : ℕ). sent_request config w s rec)) (slice_get-each_below config.resolvers r there)
 
 judged_at : (config : Config) (w : World) (row r : ℕ) (rec : Record) → slice_get w.history row ≡ Some rec → row < slice_index w.judged_counts r → slice_get (judged_requests config w r) row ≡ Some (sent_request config w r rec)

@@ -10,3 +10,5 @@ pub mod Parts
 pub mod KeptRequests
 -- what the type keeps
 pub mod Kept
+-- what is left to do, and a call that carries it out
+pub mod Ending

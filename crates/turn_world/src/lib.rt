@@ -3,6 +3,7 @@
 #![tactic(auto)]
 
 mod answer;
+mod ending;
 mod event;
 mod finishing;
 mod kept_record;

@@ -2,9 +2,11 @@
 
 ghost use Rattle.std.specs.Prelude.{◌≡◌, [], ◌∷◌, ◌++◌, ◌+◌, ◌<◌, ◌≤◌, map, vec_len};
 ghost use Rattle.std.specs.Vec.{vec_capacity};
-ghost use Rattle.std.specs.Prelude.{List, Result, Err, IsOk, IfOk, OnOk, OnErr};
+ghost use Rattle.std.specs.Prelude.{List, Result, Err, Some, IsOk, IfOk, OnOk, OnErr, IsTrue, IsFalse};
+ghost use Rattle.std.specs.Prelude.{length, slice_get};
 ghost use Rattle.std.specs.Prelude.{MatchOption, MatchResult};
 ghost use Rattle.model.specs.Configs.{IsConfig};
+ghost use Rattle.model.specs.Records.{Record as TheRecord};
 ghost use Rattle.model.specs.Stamps.{Given};
 ghost use Rattle.model.specs.World.{Sequence, MoveRange, Offer as OfferOf, Finish};
 ghost use Rattle.model.specs.World.{initial_world};
@@ -12,11 +14,14 @@ ghost use Rattle.model.specs.World.{IsSound, next_record};
 ghost use Rattle.model.specs.Serial.{IsSerial};
 ghost use Rattle.model.specs.Turns.{after_event, answer_to_event, IsResolverOf, IsProxyOf};
 ghost use Rattle.turn_world.specs.Events.{event_of};
+ghost use Rattle.endings.specs.EventsLeft.{events_left, finishes_left, is_unfinished};
 ghost use Rattle.turn_world.specs.Steps.{AnswersEvent, MaySequence, HasCarriedOut, HasStopped};
+ghost use Rattle.turn_world.specs.Ending.{HasFinishedAll};
 ghost use Rattle.turn_world.specs.declared.answer.Answer.{Answer as TheAnswer};
 ghost use Rattle.turn_world.specs.declared.refusal.Refusal.{Refusal as TheRefusal};
 
 use crate::answer::Answer;
+use crate::ending::push_offers;
 use crate::event::Event;
 use crate::finishing::{finish_at, first_missing, kept_replies};
 use crate::kept_record::{KeptRecord, drop_parts_at};
@@ -162,6 +167,75 @@ impl TurnWorld {
         let result = self.carry_out_all(alloc, events);
         let _ = &self.config;
         result
+    }
+
+    /// Carries out what is left, in the order of [`TurnWorld::events_left`], and returns the results:
+    /// none of these events is refused. Afterwards each proxy has finished all its records. No run
+    /// comes to that with fewer events, and each one ends in the same cluster.
+    ///
+    /// It stops early as [`TurnWorld::run`] does; call it again to go on.
+    pub fn finish_all(&mut self, alloc: Global) -> Result<Vec<Result<Answer, Refusal>>, Stopped>
+        ensures results { MatchResult result
+            (λ answers. HasFinishedAll self.old self.new answers.items)
+            (λ stopped. HasStopped self.old self.new
+            (events_left self.old.config self.old.world) stopped) }
+        ensures serial { IsSerial self.new.config self.new.world.history }
+    {
+        // (its contract says that the numbers are within their limits and that the world is sound)
+        let _ = self.config();
+        let Ok(events) = self.events_left(alloc) else {
+            return Err(Stopped {
+                carried_out: 0,
+                answers: Vec::new(alloc),
+            });
+        };
+        self.run(alloc, events.as_slice())
+    }
+
+    /// What is left to do: row by row the offers to the resolvers that have not judged the row, and
+    /// then a finish for each record that its proxy has not finished. Fails only with `OutOfMemory`,
+    /// and not if nothing is left.
+    pub fn events_left(&self, alloc: Global) -> Result<Vec<Event>, OutOfMemory>
+        ensures events { IfOk result (λ events.
+            map event_of events.items ≡ events_left self.now.config self.now.world) }
+        ensures some { OnErr result (0 < length (events_left self.now.config self.now.world)) }
+    {
+        let mut events = Vec::new(alloc);
+        push_offers(&mut events, self.judged_counts.as_slice(), self.rows.len())?;
+        self.push_finishes(&mut events)?;
+        Ok(events)
+    }
+
+    /// Appends a finish for each unfinished record, row by row. Fails only if there is one.
+    fn push_finishes(&self, events: &mut Vec<Event>) -> Result<(), OutOfMemory>
+        ensures ok { OnOk result (map event_of events.new.items
+            ≡ map event_of events.old.items ++ finishes_left self.now.world) }
+        ensures err { OnErr result (0 < length (finishes_left self.now.world)) }
+    {
+        for row in 0..self.rows.len() {
+            let Some(proxy) = self.unfinished_at(row) else {
+                continue;
+            };
+            events.push(Event::Finish { proxy })?;
+        }
+        Ok(())
+    }
+
+    /// The proxy of the record in this row, unless it has finished the record.
+    fn unfinished_at(&self, row: RowNumber) -> Option<ProxyNumber>
+        requires { row < length self.now.world.history }
+        ensures { (rec : TheRecord) → slice_get self.now.world.history row ≡ Some rec
+            → MatchOption result (IsFalse (is_unfinished self.now.world rec))
+            (λ proxy. (proxy ≡ rec.proxy) × IsTrue (is_unfinished self.now.world rec)) }
+    {
+        let requests = self.rows[row].kept.requests.as_slice();
+        let request = &requests[0];
+        let proxy = request.proxy();
+        if self.proxies[proxy].version() < request.version() {
+            Some(proxy)
+        } else {
+            None
+        }
     }
 
     /// Carries out the events in order, until an allocation fails.

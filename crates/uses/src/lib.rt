@@ -20,6 +20,6 @@ pub use finishing::{commit_two, finish_two};
 pub use folding::tags_after;
 pub use refused::Refused;
 pub use resolving::{offer_and_look, offer_twice, resolve_and_look};
-pub use running::{at_one_version, metadata_after, numbers_of, run_on, step_of};
+pub use running::{at_one_version, metadata_after, metadata_at_end, numbers_of, run_on, step_of};
 pub use sequencing::{record_of, sequence_around_move, sequence_two};
 pub use starting::{Shown, promise_from_nothing};

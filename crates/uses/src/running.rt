@@ -7,6 +7,7 @@ ghost use Rattle.model.specs.Configs.{IsConfig};
 ghost use Rattle.model.specs.Records.{Record};
 ghost use Rattle.model.specs.Serial.{IsSerial};
 ghost use Rattle.model.specs.World.{initial_world, world_after, proxy_metadata};
+ghost use Rattle.endings.specs.Work.{done_world};
 ghost use Rattle.turn_world.specs.Events.{event_of};
 ghost use Rattle.turn_world.specs.Steps.{HasCarriedOut, HasStopped};
 ghost use Rattle.uses.specs.Running.{AreAtOneVersion, AreNotAtOneVersion};
@@ -33,6 +34,34 @@ pub fn metadata_after(
 {
     let mut cluster = TurnWorld::new(alloc, config)?;
     let Ok(_answers) = cluster.run(alloc, events) else {
+        return Err(OutOfMemory);
+    };
+    match cluster.proxy(proxy) {
+        Some(proxy) => Ok(Some(proxy.metadata().copy()?)),
+        None => Ok(None),
+    }
+}
+
+/// The metadata of a proxy once the batches of these events, in a new cluster, are all finished: what is
+/// left after the events is carried out. Whoever carries it out in another order gets the same. None if
+/// the cluster has no such proxy. Fails only with `OutOfMemory`.
+pub fn metadata_at_end(
+    alloc: Global,
+    config: &Config,
+    events: &[Event],
+    proxy: usize,
+) -> Result<Option<Metadata>, OutOfMemory>
+    ensures { let given = map event_of events.now in
+        let world = world_after config.now (initial_world config.now) given in
+        let end = done_world config.now world in
+        IfOk result (λ found. MatchOption found (config.now.proxies ≤ proxy) (λ metadata.
+        (proxy < config.now.proxies) × (metadata ≡ proxy_metadata config.now end proxy))) }
+{
+    let mut cluster = TurnWorld::new(alloc, config)?;
+    let Ok(_answers) = cluster.run(alloc, events) else {
+        return Err(OutOfMemory);
+    };
+    let Ok(_rest) = cluster.finish_all(alloc) else {
         return Err(OutOfMemory);
     };
     match cluster.proxy(proxy) {

@@ -6,6 +6,8 @@ ghost use Rattle.endings.specs.Progress.{NothingIsStuck, EachStepTakesOne, Other
 ghost use Rattle.endings.specs.Progress.{AsManyAreDoneAsWorkIsLess, NothingLeftIsAllFinished};
 ghost use Rattle.endings.specs.Progress.{AllFinishedLeavesNothing, AllCanBeFinished};
 ghost use Rattle.endings.specs.Progress.{EveryRunCanBeFinished};
+ghost use Rattle.endings.specs.EventsLeft.{TheEventsLeftAreWork, TheEventsLeftAreDone};
+ghost use Rattle.endings.specs.EventsLeft.{TheEventsLeftFinishAll, AsManyEventsAreLeftAsWork};
 
 /// A resolver that has not judged every row judges the next one that is offered to it. A proxy with
 /// an unfinished record finishes it, or the refusal names a resolver that can judge its next row. So
@@ -32,4 +34,14 @@ pub fn work_law()
 pub fn completion_law()
     ensures finish { AllCanBeFinished }
     ensures run { EveryRunCanBeFinished }
+{}
+
+/// What is left can be written down as events: row by row the offers to the resolvers that have not
+/// judged the row, and then a finish for each unfinished record. Each of them is done, they are as many
+/// as work is left, and after them all records are finished.
+pub fn events_left_law()
+    ensures work { TheEventsLeftAreWork }
+    ensures done { TheEventsLeftAreDone }
+    ensures finish { TheEventsLeftFinishAll }
+    ensures count { AsManyEventsAreLeftAsWork }
 {}

@@ -299,6 +299,52 @@ fn a_run_carries_out_its_events(rt: HostRuntime) -> Result<(), Fail> {
     run_until_seen(&rt, &mut world)
 }
 
+// ---- what is left
+
+/// The results of what was left when a call stopped, and those of what is left now.
+fn with_what_is_left(
+    alloc: Global,
+    world: &mut TurnWorld,
+    stopped: Stopped,
+) -> Result<Results, OutOfMemory> {
+    let mut results = stopped.answers;
+    let Ok(mut more) = world.finish_all(alloc) else {
+        return Err(OutOfMemory);
+    };
+    results.append(&mut more)?;
+    Ok(results)
+}
+
+/// Carries out what is left, after a failed allocation by a second call.
+fn results_of_end(alloc: Global, world: &mut TurnWorld) -> Result<Results, OutOfMemory> {
+    match world.finish_all(alloc) {
+        Ok(results) => Ok(results),
+        Err(stopped) if is_memory_refused(alloc) => with_what_is_left(alloc, world, stopped),
+        Err(_stopped) => Err(OutOfMemory),
+    }
+}
+
+/// What is left is told as these steps, and then nothing is left.
+fn end_tells<R: Abort + AllocGlobal>(
+    rt: &R,
+    world: &mut TurnWorld,
+    story: Story,
+) -> Result<(), Fail> {
+    let results = results_of_end(rt.alloc(), world)?;
+    tell(rt, &results, story);
+    let left = world.events_left(rt.alloc())?;
+    assert!(rt; left.len() == 0);
+    Ok(())
+}
+
+#[test]
+fn what_is_left_is_carried_out_once(rt: HostRuntime) -> Result<(), Fail> {
+    let mut world = cluster(rt.alloc())?;
+    run_tells(&rt, &mut world, STORY)?;
+    end_tells(&rt, &mut world, END)?;
+    end_tells(&rt, &mut world, &[])
+}
+
 // ---- what no script prints
 
 /// There are two proxies and two resolvers.
