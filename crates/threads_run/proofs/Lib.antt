@@ -2,3 +2,4 @@ pub mod EndsBelow
 pub mod RunLemmas
 pub mod SidesInPlace
 pub mod TextLemmas
+pub mod DeliveryLemmas

@@ -5,6 +5,8 @@ use Rattle.model.specs.Configs.{Config}
 use Rattle.model.specs.Records.{IsHistory}
 use Rattle.locked_cluster.specs.Proxies.{LockedProxyView}
 use Rattle.locked_resolvers.specs.Resolvers.{LockedResolverView}
+use Rattle.inboxes.specs.Ends.{ProxyView}
+use Rattle.workers.specs.Workers.{EndedView}
 use Rattle.threads_lines.specs.Guards.{AreLockedProxies, AreLockedResolvers}
 use Rattle.threads_lines.specs.Histories.{AreOfProxies, AreOfResolvers, HasFinishedAll, HasJudgedAll, IsStartOf, Known}
 use Rattle.threads_lines.specs.Meetings.{AreAuditsOf, AreMeetingsOf}
@@ -12,6 +14,7 @@ use Rattle.threads_lines.specs.Moves.{AreAfterMoves}
 use Rattle.threads_lines.specs.Parts.{GrowsBy}
 use Rattle.threads_lines.specs.Threads.{AreAnswerLines}
 use Rattle.threads_lines.proofs.HistoryLemmas.{start_more}
+use Rattle.threads_run.specs.Delivered.{GoesByInboxes}
 use Rattle.threads_run.specs.Text.{AreProxyTexts, IsThreadsText}
 use Rattle.threads_scripts.specs.declared.script.ThreadsScript.{ThreadsScript}
 
@@ -21,7 +24,7 @@ fits_rows zero rows within = omega arith
 fits_rows (suc count) rows within = let all = within (omega arith) in omega (arith, all)
 
 -- `more` is known once the proxies are locked, and `all` once the resolvers are
-pub threads_text : (script : ThreadsScript) (config : Config) (rows : ℕ) (known more all : Known) (proxies : List LockedProxyView) (resolvers : List LockedResolverView) (lines shown met text : List ℕ)
+pub threads_text : (script : ThreadsScript) (config : Config) (rows : ℕ) (known more all : Known) (proxies : List LockedProxyView) (resolvers : List LockedResolverView) (sides : List ProxyView) (workers : List EndedView) (lines shown met text : List ℕ)
     → script.config ≡ config → script.rows ≡ rows
     → IsStartOf known.records more.records → more.finished ≡ known.finished
     → IsStartOf more.records all.records → all.finished ≡ more.finished
@@ -31,9 +34,10 @@ pub threads_text : (script : ThreadsScript) (config : Config) (rows : ℕ) (know
     → AreOfProxies proxies more.records → AreOfResolvers resolvers all.records
     → AreLockedProxies config proxies → AreLockedResolvers config resolvers
     → All (HasFinishedAll all.records) proxies → All (HasJudgedAll all.records) resolvers
+    → GoesByInboxes config all.records sides workers
     → GrowsBy (AreProxyTexts script.ask proxies) lines shown → GrowsBy (AreMeetingsOf proxies) shown met → GrowsBy (AreAuditsOf config proxies resolvers) met text
     → IsThreadsText script text
-threads_text script config rows known more all proxies resolvers lines shown met text same_config same_rows first first_count second second_count is fits moved counted answered of_proxies of_resolvers all_proxies all_resolvers finished judged with_proxies with_meetings with_audits =
+threads_text script config rows known more all proxies resolvers sides workers lines shown met text same_config same_rows first first_count second second_count is fits moved counted answered of_proxies of_resolvers all_proxies all_resolvers finished judged by_inboxes with_proxies with_meetings with_audits =
     let (routings, routes, routings_last) = with_proxies in
     let (meetings, meets, meetings_last) = with_meetings in
     let (audits, are_audits, audits_last) = with_audits in
@@ -46,6 +50,8 @@ threads_text script config rows known more all proxies resolvers lines shown met
       audits = audits;
       proxies = proxies;
       resolvers = resolvers;
+      sides = sides;
+      workers = workers;
       is_history = subst (λ (c : Config). IsHistory c all.records) (sym same_config) is;
       fits = subst (λ (r : ℕ). length all.records ≤ r) (sym same_rows) fits;
       moved = moved;
@@ -59,6 +65,7 @@ threads_text script config rows known more all proxies resolvers lines shown met
       all_resolvers = subst (λ (c : Config). AreLockedResolvers c resolvers) (sym same_config) all_resolvers;
       finished = finished;
       judged = judged;
+      by_inboxes = subst (λ (c : Config). GoesByInboxes c all.records sides workers) (sym same_config) by_inboxes;
       shown = routes;
       met = meets;
       audited = subst (λ (c : Config). AreAuditsOf c proxies resolvers audits) (sym same_config) are_audits;

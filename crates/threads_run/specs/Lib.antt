@@ -6,3 +6,5 @@ pub mod Runs
 pub mod Text
 -- how a run fails beside its workers
 pub mod Beside
+-- how a run goes by its inboxes
+pub mod Delivered

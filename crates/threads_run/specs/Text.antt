@@ -7,6 +7,7 @@ use Rattle.model.specs.Records.{Record, IsHistory}
 use Rattle.cluster_lines.specs.MetadataLines.{metadata_text, proxy_line}
 use Rattle.locked_cluster.specs.Proxies.{LockedProxyView}
 use Rattle.locked_resolvers.specs.Resolvers.{LockedResolverView}
+use Rattle.inboxes.specs.Ends.{ProxyView}
 use Rattle.threads_lines.specs.Guards.{AreLockedProxies, AreLockedResolvers}
 use Rattle.threads_lines.specs.Histories.{AreOfProxies, AreOfResolvers, HasFinishedAll, HasJudgedAll}
 use Rattle.threads_lines.specs.Histories.{IsStartOf, Known}
@@ -14,7 +15,9 @@ use Rattle.threads_lines.specs.Meetings.{AreAuditsOf, AreMeetingsOf}
 use Rattle.threads_lines.specs.Moves.{AreAfterMoves}
 use Rattle.threads_lines.specs.Parts.{IsInParts}
 use Rattle.threads_lines.specs.Threads.{AreAnswerLines}
+use Rattle.threads_run.specs.Delivered.{GoesByInboxes}
 use Rattle.threads_scripts.specs.declared.script.ThreadsScript.{ThreadsScript}
+use Rattle.workers.specs.Workers.{EndedView}
 
 -- a proxy: its number, its routing at its version, and the tags of the asked keys, by the metadata of
 -- its journal
@@ -41,6 +44,8 @@ AreProxyTexts ask proxies text =
 -- and each is of one line. The lines of proxies, meetings and audits are all of the same state of the
 -- proxies and the resolvers, as their locks keep it after the answers: each proxy has finished its
 -- records, each resolver has judged all, and those that each of them has are a start of the history.
+-- The run went by its inboxes: of each proxy each worker took one message for each of its records, and
+-- its End, just as the proxy sent them.
 pub record IsThreadsText (script : ThreadsScript) (text : List ℕ) : Type 0 where
   pub history : List Record
   pub known : Known
@@ -50,6 +55,8 @@ pub record IsThreadsText (script : ThreadsScript) (text : List ℕ) : Type 0 whe
   pub audits : List ℕ
   pub proxies : List LockedProxyView
   pub resolvers : List LockedResolverView
+  pub sides : List ProxyView
+  pub workers : List EndedView
   pub is_history : IsHistory script.config history
   pub fits : length history ≤ script.rows
   pub moved : AreAfterMoves script.moves history
@@ -63,6 +70,7 @@ pub record IsThreadsText (script : ThreadsScript) (text : List ℕ) : Type 0 whe
   pub all_resolvers : AreLockedResolvers script.config resolvers
   pub finished : All (HasFinishedAll history) proxies
   pub judged : All (HasJudgedAll history) resolvers
+  pub by_inboxes : GoesByInboxes script.config history sides workers
   pub shown : AreProxyTexts script.ask proxies routings
   pub met : AreMeetingsOf proxies meetings
   pub audited : AreAuditsOf script.config proxies resolvers audits

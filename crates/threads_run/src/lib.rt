@@ -5,6 +5,7 @@
 //! Source: this project's profile (scripts, lines and statuses).
 #![tactic(auto)]
 
+mod delivery;
 mod run;
 mod running;
 mod text;
