@@ -1,12 +1,13 @@
 //! What is left of the inboxes of a run, and that it went by them: each worker took what each proxy sent
 //! to it, one message for each of its batches and one End.
 
-ghost use Rattle.std.specs.Prelude.{◌≡◌, ◌<◌, ◌≤◌, ◌^◌, ◌-◌, [], All, IfErr, IfOk, OnOk};
+ghost use Rattle.std.specs.Prelude.{◌≡◌, ◌<◌, ◌≤◌, ◌^◌, ◌-◌, [], length, All, IfErr, IfOk};
+ghost use Rattle.std.specs.Prelude.{OnOk};
 ghost use Rattle.std.specs.Vec.{vec_capacity};
 ghost use Rattle.inboxes.specs.Sending.{HasEndLast, IsEndedSender};
 ghost use Rattle.threads_lines.specs.Faults.{FailsCheckOf};
-ghost use Rattle.threads_run.specs.Delivered.{IsDelivered, IsEndedSide, IsSideDelivered};
-ghost use Rattle.threads_run.specs.Delivered.{IsTaken};
+ghost use Rattle.threads_run.specs.Delivered.{AreEndedSides, IsDelivered, IsEndedSide};
+ghost use Rattle.threads_run.specs.Delivered.{IsSideDelivered, IsTaken};
 
 use agreed_ledger::{Ledger, Naming};
 use inboxes::{Channels, EndedSender};
@@ -54,10 +55,7 @@ impl<N: Naming, M: Channels> EndedSide<N, M> {
     }
 
     /// Room for what is left of so many proxies.
-    pub(crate) fn room(
-        alloc: Global,
-        count: usize,
-    ) -> Result<Vec<EndedSide<N, M>>, OutOfMemory>
+    pub(crate) fn room(alloc: Global, count: usize) -> Result<Vec<EndedSide<N, M>>, OutOfMemory>
         ensures empty { IfOk result (λ sides. sides.items ≡ []) }
         ensures room { IfOk result (λ sides. count ≤ vec_capacity sides) }
     {
@@ -83,6 +81,23 @@ impl<N: Naming, M: Channels> EndedSide<N, M> {
     {
         check_senders(messages, self.ends, workers)
     }
+}
+
+/// Lets the proxies end that have these inboxes, in order. Returns what is left of each. `sides` is the
+/// room for it.
+pub(crate) fn end_all<N: Naming, M: Channels, R: Wait>(
+    rt: &R,
+    inboxes: Vec<ProxyInboxes<N, M>>,
+    mut sides: Vec<EndedSide<N, M>>,
+) -> Vec<EndedSide<N, M>>
+    requires empty { sides.items ≡ [] }
+    requires room { length inboxes.items ≤ vec_capacity sides }
+    ensures { AreEndedSides inboxes.items result.items }
+{
+    for one in inboxes {
+        sides.push_reserved(EndedSide::of(rt, one));
+    }
+    sides
 }
 
 /// Compares what each worker took of each proxy with what that proxy sent to it. Fails exactly if these

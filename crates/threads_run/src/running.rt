@@ -4,11 +4,10 @@ ghost use Rattle.std.specs.Prelude.{◌≡◌, ◌<◌, ◌≤◌, [], length, I
 ghost use Rattle.std.specs.Vec.{vec_capacity};
 ghost use Rattle.std.specs.List.{list_any};
 ghost use Rattle.threads_run.specs.Beside.{lines_beside, was_cut_off, was_refused_memory};
-ghost use Rattle.threads_run.specs.Delivered.{AreEndedSides};
 ghost use Rattle.threads_lines.specs.Parts.{GrowsBy, IsInParts};
 ghost use Rattle.threads_lines.specs.Threads.{AreInPlace};
 
-use crate::delivery::{Ended, EndedSide};
+use crate::delivery::{Ended, EndedSide, end_all};
 use agreed_ledger::{Ledger, Naming};
 use inboxes::{Channels, FreshEnd};
 use locked_cluster::SharedResolver;
@@ -170,23 +169,6 @@ impl<'a, 'l, N: Naming, M: Channels> EndsProxies<Vec<EndedSide<N, M>>> for Runni
     fn end<R: Wait>(self, rt: &R) -> Vec<EndedSide<N, M>> {
         end_all(rt, self.inboxes, self.sides)
     }
-}
-
-/// Lets the proxies end that have these inboxes, in order. Returns what is left of each. `sides` is the
-/// room for it.
-fn end_all<N: Naming, M: Channels, R: Wait>(
-    rt: &R,
-    inboxes: Vec<ProxyInboxes<N, M>>,
-    mut sides: Vec<EndedSide<N, M>>,
-) -> Vec<EndedSide<N, M>>
-    requires empty { sides.items ≡ [] }
-    requires room { length inboxes.items ≤ vec_capacity sides }
-    ensures { AreEndedSides inboxes.items result.items }
-{
-    for one in inboxes {
-        sides.push_reserved(EndedSide::of(rt, one));
-    }
-    sides
 }
 
 /// The batch without transactions.

@@ -4,7 +4,7 @@ use Rattle.std.proofs.lemmas.List.{map-append, nil_from_length}
 use Rattle.std.specs.Vec.Iter.{into_iter_items}
 use Rattle.inboxes.specs.Ends.{ProxyView}
 use Rattle.threads_run.specs.Delivered.{proxy_of}
-use Rattle.threads_run.proofs.running.end_all.Goals as goal
+use Rattle.threads_run.proofs.delivery.end_all.Goals as goal
 
 pub push_reserved-requires : goal.push_reserved-requires
 push_reserved-requires g c =
