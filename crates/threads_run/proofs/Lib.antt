@@ -3,3 +3,4 @@ pub mod RunLemmas
 pub mod SidesInPlace
 pub mod TextLemmas
 pub mod DeliveryLemmas
+pub mod LawLemmas

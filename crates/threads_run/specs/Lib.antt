@@ -8,3 +8,5 @@ pub mod Text
 pub mod Beside
 -- how a run goes by its inboxes
 pub mod Delivered
+-- what the text says, and what a run writes
+pub mod Laws

@@ -6,10 +6,12 @@
 #![tactic(auto)]
 
 mod delivery;
+mod laws;
 mod run;
 mod running;
 mod text;
 
+pub use laws::{answer_law, text_law, written_law};
 pub use run::run_threads;
 pub use threads_lines::status_of;
 pub use threads_scripts::{ThreadsScript, UndatedMove, read_threads, stream_threads};

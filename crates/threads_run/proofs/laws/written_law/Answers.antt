@@ -1,0 +1,55 @@
+-- By cases on what the bytes are.
+use Rattle.std.proofs.Common.{◌≡◌, ◌∙◌, ◌++◌, ℕ, List, append_assoc, ap, subst, sym, refl, inl, inr}
+use Rattle.std.specs.Prelude.{Result, Ok, Err, IsOk, Some}
+use Rattle.scripts.specs.Answers.{Answer, refused_answer}
+use Rattle.scripts.specs.declared.script_fault.ScriptFault.{ScriptFault}
+use Rattle.scripts.specs.declared.status.RunStatus.TheVariants.{Done, ScriptRefused}
+use Rattle.threads_run.specs.Laws.{ADoneRunWroteATextOfItsScript, AFailedRunWroteABeginning, ARefusedRunWroteTheFault}
+use Rattle.threads_run.specs.Runs.{Answers, AnswersInput, IsAnswerTo}
+use Rattle.threads_run.specs.Text.{IsThreadsText}
+use Rattle.threads_scripts.specs.Scripts.{script_of}
+use Rattle.threads_scripts.specs.declared.script.ThreadsScript.{ThreadsScript}
+use Rattle.threads_run.proofs.laws.written_law.Goals as goal
+
+-- an answer to the input is one to these bytes
+to_bytes : (bytes : List ℕ) (answer : Answer) → AnswersInput (Some bytes) answer → IsAnswerTo bytes answer
+to_bytes bytes answer (read, is, answers) = subst (λ (b : List ℕ). IsAnswerTo b answer) is answers
+
+-- a script that is done has no fault
+done_script : (said : Result ThreadsScript ScriptFault) (answer : Answer) → Answers said answer → answer.status ≡ Done
+    → (script : ThreadsScript) × (said ≡ Ok script) × IsThreadsText script answer.text
+done_script (Ok script) answer is done = (script, refl, is.0)
+done_script (Err fault) answer is done = let other : ScriptRefused ≡ Done = ap (λ (a : Answer). a.status) (sym is) ∙ done in cc
+
+-- one that is refused has one
+refused_script : (said : Result ThreadsScript ScriptFault) (answer : Answer) → Answers said answer → answer.status ≡ ScriptRefused
+    → (fault : ScriptFault) × (said ≡ Err fault) × (answer ≡ refused_answer fault)
+refused_script (Ok script) answer is refused = let other : Done ≡ ScriptRefused = sym is.1 ∙ refused in cc
+refused_script (Err fault) answer is refused = (fault, refl, is)
+
+done_law : ADoneRunWroteATextOfItsScript
+done_law answer bytes old new (answers, put, status) =
+    let (script, is, text) = done_script (script_of bytes) answer (to_bytes bytes answer answers) status in
+    (script, is, text, put)
+
+refused_law : ARefusedRunWroteTheFault
+refused_law answer bytes old new (answers, put, status) =
+    let (fault, is, same) = refused_script (script_of bytes) answer (to_bytes bytes answer answers) status in
+    (fault, is, put ∙ ap (λ (a : Answer). old ++ a.text) same)
+
+failed_law : AFailedRunWroteABeginning
+failed_law answer bytes old new (inl none) = absurd none
+failed_law answer bytes old new (inr (answers, (rest, (front, all, put)))) =
+    (to_bytes bytes answer answers, (rest, ap (λ (text : List ℕ). old ++ text) (sym all) ∙ sym (append_assoc old front rest) ∙ ap (λ (text : List ℕ). text ++ rest) (sym put)))
+
+pub returns : goal.returns
+returns c = record {
+  done = done_law;
+  refused = refused_law;
+  failed = failed_law;
+  others = record {
+    out_of_memory = λ answer bytes old new none. none;
+    cluster_refused = λ answer bytes old new is. is.0;
+    without_fault = λ answer bytes old is. subst (λ (b : List ℕ). IsOk (script_of b)) is.1.1 is.1.2;
+  };
+}
