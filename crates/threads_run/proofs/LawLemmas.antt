@@ -1,18 +1,22 @@
 -- What the text of a threads script says.
-use Rattle.std.proofs.Common.{◌≡◌, ◌∙◌, ◌++◌, ◌+◌, ◌-◌, ◌*◌, ◌<◌, ◌≤◌, ℕ, zero, suc, List, [], ◌∷◌, codes, length, length-append, append-nil, take, add-one, ap, subst, sym, refl, arith}
-use Rattle.std.specs.Prelude.{Ok, Err, Some, false, slice_get, sum_by}
+use Rattle.std.proofs.Common.{◌≡◌, ◌∙◌, ◌++◌, ◌+◌, ◌-◌, ◌*◌, ◌<◌, ◌≤◌, ℕ, zero, suc, List, [], ◌∷◌, codes, length, length-append, append-nil, map, take, add-one, ap, subst, sym, refl, arith}
+use Rattle.std.specs.Prelude.{Ok, Err, Option, Some, option_map, false, slice_get, sum_by}
 use Rattle.std.specs.Fmt.{decimal}
 use Rattle.std.proofs.lemmas.List.Sums.{sum_by-append}
 use Rattle.std.proofs.lemmas.List.Elements.{All-cons, All-nil}
-use Rattle.std.proofs.lemmas.Option.{get_or_from_slice_get, none-some, same_Some, slice_get_within}
+use Rattle.std.proofs.lemmas.Option.{get_or_from_slice_get, none-some, same_Some, slice_get-map, slice_get_within}
 use Rattle.model.specs.Configs.{Config}
 use Rattle.model.specs.Records.{Record, IsHistory, last_version, records_of_proxy}
 use Rattle.model.specs.Stamps.{Given}
 use Rattle.model.proofs.History.Chain.{version_before}
 use Rattle.model.proofs.History.Growth.{own_version_up_to}
 use Rattle.agreed_ledger.specs.declared.refusal.Refusal.TheVariants as refusals
+use Rattle.inboxes.specs.declared.tag.Tag.{Tag}
+use Rattle.inboxes.specs.Delivers.{of_proxy}
 use Rattle.inboxes.specs.Ends.{ProxyView, SenderView}
-use Rattle.inboxes.specs.Tags.{end_tag}
+use Rattle.inboxes.specs.Sending.{HasEndLast, ends_in}
+use Rattle.inboxes.specs.Tags.{close_tag}
+use Rattle.inboxes.proofs.Sent.{one_end}
 use Rattle.locked_cluster.specs.Proxies.{LockedProxyView}
 use Rattle.locked_resolvers.specs.Resolvers.{LockedResolverView}
 use Rattle.locked_resolvers.proofs.Lists.{take_all, take_next}
@@ -21,13 +25,14 @@ use Rattle.scripts.specs.Lines.{spaced}
 use Rattle.workers.specs.Workers.{EndedView}
 use Rattle.threads_lines.specs.Answers.{AnswersBatch, AreLinesOfProxy, IsBatchLine, IsClosingLine}
 use Rattle.threads_lines.specs.Histories.{HasFinishedAll, HasJudgedAll, IsStartOf, Known, nothing_known}
-use Rattle.threads_lines.specs.Laws.{HaveVersionOf, reached_by_all}
+use Rattle.threads_lines.specs.Laws.{HaveVersionOf, one_of, reached_by_all}
 use Rattle.threads_lines.specs.Lines.{Answer, closing_line}
 use Rattle.threads_lines.specs.Meetings.{AreMeetingLines, IsAuditLine, audit_line}
 use Rattle.threads_lines.specs.Parts.{IsInParts, IsInTurns}
+use Rattle.threads_lines.proofs.CheckLemmas.{all_at}
 use Rattle.threads_lines.proofs.LawLemmas.{an_audit_is_ok_if_all_have_reached}
-use Rattle.threads_run.specs.Delivered.{IsDelivered, IsSideDelivered}
-use Rattle.threads_run.specs.Laws.{EachAuditIsOk, EachRecordHasALine, IsClusterOfOne, OneProxyHasItsLines, WithoutProxiesThereAreNoLines, batches_in, no_proxies, one_proxy, text_of_one}
+use Rattle.threads_run.specs.Delivered.{IsDelivered, IsSideDelivered, IsTaken, messages_of, proxy_of}
+use Rattle.threads_run.specs.Laws.{ARecordIsOneMessage, EachAuditIsOk, EachRecordHasALine, EachTextWentByItsInboxes, EachWorkerTookAll, GoesByOne, IsClusterOfOne, OneProxyHasItsLines, TookAllOf, WithoutProxiesThereAreNoLines, a_request, batches_in, no_proxies, one_proxy, side_that_sent, text_of_one, the_end, worker_that_took}
 use Rattle.threads_run.specs.Text.{IsProxyText, IsThreadsText, proxy_text}
 use Rattle.threads_scripts.specs.declared.script.ThreadsScript.{ThreadsScript}
 
@@ -149,8 +154,6 @@ nothing_printed = record {
   audits = [];
   proxies = [];
   resolvers = [];
-  sides = [];
-  workers = [];
   is_history = λ row rec at. absurd (none-some rec at);
   fits = omega arith;
   moved = All-nil (λ (rec : Record). rec.moves ≡ []);
@@ -170,12 +173,16 @@ nothing_printed = record {
   all_resolvers = record { count = refl; each = λ place w at. absurd (none-some w at) };
   finished = All-nil (HasFinishedAll []);
   judged = All-nil (HasJudgedAll []);
-  by_inboxes = record {
-    all_sides = refl;
-    in_order = λ p number at. absurd (none-some number at);
-    all_workers = refl;
-    each = All-nil (IsSideDelivered no_proxies.config [] []);
-  };
+  by_inboxes = (
+    [],
+    [],
+    record {
+      all_sides = refl;
+      in_order = λ p number at. absurd (none-some number at);
+      all_workers = refl;
+      each = All-nil (IsSideDelivered no_proxies.config [] []);
+    },
+  );
   shown = refl;
   met = refl;
   audited = refl;
@@ -197,46 +204,111 @@ no_other_text text is =
 pub no_lines_without_proxies : WithoutProxiesThereAreNoLines
 no_lines_without_proxies = record { empty = nothing_printed; others = no_other_text }
 
--- ---- a script of one proxy
+-- ---- how a run goes by its inboxes
+
+-- the element of this place
+at_place : {X : Type 0} (xs : List X) (k : ℕ) → k < length xs → (x : X) × (slice_get xs k ≡ Some x)
+at_place [] k within = absurd (omega (arith, within))
+at_place (x ∷ xs) zero within = (x, refl)
+at_place (x ∷ xs) (suc k) within = at_place xs k (omega (arith, within))
+
+-- what a worker took of the proxy of this side
+took_all : (config : Config) (history : List Record) (workers : List EndedView) (p r : ℕ) (side : ProxyView) (worker : EndedView)
+    → side.proxy ≡ p → r < config.resolvers → slice_get workers r ≡ Some worker → IsSideDelivered config history workers side
+    → TookAllOf history p worker
+took_all config history workers p r side worker own within there sent =
+    let (sender, at) = at_place side.ends r (omega (arith, within, sent.senders.0)) in
+    let places : (sender.resolver ≡ r) × (sender.proxy ≡ side.proxy) = sent.senders.1 r sender at in
+    let messages = messages_of history side.proxy in
+    let all : IsDelivered messages workers sender = all_at (IsDelivered messages workers) side.ends r sender sent.delivered at in
+    let same : all.worker ≡ worker = same_Some all.worker worker (sym all.there ∙ ap (λ (k : ℕ). slice_get workers k) places.0 ∙ there) in
+    let taken : IsTaken messages worker sender = subst (λ (w : EndedView). IsTaken messages w sender) same all.taken in
+    let proxy : sender.proxy ≡ p = places.1 ∙ own in
+    let got : of_proxy p worker.taken.got ≡ sender.put = ap (λ (q : ℕ). of_proxy q worker.taken.got) (sym proxy) ∙ taken.taken in (
+      ap (λ (ms : List Tag). length ms) got ∙ taken.count ∙ ap (λ (q : ℕ). messages_of history q) own,
+      subst (λ (ms : List Tag). HasEndLast p ms) (sym got) (subst (λ (q : ℕ). HasEndLast q sender.put) proxy taken.ended),
+    )
+
+pub each_worker_took_all : EachWorkerTookAll
+each_worker_took_all config history sides workers goes p r worker within there =
+    let (side, at) = at_place sides p (omega (arith, within, goes.all_sides)) in
+    let mapped : slice_get (map proxy_of sides) p ≡ Some side.proxy = slice_get-map proxy_of sides p ∙ ap (λ (o : Option ProxyView). option_map proxy_of o) at in
+    let own : side.proxy ≡ p = goes.in_order p side.proxy mapped in
+    let resolver : r < config.resolvers = omega (arith, slice_get_within workers r worker there, goes.all_workers) in
+    took_all config history workers p r side worker own resolver there (all_at (IsSideDelivered config history workers) sides p side goes.each at)
+
+pub each_text_went_by_its_inboxes : EachTextWentByItsInboxes
+each_text_went_by_its_inboxes script text is =
+    let (sides, workers, goes) = is.by_inboxes in
+    (workers, goes.all_workers, each_worker_took_all script.config is.history sides workers goes)
 
 -- it is the one element
 only : {X : Type 0} (x y : X) (k : ℕ) → slice_get (x ∷ []) k ≡ Some y → x ≡ y
 only x y zero at = same_Some x y at
 only x y (suc k) at = absurd (none-some y at)
 
+-- all that one proxy sent was delivered
+goes_by_one : (history : List Record) (messages : List Tag)
+    → of_proxy 0 messages ≡ messages → HasEndLast 0 messages → length messages ≡ messages_of history 0
+    → GoesByOne history messages messages
+goes_by_one history messages own last count = record {
+  all_sides = refl;
+  in_order = first_in_place;
+  all_workers = refl;
+  each = All-cons (IsSideDelivered one_proxy.config history (worker ∷ [])) (side_that_sent messages) [] (record {
+    senders = (refl, λ k e at. (in_place k e at, ap (λ (s : SenderView). s.proxy) (sym (only sender e k at))));
+    delivered = All-cons (IsDelivered (messages_of history 0) (worker ∷ [])) sender [] (record {
+      accepted = refl;
+      worker = worker;
+      there = refl;
+      taken = record { resolver = refl; taken = own; ended = last; count = count };
+    }) (All-nil (IsDelivered (messages_of history 0) (worker ∷ [])));
+  }) (All-nil (IsSideDelivered one_proxy.config history (worker ∷ [])));
+}
+  where
+    worker : EndedView
+    worker = worker_that_took messages
+
+    sender : SenderView
+    sender = record { resolver = 0; proxy = 0; put = messages; gone = false }
+
+    in_place : (k : ℕ) (e : SenderView) → slice_get (sender ∷ []) k ≡ Some e → e.resolver ≡ k
+    in_place zero e at = ap (λ (s : SenderView). s.resolver) (sym (only sender e zero at))
+    in_place (suc k) e at = absurd (none-some e at)
+
+    first_in_place : (p number : ℕ) → slice_get (0 ∷ []) p ≡ Some number → number ≡ p
+    first_in_place zero number at = sym (only 0 number zero at)
+    first_in_place (suc p) number at = absurd (none-some number at)
+
+-- what the worker took, if a run of one record went by its inbox
+taken_of_one : (sent taken : List Tag) → GoesByOne (one_of 10) sent taken → (length (of_proxy 0 taken) ≡ 2) × HasEndLast 0 (of_proxy 0 taken)
+taken_of_one sent taken goes = each_worker_took_all one_proxy.config (one_of 10) (side_that_sent sent ∷ []) (worker_that_took taken ∷ []) goes 0 0 (worker_that_took taken) (omega arith) refl
+
+-- requests are no End
+no_end_last : HasEndLast 0 (a_request ∷ a_request ∷ []) → ⊥
+no_end_last (before, none, whole) =
+    let ends : 0 ≡ ends_in (before ++ the_end ∷ []) = ap (λ (ms : List Tag). ends_in ms) whole in
+    let one : ends_in (before ++ the_end ∷ []) ≡ ends_in before + 1 = one_end before the_end refl in
+    omega (arith, ends, one)
+
+pub a_record_is_one_message : ARecordIsOneMessage
+a_record_is_one_message = record {
+  goes = goes_by_one (one_of 10) (a_request ∷ the_end ∷ []) refl (a_request ∷ [], refl, refl) refl;
+  goes_round = λ goes. let size : 1 ≡ 2 = (taken_of_one (the_end ∷ []) (the_end ∷ []) goes).0 in absurd (omega (arith, size));
+  a_lost_request = λ goes. let size : 1 ≡ 2 = (taken_of_one (a_request ∷ the_end ∷ []) (the_end ∷ []) goes).0 in absurd (omega (arith, size));
+  a_lost_end = λ goes. let size : 1 ≡ 2 = (taken_of_one (a_request ∷ the_end ∷ []) (a_request ∷ []) goes).0 in absurd (omega (arith, size));
+  a_close_more = λ goes.
+      let all = close_tag 0 ∷ a_request ∷ the_end ∷ [] in
+      let size : 3 ≡ 2 = (taken_of_one all all goes).0 in
+      absurd (omega (arith, size));
+  without_an_end = λ goes. no_end_last (taken_of_one (a_request ∷ a_request ∷ []) (a_request ∷ a_request ∷ []) goes).1;
+}
+
+-- ---- a script of one proxy
+
 -- no records are a start of any
 none_start : (records : List Record) → records ≡ [] → IsStartOf records []
 none_start records none = subst (λ (rs : List Record). rs ≡ take (length rs) []) (sym none) refl
-
--- what the proxy sent to the resolver: its End
-end_sent : SenderView
-end_sent = record { resolver = 0; proxy = 0; put = end_tag 0 ∷ []; gone = false }
-
--- what the worker took
-end_taken : EndedView
-end_taken = record {
-  taken = record { resolver = 0; got = end_tag 0 ∷ [] };
-  column = record { resolver = 0; rows = record { first = 0; known = [] } };
-  closed = false;
-  wanted = false;
-  cut_off = false;
-}
-
--- the End was delivered, and nothing else
-end_delivered : IsSideDelivered one_proxy.config [] (end_taken ∷ []) (record { proxy = 0; ends = end_sent ∷ [] })
-end_delivered = record {
-  senders = (refl, λ k e at. (in_place k e at, ap (λ (s : SenderView). s.proxy) (sym (only end_sent e k at))));
-  delivered = All-cons (IsDelivered 1 (end_taken ∷ [])) end_sent [] (record {
-    accepted = refl;
-    worker = end_taken;
-    there = refl;
-    taken = record { resolver = refl; taken = refl; ended = ([], refl, refl); count = refl };
-  }) (All-nil (IsDelivered 1 (end_taken ∷ [])));
-}
-  where
-    in_place : (k : ℕ) (e : SenderView) → slice_get (end_sent ∷ []) k ≡ Some e → e.resolver ≡ k
-    in_place zero e at = ap (λ (s : SenderView). s.resolver) (sym (only end_sent e zero at))
-    in_place (suc k) e at = absurd (none-some e at)
 
 -- the closing is refused, since a ledger without rows is full
 closing_refused : IsClosingLine one_proxy.config 0 0 nothing_known nothing_known (closing_line 0 (Err (refusals.LedgerFull 0)))
@@ -247,7 +319,6 @@ lines_of_one v w is =
     let answers = closing_line 0 (Err (refusals.LedgerFull 0)) in
     let routings = proxy_text [] 0 v in
     let audits = audit_line 0 reached_by_all in
-    let side : ProxyView = record { proxy = 0; ends = end_sent ∷ [] } in
     record {
       history = [];
       known = nothing_known;
@@ -257,8 +328,6 @@ lines_of_one v w is =
       audits = audits;
       proxies = v ∷ [];
       resolvers = w ∷ [];
-      sides = side ∷ [];
-      workers = end_taken ∷ [];
       is_history = λ row rec at. absurd (none-some rec at);
       fits = omega arith;
       moved = All-nil (λ (rec : Record). rec.moves ≡ []);
@@ -278,21 +347,12 @@ lines_of_one v w is =
       all_resolvers = is.resolvers;
       finished = All-cons (HasFinishedAll []) v [] is.new_proxy.version (All-nil (HasFinishedAll []));
       judged = All-cons (HasJudgedAll []) w [] (ap (λ (rs : List Record). length rs) is.new_resolver.records) (All-nil (HasJudgedAll []));
-      by_inboxes = record {
-        all_sides = refl;
-        in_order = λ p number at. first_in_place p number at;
-        all_workers = refl;
-        each = All-cons (IsSideDelivered one_proxy.config [] (end_taken ∷ [])) side [] end_delivered (All-nil (IsSideDelivered one_proxy.config [] (end_taken ∷ [])));
-      };
+      by_inboxes = (side_that_sent (the_end ∷ []) ∷ [], worker_that_took (the_end ∷ []) ∷ [], goes_by_one [] (the_end ∷ []) refl ([], refl, refl) refl);
       shown = ([], routings, refl, (v, refl, refl), refl);
       met = ([], [], refl, refl, refl);
       audited = ([], audits, refl, is.audited, refl);
       text_is = ap (λ (t : List ℕ). t ++ audits) (sym (append-nil (answers ++ routings)));
     }
-  where
-    first_in_place : (p number : ℕ) → slice_get (0 ∷ []) p ≡ Some number → number ≡ p
-    first_in_place zero number at = sym (only 0 number zero at)
-    first_in_place (suc p) number at = absurd (none-some number at)
 
 -- its audit is a line, so not nothing
 no_lines_of_one : IsThreadsText one_proxy [] → ⊥

@@ -57,3 +57,13 @@ pub record GoesByInboxes (config : Config) (history : List Record)
   pub in_order : AreInPlace (map proxy_of sides)
   pub all_workers : length workers ≡ config.resolvers
   pub each : All (IsSideDelivered config history workers) sides
+
+-- there are such sides and workers: the run of this history went by its inboxes
+abbrev pub HasGoneByInboxes : Config → (history : List Record) → Type 0
+HasGoneByInboxes config history =
+    (sides : List ProxyView) × (workers : List EndedView) × GoesByInboxes config history sides workers
+
+-- the history and the text of a run
+pub record RunView : Type 0 where
+  pub history : List Record
+  pub text : List ℕ

@@ -7,7 +7,6 @@ use Rattle.model.specs.Records.{Record, IsHistory}
 use Rattle.cluster_lines.specs.MetadataLines.{metadata_text, proxy_line}
 use Rattle.locked_cluster.specs.Proxies.{LockedProxyView}
 use Rattle.locked_resolvers.specs.Resolvers.{LockedResolverView}
-use Rattle.inboxes.specs.Ends.{ProxyView}
 use Rattle.threads_lines.specs.Guards.{AreLockedProxies, AreLockedResolvers}
 use Rattle.threads_lines.specs.Histories.{AreOfProxies, AreOfResolvers, HasFinishedAll, HasJudgedAll}
 use Rattle.threads_lines.specs.Histories.{IsStartOf, Known}
@@ -15,9 +14,8 @@ use Rattle.threads_lines.specs.Meetings.{AreAuditsOf, AreMeetingsOf}
 use Rattle.threads_lines.specs.Moves.{AreAfterMoves}
 use Rattle.threads_lines.specs.Parts.{IsInParts}
 use Rattle.threads_lines.specs.Threads.{AreAnswerLines}
-use Rattle.threads_run.specs.Delivered.{GoesByInboxes}
+use Rattle.threads_run.specs.Delivered.{HasGoneByInboxes}
 use Rattle.threads_scripts.specs.declared.script.ThreadsScript.{ThreadsScript}
-use Rattle.workers.specs.Workers.{EndedView}
 
 -- a proxy: its number, its routing at its version, and the tags of the asked keys, by the metadata of
 -- its journal
@@ -55,8 +53,6 @@ pub record IsThreadsText (script : ThreadsScript) (text : List ℕ) : Type 0 whe
   pub audits : List ℕ
   pub proxies : List LockedProxyView
   pub resolvers : List LockedResolverView
-  pub sides : List ProxyView
-  pub workers : List EndedView
   pub is_history : IsHistory script.config history
   pub fits : length history ≤ script.rows
   pub moved : AreAfterMoves script.moves history
@@ -70,8 +66,12 @@ pub record IsThreadsText (script : ThreadsScript) (text : List ℕ) : Type 0 whe
   pub all_resolvers : AreLockedResolvers script.config resolvers
   pub finished : All (HasFinishedAll history) proxies
   pub judged : All (HasJudgedAll history) resolvers
-  pub by_inboxes : GoesByInboxes script.config history sides workers
+  pub by_inboxes : HasGoneByInboxes script.config history
   pub shown : AreProxyTexts script.ask proxies routings
   pub met : AreMeetingsOf proxies meetings
   pub audited : AreAuditsOf script.config proxies resolvers audits
   pub text_is : text ≡ ((answers ++ routings) ++ meetings) ++ audits
+
+-- a text of the script, whose history is this one
+abbrev pub IsThreadsTextOf : ThreadsScript → (history : List Record) → (text : List ℕ) → Type 0
+IsThreadsTextOf script history text = (is : IsThreadsText script text) × (is.history ≡ history)

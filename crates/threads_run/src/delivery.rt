@@ -1,13 +1,14 @@
 //! What is left of the inboxes of a run, and that it went by them: each worker took what each proxy sent
 //! to it, one message for each of its batches and one End.
 
-ghost use Rattle.std.specs.Prelude.{◌≡◌, ◌<◌, ◌≤◌, ◌^◌, ◌-◌, [], length, All, IfErr, IfOk};
-ghost use Rattle.std.specs.Prelude.{OnOk};
+ghost use Rattle.std.specs.Prelude.{◌≡◌, ◌<◌, ◌≤◌, ◌^◌, ◌-◌, [], length, map, All, IfErr, IfOk};
+ghost use Rattle.std.specs.Prelude.{OnOk, string_bytes};
 ghost use Rattle.std.specs.Vec.{vec_capacity};
 ghost use Rattle.inboxes.specs.Sending.{HasEndLast, IsEndedSender};
 ghost use Rattle.threads_lines.specs.Faults.{FailsCheckOf};
-ghost use Rattle.threads_run.specs.Delivered.{AreEndedSides, IsDelivered, IsEndedSide};
-ghost use Rattle.threads_run.specs.Delivered.{IsSideDelivered, IsTaken};
+ghost use Rattle.threads_lines.specs.Threads.{AreInPlace};
+ghost use Rattle.threads_run.specs.Delivered.{AreEndedSides, GoesByInboxes, IsDelivered};
+ghost use Rattle.threads_run.specs.Delivered.{IsEndedSide, IsSideDelivered, IsTaken, proxy_of};
 
 use agreed_ledger::{Ledger, Naming};
 use inboxes::{Channels, EndedSender};
@@ -83,6 +84,58 @@ impl<N: Naming, M: Channels> EndedSide<N, M> {
     }
 }
 
+/// A run that went by its inboxes: its history, and its text. There is one only where what each worker
+/// took of each proxy was compared with what that proxy sent.
+#[derive(Drop)]
+pub(crate) struct DeliveredRun<N: Naming> {
+    history: RunHistory<N>,
+    text: String,
+}
+
+impl<N: Naming> Model for DeliveredRun<N> {
+    ghost use Rattle.std.specs.Prelude.{string_bytes};
+    ghost use Rattle.threads_run.specs.Delivered.{HasGoneByInboxes, RunView};
+
+    ghost Value = { RunView };
+
+    ghost view = { λ d. record { history = d.history.records; text = string_bytes d.text } };
+
+    ghost invariant = { λ d. HasGoneByInboxes N.cells.config d.history.records };
+}
+
+impl<N: Naming> DeliveredRun<N> {
+    /// The run of this history and this text, if it went by its inboxes. `sides` and `workers` are what is
+    /// left of these. Fails exactly if a worker did not take of a proxy one message for each of its records
+    /// in the history, and its End, all that the proxy sent, with `Refused`.
+    pub(crate) fn of<M: Channels>(
+        history: RunHistory<N>,
+        text: String,
+        ledger: &Ledger<N>,
+        sides: Vec<EndedSide<N, M>>,
+        workers: Vec<Ended<N, M>>,
+    ) -> Result<DeliveredRun<N>, RunFault>
+        requires sides { length sides.items ≡ N.cells.config.proxies }
+        requires in_order { AreInPlace (map proxy_of sides.items) }
+        requires workers { length workers.items ≡ N.cells.config.resolvers }
+        ensures run { IfOk result (λ run.
+            run ≡ record { history = history.records; text = string_bytes text }) }
+        ensures delivered { OnOk result
+            (GoesByInboxes N.cells.config history.records sides.items workers.items) }
+        ensures err { IfErr result (FailsCheckOf
+            (GoesByInboxes N.cells.config history.records sides.items workers.items)) }
+    {
+        check_delivered(&history, ledger, sides, workers)?;
+        Ok(DeliveredRun { history, text })
+    }
+
+    /// Its text.
+    pub(crate) fn into_text(self) -> String
+        ensures { string_bytes result ≡ self.text }
+    {
+        self.text
+    }
+}
+
 /// Lets the proxies end that have these inboxes, in order. Returns what is left of each. `sides` is the
 /// room for it.
 pub(crate) fn end_all<N: Naming, M: Channels, R: Wait>(
@@ -102,7 +155,7 @@ pub(crate) fn end_all<N: Naming, M: Channels, R: Wait>(
 
 /// Compares what each worker took of each proxy with what that proxy sent to it. Fails exactly if these
 /// are not one message for each of the proxy's records in the history, and its End, with `Refused`.
-pub(crate) fn check_delivered<N: Naming, M: Channels>(
+fn check_delivered<N: Naming, M: Channels>(
     history: &RunHistory<N>,
     ledger: &Ledger<N>,
     sides: Vec<EndedSide<N, M>>,

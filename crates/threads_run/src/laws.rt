@@ -2,19 +2,29 @@
 //! of definitions.
 
 ghost use Rattle.threads_run.specs.Laws.{ADoneRunWroteATextOfItsScript, AFailedRunWroteABeginning};
-ghost use Rattle.threads_run.specs.Laws.{AFaultHasOneAnswer, ARefusedRunWroteTheFault};
-ghost use Rattle.threads_run.specs.Laws.{AScriptWithoutFaultIsNotRefused, EachAuditIsOk};
-ghost use Rattle.threads_run.specs.Laws.{EachRecordHasALine, OneProxyHasItsLines};
+ghost use Rattle.threads_run.specs.Laws.{AFaultHasOneAnswer, ARecordIsOneMessage};
+ghost use Rattle.threads_run.specs.Laws.{ARefusedRunWroteTheFault, AScriptWithoutFaultIsNotRefused};
+ghost use Rattle.threads_run.specs.Laws.{EachAuditIsOk, EachRecordHasALine};
+ghost use Rattle.threads_run.specs.Laws.{EachTextWentByItsInboxes, EachWorkerTookAll};
+ghost use Rattle.threads_run.specs.Laws.{OneProxyHasItsLines};
 ghost use Rattle.threads_run.specs.Laws.{OtherRunsWriteNothing};
 ghost use Rattle.threads_run.specs.Laws.{WithoutProxiesThereAreNoLines};
 
-/// Each audit of a text says `ok`. The history of a text has no record without a line. Where there are no
-/// proxies, a text has no lines; one proxy has its own.
+/// Each audit of a text says `ok`. The history of a text has no record without a line, and its run went by its
+/// inboxes. Where there are no proxies, a text has no lines; one proxy has its own.
 pub fn text_law()
     ensures audits { EachAuditIsOk }
     ensures records { EachRecordHasALine }
+    ensures inboxes { EachTextWentByItsInboxes }
     ensures no_proxies { WithoutProxiesThereAreNoLines }
     ensures one_proxy { OneProxyHasItsLines }
+{}
+
+/// Of a run that goes by its inboxes each worker took of each proxy one message for each of its records, and
+/// its End: not fewer, not more, and nothing else in their place.
+pub fn delivery_law()
+    ensures taken { EachWorkerTookAll }
+    ensures message { ARecordIsOneMessage }
 {}
 
 /// A fault is answered by its own line, with its own status, and a script without a fault by no refusal.

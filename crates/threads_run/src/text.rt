@@ -6,9 +6,9 @@ ghost use Rattle.threads_lines.specs.Parts.{GrowsBy};
 ghost use Rattle.threads_scripts.specs.Runnable.{IsRunnable};
 ghost use Rattle.threads_lines.specs.Threads.{AreAnswerLines, AreInPlace};
 ghost use Rattle.threads_run.specs.Delivered.{proxy_of};
-ghost use Rattle.threads_run.specs.Text.{AreProxyTexts, IsThreadsText, proxy_text};
+ghost use Rattle.threads_run.specs.Text.{AreProxyTexts, IsThreadsText, IsThreadsTextOf, proxy_text};
 
-use crate::delivery::{Ended, EndedSide, check_delivered};
+use crate::delivery::{DeliveredRun, Ended, EndedSide};
 use crate::running::{Running, Serving, lines_of};
 use agreed_ledger::{BlankLedger, Ledger, Naming, Refusal};
 use cluster_lines::print_proxy_metadata;
@@ -79,10 +79,11 @@ fn threads_text_in<N: Naming + Send + Sync, R: Threads + Wait + Sync>(
     let cluster = Cluster::new(alloc, &ledger)?;
     cluster.move_ranges(rt, script.moves.as_slice())?;
     let inboxes = BlankInboxes::new(alloc, &ledger)?;
-    text_over::<N, Brand, R>(rt, alloc, &ledger, &cluster, inboxes, script)
+    let run = text_over::<N, Brand, R>(rt, alloc, &ledger, &cluster, inboxes, script)?;
+    Ok(run.into_text())
 }
 
-/// What the script comes to in this cluster over these inboxes.
+/// What the script comes to in this cluster over these inboxes: a run that went by them.
 fn text_over<N: Naming + Send + Sync, M: Channels + Send + Sync, R: Threads + Wait + Sync>(
     rt: &R,
     alloc: Global,
@@ -90,14 +91,14 @@ fn text_over<N: Naming + Send + Sync, M: Channels + Send + Sync, R: Threads + Wa
     cluster: &Cluster<'_, N>,
     blank: BlankInboxes<N, AskedRequest<N>>,
     script: &ThreadsScript,
-) -> Result<String, RunFault>
+) -> Result<DeliveredRun<N>, RunFault>
     requires places { blank ≡ M.places }
     requires proxies { length cluster.now.proxies.items ≡ N.cells.config.proxies }
     requires resolvers { length cluster.now.resolvers.items ≡ N.cells.config.resolvers }
     requires config { script.now.config ≡ N.cells.config }
     requires rows { script.now.rows ≡ length N.cells.records }
     requires work { length script.now.work ≡ script.now.config.proxies }
-    ensures { IfOk result (λ text. IsThreadsText script.now (string_bytes text)) }
+    ensures { IfOk result (λ run. IsThreadsTextOf script.now run.history run.text) }
 {
     let work = script.work.as_slice();
     let run = answers_over::<N, M, R>(rt, alloc, ledger, cluster, blank, work)?;
@@ -118,13 +119,12 @@ fn text_over<N: Naming + Send + Sync, M: Channels + Send + Sync, R: Threads + Wa
     check_proxies(&history, ledger, proxies.as_slice())?;
     check_resolvers(&history, resolvers.as_slice())?;
     check_moves(&history, ledger, script.moves.as_slice())?;
-    check_delivered(&history, ledger, sides, workers)?;
     // (their contracts say that it is a history, which fits the ledger)
     let _end = history.records().end();
     print_proxies(alloc, &mut text, proxies.as_slice(), script.ask.as_slice())?;
     print_meetings(&mut text, proxies.as_slice())?;
     print_audits(&mut text, proxies.as_slice(), resolvers.as_slice())?;
-    Ok(text)
+    DeliveredRun::of(history, text, ledger, sides, workers)
 }
 
 /// A run in which each proxy was answered and no worker was cut off: the lines, and what is left of the
