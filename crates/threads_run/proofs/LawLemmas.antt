@@ -122,7 +122,7 @@ work_lines config rows work known (suc count) text (between, earlier, part, turn
     let of_proxy = as_many (IsBatchLine config rows count batches) nothing_known own (length batches) part
     (λ number sooner later line is. one_more config rows count is.0 sooner later is.2.0 is.2.1) lines in
     let grown = more_batches work count batches at in
-    let next : batches_in (take (suc count) work) ≡ batches_in (take (count + 1) work) = ap (λ (n : ℕ). batches_in (take n work)) (sym add-one) in
+    let next : batches_in (take (suc count) work) ≡ batches_in (take (count + 1) work) = ap (λ (n : ℕ). batches_in (take n work)) (sym (add-one count)) in
     let counted = joins.counted in
     omega (arith, before, of_proxy, grown, next, counted)
 
@@ -358,7 +358,7 @@ lines_of_one v w is =
 no_lines_of_one : IsThreadsText one_proxy [] → ⊥
 no_lines_of_one is =
     let (before, audits, whole, (earlier, part, none, line, last)) = each_audit_is_ok one_proxy [] is in
-    let size : length [] ≡ length before + length audits = ap (λ (t : List ℕ). length t) whole ∙ length-append before audits in
+    let size : length {A = ℕ} [] ≡ length before + length audits = ap (λ (t : List ℕ). length t) whole ∙ length-append before audits in
     let of_audits : length audits ≡ length earlier + length part = ap (λ (t : List ℕ). length t) last ∙ length-append earlier part in
     let of_line : length part ≡ length (audit_line 0 reached_by_all) = ap (λ (t : List ℕ). length t) line in
     let one : 0 < length (audit_line 0 reached_by_all) = line_has_an_end (codes "audit " ++ decimal 0 ++ spaced (codes "ok")) in

@@ -1,6 +1,6 @@
 -- By cases on what the bytes are.
 use Rattle.std.proofs.Common.{◌≡◌, ◌∙◌, ◌++◌, ℕ, List, append_assoc, ap, subst, sym, refl, inl, inr}
-use Rattle.std.specs.Prelude.{Result, Ok, Err, IsOk, Some}
+use Rattle.std.specs.Prelude.{◌⊎◌, Result, Ok, Err, IsOk, Some}
 use Rattle.scripts.specs.Answers.{Answer, refused_answer}
 use Rattle.scripts.specs.declared.script_fault.ScriptFault.{ScriptFault}
 use Rattle.scripts.specs.declared.status.RunStatus.TheVariants.{Done, ScriptRefused}
@@ -15,17 +15,43 @@ use Rattle.threads_run.proofs.laws.written_law.Goals as goal
 to_bytes : (bytes : List ℕ) (answer : Answer) → AnswersInput (Some bytes) answer → IsAnswerTo bytes answer
 to_bytes bytes answer (read, is, answers) = subst (λ (b : List ℕ). IsAnswerTo b answer) is answers
 
+-- a result is one or the other
+ok_or_err : {X F : Type 0} (result : Result X F) → ((x : X) × (result ≡ Ok x)) ⊎ ((fault : F) × (result ≡ Err fault))
+ok_or_err (Ok x) = inl (x, refl)
+ok_or_err (Err fault) = inr (fault, refl)
+
+-- a run that is refused is not done
+status_apart : ScriptRefused ≡ Done → ⊥
+status_apart same = cc
+
+refused_status : (answer refusal : Answer) → refusal.status ≡ ScriptRefused → answer ≡ refusal → answer.status ≡ ScriptRefused
+refused_status answer refusal refused is = ap (λ (a : Answer). a.status) is ∙ refused
+
 -- a script that is done has no fault
 done_script : (said : Result ThreadsScript ScriptFault) (answer : Answer) → Answers said answer → answer.status ≡ Done
     → (script : ThreadsScript) × (said ≡ Ok script) × IsThreadsText script answer.text
-done_script (Ok script) answer is done = (script, refl, is.0)
-done_script (Err fault) answer is done = let other : ScriptRefused ≡ Done = ap (λ (a : Answer). a.status) (sym is) ∙ done in cc
+done_script said answer is done = by (ok_or_err said)
+  where
+    of : (result : Result ThreadsScript ScriptFault) → said ≡ result → Answers result answer
+    of result same = subst (λ (r : Result ThreadsScript ScriptFault). Answers r answer) same is
+
+    by : ((script : ThreadsScript) × (said ≡ Ok script)) ⊎ ((fault : ScriptFault) × (said ≡ Err fault))
+        → (script : ThreadsScript) × (said ≡ Ok script) × IsThreadsText script answer.text
+    by (inl (script, ok)) = (script, ok, (of (Ok script) ok).0)
+    by (inr (fault, err)) = absurd (status_apart (sym (refused_status answer (refused_answer fault) refl (of (Err fault) err)) ∙ done))
 
 -- one that is refused has one
 refused_script : (said : Result ThreadsScript ScriptFault) (answer : Answer) → Answers said answer → answer.status ≡ ScriptRefused
     → (fault : ScriptFault) × (said ≡ Err fault) × (answer ≡ refused_answer fault)
-refused_script (Ok script) answer is refused = let other : Done ≡ ScriptRefused = sym is.1 ∙ refused in cc
-refused_script (Err fault) answer is refused = (fault, refl, is)
+refused_script said answer is refused = by (ok_or_err said)
+  where
+    of : (result : Result ThreadsScript ScriptFault) → said ≡ result → Answers result answer
+    of result same = subst (λ (r : Result ThreadsScript ScriptFault). Answers r answer) same is
+
+    by : ((script : ThreadsScript) × (said ≡ Ok script)) ⊎ ((fault : ScriptFault) × (said ≡ Err fault))
+        → (fault : ScriptFault) × (said ≡ Err fault) × (answer ≡ refused_answer fault)
+    by (inl (script, ok)) = absurd (status_apart (sym refused ∙ (of (Ok script) ok).1))
+    by (inr (fault, err)) = (fault, err, of (Err fault) err)
 
 done_law : ADoneRunWroteATextOfItsScript
 done_law answer bytes old new (answers, put, status) =
