@@ -8,15 +8,15 @@ returns-clause-checked g c =
     let told = c.in-Ok.ensures in
     let counts = c.in-Ok.counts in
     taken_all c.args.messages c.args.worker.now c.args.sender counts.sent counts.taken c.requires.messages c.requires.ended
-    told.resolver told.begins told.sent told.taken c.if-sent-messages.false c.if-taken-messages.false
+    told.resolver told.begins told.sent told.taken c.if-counts-messages.false c.if-counts-messages-2.false
 
-pub returns-then-sent-messages-clause-err : goal.returns-then-sent-messages-clause-err
-returns-then-sent-messages-clause-err g c =
-    (refl, other_sent c.args.messages c.args.worker.now c.args.sender c.in-Ok.counts.sent c.requires.messages c.in-Ok.ensures.sent c.if-sent-messages.true)
+pub returns-then-counts-messages-clause-err : goal.returns-then-counts-messages-clause-err
+returns-then-counts-messages-clause-err g c =
+    (refl, other_sent c.args.messages c.args.worker.now c.args.sender c.in-Ok.counts.sent c.requires.messages c.in-Ok.ensures.sent c.if-counts-messages.true)
 
-pub returns-then-taken-messages-clause-err : goal.returns-then-taken-messages-clause-err
-returns-then-taken-messages-clause-err g c =
-    (refl, other_taken c.args.messages c.args.worker.now c.args.sender c.in-Ok.counts.taken c.requires.messages c.in-Ok.ensures.taken c.if-taken-messages.true)
+pub returns-then-counts-messages-2-clause-err : goal.returns-then-counts-messages-2-clause-err
+returns-then-counts-messages-2-clause-err g c =
+    (refl, other_taken c.args.messages c.args.worker.now c.args.sender c.in-Ok.counts.taken c.requires.messages c.in-Ok.ensures.taken c.if-counts-messages-2.true)
 
 pub returns-in_default-clause-err : goal.returns-in_default-clause-err
 returns-in_default-clause-err g c = (refl, λ all. c.in_default.ensures.refused.0 all.resolver)

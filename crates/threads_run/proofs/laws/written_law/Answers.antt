@@ -32,26 +32,26 @@ done_script : (said : Result ThreadsScript ScriptFault) (answer : Answer) → An
     → (script : ThreadsScript) × (said ≡ Ok script) × IsThreadsText script answer.text
 done_script said answer is done = by (ok_or_err said)
   where
-    of : (result : Result ThreadsScript ScriptFault) → said ≡ result → Answers result answer
-    of result same = subst (λ (r : Result ThreadsScript ScriptFault). Answers r answer) same is
+    told : (result : Result ThreadsScript ScriptFault) → said ≡ result → Answers result answer
+    told result same = subst (λ (r : Result ThreadsScript ScriptFault). Answers r answer) same is
 
     by : ((script : ThreadsScript) × (said ≡ Ok script)) ⊎ ((fault : ScriptFault) × (said ≡ Err fault))
         → (script : ThreadsScript) × (said ≡ Ok script) × IsThreadsText script answer.text
-    by (inl (script, ok)) = (script, ok, (of (Ok script) ok).0)
-    by (inr (fault, err)) = absurd (status_apart (sym (refused_status answer (refused_answer fault) refl (of (Err fault) err)) ∙ done))
+    by (inl (script, ok)) = (script, ok, (told (Ok script) ok).0)
+    by (inr (fault, err)) = absurd (status_apart (sym (refused_status answer (refused_answer fault) refl (told (Err fault) err)) ∙ done))
 
 -- one that is refused has one
 refused_script : (said : Result ThreadsScript ScriptFault) (answer : Answer) → Answers said answer → answer.status ≡ ScriptRefused
     → (fault : ScriptFault) × (said ≡ Err fault) × (answer ≡ refused_answer fault)
 refused_script said answer is refused = by (ok_or_err said)
   where
-    of : (result : Result ThreadsScript ScriptFault) → said ≡ result → Answers result answer
-    of result same = subst (λ (r : Result ThreadsScript ScriptFault). Answers r answer) same is
+    told : (result : Result ThreadsScript ScriptFault) → said ≡ result → Answers result answer
+    told result same = subst (λ (r : Result ThreadsScript ScriptFault). Answers r answer) same is
 
     by : ((script : ThreadsScript) × (said ≡ Ok script)) ⊎ ((fault : ScriptFault) × (said ≡ Err fault))
         → (fault : ScriptFault) × (said ≡ Err fault) × (answer ≡ refused_answer fault)
-    by (inl (script, ok)) = absurd (status_apart (sym refused ∙ (of (Ok script) ok).1))
-    by (inr (fault, err)) = (fault, err, of (Err fault) err)
+    by (inl (script, ok)) = absurd (status_apart (sym refused ∙ (told (Ok script) ok).1))
+    by (inr (fault, err)) = (fault, err, told (Err fault) err)
 
 done_law : ADoneRunWroteATextOfItsScript
 done_law answer bytes old new (answers, put, status) =
