@@ -78,3 +78,7 @@ pub text_so : (result : Result RunView RunFault) (script : ThreadsScript) (Deliv
 text_so (Ok run) script Delivered history text is delivered so =
     subst (λ (v : RunView). IsThreadsTextOf script v.history v.text) (sym is) (so delivered)
 text_so (Err fault) script Delivered history text none delivered so = none
+
+-- what holds if it is Ok holds of what it is
+pub of_ok : {X F : Type 0} (result : Result X F) (x : X) (P : X → Type 0) → result ≡ Ok x → IfOk result P → P x
+of_ok {X} {F} result x P is all = subst (λ (r : Result X F). IfOk r P) is all
