@@ -20,7 +20,7 @@ status_apart same = cc
 no_longer : (text : List ℕ) → text ++ 10 ∷ [] ≡ text → ⊥
 no_longer text same =
     let size : length (text ++ 10 ∷ []) ≡ length text = ap (λ (t : List ℕ). length t) same in
-    let one : length (text ++ 10 ∷ []) ≡ length text + length (10 ∷ []) = length-append text (10 ∷ []) in
+    let one : length (text ++ 10 ∷ []) ≡ length text + length {A = ℕ} (10 ∷ []) = length-append text (10 ∷ []) in
     absurd (omega (arith, size, one))
 
 fault_law : AFaultHasOneAnswer
