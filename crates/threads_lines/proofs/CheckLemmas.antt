@@ -1,5 +1,5 @@
 -- What the checks of a whole run find.
-use Rattle.std.proofs.Common.{◌≡◌, ◌≢◌, ◌∙◌, ◌++◌, ◌+◌, ◌-◌, ◌<◌, ◌≤◌, [], ◌∷◌, ℕ, suc, List, refl, sym, ap, subst, take, map, length, filter, get_or, append-nil, inl, inr, arith}
+use Rattle.std.proofs.Common.{◌≡◌, ◌≢◌, ◌∙◌, ◌++◌, ◌+◌, ◌-◌, ◌<◌, ◌≤◌, [], ◌∷◌, ℕ, suc, List, refl, sym, ap, subst, take, map, length, filter, get_or, append-nil, length-append, inl, inr, arith}
 use Rattle.std.specs.Prelude.{◌⊎◌, All, true, false, nat_eq, slice_get, Some}
 use Rattle.std.proofs.Math.Nat.{suc-mul}
 use Rattle.std.proofs.lemmas.Bool.{cases_order, eq-eqb, ne_eqb}
@@ -80,6 +80,36 @@ all_taken P xs k whole all = All-same P xs (take k xs) (sym (take_all xs k whole
 
 pub all_at : {X : Type 0} (P : X → Type 0) (xs : List X) (k : ℕ) (x : X) → All P xs → slice_get xs k ≡ Some x → P x
 all_at P xs k x all at = subst P (get_or_from_slice_get xs k x x at) (all k x (slice_get_within xs k x at))
+
+-- ---- how many records a proxy has
+
+-- one record more is looked at
+pub count_next : (p : ℕ) (h : List Record) (k : ℕ) (rec : Record) (count one : ℕ) → slice_get h k ≡ Some rec
+    → (rec.proxy ≡ p → one ≡ 1) → ((rec.proxy ≡ p → ⊥) → one ≡ 0)
+    → count ≡ length (records_of_proxy p (take k h)) → count + one ≡ length (records_of_proxy p (take (k + 1) h))
+count_next p h k rec count one at own other is = by (eqb_tells rec.proxy p)
+  where
+    earlier : List Record
+    earlier = records_of_proxy p (take k h)
+
+    grown : (more : List Record) → filter (λ (r : Record). nat_eq r.proxy p) (rec ∷ []) ≡ more → length (records_of_proxy p (take (k + 1) h)) ≡ length earlier + length more
+    grown more filtered = ap (λ (rs : List Record). length rs) (own_next p h k rec at ∙ ap (λ (rs : List Record). earlier ++ rs) filtered) ∙ length-append earlier more
+
+    by : ((eqb rec.proxy p ≡ true) × (rec.proxy ≡ p)) ⊎ ((eqb rec.proxy p ≡ false) × (rec.proxy ≡ p → ⊥)) → count + one ≡ length (records_of_proxy p (take (k + 1) h))
+    by (inl (_, same)) =
+        let size = grown (rec ∷ []) (rw (eq-eqb rec.proxy p same) refl) in
+        let first : one ≡ 1 = own same in
+        let before : count ≡ length earlier = is in
+        omega (arith, size, first, before)
+    by (inr (_, apart)) =
+        let size = grown [] (rw (ne_eqb rec.proxy p apart) refl) in
+        let none : one ≡ 0 = other apart in
+        let before : count ≡ length earlier = is in
+        omega (arith, size, none, before)
+
+-- all were looked at
+pub count_last : (p : ℕ) (h : List Record) (k count : ℕ) → length h ≤ k → count ≡ length (records_of_proxy p (take k h)) → count ≡ length (records_of_proxy p h)
+count_last p h k count all is = is ∙ ap (λ (rs : List Record). length (records_of_proxy p rs)) (take_all h k all)
 
 -- ---- moves
 

@@ -1,7 +1,9 @@
 //! What must hold of the whole history of a run, once all batches are answered and the proxies and the
 //! resolvers are locked. No run is known to find otherwise; one that does fails.
 
-ghost use Rattle.std.specs.Prelude.{◌≡◌, ◌≢◌, ◌-◌, length, map, Some, All, MatchBool, IfErr, OnOk};
+ghost use Rattle.std.specs.Prelude.{◌≡◌, ◌≢◌, ◌-◌, ◌≤◌, length, map, Some, All, MatchBool};
+ghost use Rattle.std.specs.Prelude.{IfErr, OnOk};
+ghost use Rattle.facts.specs.Stretches.{rows_limit};
 ghost use Rattle.model.specs.Records.{last_version, records_of_proxy};
 ghost use Rattle.threads_lines.specs.Faults.{FailsCheckOf};
 ghost use Rattle.threads_lines.specs.Histories.{HasFinishedAll, HasJudgedAll};
@@ -109,6 +111,35 @@ fn last_version_of<N: Naming>(
         version = version_after(rec, proxy, version);
     }
     version
+}
+
+/// How many records of the history are of the proxy.
+pub fn records_of<N: Naming>(
+    history: &RunHistory<N>,
+    ledger: &Ledger<N>,
+    proxy: ProxyNumber,
+) -> usize
+    ensures value { result ≡ length (records_of_proxy proxy history.now.records) }
+    ensures limit { result ≤ rows_limit }
+{
+    let records = history.records();
+    let mut count = 0;
+    for row in 0..records.end() {
+        let Some(rec) = records.get(ledger, row) else {
+            unreachable!();
+        };
+        count += one_if_own(rec, proxy);
+    }
+    count
+}
+
+/// 1 if the record is one of the proxy, and otherwise 0.
+fn one_if_own(rec: &Record, proxy: ProxyNumber) -> usize
+    ensures own { rec.now.proxy ≡ proxy → result ≡ 1 }
+    ensures other { (rec.now.proxy ≡ proxy → ⊥) → result ≡ 0 }
+    ensures limit { result ≤ 1 }
+{
+    if rec.proxy() == proxy { 1 } else { 0 }
 }
 
 /// The version of the record if it is one of the proxy, and otherwise that before.

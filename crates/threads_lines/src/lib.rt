@@ -20,7 +20,7 @@ mod run_history;
 mod serving;
 mod threads;
 
-pub use checks::{check_answered, check_moves, check_proxies, check_resolvers};
+pub use checks::{check_answered, check_moves, check_proxies, check_resolvers, records_of};
 pub use cluster::Cluster;
 pub use committer::{AnsweredLines, Committer};
 pub use faults::{RunFault, status_of};
@@ -28,4 +28,4 @@ pub use laws::{audit_law, end_law};
 pub use meetings::{print_audits, print_meetings};
 pub use run_history::RunHistory;
 pub use serving::{RunOutcome, ServesInbox, commit_over_workers};
-pub use threads::CommitsBatches;
+pub use threads::{CommitsBatches, EndsProxies};

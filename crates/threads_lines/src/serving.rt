@@ -7,7 +7,7 @@ ghost use Rattle.threads_lines.specs.Threads.{AreAnswerLines};
 
 use crate::committer::AnsweredLines;
 use crate::faults::RunFault;
-use crate::threads::{CommitsBatches, commit_in_threads};
+use crate::threads::{CommitsBatches, EndsProxies, commit_in_threads};
 use agreed_ledger::Naming;
 use mutation::Batch;
 use std::alloc::Global;
@@ -29,25 +29,28 @@ pub trait ServesInbox<E, L> {
 
 /// What proxies and those who served them came to.
 #[derive(Drop)]
-pub struct RunOutcome<N: Naming, L: Drop> {
+pub struct RunOutcome<N: Naming, D: Drop, L: Drop> {
     /// The lines of the answers, or why there are none, as far as the proxies know.
     pub lines: Result<AnsweredLines<N>, RunFault>,
+    /// What the proxies left.
+    pub ended: D,
     /// What each thread that served left.
     pub workers: Vec<L>,
 }
 
 /// Serves each end in a thread of its own. Meanwhile commits the batches of each proxy, again in a
-/// thread for each, and lets the proxies close, in order. Returns the lines of all answers, and what
-/// each thread that served left, when all threads have ended.
+/// thread for each, lets the proxies close, in order, and then end. Returns the lines of all answers,
+/// what the proxies left, and what each thread that served left, when all threads have ended.
 ///
 /// Fails with `OutOfMemory` if the thread of an end could not be started, or an allocation failed
 /// before. Then no proxy commits anything.
 pub fn commit_over_workers<
     N: Naming + Send,
     E: Send + Drop,
+    D: Drop,
     L: Send + Drop,
     S: ServesInbox<E, L> + Sync,
-    C: CommitsBatches<N> + Sync + Drop,
+    C: CommitsBatches<N> + EndsProxies<D> + Sync + Drop,
     R: Threads + Wait + Sync,
 >(
     rt: &R,
@@ -56,24 +59,26 @@ pub fn commit_over_workers<
     ends: Vec<E>,
     committing: C,
     work: &[Items<Batch>],
-) -> Result<RunOutcome<N, L>, OutOfMemory>
+) -> Result<RunOutcome<N, D, L>, OutOfMemory>
     requires ends { All (S.can_serve serving.now) ends.items }
     requires work { length work.now ≤ C.proxies committing }
     ensures lines { IfOk result (λ outcome. IfOk outcome.lines (λ answered.
         AreAnswerLines N.cells.config (length N.cells.records) work.now (C.proxies committing)
         answered.history (string_bytes answered.text))) }
+    ensures ended { IfOk result (λ outcome. C.ends_with committing outcome.ended) }
     ensures workers { IfOk result (λ outcome.
         length outcome.workers.items ≡ length ends.items) }
 {
     thread::scope(
         thread::scope_env(),
         rt,
-        |scope| -> Result<RunOutcome<N, L>, OutOfMemory>
+        |scope| -> Result<RunOutcome<N, D, L>, OutOfMemory>
             requires ends { All (S.can_serve serving.now) ends.items }
             requires work { length work.now ≤ C.proxies committing }
             ensures lines { IfOk result (λ outcome. IfOk outcome.lines (λ answered.
                 AreAnswerLines N.cells.config (length N.cells.records) work.entry.now
                 (C.proxies committing) answered.history (string_bytes answered.text))) }
+            ensures ended { IfOk result (λ outcome. C.ends_with committing outcome.ended) }
             ensures workers { IfOk result (λ outcome.
                 length outcome.workers.items ≡ length ends.items) }
         { commit_beside_workers(scope, rt, alloc, serving, ends, committing, work) },
@@ -87,9 +92,10 @@ fn commit_beside_workers<
     X,
     N: Naming + Send + 's,
     E: Send + Drop + 's,
+    D: Drop,
     L: Send + Drop + 's,
     S: ServesInbox<E, L> + Sync,
-    C: CommitsBatches<N> + Sync + Drop,
+    C: CommitsBatches<N> + EndsProxies<D> + Sync + Drop,
     R: Threads + Wait + Sync,
 >(
     scope: &'s Scope<'s, X>,
@@ -99,12 +105,13 @@ fn commit_beside_workers<
     ends: Vec<E>,
     committing: C,
     work: &'s [Items<Batch>],
-) -> Result<RunOutcome<N, L>, OutOfMemory>
+) -> Result<RunOutcome<N, D, L>, OutOfMemory>
     requires ends { All (S.can_serve serving.now) ends.items }
     requires work { length work.now ≤ C.proxies committing }
     ensures lines { IfOk result (λ outcome. IfOk outcome.lines (λ answered.
         AreAnswerLines N.cells.config (length N.cells.records) work.now (C.proxies committing)
         answered.history (string_bytes answered.text))) }
+    ensures ended { IfOk result (λ outcome. C.ends_with committing outcome.ended) }
     ensures workers { IfOk result (λ outcome.
         length outcome.workers.items ≡ length ends.items) }
 {
@@ -112,15 +119,16 @@ fn commit_beside_workers<
     let handles = match start_workers(scope, rt, alloc, serving, ends) {
         Ok(handles) => handles,
         Err(started) => {
-            committing.end(rt);
+            let _ended = committing.end(rt);
             await_workers(rt, started);
             return Err(OutOfMemory);
         }
     };
     let lines = answer_lines::<N, C, R>(rt, alloc, &committing, work);
-    committing.end(rt);
+    let ended = committing.end(rt);
     Ok(RunOutcome {
         lines,
+        ended,
         workers: join_workers(rt, handles, left),
     })
 }

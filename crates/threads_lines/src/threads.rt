@@ -59,9 +59,15 @@ pub trait CommitsBatches<N: Naming> {
 
     /// Lets all threads that wait for an answer end.
     fn close<R: Wait>(&self, rt: &R);
+}
 
-    /// Lets the proxies end: they ask no resolver any more.
-    fn end<R: Wait>(self, rt: &R);
+/// What the threads of a run share, and what is left of the proxies once they have ended: a `D`.
+pub trait EndsProxies<D> {
+    ghost ends_with: { Self → D → Type 0 };
+
+    /// Lets the proxies end: they ask no resolver any more. Returns what is left of them.
+    fn end<R: Wait>(self, rt: &R) -> D
+        ensures { ends_with self result };
 }
 
 /// What a thread promises of what it returns: the lines of answers to these batches of the proxy, or

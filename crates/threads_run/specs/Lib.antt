@@ -6,3 +6,7 @@ pub mod Runs
 pub mod Text
 -- how a run fails beside its workers
 pub mod Beside
+-- how a run goes by its inboxes
+pub mod Delivered
+-- what the text says, and what a run writes
+pub mod Laws

@@ -14,6 +14,7 @@ use Rattle.threads_lines.specs.Meetings.{AreAuditsOf, AreMeetingsOf}
 use Rattle.threads_lines.specs.Moves.{AreAfterMoves}
 use Rattle.threads_lines.specs.Parts.{IsInParts}
 use Rattle.threads_lines.specs.Threads.{AreAnswerLines}
+use Rattle.threads_run.specs.Delivered.{HasGoneByInboxes}
 use Rattle.threads_scripts.specs.declared.script.ThreadsScript.{ThreadsScript}
 
 -- a proxy: its number, its routing at its version, and the tags of the asked keys, by the metadata of
@@ -41,6 +42,10 @@ AreProxyTexts ask proxies text =
 -- and each is of one line. The lines of proxies, meetings and audits are all of the same state of the
 -- proxies and the resolvers, as their locks keep it after the answers: each proxy has finished its
 -- records, each resolver has judged all, and those that each of them has are a start of the history.
+-- The run went by its inboxes: of each proxy each worker took one message for each of its records, and
+-- its End, just as the proxy sent them. Beyond the history no line depends on the schedule of the
+-- threads: by the laws `one_end_law` and `batches_law` of endings, every order of offers and finishes
+-- that finishes all leads to one world and to the same finished batches.
 pub record IsThreadsText (script : ThreadsScript) (text : List ℕ) : Type 0 where
   pub history : List Record
   pub known : Known
@@ -63,7 +68,12 @@ pub record IsThreadsText (script : ThreadsScript) (text : List ℕ) : Type 0 whe
   pub all_resolvers : AreLockedResolvers script.config resolvers
   pub finished : All (HasFinishedAll history) proxies
   pub judged : All (HasJudgedAll history) resolvers
+  pub by_inboxes : HasGoneByInboxes script.config history
   pub shown : AreProxyTexts script.ask proxies routings
   pub met : AreMeetingsOf proxies meetings
   pub audited : AreAuditsOf script.config proxies resolvers audits
   pub text_is : text ≡ ((answers ++ routings) ++ meetings) ++ audits
+
+-- a text of the script, whose history is this one
+abbrev pub IsThreadsTextOf : ThreadsScript → (history : List Record) → (text : List ℕ) → Type 0
+IsThreadsTextOf script history text = (is : IsThreadsText script text) × (is.history ≡ history)

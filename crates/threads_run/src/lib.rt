@@ -5,10 +5,13 @@
 //! Source: this project's profile (scripts, lines and statuses).
 #![tactic(auto)]
 
+mod delivery;
+mod laws;
 mod run;
 mod running;
 mod text;
 
+pub use laws::{answer_law, delivery_law, text_law, written_law};
 pub use run::run_threads;
 pub use threads_lines::status_of;
 pub use threads_scripts::{ThreadsScript, UndatedMove, read_threads, stream_threads};

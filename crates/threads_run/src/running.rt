@@ -1,11 +1,13 @@
 //! What the threads of a run share.
 
-ghost use Rattle.std.specs.Prelude.{◌≡◌, ◌<◌, [], length, OnOk, string_bytes};
+ghost use Rattle.std.specs.Prelude.{◌≡◌, ◌<◌, ◌≤◌, [], length, IfOk, Ok, OnOk, string_bytes};
+ghost use Rattle.std.specs.Vec.{vec_capacity};
 ghost use Rattle.std.specs.List.{list_any};
 ghost use Rattle.threads_run.specs.Beside.{lines_beside, was_cut_off, was_refused_memory};
 ghost use Rattle.threads_lines.specs.Parts.{GrowsBy, IsInParts};
 ghost use Rattle.threads_lines.specs.Threads.{AreInPlace};
 
+use crate::delivery::{Ended, EndedSide, end_all};
 use agreed_ledger::{Ledger, Naming};
 use inboxes::{Channels, FreshEnd};
 use locked_cluster::SharedResolver;
@@ -14,10 +16,10 @@ use mutation::Batch;
 use std::alloc::Global;
 use std::sync::Wait;
 use threads_lines::{
-    AnsweredLines, Cluster, CommitsBatches, Committer, RunFault, RunHistory, RunOutcome,
+    AnsweredLines, Cluster, CommitsBatches, Committer, EndsProxies, RunFault, RunHistory,
     ServesInbox,
 };
-use workers::{AskedRequest, EndedWorker, Open, ProxyInboxes, ResolverWorker};
+use workers::{AskedRequest, Open, ProxyInboxes, ResolverWorker};
 
 /// The resolvers of the cluster, which workers ask for the proxies.
 #[derive(Drop)]
@@ -35,9 +37,6 @@ impl<'a, 'l, N: Naming> Serving<'a, 'l, N> {
         &self.resolvers[number]
     }
 }
-
-/// What is left of the worker of an inbox.
-pub(crate) type Ended<N, M> = EndedWorker<N, M, Open>;
 
 impl<'a, 'l, N: Naming, M: Channels> ServesInbox<FreshEnd<N, AskedRequest<N>, M>, Ended<N, M>>
     for Serving<'a, 'l, N> {
@@ -62,13 +61,14 @@ impl<'a, 'l, N: Naming, M: Channels> ServesInbox<FreshEnd<N, AskedRequest<N>, M>
 /// lines are right whatever the workers were refused; but a run in which a worker was cut off fails,
 /// since some proxy did not send its last message to it.
 pub(crate) fn lines_of<N: Naming, M: Channels>(
-    outcome: RunOutcome<N, Ended<N, M>>,
+    lines: Result<AnsweredLines<N>, RunFault>,
+    workers: &[Ended<N, M>],
 ) -> Result<AnsweredLines<N>, RunFault>
-    ensures { result ≡ lines_beside outcome.lines outcome.workers.items }
+    ensures beside { result ≡ lines_beside lines workers.now }
+    ensures answered { IfOk result (λ answered. lines ≡ Ok answered) }
 {
-    let RunOutcome { lines, workers } = outcome;
-    let refused_memory = were_refused_memory(workers.as_slice());
-    let cut_off = were_cut_off(workers.as_slice());
+    let refused_memory = were_refused_memory(workers);
+    let cut_off = were_cut_off(workers);
     match lines {
         Ok(_lines) if cut_off => Err(RunFault::Refused.beside(refused_memory)),
         Ok(answered) => Ok(answered),
@@ -90,14 +90,18 @@ fn were_cut_off<N: Naming, M: Channels>(workers: &[Ended<N, M>]) -> bool
     workers.iter().any(|ended| ended.cut_off())
 }
 
-/// The cluster with its ledger, and the inboxes of its resolvers as each proxy sends to them.
+/// The cluster with its ledger, the inboxes of its resolvers as each proxy sends to them, and room for
+/// what is left of these.
 #[derive(Drop)]
 pub(crate) struct Running<'a, 'l, N: Naming, M: Channels> {
     pub(crate) ledger: &'a Ledger<N>,
     pub(crate) cluster: &'a Cluster<'l, N>,
     pub(crate) inboxes: Vec<ProxyInboxes<N, M>>,
+    pub(crate) sides: Vec<EndedSide<N, M>>,
     ghost as_many: { length inboxes.items ≡ length cluster.now.proxies.items },
     ghost inboxes_in_place: { AreInPlace inboxes.items },
+    ghost no_sides: { sides.items ≡ [] },
+    ghost room: { length inboxes.items ≤ vec_capacity sides },
 }
 
 impl<'a, 'l, N: Naming, M: Channels> Running<'a, 'l, N, M> {
@@ -155,11 +159,15 @@ impl<'a, 'l, N: Naming, M: Channels> CommitsBatches<N> for Running<'a, 'l, N, M>
             first.close(rt);
         }
     }
+}
 
-    fn end<R: Wait>(self, rt: &R) {
-        for inboxes in self.inboxes {
-            let _ended = inboxes.end(rt);
-        }
+impl<'a, 'l, N: Naming, M: Channels> EndsProxies<Vec<EndedSide<N, M>>> for Running<'a, 'l, N, M> {
+    ghost use Rattle.threads_run.specs.Delivered.{AreEndedSides};
+
+    ghost ends_with = { λ running sides. AreEndedSides running.inboxes.items sides.items };
+
+    fn end<R: Wait>(self, rt: &R) -> Vec<EndedSide<N, M>> {
+        end_all(rt, self.inboxes, self.sides)
     }
 }
 

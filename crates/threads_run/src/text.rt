@@ -1,12 +1,14 @@
 //! What a threads script comes to.
 
-ghost use Rattle.std.specs.Prelude.{◌≡◌, ◌++◌, length, IfOk, OnOk, string_bytes};
+ghost use Rattle.std.specs.Prelude.{◌≡◌, ◌++◌, length, map, IfOk, OnOk, string_bytes};
 ghost use Rattle.inboxes.specs.Blanks.{AreSides};
 ghost use Rattle.threads_lines.specs.Parts.{GrowsBy};
 ghost use Rattle.threads_scripts.specs.Runnable.{IsRunnable};
 ghost use Rattle.threads_lines.specs.Threads.{AreAnswerLines, AreInPlace};
-ghost use Rattle.threads_run.specs.Text.{AreProxyTexts, IsThreadsText, proxy_text};
+ghost use Rattle.threads_run.specs.Delivered.{proxy_of};
+ghost use Rattle.threads_run.specs.Text.{AreProxyTexts, IsThreadsText, IsThreadsTextOf, proxy_text};
 
+use crate::delivery::{DeliveredRun, Ended, EndedSide};
 use crate::running::{Running, Serving, lines_of};
 use agreed_ledger::{BlankLedger, Ledger, Naming, Refusal};
 use cluster_lines::print_proxy_metadata;
@@ -20,8 +22,8 @@ use std::sync::Wait;
 use std::thread::Threads;
 use system_keys::{Bytes, Items, OutOfMemory};
 use threads_lines::{
-    AnsweredLines, Cluster, RunFault, check_answered, check_moves, check_proxies, check_resolvers,
-    commit_over_workers, print_audits, print_meetings,
+    AnsweredLines, Cluster, RunFault, RunOutcome, check_answered, check_moves, check_proxies,
+    check_resolvers, commit_over_workers, print_audits, print_meetings,
 };
 use threads_scripts::ThreadsScript;
 use workers::{AskedRequest, ProxyInboxes};
@@ -33,7 +35,8 @@ use workers::{AskedRequest, ProxyInboxes};
 /// Fails with `OutOfMemory` if an allocation failed or a thread could not be started, and with
 /// `Refused` if the cluster refuses a call in any other way than by the end of the ledger or of the
 /// versions, if a worker was cut off, since some proxy did not send its last message, or if a check at
-/// the end of the run fails, which no run is known to do.
+/// the end of the run fails, which no run is known to do: also if a worker did not take of a proxy one
+/// message for each of its batches and its last one, all that the proxy sent.
 pub(crate) fn threads_text<R: Threads + Wait + Sync>(
     rt: &R,
     alloc: Global,
@@ -76,28 +79,65 @@ fn threads_text_in<N: Naming + Send + Sync, R: Threads + Wait + Sync>(
     let cluster = Cluster::new(alloc, &ledger)?;
     cluster.move_ranges(rt, script.moves.as_slice())?;
     let inboxes = BlankInboxes::new(alloc, &ledger)?;
+    let run = text_over::<N, Brand, R>(rt, alloc, &ledger, &cluster, inboxes, script)?;
+    Ok(run.into_text())
+}
+
+/// What the script comes to in this cluster over these inboxes: a run that went by them.
+fn text_over<N: Naming + Send + Sync, M: Channels + Send + Sync, R: Threads + Wait + Sync>(
+    rt: &R,
+    alloc: Global,
+    ledger: &Ledger<N>,
+    cluster: &Cluster<'_, N>,
+    blank: BlankInboxes<N, AskedRequest<N>>,
+    script: &ThreadsScript,
+) -> Result<DeliveredRun<N>, RunFault>
+    requires places { blank ≡ M.places }
+    requires proxies { length cluster.now.proxies.items ≡ N.cells.config.proxies }
+    requires resolvers { length cluster.now.resolvers.items ≡ N.cells.config.resolvers }
+    requires config { script.now.config ≡ N.cells.config }
+    requires rows { script.now.rows ≡ length N.cells.records }
+    requires work { length script.now.work ≡ script.now.config.proxies }
+    ensures { IfOk result (λ run. IsThreadsTextOf script.now run.history run.text) }
+{
     let work = script.work.as_slice();
+    let run = answers_over::<N, M, R>(rt, alloc, ledger, cluster, blank, work)?;
+    let AnsweredRun {
+        lines,
+        sides,
+        workers,
+    } = run;
     let AnsweredLines {
         mut text,
         mut history,
-    } = answers_over::<N, Brand, R>(rt, alloc, &ledger, &cluster, inboxes, work)?;
+    } = lines;
     let proxies = cluster.lock_proxies(rt, alloc)?;
     let resolvers = cluster.lock_resolvers(rt, alloc)?;
     history.learn_from_proxies(proxies.as_slice())?;
     history.learn_from_resolvers(resolvers.as_slice())?;
     check_answered(&history)?;
-    check_proxies(&history, &ledger, proxies.as_slice())?;
+    check_proxies(&history, ledger, proxies.as_slice())?;
     check_resolvers(&history, resolvers.as_slice())?;
-    check_moves(&history, &ledger, script.moves.as_slice())?;
+    check_moves(&history, ledger, script.moves.as_slice())?;
     // (their contracts say that it is a history, which fits the ledger)
     let _end = history.records().end();
     print_proxies(alloc, &mut text, proxies.as_slice(), script.ask.as_slice())?;
     print_meetings(&mut text, proxies.as_slice())?;
     print_audits(&mut text, proxies.as_slice(), resolvers.as_slice())?;
-    Ok(text)
+    DeliveredRun::of(history, text, ledger, sides, workers)
 }
 
-/// The lines of the answers to all batches and closings, over these inboxes.
+/// A run in which each proxy was answered and no worker was cut off: the lines, and what is left of the
+/// inboxes.
+#[derive(Drop)]
+struct AnsweredRun<N: Naming, M: Channels> {
+    lines: AnsweredLines<N>,
+    sides: Vec<EndedSide<N, M>>,
+    workers: Vec<Ended<N, M>>,
+}
+
+/// The lines of the answers to all batches and closings, over these inboxes, and what is left of the
+/// proxies and the workers, each in the order of their numbers.
 fn answers_over<N: Naming + Send + Sync, M: Channels + Send + Sync, R: Threads + Wait + Sync>(
     rt: &R,
     alloc: Global,
@@ -105,26 +145,41 @@ fn answers_over<N: Naming + Send + Sync, M: Channels + Send + Sync, R: Threads +
     cluster: &Cluster<'_, N>,
     blank: BlankInboxes<N, AskedRequest<N>>,
     work: &[Items<Batch>],
-) -> Result<AnsweredLines<N>, RunFault>
+) -> Result<AnsweredRun<N, M>, RunFault>
     requires places { blank ≡ M.places }
     requires proxies { length cluster.now.proxies.items ≡ N.cells.config.proxies }
     requires resolvers { length cluster.now.resolvers.items ≡ N.cells.config.resolvers }
     requires work { length work.now ≡ N.cells.config.proxies }
-    ensures { IfOk result (λ answered.
+    ensures lines { IfOk result (λ run.
         AreAnswerLines N.cells.config (length N.cells.records) work.now N.cells.config.proxies
-        answered.history (string_bytes answered.text)) }
+        run.lines.history (string_bytes run.lines.text)) }
+    ensures sides { IfOk result (λ run. (length run.sides.items ≡ N.cells.config.proxies)
+        × AreInPlace (map proxy_of run.sides.items)) }
+    ensures workers { IfOk result (λ run.
+        length run.workers.items ≡ N.cells.config.resolvers) }
 {
     let room = InboxRoom::<N, AskedRequest<N>, M>::new(alloc, ledger)?;
     let (senders, ends) = blank.named::<M>(room);
     let serving = Serving {
         resolvers: cluster.resolvers.as_slice(),
     };
+    let sides = EndedSide::room(alloc, senders.len())?;
     let running = Running {
         ledger,
         cluster,
         inboxes: inboxes_of(alloc, ledger, senders)?,
+        sides,
     };
-    lines_of(commit_over_workers(rt, alloc, &serving, ends, running, work)?)
+    let RunOutcome {
+        lines,
+        ended,
+        workers,
+    } = commit_over_workers(rt, alloc, &serving, ends, running, work)?;
+    Ok(AnsweredRun {
+        lines: lines_of(lines, workers.as_slice())?,
+        sides: ended,
+        workers,
+    })
 }
 
 /// The inboxes as each proxy sends to them, in the order of the proxies.

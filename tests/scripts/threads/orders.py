@@ -13,7 +13,8 @@ The search goes depth first and leaves a way where the text contradicts it. It t
 each proxy has had as many batches, the metadata is the same, and no read still to come tells the committed writes apart. The
 order that it finds is printed anew by reference.py, and that must be the text, byte by byte.
 
-What a proxy acknowledges decides what a resolver forgets, and nothing that is printed.
+Orders of sequencing alone are searched, never those of offers and finishes: by the law `one_end_law` of crates/endings all
+of these lead to one end. What a proxy acknowledges decides what a resolver forgets, and nothing that is printed.
 """
 import bisect
 import sys

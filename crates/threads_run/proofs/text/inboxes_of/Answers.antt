@@ -4,7 +4,8 @@ use Rattle.std.proofs.lemmas.List.{map-append, nil_from_length}
 use Rattle.std.specs.Vec.Iter.{into_iter_items}
 use Rattle.inboxes.specs.Ends.{ProxyView}
 use Rattle.threads_lines.specs.Threads.{AreInPlace}
-use Rattle.threads_run.proofs.SidesInPlace.{proxy_of, sides_in_place}
+use Rattle.threads_run.specs.Delivered.{proxy_of}
+use Rattle.threads_run.proofs.SidesInPlace.{sides_in_place}
 use Rattle.threads_run.proofs.text.inboxes_of.Goals as goal
 
 pub loop-one-preserved : goal.loop-one-preserved

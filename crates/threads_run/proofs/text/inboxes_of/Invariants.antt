@@ -1,7 +1,7 @@
 -- Those so far are of the proxies of the sides so far. The others are left.
 use Rattle.std.proofs.Common.{◌≡◌, ◌+◌, ◌++◌, length, map}
 use Rattle.std.specs.Vec.Iter.{into_iter_items, into_iter_len}
-use Rattle.threads_run.proofs.SidesInPlace.{proxy_of}
+use Rattle.threads_run.specs.Delivered.{proxy_of}
 use Rattle.threads_run.proofs.text.inboxes_of.Given as goal
 
 abbrev pub invariant-loop-one : goal.invariant-loop-one
