@@ -165,7 +165,8 @@ pub one_request : (config : Config) (v w : RequestView) → IsRequestFor config 
 one_request config v w is_v is_w agree row resolver received =
     let same : is_v.rec ≡ is_w.rec = agree v.plain.row w.plain.row is_v.rec is_w.rec (ap (λ (k : ℕ). 0 + k) row) is_v.there is_w.there in
     let plain : v.plain ≡ w.plain = is_v.is ∙ (λ i. request config (same i) (received i) (resolver i)) ∙ sym is_w.is in
-    let (mine, theirs) = (is_v.last, is_w.last) in
+    let mine = is_v.last in
+    let theirs = is_w.last in
     let count : length v.records ≡ length w.records = omega (arith, mine, theirs, row) in
     let records : v.records ≡ w.records = sym (take_all v.records (length v.records) (omega arith)) ∙ first_same (length v.records) v.records w.records agree (omega arith) (omega (arith, count)) ∙ take_all w.records (length v.records) (omega (arith, count)) in
     λ i. record { plain = plain i; records = records i }

@@ -16,7 +16,7 @@ refused_by_offer-requires-clause-was g c =
     let asked = c.args.guard.now in
     let number = same_number c.offer.new.self c.close_with.new.guard (with_worker c.fail.new.self.closed c.offer.new.self c.close_with.new.guard c.close_with.ensures) ∙ ap (λ (v : LockedResolverView). v.memory.number) c.in-Err.ensures.left ∙ number_refused asked c.in-Err.refused.refusal in
     let given = c.in-Err.refused in
-    let agree : Agree 0 asked.records 0 c.args.request.records = agreed_before asked c.offer.new.self c.args.request given.request given.refusal c.records.result.now c.records-2.result.now c.in-Err.ensures.left c.in-Err.ensures.back c.records.ensures.value c.records-2.ensures.value c.agree.ensures in (
+    let agree : Agree 0 asked.records 0 c.args.request.records = agreed_before asked c.offer.new.self c.args.request given.request given.refusal c.records.result.now c.records-in-Err.result.now c.in-Err.ensures.left c.in-Err.ensures.back c.records.ensures.value c.records-in-Err.ensures.value c.agree.ensures in (
       asked,
       c.number-number.ensures.kept,
       sym number,

@@ -31,4 +31,4 @@ pub returns-clause-taken : goal.returns-clause-taken
 returns-clause-taken g c =
     let whose = g.A.Asking.takes c.args.asking.now in
     let asked : AreTaken whose c.args.begun.requests = subst (λ (qs : List RequestView). AreTaken whose qs) c.requests.ensures.value c.in-Ok.ensures.taken in
-    takes_record g.N.Naming.cells.config c.args.begun whose c.config.ensures.kept.config.resolvers.0 c.requests.ensures.kept asked
+    takes_record g.N.Naming.cells.config c.args.begun whose c.config-config.ensures.kept.config.resolvers.0 c.requests.ensures.kept asked
