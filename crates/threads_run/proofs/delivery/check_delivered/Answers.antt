@@ -1,5 +1,5 @@
 -- One more side is looked at.
-use Rattle.std.proofs.Common.{◌≡◌, ◌∙◌, ◌+◌, ◌++◌, [], ◌∷◌, ℕ, List, sym, ap, subst, length, append_assoc, refl, rules, arith}
+use Rattle.std.proofs.Common.{◌≡◌, ◌∙◌, ◌+◌, ◌++◌, [], ◌∷◌, List, sym, ap, subst, length, append_assoc, refl, rules, arith}
 use Rattle.std.specs.Prelude.{⊤, All, Result, Err, IfErr}
 use Rattle.std.proofs.lemmas.List.{nil_from_length}
 use Rattle.std.proofs.lemmas.List.Elements.{All-push}

@@ -1,5 +1,5 @@
 -- Each end of an inbox is of a resolver of the cluster, each proxy has its own inboxes, and each leaves its side.
-use Rattle.std.proofs.Common.{◌∙◌, ◌≤◌, ℕ, ap, subst, sym, length, arith}
+use Rattle.std.proofs.Common.{◌∙◌, ℕ, ap, subst, sym, length, arith}
 use Rattle.std.specs.Prelude.{string_bytes}
 use Rattle.threads_lines.specs.Threads.{AreAnswerLines}
 use Rattle.threads_run.proofs.EndsBelow.{ends_below}

@@ -12,6 +12,15 @@ use Rattle.threads_run.specs.Delivered.{GoesByInboxes}
 use Rattle.threads_run.proofs.TextLemmas.{fits_rows, text_so, threads_text}
 use Rattle.threads_run.proofs.text.text_over.Goals as goal
 
+pub of-requires-clause-sides : goal.of-requires-clause-sides
+of-requires-clause-sides g c = c.in_ok-run.ensures.sides.0
+
+pub of-requires-clause-in_order : goal.of-requires-clause-in_order
+of-requires-clause-in_order g c = c.in_ok-run.ensures.sides.1
+
+pub of-requires-clause-workers : goal.of-requires-clause-workers
+of-requires-clause-workers g c = c.in_ok-run.ensures.workers
+
 pub returns : goal.returns
 returns g c =
     let config = g.N.Naming.cells.config in
