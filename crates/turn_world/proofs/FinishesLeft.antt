@@ -1,5 +1,5 @@
 -- The finishes that are left, as events, and a run that carries out what is left.
-use Rattle.std.proofs.Common.{◌≡◌, refl, sym, ap, ◌∙◌, subst, ℕ, suc, ◌<◌, ◌≤◌, List, [], ◌∷◌, ◌++◌, map, filter, take, length, Bool, true, false, nat_lt, slice_get, Option, Some, None, length-append, append-nil, arith}
+use Rattle.std.proofs.Common.{◌≡◌, refl, sym, ap, ◌∙◌, subst, ℕ, zero, suc, ◌<◌, ◌≤◌, inl, inr, List, [], ◌∷◌, ◌++◌, map, filter, take, length, Bool, true, false, nat_lt, slice_get, Option, Some, None, length-append, append-nil, arith}
 use Rattle.std.specs.Prelude.{Result, Ok, Err, IsOk, IsTrue, IsFalse, MatchResult, All, flat_map}
 use Rattle.std.specs.List.{list_all}
 use Rattle.std.proofs.lemmas.Bool.{lt-ltb, le-ltb}
@@ -8,7 +8,7 @@ use Rattle.std.proofs.lemmas.List.Elements.{All-nil, All-cons, filter-append}
 use Rattle.std.proofs.lemmas.Option.{slice_get_within}
 use Rattle.model.specs.Configs.{Config, IsConfig}
 use Rattle.model.specs.Records.{Record}
-use Rattle.model.specs.Requests.{Request}
+use Rattle.model.specs.Requests.{Request, request_back_to}
 use Rattle.model.specs.ResolverMemory.{ResolverView}
 use Rattle.model.specs.Finishing.{ProxyView}
 use Rattle.model.specs.Offers.{sent_request}
@@ -43,13 +43,19 @@ use Rattle.turn_world.proofs.OfferedRows.{own_request, record_at, requests_at}
 pub rows_are : (config : Config) (rows : List KeptRecord) (w : World) (now : TurnCluster) → w.history ≡ records_of rows → (record { config = config; world = w }) ≡ now → length now.world.history ≡ length rows
 rows_are config rows w now is view = ap (λ (t : TurnCluster). length t.world.history) (sym view) ∙ ap length is ∙ length-map rows (λ (row : KeptRecord). row.rec.known)
 
+-- a request that was sent has the numbers of its record
+sent_numbers : (config : Config) (w : World) (rec : Record) → ((sent_request config w 0 rec).proxy ≡ rec.proxy) × ((sent_request config w 0 rec).version ≡ rec.version)
+unfolding request_back_to
+sent_numbers config w rec = (refl, refl)
+
 -- the first request that is kept of a row has the numbers of its record
 pub first_request : (config : Config) (w : World) (rows : List KeptRecord) (row : ℕ) (one : KeptRecord) (q : Request) (resolvers : List ResolverView) (proxies : List ProxyView) (last : ℕ) → w.history ≡ records_of rows → IsKept config w resolvers proxies (requests_of rows) last → AreRequestsKept w.judged_counts rows → slice_get rows row ≡ Some one → slice_get one.kept.requests.items 0 ≡ Some q → (q.proxy ≡ one.rec.known.proxy) × (q.version ≡ one.rec.known.version)
 first_request config w rows row one q resolvers proxies last is keeps all at at_q =
     let there : 0 < config.resolvers = omega (arith, keeps.parts.limits.resolvers.0) in
     let at_sent : slice_get one.sent.known 0 ≡ Some (sent_request config w 0 one.rec.known) = ap (λ (qs : List Request). slice_get qs 0) (requests_at config w rows row one is keeps.parts.requests_are at) ∙ own_request config w one.rec.known 0 there in
     let kept : HasNumbersOf (sent_request config w 0 one.rec.known) q = ((all row one at).each 0 (sent_request config w 0 one.rec.known) q (omega (arith, there, keeps.parts.sound.judged_counts)) at_sent at_q).numbers in
-    (kept.proxy, kept.version)
+    let numbers = sent_numbers config w one.rec.known in
+    (kept.proxy ∙ numbers.0, kept.version ∙ numbers.1)
 
 -- the record of a row, by the first request that is kept of it
 pub record KnownRow (now : TurnCluster) (row : ℕ) (q : Request) : Type 0 where
@@ -162,13 +168,16 @@ finish_left now some = omega (arith, some, length-append (offers_left now.config
 
 -- ---- a run that is ended
 
+never_refused : (fault : Option world.Refusal) (answer : world.Answer) → told_refusal fault ≡ Some answer → is_done answer ≡ true → ⊥
+never_refused None answer same done = absurd (cc)
+never_refused (Some why) answer same done =
+    let refused : world.Refused why ≡ answer = cc in
+    let never : is_done (world.Refused why) ≡ true = ap is_done refused ∙ done in
+    absurd (cc)
+
 ok_of : (result : Result Answer Refusal) (answer : world.Answer) → told_by result ≡ Some answer → is_done answer ≡ true → IsOk result
 ok_of (Ok told) answer is done = refl
-ok_of (Err refusal) answer is done = refused (fault_of refusal) is
-  where
-    refused : (fault : Option world.Refusal) → told_refusal fault ≡ Some answer → IsOk (Err refusal)
-    refused None same = absurd (cc)
-    refused (Some why) same = let is_refused : world.Refused why ≡ answer = cc in absurd (cc (ap is_done is_refused ∙ done))
+ok_of (Err refusal) answer is done = absurd (never_refused (fault_of refusal) answer is done)
 
 all_ok : (results : List (Result Answer Refusal)) (told : List world.Answer) → map told_by results ≡ map (λ (answer : world.Answer). Some answer) told → list_all is_done told ≡ true → All IsOk results
 all_ok [] told are done = All-nil IsOk

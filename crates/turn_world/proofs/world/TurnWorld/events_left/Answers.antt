@@ -14,7 +14,7 @@ returns-clause-events c =
     let now : TurnCluster = c.args.self.now in
     let many : c.len.result ≡ length t.rows.items = search rules in
     let sound : IsSound now.config now.world = subst (λ (u : TurnCluster). IsSound u.config u.world) c.self.view_is c.self.invariant.0.parts.sound in
-    all_listed now c.new.result.items c.push_offers.new.events.items c.push_finishes.new.events.items c.as_slice.result.now c.len.result sound c.new.ensures.items
+    all_listed now c.new-events.result.items c.push_offers.new.events.items c.push_finishes.new.events.items c.as_slice.result.now c.len.result sound c.new-events.ensures.items
     (c.as_slice.ensures.value ∙ ap (λ (u : TurnCluster). u.world.judged_counts) c.self.view_is) (many ∙ sym (rows_are t.config t.rows.items w now refl c.self.view_is)) c.in_ok-push_offers.ensures.ok c.in_ok-push_finishes.ensures.ok
 
 pub returns-in_err-push_offers-clause-some : goal.returns-in_err-push_offers-clause-some

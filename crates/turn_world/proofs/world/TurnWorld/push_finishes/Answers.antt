@@ -15,14 +15,14 @@ pub unfinished_at-requires : goal.unfinished_at-requires
 unfinished_at-requires c =
     let t = c.self.inside in
     let w = world_of t.rows.items t.moves t.judged_counts.items t.finished.items in
-    let many : c.len.result ≡ length t.rows.items = search rules in
+    let many : c.len-row-end.result ≡ length t.rows.items = search rules in
     omega (arith, many, c.loop-row-test.true, rows_are t.config t.rows.items w c.args.self.now refl c.self.view_is)
 
 pub returns-in_err-push-clause-err : goal.returns-in_err-push-clause-err
 returns-in_err-push-clause-err c =
     let t = c.self.inside in
     let w = world_of t.rows.items t.moves t.judged_counts.items t.finished.items in
-    let many : c.len.result ≡ length t.rows.items = search rules in
+    let many : c.len-row-end.result ≡ length t.rows.items = search rules in
     let within : c.loop-row.row < length c.args.self.now.world.history = omega (arith, many, c.loop-row-test.true, rows_are t.config t.rows.items w c.args.self.now refl c.self.view_is) in
     let found = element_at c.args.self.now.world.history c.loop-row.row within in
     on_err c.from_residual.result (finish_due c.args.self.now.world c.loop-row.row found.0 found.1 (c.in-Some.ensures found.0 found.1).1)
@@ -31,7 +31,7 @@ pub loop-row-preserved : goal.loop-row-preserved
 loop-row-preserved c =
     let t = c.self.inside in
     let w = world_of t.rows.items t.moves t.judged_counts.items t.finished.items in
-    let many : c.len.result ≡ length t.rows.items = search rules in
+    let many : c.len-row-end.result ≡ length t.rows.items = search rules in
     let now = c.args.self.now in
     let l = c.loop-row in
     let within : l.row < length now.world.history = omega (arith, many, c.loop-row-test.true, rows_are t.config t.rows.items w now refl c.self.view_is) in
@@ -42,7 +42,7 @@ pub loop-row-preserved-in_default : goal.loop-row-preserved-in_default
 loop-row-preserved-in_default c =
     let t = c.self.inside in
     let w = world_of t.rows.items t.moves t.judged_counts.items t.finished.items in
-    let many : c.len.result ≡ length t.rows.items = search rules in
+    let many : c.len-row-end.result ≡ length t.rows.items = search rules in
     let now = c.args.self.now in
     let l = c.loop-row in
     let within : l.row < length now.world.history = omega (arith, many, c.loop-row-test.true, rows_are t.config t.rows.items w now refl c.self.view_is) in

@@ -36,8 +36,8 @@ index-requires-2 c =
     let known = known_row t.config w t.rows.items c.args.self.now c.args.row c.index.result.now c.index-requests-0.result t.resolvers.items t.proxies.items t.last refl c.self.view_is c.self.invariant.0 c.self.invariant.1 at at_q in
     omega (arith, known.there, c.proxy-proxy.ensures, ap (λ now. now.config.proxies) c.self.view_is, c.self.invariant.0.parts.proxy_count)
 
-pub returns-then-version-version : goal.returns-then-version-version
-returns-then-version-version c rec at_rec =
+pub returns-then-version : goal.returns-then-version
+returns-then-version c rec at_rec =
     let t = c.self.inside in
     let w = world_of t.rows.items t.moves t.judged_counts.items t.finished.items in
     let many = rows_are t.config t.rows.items w c.args.self.now refl c.self.view_is in
@@ -50,10 +50,10 @@ returns-then-version-version c rec at_rec =
     let there : c.proxy-proxy.result < length t.proxies.items = omega (arith, known.there, c.proxy-proxy.ensures, ap (λ now. now.config.proxies) c.self.view_is, c.self.invariant.0.parts.proxy_count) in
     let at_v = got t.proxies.items c.proxy-proxy.result c.index-2.result.now there c.index-2.ensures in
     let version = c.version.ensures ∙ version_is t.config w c.args.self.now c.proxy-proxy.result c.index-2.result.now t.resolvers.items t.proxies.items (requests_of t.rows.items) t.last c.self.view_is c.self.invariant.0 at_v in
-    told_unfinished c.args.self.now c.args.row c.index-requests-0.result c.proxy-proxy.result c.version.result c.version-2.result known c.proxy-proxy.ensures version c.version-2.ensures c.if-version-version.true rec at_rec
+    told_unfinished c.args.self.now c.args.row c.index-requests-0.result c.proxy-proxy.result c.version.result c.version-2.result known c.proxy-proxy.ensures version c.version-2.ensures c.if-version.true rec at_rec
 
-pub returns-else-version-version : goal.returns-else-version-version
-returns-else-version-version c rec at_rec =
+pub returns-else-version : goal.returns-else-version
+returns-else-version c rec at_rec =
     let t = c.self.inside in
     let w = world_of t.rows.items t.moves t.judged_counts.items t.finished.items in
     let many = rows_are t.config t.rows.items w c.args.self.now refl c.self.view_is in
@@ -66,4 +66,4 @@ returns-else-version-version c rec at_rec =
     let there : c.proxy-proxy.result < length t.proxies.items = omega (arith, known.there, c.proxy-proxy.ensures, ap (λ now. now.config.proxies) c.self.view_is, c.self.invariant.0.parts.proxy_count) in
     let at_v = got t.proxies.items c.proxy-proxy.result c.index-2.result.now there c.index-2.ensures in
     let version = c.version.ensures ∙ version_is t.config w c.args.self.now c.proxy-proxy.result c.index-2.result.now t.resolvers.items t.proxies.items (requests_of t.rows.items) t.last c.self.view_is c.self.invariant.0 at_v in
-    told_finished c.args.self.now c.args.row c.index-requests-0.result c.proxy-proxy.result c.version.result c.version-2.result known c.proxy-proxy.ensures version c.version-2.ensures c.if-version-version.false rec at_rec
+    told_finished c.args.self.now c.args.row c.index-requests-0.result c.proxy-proxy.result c.version.result c.version-2.result known c.proxy-proxy.ensures version c.version-2.ensures c.if-version.false rec at_rec
