@@ -45,7 +45,7 @@ impl<N: Naming, M: Channels> Model for EndedSide<N, M> {
 
 impl<N: Naming, M: Channels> EndedSide<N, M> {
     /// Lets the proxy end that has these inboxes.
-    pub(crate) fn of<R: Wait>(rt: &R, inboxes: ProxyInboxes<N, M>) -> EndedSide<N, M>
+    fn of<R: Wait>(rt: &R, inboxes: ProxyInboxes<N, M>) -> EndedSide<N, M>
         ensures { result.proxy ≡ inboxes }
     {
         let proxy = inboxes.proxy();
@@ -56,7 +56,7 @@ impl<N: Naming, M: Channels> EndedSide<N, M> {
     }
 
     /// Room for what is left of so many proxies.
-    pub(crate) fn room(alloc: Global, count: usize) -> Result<Vec<EndedSide<N, M>>, OutOfMemory>
+    fn room(alloc: Global, count: usize) -> Result<Vec<EndedSide<N, M>>, OutOfMemory>
         ensures empty { IfOk result (λ sides. sides.items ≡ []) }
         ensures room { IfOk result (λ sides. count ≤ vec_capacity sides) }
     {
@@ -136,9 +136,27 @@ impl<N: Naming> DeliveredRun<N> {
     }
 }
 
+/// Lets the proxies end that have these inboxes, in order. Returns what is left of each. Fails only with
+/// `OutOfMemory`: all have ended then too.
+pub(crate) fn end_proxies<N: Naming, M: Channels, R: Wait>(
+    rt: &R,
+    alloc: Global,
+    inboxes: Vec<ProxyInboxes<N, M>>,
+) -> Result<Vec<EndedSide<N, M>>, OutOfMemory>
+    ensures { IfOk result (λ sides. AreEndedSides inboxes.items sides.items) }
+{
+    let Ok(sides) = EndedSide::room(alloc, inboxes.len()) else {
+        for one in inboxes {
+            let _ended = one.end(rt);
+        }
+        return Err(OutOfMemory);
+    };
+    Ok(end_all(rt, inboxes, sides))
+}
+
 /// Lets the proxies end that have these inboxes, in order. Returns what is left of each. `sides` is the
 /// room for it.
-pub(crate) fn end_all<N: Naming, M: Channels, R: Wait>(
+fn end_all<N: Naming, M: Channels, R: Wait>(
     rt: &R,
     inboxes: Vec<ProxyInboxes<N, M>>,
     mut sides: Vec<EndedSide<N, M>>,

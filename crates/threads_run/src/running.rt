@@ -1,13 +1,12 @@
 //! What the threads of a run share.
 
-ghost use Rattle.std.specs.Prelude.{◌≡◌, ◌<◌, ◌≤◌, [], length, IfOk, Ok, OnOk, string_bytes};
-ghost use Rattle.std.specs.Vec.{vec_capacity};
+ghost use Rattle.std.specs.Prelude.{◌≡◌, ◌<◌, [], length, IfOk, Ok, OnOk, string_bytes};
 ghost use Rattle.std.specs.List.{list_any};
 ghost use Rattle.threads_run.specs.Beside.{lines_beside, was_cut_off, was_refused_memory};
 ghost use Rattle.threads_lines.specs.Parts.{GrowsBy, IsInParts};
 ghost use Rattle.threads_lines.specs.Threads.{AreInPlace};
 
-use crate::delivery::{Ended, EndedSide, end_all};
+use crate::delivery::{Ended, EndedSide, end_proxies};
 use agreed_ledger::{Ledger, Naming};
 use inboxes::{Channels, FreshEnd};
 use locked_cluster::SharedResolver;
@@ -15,6 +14,7 @@ use model::{ProxyNumber, ResolverNumber};
 use mutation::Batch;
 use std::alloc::Global;
 use std::sync::Wait;
+use system_keys::OutOfMemory;
 use threads_lines::{
     AnsweredLines, Cluster, CommitsBatches, Committer, EndsProxies, RunFault, RunHistory,
     ServesInbox,
@@ -90,18 +90,16 @@ fn were_cut_off<N: Naming, M: Channels>(workers: &[Ended<N, M>]) -> bool
     workers.iter().any(|ended| ended.cut_off())
 }
 
-/// The cluster with its ledger, the inboxes of its resolvers as each proxy sends to them, and room for
-/// what is left of these.
+/// The cluster with its ledger, the inboxes of its resolvers as each proxy sends to them, and the
+/// allocator for what is left of these.
 #[derive(Drop)]
 pub(crate) struct Running<'a, 'l, N: Naming, M: Channels> {
     pub(crate) ledger: &'a Ledger<N>,
     pub(crate) cluster: &'a Cluster<'l, N>,
     pub(crate) inboxes: Vec<ProxyInboxes<N, M>>,
-    pub(crate) sides: Vec<EndedSide<N, M>>,
+    pub(crate) alloc: Global,
     ghost as_many: { length inboxes.items ≡ length cluster.now.proxies.items },
     ghost inboxes_in_place: { AreInPlace inboxes.items },
-    ghost no_sides: { sides.items ≡ [] },
-    ghost room: { length inboxes.items ≤ vec_capacity sides },
 }
 
 impl<'a, 'l, N: Naming, M: Channels> Running<'a, 'l, N, M> {
@@ -161,13 +159,16 @@ impl<'a, 'l, N: Naming, M: Channels> CommitsBatches<N> for Running<'a, 'l, N, M>
     }
 }
 
-impl<'a, 'l, N: Naming, M: Channels> EndsProxies<Vec<EndedSide<N, M>>> for Running<'a, 'l, N, M> {
+impl<'a, 'l, N: Naming, M: Channels> EndsProxies<Result<Vec<EndedSide<N, M>>, OutOfMemory>>
+    for Running<'a, 'l, N, M> {
+    ghost use Rattle.std.specs.Prelude.{IfOk};
     ghost use Rattle.threads_run.specs.Delivered.{AreEndedSides};
 
-    ghost ends_with = { λ running sides. AreEndedSides running.inboxes.items sides.items };
+    ghost ends_with = { λ running ended. IfOk ended
+        (λ sides. AreEndedSides running.inboxes.items sides.items) };
 
-    fn end<R: Wait>(self, rt: &R) -> Vec<EndedSide<N, M>> {
-        end_all(rt, self.inboxes, self.sides)
+    fn end<R: Wait>(self, rt: &R) -> Result<Vec<EndedSide<N, M>>, OutOfMemory> {
+        end_proxies(rt, self.alloc, self.inboxes)
     }
 }
 

@@ -163,21 +163,21 @@ fn answers_over<N: Naming + Send + Sync, M: Channels + Send + Sync, R: Threads +
     let serving = Serving {
         resolvers: cluster.resolvers.as_slice(),
     };
-    let sides = EndedSide::room(alloc, senders.len())?;
     let running = Running {
         ledger,
         cluster,
         inboxes: inboxes_of(alloc, ledger, senders)?,
-        sides,
+        alloc,
     };
     let RunOutcome {
         lines,
         ended,
         workers,
     } = commit_over_workers(rt, alloc, &serving, ends, running, work)?;
+    let sides = ended?;
     Ok(AnsweredRun {
         lines: lines_of(lines, workers.as_slice())?,
-        sides: ended,
+        sides,
         workers,
     })
 }

@@ -1,7 +1,8 @@
 -- Each end of an inbox is of a resolver of the cluster, each proxy has its own inboxes, and each leaves its side.
-use Rattle.std.proofs.Common.{◌∙◌, ℕ, ap, subst, sym, length, arith}
+use Rattle.std.proofs.Common.{◌∙◌, ℕ, List, ap, subst, sym, length, rules}
 use Rattle.std.specs.Prelude.{string_bytes}
-use Rattle.threads_lines.specs.Threads.{AreAnswerLines}
+use Rattle.threads_lines.specs.Threads.{AreAnswerLines, AreInPlace}
+use Rattle.threads_run.specs.Delivered.{AreEndedSides}
 use Rattle.threads_run.proofs.EndsBelow.{ends_below}
 use Rattle.threads_run.proofs.SidesInPlace.{sides_of}
 use Rattle.threads_run.proofs.TextLemmas.{of_ok}
@@ -11,17 +12,14 @@ pub commit_over_workers-requires-clause-ends : goal.commit_over_workers-requires
 commit_over_workers-requires-clause-ends g c κs within =
     ends_below g.N.Naming.cells.config.resolvers (length c.as_slice.result.now) c.named-senders.result.1.items c.named-senders.ensures.ends (ap length c.as_slice.ensures.value ∙ c.requires.resolvers)
 
+pub invariant_of-serving : goal.invariant_of-serving
+invariant_of-serving g c = record { in_place = subst (λ (numbers : List ℕ). AreInPlace numbers) (sym c.as_slice.ensures.value) c.args.cluster.now.resolvers_in_place }
+
 pub invariant_of-running-clause-as_many : goal.invariant_of-running-clause-as_many
 invariant_of-running-clause-as_many g c = c.in_ok-inboxes_of.ensures.count ∙ c.named-senders.ensures.senders.0 ∙ sym c.requires.proxies
 
 pub invariant_of-running-clause-inboxes_in_place : goal.invariant_of-running-clause-inboxes_in_place
 invariant_of-running-clause-inboxes_in_place g c = c.in_ok-inboxes_of.ensures.in_place c.named-senders.ensures.senders
-
-pub invariant_of-running-clause-no_sides : goal.invariant_of-running-clause-no_sides
-invariant_of-running-clause-no_sides g c = c.in_ok-sides.ensures.empty
-
-pub invariant_of-running-clause-room : goal.invariant_of-running-clause-room
-invariant_of-running-clause-room g c = omega (arith, c.in_ok-inboxes_of.ensures.count, c.len.ensures, c.in_ok-sides.ensures.room)
 
 pub returns-clause-lines : goal.returns-clause-lines
 returns-clause-lines g c =
@@ -34,9 +32,9 @@ returns-clause-lines g c =
 
 pub returns-clause-sides : goal.returns-clause-sides
 returns-clause-sides g c =
-    let sides = c.in_ok-lines.field-0.ended.items in
     let inboxes = c.in_ok-inboxes_of.field-0.items in
-    sides_of sides inboxes g.N.Naming.cells.config.proxies c.in_ok-lines.ensures.ended
+    sides_of c.in_ok-sides.sides.items inboxes g.N.Naming.cells.config.proxies
+    (of_ok c.in_ok-lines.field-0.ended c.in_ok-sides.sides (λ sides. AreEndedSides inboxes sides.items) (search rules) c.in_ok-lines.ensures.ended)
     (c.in_ok-inboxes_of.ensures.count ∙ c.named-senders.ensures.senders.0) (c.in_ok-inboxes_of.ensures.in_place c.named-senders.ensures.senders)
 
 pub returns-clause-workers : goal.returns-clause-workers

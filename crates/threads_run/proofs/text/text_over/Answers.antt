@@ -25,7 +25,7 @@ pub returns : goal.returns
 returns g c =
     let config = g.N.Naming.cells.config in
     let rows = length g.N.Naming.cells.records in
-    let run = c.in_ok-run.run in
+    let run = c.in_ok-run.run' in
     let all = c.learn_from_resolvers.new.self in
     let sides = run.sides.items in
     let workers = run.workers.items in
