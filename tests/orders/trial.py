@@ -33,7 +33,8 @@ class Fault(NamedTuple):
     right: str
 
     def __str__(self):
-        return "%s\n%s\nline %d is: %s\nand must be: %s" % (self.words, self.script, self.line, self.said, self.right)
+        where = "\n%s\nline %d is: %s\nand must be: %s" % self[1:] if self.script else ""
+        return self.words + where
 
 
 class Enough(Exception):
@@ -94,7 +95,7 @@ class Trial:
         point.told = frozenset() if point.told is None else point.told
         for event in self.cluster.asked(point.state):
             after = ways.get(event)
-            events, end = self.lines_of([*point.way, event, *(after or point).rest()])
+            events, _ = self.lines_of([*point.way, event, *(after or point).rest()])
             if after:
                 self.step(point, event, after, events[len(point.way)])
         if not ways:
@@ -148,6 +149,8 @@ class Trial:
                 self.try_second(script, right)
             self.orders += 1
         self.used = time.process_time() - begun
+        if self.orders != self.cluster.total:
+            self.note("%d orders were tried of %d" % (self.orders, self.cluster.total))
 
     def try_second(self, script, right):
         begun = time.process_time()
