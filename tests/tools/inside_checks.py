@@ -2,11 +2,15 @@
 what is right without a built program. Each check returns words about a fault, or nothing.
 """
 import contextlib
+import functools
 import io
 import itertools
 import os
+import random
 import types
 
+from tests.orders.points import points_of
+from tests.orders.trial import Trial
 from tests.scripts.fold import reference
 from tests.scripts.turns import reference as turns_reference
 from tests.tools import in_process, random_texts, wrong_rule_cases
@@ -22,6 +26,8 @@ COUNTS = {
 }
 # how many orders of the larger cluster are tried
 SAMPLE = 150
+# of how many seeds the batches of a small cluster are looked at, and what its scripts come to, each found once
+DRAWN, KEPT = 20, functools.lru_cache(None)(turns_reference.answer)
 # a change by which the first value counts of a name that stands twice, and how many bytes its smallest script may have
 FIRST_OF_TWO, SMALL = ("fold", "return dict(members)", "return dict(reversed(members))"), 250
 # a rule that only some orders show: the reply names what its proxy had not finished
@@ -65,6 +71,77 @@ def larger_orders_are_drawn():
     if any("refused" in it for it in texts) or not any("locked yes" in it for it in texts):
         return "a refusal, or no lock"
     return None if len(set(scripts)) > 30 else "%d different orders" % len(set(scripts))
+
+
+def each_place_of_the_move_shows():
+    """Whichever batches a seed draws, a state transaction, a conflict and a lock show, and where the move came."""
+    for seed in range(DRAWN):
+        orders = Orders(2, 2, False, seed)
+        points = [it for it in points_of(orders, random.Random(seed)) if not it.ways]
+        texts = [turns_reference.answer(orders.script_of(it.way)) for it in points]
+        ends = {"".join(sorted(it for it in text.splitlines(True) if not it.startswith("move "))) for text in texts}
+        if len(ends) != 3 or not all({"conflict", "private", "1038"} <= set(it.split()) for it in texts):
+            return "seed %d: %d ends, %s" % (seed, len(ends), texts)
+    return None
+
+
+def trial_of_orders(call=turns_reference.answer, second=turns_reference.answer, given=None):
+    """What is found of an implementation on a small cluster, once all its orders were tried."""
+    orders = Orders(2, 2, False, 7)
+    orders.given = given or orders.given
+    trial = Trial(orders, lambda script: call(script).encode(), second)
+    trial.run()
+    return trial
+
+
+def every_order_is_tried():
+    """All orders of a small cluster are tried, each of its events at each state, and a right implementation passes."""
+    trial = trial_of_orders(KEPT, KEPT)
+    found = trial.orders, trial.different.count(), len(trial.ends()), trial.faults
+    return None if found == (576, 576, 3, []) and trial.asked > 1000 else "%s, %d events" % (found, trial.asked)
+
+
+def wrong_order_is_told():
+    """An implementation that answers one order wrongly is told by that order's script and the wrong line."""
+    script = Orders(2, 2, False, 7).case(300).script
+    right = KEPT(script).splitlines()
+    place = next(number for number, line in enumerate(right) if line.startswith("offer row 1 "))
+    wrong = "\n".join([*right[:place], right[place].replace("judged", "again"), *right[place + 1 :], ""])
+    (fault,) = trial_of_orders(lambda it: wrong if it == script else KEPT(it), KEPT).faults or [None]
+    told = fault and (fault.script, fault.line, fault.said, fault.right)
+    return None if told == (script.decode(), place + 1, wrong.splitlines()[place], right[place]) else str(fault)
+
+
+def wrong_state_is_told():
+    """So is one that does not refuse a finish too many."""
+    def wrong(script):
+        return KEPT(script).replace("refused 42 OutOfTurn", "refused 43 MissingReply")
+
+    faults = trial_of_orders(wrong, KEPT).faults
+    told = [(it.said, it.right) for it in faults]
+    return None if told == [("refused 43 MissingReply none", "refused 42 OutOfTurn none")] * len(told) != [] else str(faults)
+
+
+def broken_laws_are_told():
+    """Lines that depend on more than the state, ends that do not show where the move came, and a second program that has
+    another text once all events were asked for, are told.
+    """
+    asked, calls = trial_of_orders(KEPT, KEPT).asked, itertools.count()
+    def answer(script):
+        """Counts a finish of row 0 before row 1 is offered as another outcome."""
+        text = KEPT(script)
+        place, later = text.find("finish proxy 0 version 10\n"), text.find("offer row 1 resolver 0")
+        return text.replace("txn 0 committed 10 0", "txn 0 committed 10 9") if -1 < place < later else text
+
+    def late(script):
+        return KEPT(script).replace("committed", "conflict") if next(calls) >= asked else KEPT(script)
+
+    trials = {
+        "other replies": trial_of_orders(answer, answer), "different ends": trial_of_orders(given=[[], []]),
+        "the second program has another": trial_of_orders(KEPT, late),
+    }
+    missed = {why: it.faults for why, it in trials.items() if not any(why in fault.words for fault in it.faults)}
+    return str(missed) if missed else None
 
 
 def orders_find_a_wrong_rule():
@@ -124,6 +201,7 @@ def first_difference_needs_no_program():
 INSIDE = (
     first_difference_needs_no_program, fault_of_spelling_is_made_small,
     orders_are_counted, every_order_comes_once, orders_are_those_of_all_permutations, larger_orders_are_drawn,
+    each_place_of_the_move_shows, every_order_is_tried, wrong_order_is_told, wrong_state_is_told, broken_laws_are_told,
     orders_find_a_wrong_rule, shards_partition_the_cases, random_scripts_are_those_of_the_seed,
 )
 

@@ -8,10 +8,11 @@ docs/FORMATS.md says. No other event is refused.
 
 Orders are counted by the states between their events, of which there are few, and never listed.
 """
+import itertools
 import random
 import sys
 
-from tests.scripts.common.script import KEY_SERVERS, LOCKED, SERVER_1, SERVER_2, SERVER_TAG, write
+from tests.scripts.common.script import KEY_SERVERS, LOCKED, SERVER_1, SERVER_2, write
 from tests.scripts.turns.words import finish, move, offer, one_key, put, put_servers, put_tag, sequence, transaction, turns
 
 from .cases import Case
@@ -39,7 +40,7 @@ class Orders:
         self.total = self.count(self.first)
         if self.total > sys.maxsize and sample is None:
             raise TooLarge("the cluster has %d orders: take --sample" % self.total)
-        self.given = drawn_batches(batches, resolvers, random.Random("orders %s" % seed))
+        self.given = drawn_batches(batches, random.Random("orders %s" % seed))
         rng = random.Random("sample %s" % seed)
         self.sample = None if sample is None or sample >= self.total else [rng.randrange(self.total) for _ in range(sample)]
 
@@ -63,9 +64,9 @@ class Orders:
         """The events that can come in a state, each with the state after it."""
         sequenced, moved, offered, again, finished = state
         if not moved:
-            yield ("move",), (sequenced, True, offered, again, finished)
+            yield ("move", self.resolvers - 1), (sequenced, True, offered, again, finished)
         if sequenced < self.batches:
-            yield ("sequence", sequenced), (sequenced + 1, moved, offered, again, finished)
+            yield ("sequence", sequenced, sequenced % PROXIES), (sequenced + 1, moved, offered, again, finished)
         for resolver, count in enumerate(offered):
             if count < sequenced:
                 yield ("offer", count, resolver), (sequenced, moved, with_one_more(offered, resolver), again, finished)
@@ -78,6 +79,15 @@ class Orders:
         for proxy, count in enumerate(finished):
             if count * PROXIES + proxy < min(sequenced, *offered):
                 yield ("finish", proxy), (sequenced, moved, offered, again, with_one_more(finished, proxy))
+
+    def asked(self, state):
+        """The events that can be asked for in a state, refused ones too. Each kind also with a number that names nothing."""
+        sequenced = state[0]
+        yield from (("move", resolver) for resolver in (self.resolvers - 1, self.resolvers))
+        yield from [("sequence", sequenced, sequenced % PROXIES)] if sequenced < self.batches else []
+        yield "sequence", 0, PROXIES
+        yield from (("offer", *it) for it in itertools.product(range(self.batches + 1), range(self.resolvers + 1)))
+        yield from (("finish", proxy) for proxy in range(PROXIES + 1))
 
     def count(self, state):
         """In how many orders the events that are left can come."""
@@ -103,9 +113,10 @@ class Orders:
 
     def event(self, kind, *words):
         if kind == "move":
-            return move("m", "t", self.resolvers - 1)
+            return move("m", "t", *words)
         if kind == "sequence":
-            return sequence(words[0] % PROXIES, *self.given[words[0]])
+            row, proxy = words
+            return sequence(proxy, *self.given[row])
         return offer(*words) if kind == "offer" else finish(*words)
 
 
@@ -116,19 +127,35 @@ def with_one_more(counts, place, more=1):
 # ---- the batches
 
 
-def drawn_batches(count, resolvers, rng):
-    """Batches of which the first writes rows and a key that the move takes, the second reads that key and conflicts, the
-    third locks the database, and the fourth meets the lock; and again."""
+def drawn_batches(count, rng):
+    """Batches that a move of the range from m to t changes: each writes a key there, which no state transaction does, so its
+    requests tell whether the move came before. Each but the first reads what the batch before it wrote there, and conflicts.
+    The first writes rows of the metadata, and one before the last locks the database, which later ones meet.
+    """
     taken, other = rng.choice(["m", "n", "s"]), rng.choice(["a", "l", "t"])
-    server, another = rng.sample([SERVER_1, SERVER_2], 2)
-    rows = transaction(0, [], [one_key(taken)], [put_tag(server, "\\x00\\x00\\x01"), put_servers("", server)], True)
-    conflict = transaction(rng.choice([0, 5]), [one_key(taken)], [one_key(other)], [put(other, "1")])
-    lock = transaction(0, [], [one_key(LOCKED)], [put(LOCKED, "L"), put(SERVER_TAG + another, "\\x00\\x00\\x02")], True)
-    meets = transaction(
-        rng.choice([10, 25]), [one_key(other)], [], [put(KEY_SERVERS + "m", "\\x01%s\\x00" % another)], rng.random() < 0.5,
+    rows_server, lock_server = rng.sample([SERVER_1, SERVER_2], 2)
+    rows = transaction(
+        0, [], [one_key(taken)], [put_tag(rows_server, "\\x00\\x00\\x01"), put_servers("", rows_server)], True,
     )
-    reads_all = transaction(rng.choice([10, 20]), [["a", "z"]], [[taken, "z"]], [put(taken, "2")])
-    writes_all = transaction(30, [], [["a", "z"]], [put(taken, "3")])
-    second = [conflict, transaction(10, [one_key(other)], [one_key("k")], [put("k", "1")])]
-    kinds = [[rows], second, [lock, reads_all], [writes_all, meets]]
-    return [kinds[number % len(kinds)] for number in range(count)]
+    lock = transaction(0, [], [one_key(LOCKED)], [put(LOCKED, "L"), put_tag(lock_server, "\\x00\\x00\\x02")], True)
+    batches = [drawn_batch(number, taken, other, rng) for number in range(count)]
+    batches[0].insert(0, rows)
+    batches[rng.randrange(max(count - 1, 1))].append(lock)
+    return batches
+
+
+def drawn_batch(number, taken, other, rng):
+    """The conflict of a batch but the first, its write of the key that the move takes, and one more transaction."""
+    before = rng.randrange(STEP * number + 1)
+    conflict = transaction(rng.randrange(STEP * number or 1), [one_key(taken)], [one_key(other)], [put(other, "1")])
+    writes = transaction(0, [], [one_key(taken)], [put(taken, "%d" % number)])
+    more = rng.choice([
+        transaction(before, [one_key(other)], [one_key("k")], [put("k", "2")], rng.random() < 0.5),
+        transaction(before, [["a", "z"]], [[taken, "z"]], [put(taken, "3")]),
+        transaction(before, [], [["a", "z"]], [put(other, "4")]),
+        transaction(
+            before, [one_key(other)], [], [put(KEY_SERVERS + "m", "\\x01%s\\x00" % rng.choice([SERVER_1, SERVER_2]))],
+            rng.random() < 0.5,
+        ),
+    ])
+    return [*([conflict] if number else []), writes, more]

@@ -1,0 +1,1 @@
+"""Every order of the events of small clusters, by the library."""
