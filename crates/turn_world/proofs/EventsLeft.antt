@@ -13,7 +13,6 @@ use Rattle.turn_world.specs.Events.{event_of}
 use Rattle.turn_world.specs.Ending.{offers_missing, offers_missing_of_row}
 use Rattle.turn_world.specs.Parts.{missing_of}
 use Rattle.turn_world.specs.declared.event.Event.{Event}
-use Rattle.turn_world.specs.declared.event.Event.TheVariants as events
 
 -- ---- what is appended to a list of events
 
