@@ -1,10 +1,9 @@
 -- The offers that are left, as events.
-use Rattle.std.proofs.Common.{◌≡◌, refl, sym, ap, ◌∙◌, subst, ℕ, suc, ◌<◌, ◌≤◌, inl, inr, List, [], ◌∷◌, ◌++◌, map, filter, length, Bool, true, false, nat_le, slice_index, append_assoc, append-nil, arith}
-use Rattle.std.specs.Prelude.{Result, Ok, Err, OnErr, flat_map}
-use Rattle.std.proofs.lemmas.Bool.{le-leb, lt-leb}
+use Rattle.std.proofs.Common.{◌≡◌, refl, sym, ap, ◌∙◌, subst, ℕ, suc, ◌<◌, ◌≤◌, inl, List, [], ◌∷◌, ◌++◌, map, filter, length, nat_le, slice_index, append_assoc, append-nil, arith}
+use Rattle.std.specs.Prelude.{Result, Ok, Err, OnErr}
+use Rattle.std.proofs.lemmas.Bool.{le-leb}
 use Rattle.std.proofs.lemmas.Grind.{flat_map-append}
 use Rattle.std.proofs.lemmas.List.{map-append}
-use Rattle.std.proofs.lemmas.List.Elements.{filter-append}
 use Rattle.model.specs.Shares.{each_below}
 use Rattle.model.specs.World as world
 use Rattle.model.proofs.Members.{Has, Has-filter, Has-map}
@@ -14,7 +13,6 @@ use Rattle.turn_world.specs.Events.{event_of}
 use Rattle.turn_world.specs.Ending.{offers_missing, offers_missing_of_row}
 use Rattle.turn_world.specs.Parts.{missing_of}
 use Rattle.turn_world.specs.declared.event.Event.{Event}
-use Rattle.turn_world.specs.declared.event.Event.TheVariants as events
 
 -- ---- what is appended to a list of events
 
@@ -31,7 +29,7 @@ with_one before added all pushed event is so_far =
     ap (map event_of) is ∙ map-append event_of all (event ∷ []) ∙ ap (λ (es : List world.Event). es ++ event_of event ∷ []) so_far ∙ append_assoc before added (event_of event ∷ [])
 
 -- further events that were appended to these
-pub with_more : (before added more : List world.Event) (all pushed : List Event) → map event_of pushed ≡ map event_of all ++ more → AreWith before added all → AreWith before (added ++ more) pushed
+with_more : (before added more : List world.Event) (all pushed : List Event) → map event_of pushed ≡ map event_of all ++ more → AreWith before added all → AreWith before (added ++ more) pushed
 with_more before added more all pushed is so_far = is ∙ ap (λ (es : List world.Event). es ++ more) so_far ∙ append_assoc before added more
 
 -- what holds anyway, holds of a failure
@@ -52,29 +50,6 @@ first_of (x ∷ xs) some = (x, inl refl)
 -- those to resolvers below k
 abbrev pub offers_below : (counts : List ℕ) (row k : ℕ) → List world.Event
 offers_below counts row k = map (λ (r : ℕ). world.Offer row r) (filter (λ (r : ℕ). nat_le (slice_index counts r) row) (each_below k))
-
-next_offers : (counts : List ℕ) (row k : ℕ) → offers_below counts row (suc k) ≡ offers_below counts row k ++ map (λ (r : ℕ). world.Offer row r) (filter (λ (r : ℕ). nat_le (slice_index counts r) row) (k ∷ []))
-next_offers counts row k =
-    ap (map (λ (r : ℕ). world.Offer row r)) (filter-append (λ (r : ℕ). nat_le (slice_index counts r) row) (each_below k) (k ∷ []))
-    ∙ map-append (λ (r : ℕ). world.Offer row r) (filter (λ (r : ℕ). nat_le (slice_index counts r) row) (each_below k)) (filter (λ (r : ℕ). nat_le (slice_index counts r) row) (k ∷ []))
-
-pub one_offered : (before : List world.Event) (counts : List ℕ) (row k m : ℕ) (all pushed : List Event) (event : Event) → m ≡ suc k → event ≡ events.Offer row k → pushed ≡ all ++ event ∷ [] → slice_index counts k ≤ row → AreWith before (offers_below counts row k) all → AreWith before (offers_below counts row m) pushed
-one_offered before counts row k m all pushed event next event_is is low so_far = subst (λ (es : List world.Event). AreWith before es pushed) (sym more) (with_one before (offers_below counts row k) all pushed event is so_far)
-  where
-    one : map (λ (r : ℕ). world.Offer row r) (filter (λ (r : ℕ). nat_le (slice_index counts r) row) (k ∷ [])) ≡ world.Offer row k ∷ []
-    one = let lacks : nat_le (slice_index counts k) row ≡ true = le-leb (slice_index counts k) row low in rw lacks refl
-
-    more : offers_below counts row m ≡ offers_below counts row k ++ event_of event ∷ []
-    more = ap (offers_below counts row) next ∙ next_offers counts row k ∙ ap (λ (es : List world.Event). offers_below counts row k ++ es) (one ∙ ap (λ (e : Event). event_of e ∷ []) (sym event_is))
-
-pub none_offered : (before : List world.Event) (counts : List ℕ) (row k m : ℕ) (all : List Event) → m ≡ suc k → row < slice_index counts k → AreWith before (offers_below counts row k) all → AreWith before (offers_below counts row m) all
-none_offered before counts row k m all next high so_far = subst (λ (es : List world.Event). AreWith before es all) (sym same) so_far
-  where
-    none : map (λ (r : ℕ). world.Offer row r) (filter (λ (r : ℕ). nat_le (slice_index counts r) row) (k ∷ [])) ≡ []
-    none = let has : nat_le (slice_index counts k) row ≡ false = lt-leb (slice_index counts k) row high in rw has refl
-
-    same : offers_below counts row m ≡ offers_below counts row k
-    same = ap (offers_below counts row) next ∙ next_offers counts row k ∙ ap (λ (es : List world.Event). offers_below counts row k ++ es) none ∙ append-nil (offers_below counts row k)
 
 -- a resolver that has not judged the row is to get it
 pub offer_due : (counts : List ℕ) (row k : ℕ) → k < length counts → slice_index counts k ≤ row → 0 < length (offers_missing_of_row counts row)

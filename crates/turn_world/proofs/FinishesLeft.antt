@@ -1,11 +1,10 @@
 -- The finishes that are left, as events, and a run that carries out what is left.
-use Rattle.std.proofs.Common.{◌≡◌, refl, sym, ap, ◌∙◌, subst, ℕ, zero, suc, ◌<◌, ◌≤◌, inl, inr, List, [], ◌∷◌, ◌++◌, map, filter, take, length, Bool, true, false, nat_lt, slice_get, Option, Some, None, length-append, append-nil, arith}
+use Rattle.std.proofs.Common.{◌≡◌, refl, sym, ap, ◌∙◌, subst, ℕ, zero, suc, ◌<◌, ◌≤◌, inl, inr, List, [], ◌∷◌, ◌++◌, map, filter, take, length, true, false, slice_get, Option, Some, None, length-append, append-nil, arith}
 use Rattle.std.specs.Prelude.{Result, Ok, Err, IsOk, IsTrue, IsFalse, MatchResult, All, flat_map}
 use Rattle.std.specs.List.{list_all}
 use Rattle.std.proofs.lemmas.Bool.{lt-ltb, le-ltb}
 use Rattle.std.proofs.lemmas.List.{map-append, length-map}
 use Rattle.std.proofs.lemmas.List.Elements.{All-nil, All-cons, filter-append}
-use Rattle.std.proofs.lemmas.Option.{slice_get_within}
 use Rattle.model.specs.Configs.{Config, IsConfig}
 use Rattle.model.specs.Records.{Record}
 use Rattle.model.specs.Requests.{Request, request_back_to}
@@ -14,15 +13,15 @@ use Rattle.model.specs.Finishing.{ProxyView}
 use Rattle.model.specs.Offers.{sent_request}
 use Rattle.model.specs.Shares.{each_below}
 use Rattle.model.specs.World as world
-use Rattle.model.specs.World.{World, IsSound, finished_version, missing_replies, answers, world_after}
-use Rattle.model.specs.Turns.{TurnCluster, answer_to_event}
+use Rattle.model.specs.World.{World, IsSound, finished_version, missing_replies, answers}
+use Rattle.model.specs.Turns.{TurnCluster}
 use Rattle.model.proofs.Members.{Has, Has-filter, Has-map}
 use Rattle.model.proofs.Resolvers.Requests.{take_suc}
-use Rattle.endings.specs.Work.{is_done, work_left, AllFinished, done_world}
+use Rattle.endings.specs.Work.{is_done, AllFinished}
 use Rattle.endings.specs.EventsLeft.{offers_left, is_unfinished, finishes_left, events_left}
 use Rattle.endings.proofs.Orders.{both_true, one_world}
 use Rattle.endings.proofs.EventsLeft.{left_work, left_done, left_finish, left_count, answers_counted}
-use Rattle.turn_world.specs.Events.{event_of, answer_of, fault_of}
+use Rattle.turn_world.specs.Events.{event_of, fault_of}
 use Rattle.turn_world.specs.Kept.{IsKept, AreRequestsKept, records_of, requests_of}
 use Rattle.turn_world.specs.KeptRequests.{HasNumbersOf}
 use Rattle.turn_world.specs.Ending.{HasFinishedAll, offers_missing}
@@ -49,7 +48,7 @@ unfolding request_back_to
 sent_numbers config w rec = (refl, refl)
 
 -- the first request that is kept of a row has the numbers of its record
-pub first_request : (config : Config) (w : World) (rows : List KeptRecord) (row : ℕ) (one : KeptRecord) (q : Request) (resolvers : List ResolverView) (proxies : List ProxyView) (last : ℕ) → w.history ≡ records_of rows → IsKept config w resolvers proxies (requests_of rows) last → AreRequestsKept w.judged_counts rows → slice_get rows row ≡ Some one → slice_get one.kept.requests.items 0 ≡ Some q → (q.proxy ≡ one.rec.known.proxy) × (q.version ≡ one.rec.known.version)
+first_request : (config : Config) (w : World) (rows : List KeptRecord) (row : ℕ) (one : KeptRecord) (q : Request) (resolvers : List ResolverView) (proxies : List ProxyView) (last : ℕ) → w.history ≡ records_of rows → IsKept config w resolvers proxies (requests_of rows) last → AreRequestsKept w.judged_counts rows → slice_get rows row ≡ Some one → slice_get one.kept.requests.items 0 ≡ Some q → (q.proxy ≡ one.rec.known.proxy) × (q.version ≡ one.rec.known.version)
 first_request config w rows row one q resolvers proxies last is keeps all at at_q =
     let there : 0 < config.resolvers = omega (arith, keeps.parts.limits.resolvers.0) in
     let at_sent : slice_get one.sent.known 0 ≡ Some (sent_request config w 0 one.rec.known) = ap (λ (qs : List Request). slice_get qs 0) (requests_at config w rows row one is keeps.parts.requests_are at) ∙ own_request config w one.rec.known 0 there in
@@ -148,7 +147,7 @@ finish_due w row rec at left =
 
 -- ---- all that is left
 
-pub offers_are : (config : Config) (w : World) → IsSound config w → offers_missing w.judged_counts (length w.history) ≡ offers_left config w
+offers_are : (config : Config) (w : World) → IsSound config w → offers_missing w.judged_counts (length w.history) ≡ offers_left config w
 offers_are config w sound = ap (λ (n : ℕ). flat_map (λ (row : ℕ). map (λ (r : ℕ). world.Offer row r) (missing_replies w row (each_below n))) (each_below (length w.history))) sound.judged_counts
 
 -- the offers and then the finishes are listed

@@ -1,9 +1,8 @@
 -- What is left is carried out, or the run stops.
-use Rattle.std.proofs.Common.{◌≡◌, ◌∙◌, ap, subst, refl, map, length}
+use Rattle.std.proofs.Common.{◌≡◌, ◌∙◌, ap, subst, refl, map}
 use Rattle.endings.specs.EventsLeft.{events_left}
-use Rattle.turn_world.specs.Ending.{HasFinishedAll}
 use Rattle.turn_world.specs.Events.{event_of}
-use Rattle.turn_world.specs.Steps.{HasCarriedOut, HasStopped}
+use Rattle.turn_world.specs.Steps.{HasStopped}
 use Rattle.turn_world.proofs.FinishesLeft.{finished_all, stopped_at_once, match_both}
 use Rattle.turn_world.proofs.world.TurnWorld.finish_all.Goals as goal
 

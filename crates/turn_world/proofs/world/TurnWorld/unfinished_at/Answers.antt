@@ -1,5 +1,5 @@
 -- The record of the row, by the first request that is kept of it.
-use Rattle.std.proofs.Common.{◌≡◌, ◌∙◌, ◌<◌, refl, sym, ap, subst, List, length, slice_get, Some, arith}
+use Rattle.std.proofs.Common.{◌≡◌, ◌∙◌, ◌<◌, refl, sym, ap, List, length, slice_get, Some, arith}
 use Rattle.model.specs.Requests.{Request}
 use Rattle.turn_world.specs.Kept.{world_of, requests_of}
 use Rattle.turn_world.proofs.OfferedParts.{got}
