@@ -11,7 +11,7 @@ use Rattle.std.specs.declared.option.Option.TheVariants.{Some}
 use mathlib.Core.Logic.{inl, inr}
 use Rattle.model.specs.Configs.{version_limit}
 use Rattle.model.specs.Records.{records_of_proxy}
-use Rattle.model.specs.Stamps.{Given, stamped_from}
+use Rattle.model.specs.Stamps.{AdmittedTransaction, stamped_from}
 use Rattle.model.proofs.History.Chain.{next_follows_moves}
 use Rattle.model.proofs.History.Growth.{moves_follow_move, moves_follow_record, last_version-push, records_of_proxy-append}
 use Rattle.model.proofs.Resolvers.Growth.{set_found}
@@ -20,13 +20,13 @@ use Rattle.agreed_ledger.specs.Sequencing.{KeepsVersions}
 
 pub move_made : (config : Config) (records : List Record) (moves after : List Move) (move : Move) → after ≡ moves ++ move ∷ []
     → move.date ≡ last_version records + 1 → move.dest < config.resolvers → MovesFollow config records moves → MovesFollow config records after
-move_made config records moves after move pushed date destination follow =
+move_made config records moves after move pushed date dest follow =
     subst (λ (ms : List Move). MovesFollow config records ms) (sym pushed)
-    (moves_follow_move config records moves move follow (record { date = date; destination = destination }))
+    (moves_follow_move config records moves move follow (record { date = date; dest = dest }))
 
 -- ---- after a record
 
-module _ (config : Config) (h : List Record) (moves : List Move) (p : ℕ) (batch : List Given) where
+module _ (config : Config) (h : List Record) (moves : List Move) (p : ℕ) (batch : List AdmittedTransaction) where
   abbrev next : Record
   next = record_after config h moves p batch
 

@@ -18,7 +18,7 @@ tickets_continue config before between after p q batch next t u first second =
     }
 
 pub batches_have_the_move_before : BatchesHaveTheMoveBefore
-batches_have_the_move_before config before between after range destination date p batch t moved sequenced =
+batches_have_the_move_before config before between after range dest date p batch t moved sequenced =
     sequenced.told
     ∙ sequenced.records
     ∙ ap₂ (λ (records : List Record) (moves : List Move). records ++ record_after config records moves p batch ∷ []) moved.records moved.moves

@@ -59,7 +59,7 @@ AreAbout cells s =
     (i : ℕ) (fact : Fact _) → slice_get s.known i ≡ Some fact
     → slice_get cells (s.first + i) ≡ Some fact.cell
 
--- if the stretch has a row, its last one is among the first so many
+-- if the stretch has a row, its last one is among the first `rows`
 abbrev pub IsWithin : {X : Type 0} → (rows : ℕ) → Stretch X → Type 0
 IsWithin rows s = 0 < length s.known → end_of s ≤ rows
 

@@ -6,7 +6,7 @@ use Rattle.model.specs.Numbers.{ProxyNumber, ResolverNumber, RowNumber, Version}
 use Rattle.model.specs.Configs.{Config, IsConfig, version_limit}
 use Rattle.model.specs.declared.moves.Move.{Move}
 use Rattle.model.specs.Records.{Record, IsHistory, last_version, records_of_proxy}
-use Rattle.model.specs.Stamps.{Given}
+use Rattle.model.specs.Stamps.{AdmittedTransaction}
 use Rattle.model.specs.World.{record_after}
 use Rattle.agreed_ledger.specs.Cells.{Cells}
 use Rattle.agreed_ledger.specs.declared.refusal.Refusal.{Refusal}
@@ -23,7 +23,7 @@ pub record TicketView : Type 0 where
   pub row : RowNumber
   pub records : List Record
 
--- the last version, and that of each proxy's last record
+-- the last version, and the version of each proxy's last record
 pub record KeepsVersions
     (config : Config) (records : List Record) (version : Version) (own_versions : List Version) :
     Type 0 where
@@ -52,13 +52,13 @@ sequence_fault cells s p =
 
 -- the first fault of a move to the resolver
 abbrev pub move_fault : Config → ResolverNumber → Option Refusal
-move_fault config destination =
-    if nat_le config.resolvers destination then Some NoSuchResolver else None
+move_fault config dest =
+    if nat_le config.resolvers dest then Some NoSuchResolver else None
 
 -- Exactly one record is appended, with the batch's stamps in and all moves so far. The ticket has
 -- its row, and all records up to it.
 pub record HasSequenced
-    (config : Config) (before : SequencedView) (p : ProxyNumber) (batch : List Given)
+    (config : Config) (before : SequencedView) (p : ProxyNumber) (batch : List AdmittedTransaction)
     (after : SequencedView) (ticket : TicketView) : Type 0 where
   pub records :
       after.records
@@ -69,20 +69,21 @@ pub record HasSequenced
 
 -- exactly one move is appended, dated one above the last version
 pub record HasMoved
-    (before : SequencedView) (range : Range) (destination : ResolverNumber)
+    (before : SequencedView) (range : Range) (dest : ResolverNumber)
     (after : SequencedView) (date : Version) : Type 0 where
   pub date_is : date ≡ last_version before.records + 1
   pub records : after.records ≡ before.records
   pub moves :
       after.moves
-      ≡ before.moves ++ (record { range = range; date = date; dest = destination }) ∷ []
+      ≡ before.moves ++ (record { range = range; date = date; dest = dest }) ∷ []
 
 -- ---- the statements of the law
 
 -- The second ticket is the first one with one more record, which has the moves that stood before the
 -- first one.
 pub record Continues
-    (config : Config) (moves : List Move) (t : TicketView) (p : ProxyNumber) (batch : List Given)
+    (config : Config) (moves : List Move) (t : TicketView) (p : ProxyNumber)
+    (batch : List AdmittedTransaction)
     (u : TicketView) : Type 0 where
   pub row : u.row ≡ t.row + 1
   pub records : u.records ≡ t.records ++ record_after config t.records moves p batch ∷ []
@@ -91,7 +92,7 @@ pub record Continues
 abbrev pub TicketsContinue : Type 0
 TicketsContinue =
     (config : Config) (before between after : SequencedView) (p q : ProxyNumber)
-    (batch next : List Given) (t u : TicketView)
+    (batch next : List AdmittedTransaction) (t u : TicketView)
     → HasSequenced config before p batch between t → HasSequenced config between q next after u
     → Continues config before.moves t q next u
 
@@ -99,9 +100,9 @@ TicketsContinue =
 abbrev pub BatchesHaveTheMoveBefore : Type 0
 BatchesHaveTheMoveBefore =
     (config : Config) (before between after : SequencedView) (range : Range)
-    (destination : ResolverNumber) (date : Version) (p : ProxyNumber) (batch : List Given)
+    (dest : ResolverNumber) (date : Version) (p : ProxyNumber) (batch : List AdmittedTransaction)
     (t : TicketView)
-    → HasMoved before range destination between date → HasSequenced config between p batch after t
+    → HasMoved before range dest between date → HasSequenced config between p batch after t
     → let moves =
-    before.moves ++ (record { range = range; date = date; dest = destination }) ∷ [] in
+    before.moves ++ (record { range = range; date = date; dest = dest }) ∷ [] in
     t.records ≡ before.records ++ record_after config before.records moves p batch ∷ []

@@ -21,6 +21,7 @@ ghost use Rattle.facts.specs.Unsets.{IfTaken};
 ghost use Rattle.agreed_ledger.specs.Cells.{AreKnownAt, IsWithin, verdict_cells, with_rows};
 ghost use Rattle.agreed_ledger.specs.declared.refusal.Refusal.TheVariants as refusals;
 
+use model::{ResolverNumber, RowNumber};
 use crate::ledger::Ledger;
 use crate::naming::Naming;
 use crate::notes::VerdictNote;
@@ -35,7 +36,7 @@ use system_keys::OutOfMemory;
 /// takes no bytes for verdicts: the ledger lends them.
 #[derive(Drop)]
 pub struct Column<N: Naming> {
-    resolver: usize,
+    resolver: ResolverNumber,
     stretch: Stretch<Verdicts>,
     of: PhantomData<N>,
 }
@@ -53,7 +54,7 @@ impl<N: Naming> Model for Column<N> {
 
 impl<N: Naming> Column<N> {
     /// Returns an empty column of the resolver, from row 0. It needs no memory.
-    pub fn new(alloc: Global, resolver: usize) -> Column<N>
+    pub fn new(alloc: Global, resolver: ResolverNumber) -> Column<N>
         ensures { result ≡ record { resolver = resolver; rows = record { first = 0; known = [] } } }
     {
         Column {
@@ -90,7 +91,7 @@ impl<N: Naming> Column<N> {
 
     /// Returns the verdicts known of the row, or `None` if the column lacks the row. It never waits
     /// and needs no memory.
-    pub fn get<'a>(&self, ledger: &'a Ledger<N>, row: usize) -> Option<&'a Verdicts>
+    pub fn get<'a>(&self, ledger: &'a Ledger<N>, row: RowNumber) -> Option<&'a Verdicts>
         ensures { MatchOption result
             (Lacks self.now.rows row) (λ verdicts. HasAt self.now.rows row verdicts.now) }
     {
@@ -99,7 +100,7 @@ impl<N: Naming> Column<N> {
     }
 
     /// Returns the fact about the row's verdicts, or `None` if the column lacks the row.
-    pub(crate) fn fact(&self, row: usize) -> Option<Fact<Verdicts>>
+    pub(crate) fn fact(&self, row: RowNumber) -> Option<Fact<Verdicts>>
         ensures value { MatchOption result
             (Lacks self.now.rows row) (λ fact. HasAt self.now.rows row fact.value) }
         ensures cell { IfSome result (λ fact.
@@ -169,7 +170,7 @@ impl<N: Naming> Column<N> {
         // (its contract says that a ledger has few rows, so the column can grow)
         let _rows = ledger.rows();
         let cell = ledger.verdict_cell(self.stretch.end(), self.resolver);
-        match self.stretch.set(cell, verdicts) {
+        match self.stretch.set_next(cell, verdicts) {
             Ok(()) => {}
             Err((why, verdicts)) => return Err((Refusal::of(&why), verdicts)),
         }
@@ -198,7 +199,7 @@ impl<N: Naming> Column<N> {
         let _rows = ledger.rows();
         let row = self.stretch.end();
         let cell = ledger.verdict_cell(row, self.resolver);
-        let stretch = match self.stretch.set_and_copy(cell, verdicts) {
+        let stretch = match self.stretch.set_next_and_copy(cell, verdicts) {
             Ok(stretch) => stretch,
             Err((why, verdicts)) => {
                 let why = VerdictNote::from_unset(row, self.resolver, cell, why);

@@ -18,7 +18,7 @@ ghost use Rattle.agreed_ledger.specs.declared.refusal.Refusal.TheVariants as ref
 
 use crate::naming::Naming;
 use crate::refusal::Refusal;
-use model::Config;
+use model::{Config, ResolverNumber, RowNumber};
 use once_cell::race::OnceBox;
 use request_builder::Record;
 use share_judge::Verdicts;
@@ -85,7 +85,7 @@ impl BlankLedger {
     }
 
     /// The record cell of the row.
-    fn record_cell(&self, row: usize) -> &OnceBox<Record>
+    fn record_cell(&self, row: RowNumber) -> &OnceBox<Record>
         requires { row < length self.now.records }
         ensures { slice_get self.now.records row ≡ Some (cell_name result.now) }
     {
@@ -93,7 +93,7 @@ impl BlankLedger {
     }
 
     /// The verdict cell of the row and the resolver.
-    fn verdict_cell(&self, row: usize, resolver: usize) -> &OnceBox<Verdicts>
+    fn verdict_cell(&self, row: RowNumber, resolver: ResolverNumber) -> &OnceBox<Verdicts>
         requires { row < length (verdict_cells self.now resolver) }
         ensures { slice_get (verdict_cells self.now resolver) row ≡ Some (cell_name result.now) }
     {
@@ -157,7 +157,7 @@ impl<N: Naming> Ledger<N> {
     }
 
     /// The record cell of the row.
-    pub(crate) fn record_cell(&self, row: usize) -> &OnceBox<Record>
+    pub(crate) fn record_cell(&self, row: RowNumber) -> &OnceBox<Record>
         requires { row < length N.cells.records }
         ensures { slice_get N.cells.records row ≡ Some (cell_name result.now) }
     {
@@ -165,7 +165,7 @@ impl<N: Naming> Ledger<N> {
     }
 
     /// The verdict cell of the row and the resolver.
-    pub(crate) fn verdict_cell(&self, row: usize, resolver: usize) -> &OnceBox<Verdicts>
+    pub(crate) fn verdict_cell(&self, row: RowNumber, resolver: ResolverNumber) -> &OnceBox<Verdicts>
         requires { row < length (verdict_cells N.cells resolver) }
         ensures { slice_get (verdict_cells N.cells resolver) row ≡ Some (cell_name result.now) }
     {

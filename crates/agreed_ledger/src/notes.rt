@@ -11,6 +11,7 @@ ghost use Rattle.agreed_ledger.specs.Cells.{NotesAgree, Shows, ShowsNoVerdicts, 
 ghost use Rattle.agreed_ledger.specs.Cells.{ShowsVerdicts, new_note, new_verdict_note, row_note};
 ghost use Rattle.agreed_ledger.specs.Cells.{verdict_cells};
 
+use model::{ResolverNumber, RowNumber};
 use crate::column::Column;
 use crate::ledger::Ledger;
 use crate::naming::Naming;
@@ -25,7 +26,7 @@ use std::marker::{Model, PhantomData};
 /// it was seen. It takes no bytes for the record.
 #[derive(Drop)]
 pub struct RecordNote<N: Naming> {
-    row: usize,
+    row: RowNumber,
     note: Note<Record>,
     of: PhantomData<N>,
 }
@@ -46,8 +47,8 @@ impl<N: Naming> Model for RecordNote<N> {
 /// What a caller has learnt of the verdicts of one resolver in one row.
 #[derive(Drop)]
 pub struct VerdictNote<N: Naming> {
-    row: usize,
-    resolver: usize,
+    row: RowNumber,
+    resolver: ResolverNumber,
     note: Note<Verdicts>,
     of: PhantomData<N>,
 }
@@ -68,7 +69,7 @@ impl<N: Naming> Model for VerdictNote<N> {
 impl<N: Naming> RecordNote<N> {
     /// The note that knows what the fact says of the row's record.
     pub(crate) fn from_fact(
-        row: usize,
+        row: RowNumber,
         cell: &OnceBox<Record>,
         fact: &Fact<Record>,
     ) -> RecordNote<N>
@@ -87,7 +88,7 @@ impl<N: Naming> RecordNote<N> {
 
     /// Why the row's record cell was not set, with a note in place of the fact.
     pub(crate) fn from_unset(
-        row: usize,
+        row: RowNumber,
         cell: &OnceBox<Record>,
         why: Unset<Fact<Record>>,
     ) -> Unset<RecordNote<N>>
@@ -130,8 +131,8 @@ impl<N: Naming> RecordNote<N> {
 impl<N: Naming> VerdictNote<N> {
     /// The note that knows what the fact says of the resolver's verdicts in the row.
     pub(crate) fn from_fact(
-        row: usize,
-        resolver: usize,
+        row: RowNumber,
+        resolver: ResolverNumber,
         cell: &OnceBox<Verdicts>,
         fact: &Fact<Verdicts>,
     ) -> VerdictNote<N>
@@ -153,8 +154,8 @@ impl<N: Naming> VerdictNote<N> {
     /// Why the verdict cell of the row and the resolver was not set, with a note in place of the
     /// fact.
     pub(crate) fn from_unset(
-        row: usize,
-        resolver: usize,
+        row: RowNumber,
+        resolver: ResolverNumber,
         cell: &OnceBox<Verdicts>,
         why: Unset<Fact<Verdicts>>,
     ) -> Unset<VerdictNote<N>>
@@ -203,7 +204,7 @@ impl<N: Naming> VerdictNote<N> {
 
 impl<N: Naming> Ledger<N> {
     /// Returns a note of the row's record that knows nothing yet, or `None` past the rows.
-    pub fn record_note(&self, row: usize) -> Option<RecordNote<N>>
+    pub fn record_note(&self, row: RowNumber) -> Option<RecordNote<N>>
         ensures { MatchOption result
             (length N.cells.records ≤ row)
             (λ note. (row < length N.cells.records) × (note ≡ new_note row)) }
@@ -223,7 +224,7 @@ impl<N: Naming> Ledger<N> {
     /// A note that knows a record gives that record ever after. `None` means that the note knows
     /// nothing yet and that the cell was empty, or that the note is of another row, and then it
     /// learns nothing.
-    pub fn record_at<'a>(&'a self, row: usize, note: &mut RecordNote<N>) -> Option<&'a Record>
+    pub fn record_at<'a>(&'a self, row: RowNumber, note: &mut RecordNote<N>) -> Option<&'a Record>
         ensures row { note.new.row ≡ note.old.row }
         ensures value { MatchOption result
             (ShowsNothing row note.old note.new)
@@ -237,7 +238,7 @@ impl<N: Naming> Ledger<N> {
 
     /// Returns a note of the resolver's verdicts in the row that knows nothing yet, or `None` past
     /// the rows or the resolvers.
-    pub fn verdict_note(&self, row: usize, resolver: usize) -> Option<VerdictNote<N>>
+    pub fn verdict_note(&self, row: RowNumber, resolver: ResolverNumber) -> Option<VerdictNote<N>>
         ensures { MatchOption result
             (LacksVerdictCell N.cells row resolver)
             (λ note. HasVerdictCell N.cells row resolver × (note ≡ new_verdict_note row resolver)) }
@@ -256,8 +257,8 @@ impl<N: Naming> Ledger<N> {
     /// Looks at the resolver's verdicts in the row, as [`Ledger::record_at`] looks at a record.
     pub fn verdicts_at<'a>(
         &'a self,
-        row: usize,
-        resolver: usize,
+        row: RowNumber,
+        resolver: ResolverNumber,
         note: &mut VerdictNote<N>,
     ) -> Option<&'a Verdicts>
         ensures place { (note.new.row ≡ note.old.row) × (note.new.resolver ≡ note.old.resolver) }

@@ -19,6 +19,7 @@ ghost use Rattle.facts.specs.Stretches.{part_of, rows_limit};
 ghost use Rattle.facts.specs.Unsets.{IfTaken};
 ghost use Rattle.agreed_ledger.specs.Cells.{IsKnownAt, IsWithin};
 
+use model::RowNumber;
 use crate::ledger::Ledger;
 use crate::naming::Naming;
 use crate::notes::RecordNote;
@@ -78,7 +79,7 @@ impl<N: Naming> Records<N> {
 
     /// Returns the record known of the row, or `None` if the stretch lacks the row. It never waits
     /// and needs no memory.
-    pub fn get<'a>(&self, ledger: &'a Ledger<N>, row: usize) -> Option<&'a Record>
+    pub fn get<'a>(&self, ledger: &'a Ledger<N>, row: RowNumber) -> Option<&'a Record>
         ensures { MatchOption result (Lacks self.now row) (λ rec. HasAt self.now row rec.now) }
     {
         let fact = self.fact(row)?;
@@ -86,7 +87,7 @@ impl<N: Naming> Records<N> {
     }
 
     /// Returns the fact about the row's record, or `None` if the stretch lacks the row.
-    pub(crate) fn fact(&self, row: usize) -> Option<Fact<Record>>
+    pub(crate) fn fact(&self, row: RowNumber) -> Option<Fact<Record>>
         ensures value { MatchOption result
             (Lacks self.now row) (λ fact. HasAt self.now row fact.value) }
         ensures cell { IfSome result (λ fact. slice_get N.cells.records row ≡ Some fact.cell) }
@@ -156,7 +157,7 @@ impl<N: Naming> Records<N> {
         let _rows = ledger.rows();
         let row = self.stretch.end();
         let cell = ledger.record_cell(row);
-        let stretch = match self.stretch.set_and_copy(cell, rec) {
+        let stretch = match self.stretch.set_next_and_copy(cell, rec) {
             Ok(stretch) => stretch,
             Err((why, rec)) => return Err((RecordNote::from_unset(row, cell, why), rec)),
         };

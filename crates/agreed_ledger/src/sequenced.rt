@@ -17,7 +17,7 @@ use crate::naming::Naming;
 use crate::records::Records;
 use crate::refusal::Refusal;
 use crate::ticket::Ticket;
-use model::{Move, VERSION_LIMIT};
+use model::{Move, ProxyNumber, ResolverNumber, VERSION_LIMIT, Version};
 use mutation::Batch;
 use request_builder::{Moves, Record};
 use std::alloc::Global;
@@ -29,7 +29,7 @@ use system_keys::{KeyRange, OutOfMemory};
 #[derive(Drop)]
 pub struct Sequenced<N: Naming> {
     records: Records<N>,
-    version: u64,
+    version: Version,
     own_versions: Vec<u64>,
     moves: Moves,
 }
@@ -78,7 +78,7 @@ impl<N: Naming> Sequenced<N> {
     pub fn sequence(
         &mut self,
         ledger: &Ledger<N>,
-        proxy: usize,
+        proxy: ProxyNumber,
         batch: Batch,
     ) -> Result<Ticket<N>, (Refusal, Batch)>
         ensures ok { OnOk result (sequence_fault N.cells self.old proxy ≡ None) }
@@ -117,7 +117,7 @@ impl<N: Naming> Sequenced<N> {
     }
 
     /// The next record, at this version, for a batch of this proxy.
-    fn next_record(&self, version: u64, proxy: usize, batch: &Batch) -> Result<Record, OutOfMemory>
+    fn next_record(&self, version: Version, proxy: ProxyNumber, batch: &Batch) -> Result<Record, OutOfMemory>
         requires proxy { proxy < N.cells.config.proxies }
         requires version { version ≡ last_version self.now.records + N.cells.config.step }
         ensures { IfOk result (λ rec. rec
@@ -145,7 +145,7 @@ impl<N: Naming> Sequenced<N> {
         &mut self,
         ledger: &Ledger<N>,
         range: &KeyRange,
-        dest: usize,
+        dest: ResolverNumber,
     ) -> Result<u64, Refusal>
         ensures ok { OnOk result (move_fault N.cells.config dest ≡ None) }
         ensures moved { IfOk result (λ date. HasMoved self.old range.now dest self.new date) }

@@ -11,6 +11,7 @@ ghost use Rattle.agreed_ledger.specs.Sequencing.{
 };
 ghost use Rattle.agreed_ledger.specs.declared.refusal.Refusal.TheVariants as refusals;
 
+use model::{ProxyNumber, ResolverNumber};
 use crate::ledger::Ledger;
 use crate::naming::Naming;
 use crate::records::Records;
@@ -79,7 +80,7 @@ impl<'a, N: Naming> SequencerGuard<'a, N> {
     }
 
     /// Gives the batch of the proxy the next row and version, as [`Sequenced::sequence`] does.
-    pub fn sequence(&mut self, proxy: usize, batch: Batch) -> Result<Ticket<N>, (Refusal, Batch)>
+    pub fn sequence(&mut self, proxy: ProxyNumber, batch: Batch) -> Result<Ticket<N>, (Refusal, Batch)>
         ensures ok { OnOk result (sequence_fault N.cells self.old proxy ≡ None) }
         ensures sequenced { IfOk result (λ ticket.
             HasSequenced N.cells.config self.old proxy batch self.new ticket) }
@@ -91,7 +92,7 @@ impl<'a, N: Naming> SequencerGuard<'a, N> {
     }
 
     /// Moves the keys of the range to the resolver, as [`Sequenced::move_range`] does.
-    pub fn move_range(&mut self, range: &KeyRange, dest: usize) -> Result<u64, Refusal>
+    pub fn move_range(&mut self, range: &KeyRange, dest: ResolverNumber) -> Result<u64, Refusal>
         ensures ok { OnOk result (move_fault N.cells.config dest ≡ None) }
         ensures moved { IfOk result (λ date. HasMoved self.old range.now dest self.new date) }
         ensures refused { IfErr result (λ refusal.

@@ -4,6 +4,7 @@ ghost use Rattle.std.specs.Prelude.{◌≡◌, ◌-◌, ◌<◌, length};
 ghost use Rattle.model.specs.Records.{IsHistory};
 ghost use Rattle.agreed_ledger.specs.Sequencing.{IsTicket};
 
+use model::RowNumber;
 use crate::naming::Naming;
 use crate::records::Records;
 use std::marker::Model;
@@ -11,7 +12,7 @@ use std::marker::Model;
 /// The row of a batch, and the records up to it, its own among them.
 #[derive(Drop)]
 pub struct Ticket<N: Naming> {
-    row: usize,
+    row: RowNumber,
     records: Records<N>,
 }
 

@@ -10,4 +10,4 @@ mod refusals;
 
 pub use metadata_lines::{print_metadata, print_proxy_metadata};
 pub use names::{outcome_name, verdict_name};
-pub use refusals::push_refused;
+pub use refusals::push_number_and_name;

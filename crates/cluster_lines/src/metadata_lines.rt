@@ -4,6 +4,7 @@ ghost use Rattle.std.specs.Prelude.{◌≡◌, ◌++◌, OnOk, string_bytes};
 ghost use Rattle.scripts.specs.Lines.{asked_text};
 ghost use Rattle.cluster_lines.specs.MetadataLines.{metadata_text, proxy_line};
 
+use model::{ProxyNumber, Version};
 use metadata::Metadata;
 use scripts::{print_asked, print_routing};
 use std::alloc::Global;
@@ -15,8 +16,8 @@ use system_keys::{Bytes, OutOfMemory};
 pub fn print_proxy_metadata(
     alloc: Global,
     text: &mut String,
-    number: usize,
-    version: u64,
+    number: ProxyNumber,
+    version: Version,
     metadata: &Metadata,
     keys: &[Bytes],
 ) -> Result<(), OutOfMemory>
@@ -33,7 +34,7 @@ pub fn print_proxy_metadata(
 pub fn print_metadata(
     alloc: Global,
     text: &mut String,
-    version: u64,
+    version: Version,
     metadata: &Metadata,
     keys: &[Bytes],
 ) -> Result<(), OutOfMemory>

@@ -2,6 +2,7 @@
 
 ghost use Rattle.std.specs.Prelude.{◌≡◌, IfOk};
 
+use model::ResolverNumber;
 use mutation::GivenRange;
 use system_keys::OutOfMemory;
 
@@ -11,7 +12,7 @@ pub struct GivenMove {
     /// The range.
     pub range: GivenRange,
     /// The number of the resolver that it moves to.
-    pub dest: usize,
+    pub dest: ResolverNumber,
 }
 
 impl GivenMove {

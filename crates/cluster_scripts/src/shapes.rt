@@ -30,7 +30,7 @@ pub fn config(alloc: Global, value: &Value) -> Result<Config, ScriptFault>
 impl Shaped for GivenMove {
     ghost shape = { move_shape };
 
-    fn shaped(alloc: Global, value: &Value) -> Result<GivenMove, ScriptFault> {
+    fn from_value(alloc: Global, value: &Value) -> Result<GivenMove, ScriptFault> {
         if !has_fields(value, 2) {
             return Err(ScriptFault::BadShape);
         }

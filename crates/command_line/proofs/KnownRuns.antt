@@ -1,4 +1,4 @@
--- What a run by words that are written out comes to.
+-- The result of a run by words that are written out.
 use Rattle.std.proofs.Common.{◌≢◌, List, [], Option, subst}
 use Rattle.std.specs.Prelude.{string_bytes}
 use Rattle.clap.specs.Words.{Kinds, Text, fault_of}

@@ -9,7 +9,7 @@ use Rattle.mode_choice.specs.declared.mode.Mode.TheVariants.{Fold, Turns, Thread
 use Rattle.command_line.specs.declared.status.Status.{Status}
 use Rattle.command_line.specs.declared.status.Status.TheVariants.{CommandLineRefused, Ran}
 use Rattle.fold_run.specs.Text.{fold_text}
-use Rattle.scripts.specs.Answers.{Answer}
+use Rattle.scripts.specs.Outputs.{OutputView}
 use Rattle.scripts.specs.Runs.{LeavesDevices, WritesTextOf}
 use Rattle.scripts.specs.declared.devices.Sink.{Ghosts as SinkView}
 use Rattle.scripts.specs.declared.devices.Source.{Ghosts as SourceView}
@@ -19,12 +19,12 @@ use Rattle.threads_run.specs.Runs.{RunsThreads}
 use Rattle.turns_run.specs.Text.{turns_text}
 
 -- what a run leaves that answers its input so: what it wrote, and its devices
-pub record RunsBy {S T : Type 0} (answer_to : List ℕ → Answer)
+pub record RunsBy {S T : Type 0} (output_to : List ℕ → OutputView)
     (source : SourceView S) (source_old source_new : S)
     (sink : SinkView T) (sink_old sink_new : T) (status : RunStatus) : Type 0 where
-  pub text : WritesTextOf answer_to (source.remaining source_old)
+  pub text : WritesTextOf output_to (source.remaining source_old)
       (sink.written sink_old) (sink.written sink_new) status
-  pub devices : LeavesDevices answer_to source source_old source_new sink sink_old sink_new status
+  pub devices : LeavesDevices output_to source source_old source_new sink sink_old sink_new status
 
 -- what a run in this mode leaves
 abbrev pub RunsIn : Mode → {S T : Type 0} → (source : SourceView S) → (source_old source_new : S)
@@ -38,7 +38,7 @@ abbrev pub LeavesDevicesOfOne : {S T : Type 0} → (source : SourceView S)
     → (source_old source_new : S) → (sink : SinkView T) → (sink_old sink_new : T)
     → RunStatus → Type 0
 LeavesDevicesOfOne source source_old source_new sink sink_old sink_new status =
-    (answer : Answer)
+    (answer : OutputView)
     × LeavesDevices (λ _. answer) source source_old source_new sink sink_old sink_new status
 
 -- what a run in this mode leaves of its devices; a script for threads has several answers

@@ -13,7 +13,7 @@ use Rattle.model.proofs.Owners.FiniteTests.{passed_from_some_key, some_key_from_
 use Rattle.dated_owners.specs.declared.later_owners.LaterOwner.{LaterOwner}
 use Rattle.dated_owners.specs.declared.walks.Walk.{Walk}
 use Rattle.dated_owners.specs.LaterOwners.{with_first}
-use Rattle.dated_owners.specs.Walks.{takes, takes_later, askers}
+use Rattle.dated_owners.specs.Walks.{takes, takes_later, asked_resolvers}
 use Rattle.dated_owners.specs.Flags.{is_flagged, Flags}
 use Rattle.dated_owners.specs.Starts.{value_from, AreAbove, AreRising, AreKept, moves_of, is_inside, some_start, changed_in, with_values}
 use Rattle.dated_owners.proofs.FlagLaws.{filter_below}
@@ -42,9 +42,9 @@ some_key_is ss walk r range kept forward = same_truth (some_start [] ss (takes_l
         let p = passed_from_some_key (moves_of ss) (takes walk r) range h in
         some_start_from (takes_later walk r) [] ss range p.key kept.rising (inside_from_holds range p.key p.inside) (sym (ap (takes walk r) (owners_kept ss p.key kept)) ∙ p.passes)
 
-pub askers_are : (resolvers : ℕ) (ss : Starts) (walk : Walk) (range : Range) → AreKept ss → is_key_below range.begin range.end ≡ true
-    → filter (λ r. some_start [] ss (takes_later walk r) range) (each_below resolvers) ≡ askers resolvers (moves_of ss) walk range
-askers_are resolvers ss walk range kept forward =
+pub asked_resolvers_are : (resolvers : ℕ) (ss : Starts) (walk : Walk) (range : Range) → AreKept ss → is_key_below range.begin range.end ≡ true
+    → filter (λ r. some_start [] ss (takes_later walk r) range) (each_below resolvers) ≡ asked_resolvers resolvers (moves_of ss) walk range
+asked_resolvers_are resolvers ss walk range kept forward =
     filter_below (λ r. some_start [] ss (takes_later walk r) range) (λ r. some_key (moves_of ss) (takes walk r) range) resolvers (λ r less. some_key_is ss walk r range kept forward)
 
 -- ---- the starts tried so far, from the last one back

@@ -19,7 +19,7 @@ AreCuts value begin (cut ∷ cuts) =
     × (value begin ≡ value cut → ⊥)
     × AreCuts value cut cuts
 
--- so many are the greatest ranges of all keys with one list of owners left
+-- the number of greatest ranges of all keys with one list of owners left
 pub record CountsPieces (map : OwnerMapView) (count : ℕ) : Type 0 where
   pub cuts : List Key
   pub divide : AreCuts (owners_left map) [] cuts

@@ -11,7 +11,7 @@ use Rattle.dated_owners.specs.declared.later_owners.LaterOwner.{LaterOwner}
 use Rattle.dated_owners.specs.LaterOwners.{needed, are_same}
 use Rattle.system_keys.specs.Limits.{key_space_end}
 
--- the value at a key: that of the last start up to it, or `value` before the first
+-- the value at a key: the value of the last start up to it, or `value` before the first
 abbrev pub value_from : {X : Type 0} → (value : X) → List (Key × X) → Key → X
 value_from value [] key = value
 value_from value (s ∷ ss) key = if is_key_below key s.0 then value else value_from s.1 ss key
@@ -63,7 +63,7 @@ abbrev pub with_values : {X : Type 0} → (X → X) → List (Key × X) → List
 with_values change [] = []
 with_values change (s ∷ ss) = (s.0, change s.1) ∷ with_values change ss
 
--- the value at the begin of the range passes the test, or that of a start inside
+-- the value at the begin of the range passes the test, or the value of a start inside
 abbrev pub some_start : {X : Type 0} → X → List (Key × X) → (X → Bool) → Range → Bool
 some_start {X} value ss test range =
     test (value_from value ss range.begin)

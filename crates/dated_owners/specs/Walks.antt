@@ -19,6 +19,7 @@ abbrev pub takes_later : (walk : Walk) (r : ℕ) (later : List LaterOwner) → B
 takes_later walk r later = takes walk r (with_first later)
 
 -- the resolvers that are asked about some key of a range, in rising order
-abbrev pub askers : (resolvers : ℕ) (moves : List Move) (walk : Walk) (range : Range) → List ℕ
-askers resolvers moves walk range =
+abbrev pub asked_resolvers : (resolvers : ℕ) (moves : List Move) (walk : Walk) (range : Range)
+    → List ℕ
+asked_resolvers resolvers moves walk range =
     filter (λ r. some_key moves (takes walk r) range) (each_below resolvers)

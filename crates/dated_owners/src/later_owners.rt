@@ -4,7 +4,7 @@ ghost use Rattle.std.specs.Prelude.{◌≡◌, ◌≤◌, ◌++◌, ◌∷◌, [
 ghost use Rattle.dated_owners.specs.LaterOwners.{is_first, is_needless, needed, is_same, are_same};
 ghost use Rattle.dated_owners.specs.MergedOwners.{IsMerged};
 
-use crate::merging::{has_one_date_twice, merged};
+use crate::merging::{has_one_date_twice, merge_owners};
 use model::{ResolverNumber, Version};
 use std::alloc::{AllocError, Global};
 use std::marker::Model;
@@ -43,7 +43,7 @@ impl LaterOwners {
     }
 
     /// A copy of the owners. Fails only with `OutOfMemory`.
-    pub(crate) fn copied(alloc: Global, owners: &[LaterOwner]) -> Result<LaterOwners, OutOfMemory>
+    pub(crate) fn from_slice(alloc: Global, owners: &[LaterOwner]) -> Result<LaterOwners, OutOfMemory>
         ensures { IfOk result (λ copy. copy ≡ owners.now) }
     {
         let mut list = Vec::new(alloc);
@@ -93,7 +93,7 @@ impl LaterOwners {
         ensures { IsMerged self.old self.new }
     {
         if has_one_date_twice(self.list.as_slice()) {
-            if let Ok(list) = merged(self.alloc(), self.list.as_slice()) {
+            if let Ok(list) = merge_owners(self.alloc(), self.list.as_slice()) {
                 self.list = list;
             }
         }
@@ -118,7 +118,7 @@ impl LaterOwners {
     }
 
     /// Copies the owners if there is room for them, and tells whether there is. Does not allocate.
-    pub(crate) fn note(&mut self, owners: &[LaterOwner]) -> bool
+    pub(crate) fn copy_within_room(&mut self, owners: &[LaterOwner]) -> bool
         ensures { result ≡ true → self.new ≡ owners.now }
     {
         self.list.clear();
@@ -170,7 +170,7 @@ fn is_first(owner: &LaterOwner) -> bool
 }
 
 /// The owners without those at the front that no walk needs.
-pub(crate) fn needed(owners: &[LaterOwner], oldest: Version) -> &[LaterOwner]
+pub(crate) fn needed_owners(owners: &[LaterOwner], oldest: Version) -> &[LaterOwner]
     ensures { result.now ≡ needed oldest owners.now }
 {
     &owners[needless(owners, oldest)..]

@@ -7,14 +7,14 @@ ghost use Rattle.model.specs.OwnerMaps.{StandsForMoves};
 ghost use Rattle.dated_owners.specs.Pieces.{CountsPieces};
 ghost use Rattle.dated_owners.specs.Answers.{AddsOwner, IsMoved, KeepsMoves, KeepsAsking, WalksAlike};
 ghost use Rattle.dated_owners.specs.Answers.{AreReaders, AreWriters};
-ghost use Rattle.dated_owners.specs.Walks.{askers};
+ghost use Rattle.dated_owners.specs.Walks.{asked_resolvers};
 ghost use Rattle.dated_owners.specs.Refusals.{move_fault, refusal_fault};
 
 use crate::later_owners::{LaterOwner, LaterOwners};
 use crate::pieces::{Pieces, add_owner, count_owners, count_pieces, merge, sweep};
 use crate::refusal::Refusal;
 use crate::resolver_set::ResolverSet;
-use crate::walks::{Walk, askers};
+use crate::walks::{Walk, asked_resolvers};
 use model::{ResolverNumber, Version};
 use std::alloc::{AllocError, Global};
 use std::collections::BTreeMap;
@@ -184,7 +184,7 @@ impl OwnerMap {
         ensures { AreReaders self.now range.now snapshot result }
     {
         let walk = Walk::BackTo(snapshot.max(self.oldest));
-        self.askers(walk, range)
+        self.asked_on_walk(walk, range)
     }
 
     /// Returns the resolvers that a write of `range` asks, in rising order: the last owner of each
@@ -199,16 +199,16 @@ impl OwnerMap {
     pub fn writers(&self, range: &KeyRange) -> ResolverSet
         ensures { AreWriters self.now range.now result }
     {
-        self.askers(Walk::LastOwner, range)
+        self.asked_on_walk(Walk::LastOwner, range)
     }
 
     /// The resolvers that are asked about the range.
-    fn askers(&self, walk: Walk, range: &KeyRange) -> ResolverSet
+    fn asked_on_walk(&self, walk: Walk, range: &KeyRange) -> ResolverSet
         ensures { let map = self.now in
-            result ≡ askers map.resolvers map.moves walk range.now }
+            result ≡ asked_resolvers map.resolvers map.moves walk range.now }
     {
         let end = range.end_bytes();
-        askers(self.resolvers, &self.pieces, walk, range.begin(), end)
+        asked_resolvers(self.resolvers, &self.pieces, walk, range.begin(), end)
     }
 
     /// Raises the oldest version remembered to `oldest`; a lower value changes nothing. Allocates
@@ -225,9 +225,9 @@ impl OwnerMap {
         self.oldest = self.oldest.max(oldest);
         self.paid = self.paid.saturating_add(1);
         let pieces = self.pieces.len();
-        if is_due(self.due, self.oldest, pieces, self.paid) {
+        if is_sweep_due(self.due, self.oldest, pieces, self.paid) {
             self.paid = self.paid.saturating_sub(pieces);
-            self.due = next_due(self.last_date, self.oldest);
+            self.due = next_sweep_date(self.last_date, self.oldest);
             sweep(&mut self.pieces, &mut self.spare, self.oldest);
         }
     }
@@ -289,12 +289,12 @@ impl Clone for OwnerMap {
 }
 
 /// Whether a sweep may find something, and is paid for.
-fn is_due(due: Version, oldest: Version, pieces: usize, paid: usize) -> bool {
+fn is_sweep_due(due: Version, oldest: Version, pieces: usize, paid: usize) -> bool {
     due < oldest && pieces <= paid
 }
 
-/// The date above which `oldest` has to be before the next sweep: that of the last move.
-fn next_due(last_date: Version, oldest: Version) -> Version {
+/// The date above which `oldest` has to be before the next sweep: the date of the last move.
+fn next_sweep_date(last_date: Version, oldest: Version) -> Version {
     if last_date < oldest {
         Version::MAX
     } else {

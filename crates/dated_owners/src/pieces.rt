@@ -8,7 +8,7 @@ ghost use Rattle.dated_owners.specs.MergedOwners.{WalkAlike, IsMerged};
 ghost use Rattle.dated_owners.specs.Starts.{value_from, IsStart, AreStarts, AreKept, AddsIn};
 ghost use Rattle.dated_owners.specs.Starts.{put_all, changed_in, with_values, joined, changes};
 
-use crate::later_owners::{LaterOwner, LaterOwners, are_same, needed};
+use crate::later_owners::{LaterOwner, LaterOwners, are_same, needed_owners};
 use model::Version;
 use std::alloc::Global;
 use std::collections::BTreeMap;
@@ -36,7 +36,7 @@ pub(crate) fn cut(alloc: Global, pieces: &mut Pieces, key: &Bytes) -> Result<(),
     ensures kept { AreKept pieces.old.entries → AreKept pieces.new.entries }
 {
     let copy = key.copy()?;
-    let owners = LaterOwners::copied(alloc, owners_at(pieces, key))?;
+    let owners = LaterOwners::from_slice(alloc, owners_at(pieces, key))?;
     pieces.insert(copy, owners)?;
     Ok(())
 }
@@ -62,7 +62,7 @@ pub(crate) fn add_owner(
     let alloc = spare.alloc();
     cut(alloc, pieces, end)?;
     cut(alloc, pieces, begin)?;
-    let grown = grown_inside(pieces, spare, begin, end, owner)?;
+    let grown = grow_inside(pieces, spare, begin, end, owner)?;
     let count = grown.len();
     put_all(pieces, grown);
     Ok(count)
@@ -70,7 +70,7 @@ pub(crate) fn add_owner(
 
 /// The pieces from `begin` up to `end`, each with one owner more. Fails only with `OutOfMemory`.
 /// `spare` gets room for the longest list.
-fn grown_inside(
+fn grow_inside(
     pieces: &Pieces,
     spare: &mut LaterOwners,
     begin: &Bytes,
@@ -187,7 +187,7 @@ fn is_other(owners: &[LaterOwner], spare: &mut LaterOwners, is_noted: &mut bool)
     if *is_noted && are_same(owners, spare.as_slice()) {
         return false;
     }
-    *is_noted = spare.note(owners);
+    *is_noted = spare.copy_within_room(owners);
     true
 }
 
@@ -208,7 +208,7 @@ pub(crate) fn count_pieces(pieces: &Pieces, oldest: Version) -> usize
     let mut count = 1;
     let mut last: &[LaterOwner] = &[];
     for (key, owners) in pieces {
-        let left = needed(owners.as_slice(), oldest);
+        let left = needed_owners(owners.as_slice(), oldest);
         if !is_below(b"", key.as_slice()) {
             last = left;
         } else if is_below(key.as_slice(), KEY_SPACE_END) && !are_same(left, last) {

@@ -5,13 +5,13 @@ ghost use Rattle.std.specs.List.{list_any};
 ghost use Rattle.model.specs.Shares.{each_below};
 ghost use Rattle.dated_owners.specs.Flags.{is_flagged};
 
-use crate::flags::flagged;
+use crate::flags::flagged_resolvers;
 use model::ResolverNumber;
 use std::alloc::Global;
 use std::marker::Model;
 use system_keys::{Items, OutOfMemory};
 
-/// A cluster has at most so many resolvers.
+/// The greatest number of resolvers of a cluster.
 pub(crate) const MOST: usize = 64;
 
 /// Some of a cluster's resolvers. Contracts see the list of their numbers, in rising order.
@@ -36,7 +36,7 @@ impl Model for ResolverSet {
 }
 
 impl ResolverSet {
-    /// The flagged ones of so many resolvers.
+    /// The flagged ones of `resolvers` resolvers.
     pub(crate) fn of_flags(resolvers: usize, flags: [bool; MOST]) -> ResolverSet
         requires { resolvers ≤ 64 }
         ensures { result ≡ filter (is_flagged flags) (each_below resolvers) }
@@ -56,6 +56,6 @@ impl ResolverSet {
     pub fn list(&self, alloc: Global) -> Result<Items<ResolverNumber>, OutOfMemory>
         ensures { IfOk result (λ list. list ≡ self.now) }
     {
-        flagged(alloc, &self.flags[..self.resolvers])
+        flagged_resolvers(alloc, &self.flags[..self.resolvers])
     }
 }

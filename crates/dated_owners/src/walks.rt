@@ -26,7 +26,7 @@ pub(crate) enum Walk {
 }
 
 /// The resolvers that are asked about some key from `begin` up to `end`. Does not allocate.
-pub(crate) fn askers(
+pub(crate) fn asked_resolvers(
     resolvers: usize,
     pieces: &Pieces,
     walk: Walk,
@@ -41,13 +41,13 @@ pub(crate) fn askers(
         (each_below resolvers) }
 {
     let mut flags = [false; MOST];
-    flag_askers(pieces, walk, begin, end, &mut flags);
+    walk_range(pieces, walk, begin, end, &mut flags);
     ResolverSet::of_flags(resolvers, flags)
 }
 
 /// Flags the resolvers that are asked about some key from `begin` up to `end`: the owners are those
 /// from each start inside on, and from the last start up to `begin`, which are those at `begin`.
-fn flag_askers(pieces: &Pieces, walk: Walk, begin: &[u8], end: &Bytes, flags: &mut [bool])
+fn walk_range(pieces: &Pieces, walk: Walk, begin: &[u8], end: &Bytes, flags: &mut [bool])
     requires { is_key_below begin.now end.now ≡ true }
     ensures { let range : Range = record { begin = begin.now; end = end.now } in
         let starts = pieces.now.entries in
@@ -55,21 +55,21 @@ fn flag_askers(pieces: &Pieces, walk: Walk, begin: &[u8], end: &Bytes, flags: &m
 {
     let mut left = pieces.range(..end);
     while let Some((key, owners)) = left.next_back() {
-        flag_owners(owners.as_slice(), walk, flags);
+        walk_owners(owners.as_slice(), walk, flags);
         if !is_below(begin, key.as_slice()) {
             return;
         }
     }
-    flag_owners(&[], walk, flags);
+    walk_owners(&[], walk, flags);
 }
 
 /// Flags the resolvers that are asked about a key with these owners after the first one.
-fn flag_owners(owners: &[LaterOwner], walk: Walk, flags: &mut [bool])
+fn walk_owners(owners: &[LaterOwner], walk: Walk, flags: &mut [bool])
     ensures { Flags flags.old (λ r. takes walk r (with_first owners.now)) flags.new }
 {
     match walk {
         Walk::LastOwner => flag(flags, last_owner(owners)),
-        Walk::BackTo(bound) => flag_visited(owners, bound, flags),
+        Walk::BackTo(bound) => walk_back_to(owners, bound, flags),
     }
 }
 
@@ -84,7 +84,7 @@ fn last_owner(owners: &[LaterOwner]) -> ResolverNumber
 }
 
 /// Flags the resolvers that the walk visits, back to the bound.
-fn flag_visited(owners: &[LaterOwner], bound: Version, flags: &mut [bool])
+fn walk_back_to(owners: &[LaterOwner], bound: Version, flags: &mut [bool])
     ensures { Flags flags.old (λ r. walk_visits bound r (with_first owners.now)) flags.new }
 {
     for i in (0..owners.len()).rev() {

@@ -7,7 +7,7 @@ use Rattle.model.specs.Configs.{Config}
 use Rattle.model.specs.declared.outcome.Finished.{Finished}
 use Rattle.model.specs.Records.{Record, IsHistory, records_of_proxy}
 use Rattle.model.specs.Journal.{history_verdicts}
-use Rattle.model.specs.World.{World, Handled, Answer, Sequenced, Moved, Judged, Again, Completed, Refused, NoSuchRow, IsSound, finished_after, finished_batch, handle_event, answers, world_after}
+use Rattle.model.specs.World.{World, Handled, Answer, Sequenced, Moved, Judged, Again, FinishedBatch, Refused, NoSuchRow, IsSound, finished_after, finished_batch, handle_event, answers, world_after}
 use Rattle.model.proofs.Members.{Has-from_Contains, Contains-from_Has}
 use Rattle.model.proofs.Verdicts.Places.{row_at}
 use Rattle.model.proofs.Worlds.Runs.{own_place, set_other, set_same}
@@ -28,13 +28,13 @@ is_completed (Sequenced row version) = false
 is_completed (Moved date) = false
 is_completed (Judged reply) = false
 is_completed (Again reply) = false
-is_completed (Completed finished) = true
+is_completed (FinishedBatch finished) = true
 is_completed (Refused refusal) = false
 
 -- the answer to a finish of a record
 abbrev answer_at : Config → List Record → Option Record → Answer
 answer_at config h None = Refused NoSuchRow
-answer_at config h (Some rec) = Completed (batch_in config h rec)
+answer_at config h (Some rec) = FinishedBatch (batch_in config h rec)
 
 -- that of the record of proxy p at a place among its records
 abbrev answer_in : Config → List Record → (p place : ℕ) → Answer
@@ -45,7 +45,7 @@ undone_incomplete (Sequenced row version) undone = refl
 undone_incomplete (Moved date) undone = refl
 undone_incomplete (Judged reply) undone = refl
 undone_incomplete (Again reply) undone = refl
-undone_incomplete (Completed finished) undone = absurd (cc)
+undone_incomplete (FinishedBatch finished) undone = absurd (cc)
 undone_incomplete (Refused refusal) undone = refl
 
 -- the number of records that a proxy has finished
@@ -70,11 +70,11 @@ record IsBatch (config : Config) (h : List Record) (p place : ℕ) (finished : F
   is : finished ≡ batch_in config h rec
   row : finished.row ≡ rec.row
 
-is_batch : (config : Config) (h : List Record) (p place : ℕ) (finished : Finished) → Completed finished ≡ answer_in config h p place → IsBatch config h p place finished
+is_batch : (config : Config) (h : List Record) (p place : ℕ) (finished : Finished) → FinishedBatch finished ≡ answer_in config h p place → IsBatch config h p place finished
 unfolding finished_after
 is_batch config h p place finished answer = by (slice_get (records_of_proxy p h) place) refl answer
   where
-    by : (found : Option Record) → slice_get (records_of_proxy p h) place ≡ found → Completed finished ≡ answer_at config h found → IsBatch config h p place finished
+    by : (found : Option Record) → slice_get (records_of_proxy p h) place ≡ found → FinishedBatch finished ≡ answer_at config h found → IsBatch config h p place finished
     by None at same = absurd (cc)
     by (Some rec) at same =
         let is : finished ≡ batch_in config h rec = cc in
@@ -107,7 +107,7 @@ finished_one config h p k q m history told same = by (answer_in config h p k) re
     by (Judged reply) is completed = absurd (cc)
     by (Again reply) is completed = absurd (cc)
     by (Refused refusal) is completed = absurd (cc)
-    by (Completed finished) is completed = one_batch config h p k q m finished history (is_batch config h p k finished (sym is)) (is_batch config h q m finished (sym is ∙ same))
+    by (FinishedBatch finished) is completed = one_batch config h p k q m finished history (is_batch config h p k finished (sym is)) (is_batch config h q m finished (sym is ∙ same))
 
 abbrev pub finished_records : (config : Config) (h : List Record) → IsHistory config h → Counters config h
 finished_records config h history = record {
@@ -121,7 +121,7 @@ finished_records config h history = record {
 
 -- ---- the law
 
-unfinished_from : (config : Config) (w : World) (finished : Finished) (sound : IsSound config w) → Passed config w.history (finished_records config w.history sound.sequencer.history) w (Completed finished) → IsUnfinishedBatch config w finished
+unfinished_from : (config : Config) (w : World) (finished : Finished) (sound : IsSound config w) → Passed config w.history (finished_records config w.history sound.sequencer.history) w (FinishedBatch finished) → IsUnfinishedBatch config w finished
 unfinished_from config w finished sound from =
     let is = is_batch config w.history from.i from.n finished from.is in
     let own : is.rec.proxy ≡ from.i = (own_place from.i w.history from.n is.rec is.at).own in
@@ -138,11 +138,11 @@ unfinished_from config w finished sound from =
 
 pub unfinished_finish : TheUnfinishedBatchesFinish
 unfinished_finish config w events finished sound work all = (
-  λ told. unfinished_from config w finished sound (passed config w.history (finished_records config w.history sound.sequencer.history) w events (Completed finished) (record { sound = sound; history = refl; work = work }) refl (Has-from_Contains (answers config w events) (Completed finished) told)),
+  λ told. unfinished_from config w finished sound (passed config w.history (finished_records config w.history sound.sequencer.history) w events (FinishedBatch finished) (record { sound = sound; history = refl; work = work }) refl (Has-from_Contains (answers config w events) (FinishedBatch finished) told)),
   λ is.
       let count : slice_index (world_after config w events).finished is.rec.proxy ≡ length (records_of_proxy is.rec.proxy w.history) = all is.rec.proxy is.proxy ∙ ap (λ (h : List Record). length (records_of_proxy is.rec.proxy h)) (work_keeps config w events sound work).history in
       let has = tells config w.history (finished_records config w.history sound.sequencer.history) w events is.rec.proxy is.place (record { sound = sound; history = refl; work = work }) is.unfinished (omega (arith, count, slice_get_within (records_of_proxy is.rec.proxy w.history) is.place is.rec is.at)) in
-      let answer : answer_in config w.history is.rec.proxy is.place ≡ Completed finished = ap (answer_at config w.history) is.at ∙ ap (λ (x : Finished). Completed x) (sym is.batch) in
+      let answer : answer_in config w.history is.rec.proxy is.place ≡ FinishedBatch finished = ap (answer_at config w.history) is.at ∙ ap (λ (x : Finished). FinishedBatch x) (sym is.batch) in
       subst (Contains (answers config w events)) answer (Contains-from_Has (answers config w events) (answer_in config w.history is.rec.proxy is.place) has),
 )
 

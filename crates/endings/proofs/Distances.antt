@@ -25,7 +25,7 @@ take_next (y ∷ ys) (suc k) x at = ap (λ zs. y ∷ zs) (take_next ys k x at)
 
 -- ---- the rows that a proxy knows
 
--- proxy p, which has finished so many records, knows the first n rows, and of its own exactly these
+-- proxy p, which has finished this number of records, knows the first n rows, and of its own exactly these
 pub record Knows (w : World) (p done n : ℕ) : Type 0 where
   pub within : n ≤ length w.history
   pub up_to : up_to_version (last_version (take done (records_of_proxy p w.history))) w.history ≡ take n w.history

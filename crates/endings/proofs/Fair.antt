@@ -93,7 +93,7 @@ less_next config w schedule n sound fair done =
     let takes = takes_one config (before config w schedule n) (schedule n) (before_sound config w schedule n sound) (fair.work n) done in
     (suc n, omega (arith, takes, ap (work_left config) (before_next config w schedule n)))
 
--- an event that can be done at moment n, and comes so many moments later, makes it less
+-- an event that can be done at moment n, and comes this number of moments later, makes it less
 less_later : (config : Config) (w : World) (schedule : Schedule) (event : Event) (d n m : ℕ) → IsSound config w → IsFair config w schedule → CanBeDone config (before config w schedule n) event → m ≡ n + d → schedule m ≡ event → Less config w schedule n
 less_later config w schedule event zero n m sound fair can is at =
     let same : n ≡ m = omega (arith, is) in

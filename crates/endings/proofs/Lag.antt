@@ -8,7 +8,7 @@ use Rattle.model.specs.Records.{Record, last_version, records_of_proxy}
 use Rattle.model.specs.Shares.{each_below}
 use Rattle.model.specs.Journal.{history_verdicts}
 use Rattle.model.specs.World as world
-use Rattle.model.specs.World.{World, Event, Sequence, Finish, Handled, Completed, IsSound, initial_world, next_record, handle_event, finished_after, finished_batch, finish_record, handle_finish, missing_replies, refuse, world_after, up_to_version, finished_version}
+use Rattle.model.specs.World.{World, Event, Sequence, Finish, Handled, FinishedBatch, IsSound, initial_world, next_record, handle_event, finished_after, finished_batch, finish_record, handle_finish, missing_replies, refuse, world_after, up_to_version, finished_version}
 use Rattle.std.proofs.Math.Nat.{suc-mul}
 use Rattle.model.proofs.History.Chain.{version_before}
 use Rattle.model.proofs.History.Growth.{records_of_proxy-append}
@@ -31,21 +31,21 @@ record HasFinishedBy (config : Config) (w : World) (p : ℕ) (f : Finished) : Ty
   none : missing_replies w rec.row (each_below config.resolvers) ≡ []
   row : f.row ≡ rec.row
 
-told_finished : (config : Config) (w : World) (p : ℕ) (f : Finished) → (handle_event config w (Finish p)).answer ≡ Completed f → HasFinishedBy config w p f
+told_finished : (config : Config) (w : World) (p : ℕ) (f : Finished) → (handle_event config w (Finish p)).answer ≡ FinishedBatch f → HasFinishedBy config w p f
 unfolding handle_event finished_after
 told_finished config w p f told = by (nat_le config.proxies p) refl told
   where
-    waits : (rec : Record) (waiting : List ℕ) → p < config.proxies → slice_get (records_of_proxy p w.history) (slice_index w.finished p) ≡ Some rec → missing_replies w rec.row (each_below config.resolvers) ≡ waiting → (finish_record config w p rec waiting).answer ≡ Completed f → HasFinishedBy config w p f
+    waits : (rec : Record) (waiting : List ℕ) → p < config.proxies → slice_get (records_of_proxy p w.history) (slice_index w.finished p) ≡ Some rec → missing_replies w rec.row (each_below config.resolvers) ≡ waiting → (finish_record config w p rec waiting).answer ≡ FinishedBatch f → HasFinishedBy config w p f
     waits rec (r ∷ rs) there turn is answer = absurd (cc)
     waits rec [] there turn is answer =
         let same : f ≡ finished_batch config (history_verdicts config w.history) (take rec.row w.history) rec = cc in
         record { there = there; rec = rec; turn = turn; none = is; row = ap (λ (x : Finished). x.row) same }
 
-    found_is : (found : Option Record) → p < config.proxies → slice_get (records_of_proxy p w.history) (slice_index w.finished p) ≡ found → (handle_finish config w p found).answer ≡ Completed f → HasFinishedBy config w p f
+    found_is : (found : Option Record) → p < config.proxies → slice_get (records_of_proxy p w.history) (slice_index w.finished p) ≡ found → (handle_finish config w p found).answer ≡ FinishedBatch f → HasFinishedBy config w p f
     found_is None there turn answer = absurd (cc)
     found_is (Some rec) there turn answer = waits rec (missing_replies w rec.row (each_below config.resolvers)) there turn refl answer
 
-    by : (t : Bool) → nat_le config.proxies p ≡ t → (if t then refuse w world.NoSuchProxy else handle_finish config w p (slice_get (records_of_proxy p w.history) (slice_index w.finished p))).answer ≡ Completed f → HasFinishedBy config w p f
+    by : (t : Bool) → nat_le config.proxies p ≡ t → (if t then refuse w world.NoSuchProxy else handle_finish config w p (slice_get (records_of_proxy p w.history) (slice_index w.finished p))).answer ≡ FinishedBatch f → HasFinishedBy config w p f
     by true unknown answer = absurd (cc)
     by false known answer = found_is (slice_get (records_of_proxy p w.history) (slice_index w.finished p)) (leb-false config.proxies p known) refl answer
 

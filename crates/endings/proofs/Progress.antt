@@ -7,7 +7,7 @@ use Rattle.model.specs.declared.outcome.Finished.{Finished}
 use Rattle.model.specs.Records.{Record, records_of_proxy}
 use Rattle.model.specs.Shares.{each_below}
 use Rattle.model.specs.Journal.{history_verdicts}
-use Rattle.model.specs.World.{World, Event, Offer, Finish, Handled, Judged, Completed, Refused, MissingReply, IsSound, reply_of, handle_offer_at, finished_batch, missing_replies, handle_event}
+use Rattle.model.specs.World.{World, Event, Offer, Finish, Handled, Judged, FinishedBatch, Refused, MissingReply, IsSound, reply_of, handle_offer_at, finished_batch, missing_replies, handle_event}
 use Rattle.model.proofs.Members.{Has, Has-from_filter, Has-append_cases}
 use Rattle.model.proofs.History.Chain.{element_at}
 use Rattle.model.proofs.Resolvers.Offers.{offer_is}
@@ -66,7 +66,7 @@ waits config w p sound there unfinished = by (missing_replies w next.0.row (each
     next = element_at (records_of_proxy p w.history) (slice_index w.finished p) unfinished
 
     by : (waiting : List ℕ) → missing_replies w next.0.row (each_below config.resolvers) ≡ waiting →
-        ((finished : Finished) × ((handle_event config w (Finish p)).answer ≡ Completed finished))
+        ((finished : Finished) × ((handle_event config w (Finish p)).answer ≡ FinishedBatch finished))
         ⊎ ((r : ℕ) × (r < config.resolvers) × ((handle_event config w (Finish p)).answer ≡ Refused (MissingReply r)) × CanJudge config w r)
     by [] none = inl (finished_batch config (history_verdicts config w.history) (take next.0.row w.history) next.0, ap (λ (handled : Handled). handled.answer) (finish_is config w p next.0 there next.1 none))
     by (r ∷ rs) some =
@@ -77,7 +77,7 @@ waits config w p sound there unfinished = by (missing_replies w next.0.row (each
 pub not_stuck : NothingIsStuck
 not_stuck config w p sound there unfinished = by (waits config w p sound there unfinished)
   where
-    by : ((finished : Finished) × ((handle_event config w (Finish p)).answer ≡ Completed finished)) ⊎ ((r : ℕ) × (r < config.resolvers) × ((handle_event config w (Finish p)).answer ≡ Refused (MissingReply r)) × CanJudge config w r) →
+    by : ((finished : Finished) × ((handle_event config w (Finish p)).answer ≡ FinishedBatch finished)) ⊎ ((r : ℕ) × (r < config.resolvers) × ((handle_event config w (Finish p)).answer ≡ Refused (MissingReply r)) × CanJudge config w r) →
         (event : Event) × (is_work event ≡ true) × (is_done (handle_event config w event).answer ≡ true)
     by (inl done) = (Finish p, refl, ap is_done done.1)
     by (inr found) = (Offer (slice_index w.judged_counts found.0) found.0, refl, ap is_done found.3.1)

@@ -6,7 +6,7 @@ use Rattle.model.specs.Configs.{Config}
 use Rattle.model.specs.declared.reply.Reply.{Reply}
 use Rattle.model.specs.Records.{Record, IsHistory}
 use Rattle.model.specs.Journal.{history_verdicts}
-use Rattle.model.specs.World.{World, Handled, Answer, Sequenced, Moved, Judged, Again, Completed, Refused, NoSuchRow, IsSound, reply_of, handle_event, answers, world_after}
+use Rattle.model.specs.World.{World, Handled, Answer, Sequenced, Moved, Judged, Again, FinishedBatch, Refused, NoSuchRow, IsSound, reply_of, handle_event, answers, world_after}
 use Rattle.model.proofs.Members.{Has-from_Contains, Contains-from_Has}
 use Rattle.model.proofs.Verdicts.Places.{row_at}
 use Rattle.model.proofs.Worlds.Histories.{world_after_sound}
@@ -29,7 +29,7 @@ is_judged (Sequenced row version) = false
 is_judged (Moved date) = false
 is_judged (Judged reply) = true
 is_judged (Again reply) = false
-is_judged (Completed finished) = false
+is_judged (FinishedBatch finished) = false
 is_judged (Refused refusal) = false
 
 -- the answer of a resolver that judges a row
@@ -45,7 +45,7 @@ undone_unjudged (Sequenced row version) undone = refl
 undone_unjudged (Moved date) undone = refl
 undone_unjudged (Judged reply) undone = absurd (cc)
 undone_unjudged (Again reply) undone = refl
-undone_unjudged (Completed finished) undone = refl
+undone_unjudged (FinishedBatch finished) undone = refl
 undone_unjudged (Refused refusal) undone = refl
 
 -- the number of rows that a resolver has judged
@@ -93,7 +93,7 @@ judged_one config h r row s other history told same = by (answer_in config h r r
     by (Sequenced n version) is judged = absurd (cc)
     by (Moved date) is judged = absurd (cc)
     by (Again reply) is judged = absurd (cc)
-    by (Completed finished) is judged = absurd (cc)
+    by (FinishedBatch finished) is judged = absurd (cc)
     by (Refused refusal) is judged = absurd (cc)
     by (Judged reply) is judged =
         let one = is_reply config h r row reply history (sym is) in

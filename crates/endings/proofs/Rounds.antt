@@ -67,7 +67,7 @@ finish_there config w p done = by (nat_le config.proxies p) refl _ done
 
 in_round : (config : Config) (w : World) (event : Event) → CanBeDone config w event → Has (round config (length w.history)) event
 in_round config w (Sequence p batch) can = absurd (cc (can.0))
-in_round config w (MoveRange range destination) can = absurd (cc (can.0))
+in_round config w (MoveRange range dest) can = absurd (cc (can.0))
 in_round config w (Offer row r) can =
     let there = offer_there config w row r can.1 in
     Has-append_left (flat_map (offers_of_row config) (each_below (length w.history))) (map (λ (p : ℕ). Finish p) (each_below config.proxies)) (Offer row r)

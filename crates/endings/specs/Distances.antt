@@ -8,7 +8,7 @@ use Rattle.model.specs.declared.outcome.Finished.{Finished}
 use Rattle.model.specs.Records.{Record, last_version, records_of_proxy}
 use Rattle.model.specs.Journal.{history_verdicts, journal}
 use Rattle.model.specs.Metadata.{after_journal_row}
-use Rattle.model.specs.World.{World, Event, Finish, Completed, IsSound, initial_world, handle_event}
+use Rattle.model.specs.World.{World, Event, Finish, FinishedBatch, IsSound, initial_world, handle_event}
 use Rattle.model.specs.World.{world_after, finished_version, rows_up_to, proxy_journal}
 use Rattle.model.specs.World.{proxy_metadata, remembered_by}
 use Rattle.endings.specs.Work.{records_left, AllFinished}
@@ -25,7 +25,7 @@ NothingFinishedNothingKnown =
     (config : Config) (w : World) (p : ProxyNumber)
     → IsConfig config → IsSound config w → slice_index w.finished p ≡ 0 → rows_known w p ≡ 0
 
--- any other knows each row up to that of the last record that it finished, and no further one
+-- any other knows each row up to the row of the last record that it finished, and no further one
 abbrev pub AProxyKnowsUpToItsLastRecord : Type 0
 AProxyKnowsUpToItsLastRecord =
     (config : Config) (w : World) (p : ProxyNumber) (done : ℕ) (rec : Record)
@@ -44,7 +44,7 @@ abbrev pub AFinishCatchesUp : Type 0
 AFinishCatchesUp =
     (config : Config) (w : World) (p : ProxyNumber) (finished : Finished)
     → IsConfig config → IsSound config w
-    → (handle_event config w (Finish p)).answer ≡ Completed finished
+    → (handle_event config w (Finish p)).answer ≡ FinishedBatch finished
     → rows_known (handle_event config w (Finish p)).world p ≡ suc finished.row
 
 -- ---- one journal
@@ -65,7 +65,7 @@ TheOneAheadHasTheJournalOfTheOther =
     → proxy_journal config w q
     ≡ proxy_journal config w p ++ drop (rows_known w p) (proxy_journal config w q)
 
--- its metadata is that of the other, changed by the rows between
+-- its metadata is the other's metadata, changed by the rows between
 abbrev pub TheOneAheadHasTheMetadataOfTheOther : Type 0
 TheOneAheadHasTheMetadataOfTheOther =
     (config : Config) (w : World) (p q : ProxyNumber)

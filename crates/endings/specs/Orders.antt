@@ -8,7 +8,7 @@ use Rattle.model.specs.declared.reply.Reply.{Reply}
 use Rattle.model.specs.declared.outcome.Finished.{Finished}
 use Rattle.model.specs.Records.{Record, records_of_proxy}
 use Rattle.model.specs.Journal.{history_verdicts}
-use Rattle.model.specs.World.{World, Event, Answer, Judged, Completed, IsSound, reply_of}
+use Rattle.model.specs.World.{World, Event, Answer, Judged, FinishedBatch, IsSound, reply_of}
 use Rattle.model.specs.World.{finished_batch, answers, world_after, proxy_journal, proxy_metadata}
 use Rattle.model.specs.World.{proxy_routing}
 use Rattle.endings.specs.Work.{AreWork, is_done, AllFinished, done_world}
@@ -68,15 +68,15 @@ abbrev pub TheUnfinishedBatchesFinish : Type 0
 TheUnfinishedBatchesFinish =
     (config : Config) (w : World) (events : List Event) (finished : Finished)
     → IsSound config w → AreWork events → AllFinished config (world_after config w events)
-    → Contains (answers config w events) (Completed finished) ↔ IsUnfinishedBatch config w finished
+    → Contains (answers config w events) (FinishedBatch finished) ↔ IsUnfinishedBatch config w finished
 
 -- so a batch that finishes in one of two orders, finishes in the other too
 abbrev pub TheSameBatchesFinish : Type 0
 TheSameBatchesFinish =
     (config : Config) (w : World) (events others : List Event) (finished : Finished)
     → BothFinish config w events others
-    → Contains (answers config w events) (Completed finished)
-    → Contains (answers config w others) (Completed finished)
+    → Contains (answers config w events) (FinishedBatch finished)
+    → Contains (answers config w others) (FinishedBatch finished)
 
 -- the reply of a resolver to a row that it has not judged in w, by the history
 pub record IsUnjudgedReply (config : Config) (w : World) (reply : Reply) : Type 0 where

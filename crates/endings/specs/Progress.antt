@@ -7,7 +7,7 @@ use Rattle.model.specs.Numbers.{ProxyNumber, ResolverNumber}
 use Rattle.model.specs.Configs.{Config}
 use Rattle.model.specs.declared.reply.Reply.{Reply}
 use Rattle.model.specs.declared.outcome.Finished.{Finished}
-use Rattle.model.specs.World.{World, Event, Offer, Finish, Judged, Completed, Refused}
+use Rattle.model.specs.World.{World, Event, Offer, Finish, Judged, FinishedBatch, Refused}
 use Rattle.model.specs.World.{MissingReply, IsSound, initial_world, handle_event, answers}
 use Rattle.model.specs.World.{world_after}
 use Rattle.endings.specs.Work.{is_work, AreWork, is_done, work_left, HasUnfinished, AllFinished}
@@ -33,7 +33,7 @@ abbrev pub AProxyWaitsForAResolverThatCanJudge : Type 0
 AProxyWaitsForAResolverThatCanJudge =
     (config : Config) (w : World) (p : ProxyNumber)
     → IsSound config w → p < config.proxies → HasUnfinished w p
-    → ((finished : Finished) × ((handle_event config w (Finish p)).answer ≡ Completed finished))
+    → ((finished : Finished) × ((handle_event config w (Finish p)).answer ≡ FinishedBatch finished))
     ⊎ ((r : ResolverNumber) × (r < config.resolvers)
     × ((handle_event config w (Finish p)).answer ≡ Refused (MissingReply r))
     × CanJudge config w r)

@@ -8,14 +8,14 @@ use Rattle.model.specs.Configs.{Config}
 use Rattle.model.specs.Records.{records_of_proxy}
 use Rattle.model.specs.Shares.{each_below}
 use Rattle.model.specs.World.{World, Event, Sequence, MoveRange, Offer, Finish, Answer, Sequenced}
-use Rattle.model.specs.World.{Moved, Judged, Again, Completed, Refused}
+use Rattle.model.specs.World.{Moved, Judged, Again, FinishedBatch, Refused}
 
 -- ---- the events that do it
 
 -- the event is an offer or a finish
 abbrev pub is_work : Event → Bool
 is_work (Sequence p batch) = false
-is_work (MoveRange range destination) = false
+is_work (MoveRange range dest) = false
 is_work (Offer row r) = true
 is_work (Finish p) = true
 
@@ -29,7 +29,7 @@ is_done (Sequenced row version) = false
 is_done (Moved date) = false
 is_done (Judged reply) = true
 is_done (Again reply) = false
-is_done (Completed finished) = true
+is_done (FinishedBatch finished) = true
 is_done (Refused refusal) = false
 
 -- ---- what is left

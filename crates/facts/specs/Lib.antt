@@ -1,3 +1,3 @@
--- a stretch, a part of it, what it has from a row on, and when two agree
+-- a stretch, a part of it, its values from a row on, and when two agree
 pub mod Stretches
 pub mod Unsets

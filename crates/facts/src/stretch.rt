@@ -7,8 +7,6 @@ ghost use Rattle.std.specs.Prelude.{
   ◌≤◌,
   [],
   ◌++◌,
-  min,
-  max,
   MatchResult,
   MatchOption,
   IfErr,
@@ -42,7 +40,7 @@ use std::marker::Model;
 
 /// Facts about the cells of consecutive rows, from a first row on.
 ///
-/// It takes no bytes for a row. Still each call that copies facts may fail for want of memory.
+/// It takes no bytes for a row. Still, each call that copies facts may fail because an allocation fails.
 #[derive(Drop)]
 pub struct Stretch<T> {
     first: usize,
@@ -120,8 +118,8 @@ impl<T> Stretch<T> {
     pub fn part(&self, start: usize, end: usize) -> Result<Stretch<T>, AllocError>
         ensures { IfOk result (λ part. part ≡ part_of start end self.now) }
     {
-        let first = least(greatest(start, self.first), self.end());
-        let end = greatest(first, least(end, self.end()));
+        let first = start.max(self.first).min(self.end());
+        let end = first.max(end.min(self.end()));
         let mut facts = Vec::new(*self.facts.allocator());
         append(
             &mut facts,
@@ -170,7 +168,7 @@ impl<T: Drop> Stretch<T> {
     ///
     /// Otherwise returns the value and leaves the stretch unchanged: with `Taken` and the fact
     /// about the cell if it held a value, or with `OutOfMemory`, and then the cell is as it was.
-    pub fn set(&mut self, cell: &OnceBox<T>, value: T) -> Result<(), (Unset<Fact<T>>, T)>
+    pub fn set_next(&mut self, cell: &OnceBox<T>, value: T) -> Result<(), (Unset<Fact<T>>, T)>
         requires { end_of self.old < rows_limit }
         ensures gained { IfOk result (λ _.
             GainsFact self.old self.new (cell_name cell.now) value) }
@@ -187,9 +185,9 @@ impl<T: Drop> Stretch<T> {
         Ok(())
     }
 
-    /// Sets the cell of the next row as [`Stretch::set`] does, and returns a copy of all the facts,
+    /// Sets the cell of the next row as [`Stretch::set_next`] does, and returns a copy of all the facts,
     /// that of the new row among them.
-    pub fn set_and_copy(
+    pub fn set_next_and_copy(
         &mut self,
         cell: &OnceBox<T>,
         value: T,
@@ -203,7 +201,7 @@ impl<T: Drop> Stretch<T> {
             fact.cell ≡ cell_name cell.now)) }
     {
         let alloc = *self.facts.allocator();
-        let Ok(mut copied) = copied_with_room(alloc, &self.facts) else {
+        let Ok(mut copied) = copy_with_room(alloc, &self.facts) else {
             return Err((Unset::OutOfMemory, value));
         };
         let Ok(()) = self.facts.reserve(1) else {
@@ -219,22 +217,8 @@ impl<T: Drop> Stretch<T> {
     }
 }
 
-/// The lesser of the two.
-fn least(a: usize, b: usize) -> usize
-    ensures { result ≡ min a b }
-{
-    if a < b { a } else { b }
-}
-
-/// The greater of the two.
-fn greatest(a: usize, b: usize) -> usize
-    ensures { result ≡ max a b }
-{
-    if a < b { b } else { a }
-}
-
 /// A copy of the facts, with room for one more.
-fn copied_with_room<T>(alloc: Global, facts: &Vec<Fact<T>>) -> Result<Vec<Fact<T>>, AllocError>
+fn copy_with_room<T>(alloc: Global, facts: &Vec<Fact<T>>) -> Result<Vec<Fact<T>>, AllocError>
     ensures { IfOk result (λ copied. (copied.items ≡ facts.now.items)
         × (vec_len copied < vec_capacity copied)) }
 {
@@ -269,7 +253,7 @@ fn agree_from<T>(one: &Vec<Fact<T>>, start: usize, other: &Vec<Fact<T>>)
     requires small { start ≤ rows_limit }
     ensures { Agree 0 (values one.now.items) start (values other.now.items) }
 {
-    for place in 0..least(one.len().saturating_sub(start), other.len()) {
+    for place in 0..one.len().saturating_sub(start).min(other.len()) {
         one[start + place].agrees(&other[place]);
     }
 }

@@ -11,13 +11,13 @@ use Rattle.model.specs.Configs.{is_from_one, resolvers_limit}
 use Rattle.model.specs.Metadata.{after_journal_row, metadata}
 use Rattle.model.specs.declared.journal.JournalRow.{JournalRow}
 use Rattle.cluster_lines.specs.MetadataLines.{metadata_text}
-use Rattle.scripts.specs.Answers.{done}
+use Rattle.scripts.specs.Outputs.{done}
 use Rattle.scripts.specs.Checks.{each_checked}
 use Rattle.scripts.specs.Scripts.{checked_raw}
 use Rattle.scripts.specs.Values.{value_of}
 use Rattle.fold_run.specs.Checks.{checked_row, checked_script}
 use Rattle.fold_run.specs.Folding.{AreFolded, IsNext}
-use Rattle.fold_run.specs.Limits.{are_rising, row_has_verdicts, script_shape}
+use Rattle.fold_run.specs.Limits.{versions_increase, row_has_verdicts, script_shape}
 use Rattle.fold_run.specs.Scripts.{script_of}
 use Rattle.fold_run.specs.Shapes.{fields_shape}
 use Rattle.fold_run.specs.Text.{fold_text, folded_text, last_version, version_of}
@@ -29,7 +29,7 @@ use Rattle.fold_run.proofs.CheckLemmas.{same_version}
 
 -- the rows so far are folded: whatever rows follow, their versions rise if they do from the last on
 pub record SoFarFolded (raws : List RawRow) (rows : List JournalRow) (folded : FoldedRows) : Type 0 where
-  pub rising : (rest : List RawRow) → are_rising 0 (raws ++ rest) ≡ are_rising folded.version rest
+  pub rising : (rest : List RawRow) → versions_increase 0 (raws ++ rest) ≡ versions_increase folded.version rest
   pub verdicts : list_all (row_has_verdicts folded.resolvers) raws ≡ true
   pub checked : each_checked checked_row raws ≡ Ok rows
   pub version : folded.version ≡ last_version rows
@@ -55,7 +55,7 @@ fold_turn raws rows raw row before after so_far next checked folded =
     let same : row.version ≡ raw.version = same_version raw row checked in
     let all = list_all-append (row_has_verdicts before.resolvers) raws (raw ∷ []) in
     rw folded (record {
-      rising = λ rest. ap (are_rising 0) (append_assoc raws (raw ∷ []) rest) ∙ so_far.rising (raw ∷ rest) ∙ rw (next.above, same) refl;
+      rising = λ rest. ap (versions_increase 0) (append_assoc raws (raw ∷ []) rest) ∙ so_far.rising (raw ∷ rest) ∙ rw (next.above, same) refl;
       verdicts = all ∙ rw (so_far.verdicts, next.verdicts) refl;
       checked = checked_turn checked_row raws rows raw row so_far.checked checked;
       version = sym (ap version_of (last_behind None rows row));
@@ -72,7 +72,7 @@ fold_end raws rows folded so_far = record {
   journal = so_far.journal;
 }
 
--- what a script comes to whose rows were folded
+-- the text of a script whose rows were folded
 pub text_of_script : (d : Data) (resolvers : ℕ) (raws : List RawRow) (ask : List Key) (folded : FoldedRows) (text : List ℕ)
     → fields_shape d ≡ Some (record { resolvers = resolvers; rows = raws; ask = ask }) → AreFolded raws folded → folded.resolvers ≡ resolvers → is_from_one resolvers_limit resolvers ≡ true
     → text ≡ metadata_text folded.version folded.journal ask

@@ -7,7 +7,7 @@ use Rattle.model.specs.Metadata.{after_journal_row, metadata}
 use Rattle.scripts.specs.Checks.{each_checked}
 use Rattle.scripts.specs.Scripts.{checked_raw}
 use Rattle.fold_run.specs.Checks.{checked_row, checked_script}
-use Rattle.fold_run.specs.Limits.{are_rising, row_has_verdicts, script_shape}
+use Rattle.fold_run.specs.Limits.{versions_increase, row_has_verdicts, script_shape}
 use Rattle.fold_run.specs.Text.{folded_text, last_version}
 use Rattle.fold_run.specs.declared.folding.FoldedRows.{FoldedRows}
 use Rattle.fold_run.specs.declared.script.FoldScript.{FoldScript}
@@ -32,14 +32,14 @@ pub record IsNextFolded (raw : RawRow) (before after : FoldedRows) : Type 0 wher
 -- The rows are within the limits and have no fault; these are their last version and what they
 -- leave.
 pub record AreFolded (raws : List RawRow) (folded : FoldedRows) : Type 0 where
-  pub rising : are_rising 0 raws ≡ true
+  pub rising : versions_increase 0 raws ≡ true
   pub verdicts : list_all (row_has_verdicts folded.resolvers) raws ≡ true
   pub rows : List JournalRow
   pub checked : each_checked checked_row raws ≡ Ok rows
   pub version : folded.version ≡ last_version rows
   pub journal : folded.journal ≡ metadata rows
 
--- the value is a script without a fault, and this is what it comes to
+-- the value is a script without a fault, and this is its text
 abbrev pub IsTextOf : Data → FoldText → Type 0
 IsTextOf d made = (script : FoldScript) × (checked_raw checked_script (script_shape d) ≡ Ok script)
     × (string_bytes made.text ≡ folded_text script)

@@ -11,9 +11,10 @@ use Rattle.scripts.specs.Shapes.{◌>>=◌}
 use Rattle.fold_run.specs.Shapes.{fields_shape}
 
 -- the versions are strictly increasing, from above this one
-abbrev pub are_rising : ℕ → List RawRow → Bool
-are_rising before [] = true
-are_rising before (row ∷ rows) = nat_lt before row.version && are_rising row.version rows
+abbrev pub versions_increase : ℕ → List RawRow → Bool
+versions_increase before [] = true
+versions_increase before (row ∷ rows) =
+    nat_lt before row.version && versions_increase row.version rows
 
 -- the transaction has one verdict for each resolver
 abbrev pub has_verdicts : ℕ → RawState → Bool
@@ -26,7 +27,7 @@ row_has_verdicts resolvers row = list_all (has_verdicts resolvers) row.states
 -- from 1 to 64 resolvers, strictly increasing versions from 1 on, and one verdict of each resolver
 abbrev pub is_within_limits : RawScript → Bool
 is_within_limits script = is_from_one resolvers_limit script.resolvers
-    && are_rising 0 script.rows && list_all (row_has_verdicts script.resolvers) script.rows
+    && versions_increase 0 script.rows && list_all (row_has_verdicts script.resolvers) script.rows
 
 abbrev pub limited : RawScript → Option RawScript
 limited script = if is_within_limits script then Some script else None

@@ -4,7 +4,7 @@ use Rattle.std.specs.List.{last_or}
 use Rattle.model.specs.declared.journal.JournalRow.{JournalRow}
 use Rattle.model.specs.Metadata.{metadata}
 use Rattle.cluster_lines.specs.MetadataLines.{metadata_text}
-use Rattle.scripts.specs.Answers.{Answer, answer_of}
+use Rattle.scripts.specs.Outputs.{OutputView, output_for}
 use Rattle.scripts.specs.Runs.{WritesTextOf}
 use Rattle.scripts.specs.declared.status.RunStatus.{RunStatus}
 use Rattle.fold_run.specs.declared.script.FoldScript.{FoldScript}
@@ -24,8 +24,8 @@ folded_text script =
     metadata_text (last_version script.rows) (metadata script.rows) script.ask
 
 -- the text and the status of the script that the bytes are, or of its first fault
-unfoldable pub fold_text : List ℕ → Answer
-fold_text bytes = answer_of folded_text (script_of bytes)
+unfoldable pub fold_text : List ℕ → OutputView
+fold_text bytes = output_for folded_text (script_of bytes)
 
 -- the run writes the text that `fold_text` gives the input, or a beginning of it
 abbrev pub Folds : Option (List ℕ) → Option (List ℕ) → Option (List ℕ) → RunStatus → Type 0

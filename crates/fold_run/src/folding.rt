@@ -12,7 +12,7 @@ use crate::script::RawRow;
 use crate::streams::FromRows;
 use json::Reader as TokenReader;
 use metadata::JournalFold;
-use model::JournalRow;
+use model::{JournalRow, Version};
 use scripts::{Checked, Streamed, begin_array};
 use std::alloc::Global;
 
@@ -22,7 +22,7 @@ pub(crate) struct FoldedRows {
     /// How many resolvers there are: each transaction has a verdict of each.
     pub(crate) resolvers: u64,
     /// The version of the last row, or 0 if there is none.
-    pub(crate) version: u64,
+    pub(crate) version: Version,
     /// What the rows leave.
     pub(crate) journal: JournalFold,
 }

@@ -15,6 +15,6 @@ mod shapes;
 mod streams;
 mod text;
 
-pub use reading::{read_script, stream_script};
+pub use reading::{read_fold, stream_fold};
 pub use run::run_fold;
 pub use script::FoldScript;

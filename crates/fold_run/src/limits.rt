@@ -3,7 +3,7 @@
 
 ghost use Rattle.std.specs.Prelude.{◌≡◌};
 ghost use Rattle.std.specs.List.{list_all};
-ghost use Rattle.fold_run.specs.Limits.{are_rising, has_verdicts, row_has_verdicts};
+ghost use Rattle.fold_run.specs.Limits.{versions_increase, has_verdicts, row_has_verdicts};
 ghost use Rattle.fold_run.specs.Limits.{is_within_limits};
 
 use crate::script::{RawRow, RawScript, RawState};
@@ -15,13 +15,13 @@ pub(crate) fn is_within_limits(script: &RawScript) -> bool
     ensures { result ≡ is_within_limits script.now }
 {
     is_from_one(RESOLVERS_LIMIT, script.resolvers)
-        && are_rising(script.rows.as_slice())
+        && versions_increase(script.rows.as_slice())
         && have_verdicts(script.resolvers, script.rows.as_slice())
 }
 
 /// Whether the versions of the rows are above 0 and strictly increase.
-fn are_rising(rows: &[RawRow]) -> bool
-    ensures { result ≡ are_rising 0 rows.now }
+fn versions_increase(rows: &[RawRow]) -> bool
+    ensures { result ≡ versions_increase 0 rows.now }
 {
     let mut before = 0;
     for row in rows {

@@ -15,7 +15,7 @@ use std::alloc::Global;
 /// of it is outside its limits), and the refusal of the first key, value or range at fault, in the
 /// order of the script's lists. May fail with `OutOfMemory` at any point.
 #[tactic(auto, unfolding(crate::specs::Scripts::script_of))]
-pub fn read_script(alloc: Global, bytes: &[u8]) -> Result<FoldScript, ScriptFault>
+pub fn read_fold(alloc: Global, bytes: &[u8]) -> Result<FoldScript, ScriptFault>
     ensures { IsReadAs (λ found. found) result (script_of bytes.now) }
 {
     read_checked::<RawScript, FoldScript>(alloc, bytes)
@@ -24,7 +24,7 @@ pub fn read_script(alloc: Global, bytes: &[u8]) -> Result<FoldScript, ScriptFaul
 /// The fold script that the bytes are, read as its tokens come, without a tree of the JSON values.
 /// `None` decides nothing: `read_script` then reads the tree.
 #[tactic(auto, unfolding(crate::specs::Scripts::script_of))]
-pub fn stream_script(alloc: Global, bytes: &[u8]) -> Option<FoldScript>
+pub fn stream_fold(alloc: Global, bytes: &[u8]) -> Option<FoldScript>
     ensures { IfSome result (λ script. script_of bytes.now ≡ Ok script) }
 {
     stream_checked::<RawScript, FoldScript>(alloc, bytes)

@@ -2,8 +2,8 @@
 
 ghost use Rattle.std.specs.Prelude.{◌≡◌, IfOk};
 
-use model::{JournalRow, Verdict};
-use scripts::RawChange;
+use model::{JournalRow, Verdict, Version};
+use scripts::{RawChange, copy_keys};
 use std::alloc::Global;
 use system_keys::{Bytes, Items, OutOfMemory};
 
@@ -46,7 +46,7 @@ pub(crate) struct RawScript {
 #[derive(Drop)]
 pub(crate) struct RawRow {
     /// The version of the row.
-    pub(crate) version: u64,
+    pub(crate) version: Version,
     /// Its state transactions.
     pub(crate) states: Items<RawState>,
 }
@@ -71,12 +71,4 @@ fn copy_rows(alloc: Global, rows: &[JournalRow]) -> Result<Items<JournalRow>, Ou
         copies.push(row.copy()?)?;
     }
     Ok(Items::from(copies))
-}
-
-/// A deep copy of the keys.
-fn copy_keys(keys: &Items<Bytes>) -> Result<Vec<Bytes>, OutOfMemory>
-    ensures { IfOk result (λ copy. copy.items ≡ keys.now) }
-{
-    let copy = keys.clone()?;
-    Ok(Vec::from(copy))
 }

@@ -12,7 +12,7 @@ use std::alloc::Global;
 impl Shaped for RawState {
     ghost shape = { state_shape };
 
-    fn shaped(alloc: Global, value: &Value) -> Result<RawState, ScriptFault> {
+    fn from_value(alloc: Global, value: &Value) -> Result<RawState, ScriptFault> {
         if !has_fields(value, 3) {
             return Err(ScriptFault::BadShape);
         }
@@ -27,7 +27,7 @@ impl Shaped for RawState {
 impl Shaped for RawRow {
     ghost shape = { row_shape };
 
-    fn shaped(alloc: Global, value: &Value) -> Result<RawRow, ScriptFault> {
+    fn from_value(alloc: Global, value: &Value) -> Result<RawRow, ScriptFault> {
         if !has_fields(value, 2) {
             return Err(ScriptFault::BadShape);
         }
@@ -41,7 +41,7 @@ impl Shaped for RawRow {
 impl Shaped for RawScript {
     ghost shape = { script_shape };
 
-    fn shaped(alloc: Global, value: &Value) -> Result<RawScript, ScriptFault> {
+    fn from_value(alloc: Global, value: &Value) -> Result<RawScript, ScriptFault> {
         if !has_fields(value, 3) {
             return Err(ScriptFault::BadShape);
         }

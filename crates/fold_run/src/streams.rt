@@ -33,7 +33,7 @@ impl Streamed for RawScript {
 pub(crate) trait FromRows: Drop {
     ghost is_from: { Self → List TheRawRow → Type 0 };
 
-    /// Takes the tokens of a list of rows, for so many resolvers if their number came before it.
+    /// Takes the tokens of a list of rows, for `resolvers` resolvers if their number came before it.
     /// Returns `None` as `Streamed` does.
     fn take(
         alloc: Global,

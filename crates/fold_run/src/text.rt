@@ -17,7 +17,7 @@ use scripts::{MadeOfTokens, take_object};
 use std::alloc::Global;
 use system_keys::{Bytes, OutOfMemory};
 
-/// Prints what a fold script comes to (this project's profile): the routing of its folded rows and
+/// Prints the text of a fold script (this project's profile): the routing of its folded rows and
 /// the tags of its asked keys. Fails only with `OutOfMemory`.
 #[tactic(auto, unfolding(model::specs::Metadata::metadata))]
 pub(crate) fn print_folded(
@@ -44,7 +44,7 @@ fn last_version(rows: &[JournalRow]) -> u64
     }
 }
 
-/// What a fold script comes to, folded as its tokens come.
+/// The text of a fold script, which is folded while its tokens are read.
 #[derive(Drop)]
 pub(crate) struct FoldText {
     /// The routing of its folded rows, and the tags of its asked keys.

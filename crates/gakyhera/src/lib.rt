@@ -10,7 +10,7 @@ ghost use Rattle.fold_run.specs.Text.{fold_text};
 ghost use Rattle.turns_run.specs.Text.{turns_text};
 ghost use Rattle.script_texts.specs.Texts.{Places};
 
-use script_texts::{fold_script, place, turns_script};
+use script_texts::{fold_text, place, turns_text};
 use std::alloc::Global;
 
 /// Places the text that a fold script comes to at the front of `out`, and its length in `made`.
@@ -28,7 +28,7 @@ pub extern "C" fn gakyhera_fold(
         × Places (fold_text script.now) status out.old out.new made.old made.new }
     ensures long { result ≡ pos 3 → read_limit ≤ length script.now }
 {
-    i32::from(place(fold_script(alloc, script), out, made))
+    i32::from(place(fold_text(alloc, script), out, made))
 }
 
 /// Places the text that a turns script comes to at the front of `out`, and its length in `made`.
@@ -44,5 +44,5 @@ pub extern "C" fn gakyhera_turns(
         × Places (turns_text script.now) status out.old out.new made.old made.new }
     ensures long { result ≡ pos 3 → read_limit ≤ length script.now }
 {
-    i32::from(place(turns_script(alloc, script), out, made))
+    i32::from(place(turns_text(alloc, script), out, made))
 }

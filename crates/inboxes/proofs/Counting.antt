@@ -2,7 +2,7 @@
 use Rattle.std.proofs.Common.{◌≡◌, ℕ, ◌+◌, ◌-◌, ◌^◌, ◌<◌, ◌≤◌, ◌⊎◌, inl, inr, min, List, [], ◌∷◌, ◌++◌, length, get_or, set, sym, refl, ap, ◌∙◌, subst, arith, length-append, length-set, replicate}
 use Rattle.std.proofs.lemmas.Bool.{cases_lt, cases_eq}
 use Rattle.std.proofs.lemmas.List.{get_or-set_same, get_or-set_other, length-replicate, get_or-replicate}
-use Rattle.inboxes.specs.declared.tag.Tag.{Tag}
+use Rattle.inboxes.specs.declared.views.MessageView.{MessageView}
 use Rattle.inboxes.specs.Counts.{AreCounts, counted}
 use Rattle.inboxes.specs.Delivers.{of_proxy}
 use Rattle.inboxes.proofs.Moves.{of_mine, of_other}
@@ -12,13 +12,13 @@ one_more : (count size more most : ℕ) → count ≡ min size most → more ≡
     → min (count + 1) most ≡ min more most
 one_more count size more most is longer = omega arith
 
-pub counted_more : (messages : List Tag) (x : Tag) (count : ℕ) → count ≡ counted messages
+pub counted_more : (messages : List MessageView) (x : MessageView) (count : ℕ) → count ≡ counted messages
     → min (count + 1) (2 ^ 64 - 1) ≡ counted (messages ++ x ∷ [])
 counted_more messages x count is =
     one_more count (length messages) (length (messages ++ x ∷ [])) (2 ^ 64 - 1) is (length-append messages (x ∷ []))
 
 -- the count of the message's proxy is one more, and the others stay
-counts_inside : (proxies : ℕ) (got : List Tag) (x : Tag) (before : List ℕ) → AreCounts proxies got before
+counts_inside : (proxies : ℕ) (got : List MessageView) (x : MessageView) (before : List ℕ) → AreCounts proxies got before
     → x.proxy < length before
     → AreCounts proxies (got ++ x ∷ []) (set before x.proxy (min (get_or before x.proxy 0 + 1) (2 ^ 64 - 1)))
 counts_inside proxies got x before are within = (
@@ -40,14 +40,14 @@ counts_inside proxies got x before are within = (
         ∙ ap counted (sym (of_other proxy got x apart))
 
 -- a message of no proxy is not counted
-counts_beyond : (proxies : ℕ) (got : List Tag) (x : Tag) (before : List ℕ) → AreCounts proxies got before
+counts_beyond : (proxies : ℕ) (got : List MessageView) (x : MessageView) (before : List ℕ) → AreCounts proxies got before
     → length before ≤ x.proxy → AreCounts proxies (got ++ x ∷ []) before
 counts_beyond proxies got x before are beyond = (
   are.0,
   λ proxy there. are.1 proxy there ∙ ap counted (sym (of_other proxy got x (λ same. omega (arith, are.0, there, beyond, same)))),
 )
 
-pub counts_more : (proxies : ℕ) (got : List Tag) (x : Tag) (before after : List ℕ) → AreCounts proxies got before
+pub counts_more : (proxies : ℕ) (got : List MessageView) (x : MessageView) (before after : List ℕ) → AreCounts proxies got before
     → (x.proxy < length before → after ≡ set before x.proxy (min (get_or before x.proxy 0 + 1) (2 ^ 64 - 1)))
     → (length before ≤ x.proxy → after ≡ before)
     → AreCounts proxies (got ++ x ∷ []) after

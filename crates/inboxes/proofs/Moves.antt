@@ -7,23 +7,23 @@ use mathlib.Core.Option.{some, some-injective, some-ne-none}
 use lib.ListN.{get_elem?}
 use Rattle.atomic_table.proofs.Lists.{at_set}
 use Rattle.crossbeam_channel.specs.Fifo.{Pushes, Pops, Forks, Merges, Learns}
-use Rattle.inboxes.specs.declared.tag.Tag.{Tag}
-use Rattle.inboxes.specs.declared.tag.View.{View}
+use Rattle.inboxes.specs.declared.views.MessageView.{MessageView}
+use Rattle.inboxes.specs.declared.views.View.{View}
 use Rattle.inboxes.specs.Views.{sender, worker, spent}
 use Rattle.inboxes.specs.Delivers.{of_proxy, KnowsSent, KnowsTaken, Delivers, IsToldMore}
 
 -- one message more of the proxy
-pub of_mine : (proxy : ℕ) (all : List Tag) (x : Tag) → x.proxy ≡ proxy
+pub of_mine : (proxy : ℕ) (all : List MessageView) (x : MessageView) → x.proxy ≡ proxy
     → of_proxy proxy (all ++ x ∷ []) ≡ of_proxy proxy all ++ x ∷ []
 of_mine proxy all x is =
-    filter-append (λ (m : Tag). m.proxy == proxy) all (x ∷ [])
+    filter-append (λ (m : MessageView). m.proxy == proxy) all (x ∷ [])
     ∙ ap (λ (b : Bool). of_proxy proxy all ++ cond b (x ∷ []) []) (eq-eqb x.proxy proxy is)
 
 -- one message more of another proxy
-pub of_other : (proxy : ℕ) (all : List Tag) (x : Tag) → x.proxy ≢ proxy
+pub of_other : (proxy : ℕ) (all : List MessageView) (x : MessageView) → x.proxy ≢ proxy
     → of_proxy proxy (all ++ x ∷ []) ≡ of_proxy proxy all
 of_other proxy all x is_not =
-    filter-append (λ (m : Tag). m.proxy == proxy) all (x ∷ [])
+    filter-append (λ (m : MessageView). m.proxy == proxy) all (x ∷ [])
     ∙ ap (λ (b : Bool). of_proxy proxy all ++ cond b (x ∷ []) []) (ne_eqb x.proxy proxy is_not)
     ∙ append-nil (of_proxy proxy all)
 
@@ -71,13 +71,13 @@ one_seat seat p q i j a b same = let e : Some i ≡ Some j = sym a ∙ ap seat s
 no_seat : (seat : ℕ → Option ℕ) (p q i : ℕ) → seat p ≡ Some i → seat q ≡ None → p ≡ q → ⊥
 no_seat seat p q i a b same = let e : Some i ≡ None = sym a ∙ ap seat same ∙ b in cc
 
-no_told : (t : ℕ × List Tag) → None ≡ Some t → ⊥
+no_told : (t : ℕ × List MessageView) → None ≡ Some t → ⊥
 no_told t told = cc
 
-told_is : (s t : ℕ × List Tag) → Some s ≡ Some t → s ≡ t
+told_is : (s t : ℕ × List MessageView) → Some s ≡ Some t → s ≡ t
 told_is s t told = cc
 
-abbrev Fits : ℕ → (ℕ → Option ℕ) → List Tag → List Tag → ℕ → View → Type 0
+abbrev Fits : ℕ → (ℕ → Option ℕ) → List MessageView → List MessageView → ℕ → View → Type 0
 Fits reader seat got all pass v =
     KnowsSent seat all pass v × KnowsTaken reader seat got all pass v
 
@@ -91,17 +91,17 @@ starts = (
 )
 
 -- a message more of a proxy, and its pass knows it
-sent_more : (reader : ℕ) (seat : ℕ → Option ℕ) (got all : List Tag) (views : List View)
-    (pass : ℕ) (v : View) (x : Tag) → v.sends ≡ true → x.proxy ≡ v.from
+sent_more : (reader : ℕ) (seat : ℕ → Option ℕ) (got all : List MessageView) (views : List View)
+    (pass : ℕ) (v : View) (x : MessageView) → v.sends ≡ true → x.proxy ≡ v.from
     → All (Fits reader seat got all) views → get_elem? views pass ≡ some v
     → All (Fits reader seat got (all ++ x ∷ [])) (set views pass (sender v.from (v.put ++ x ∷ [])))
 sent_more reader seat got all views pass v x is_sender mine fits at =
     let own = (fits pass v at).0 is_sender in
-    let new : List Tag = all ++ x ∷ [] in
+    let new : List MessageView = all ++ x ∷ [] in
     all_set (Fits reader seat got new) views pass (sender v.from (v.put ++ x ∷ [])) (
       (λ _. (
         own.0,
-        ap (λ (l : List Tag). l ++ x ∷ []) own.1 ∙ sym (of_mine v.from all x mine),
+        ap (λ (l : List MessageView). l ++ x ∷ []) own.1 ∙ sym (of_mine v.from all x mine),
       )),
       (λ wrong. absurd (true≢false (sym wrong))),
     )
@@ -130,7 +130,7 @@ sent_more reader seat got all views pass v x is_sender mine fits at =
       )),
     ))
 
-pub sends : (n pass : ℕ) (v : View) (x : Tag) → v.sends ≡ true → x.proxy ≡ v.from
+pub sends : (n pass : ℕ) (v : View) (x : MessageView) → v.sends ≡ true → x.proxy ≡ v.from
     → Pushes Delivers n pass v x (λ w. w ≡ sender v.from (v.put ++ x ∷ []))
 sends n pass v x is_sender mine items views _ h at =
     let w : View = sender v.from (v.put ++ x ∷ []) in (
@@ -139,7 +139,7 @@ sends n pass v x is_sender mine items views _ h at =
         h.0,
         h.1,
         h.2,
-        subst (λ (all : List Tag). All (Fits h.0 h.1 h.2 all) (set views pass w))
+        subst (λ (all : List MessageView). All (Fits h.0 h.1 h.2 all) (set views pass w))
             (append_assoc h.2 items (x ∷ []))
             (sent_more h.0 h.1 h.2 (h.2 ++ items) views pass v x is_sender mine h.3 at),
       ),
@@ -147,15 +147,15 @@ sends n pass v x is_sender mine items views _ h at =
     )
 
 -- a message is taken, and the worker's pass knows it
-taken_more : (reader : ℕ) (seat : ℕ → Option ℕ) (got all : List Tag) (views : List View)
-    (pass : ℕ) (v : View) (x : Tag) → v.gets ≡ true
+taken_more : (reader : ℕ) (seat : ℕ → Option ℕ) (got all : List MessageView) (views : List View)
+    (pass : ℕ) (v : View) (x : MessageView) → v.gets ≡ true
     → All (Fits reader seat got all) views → get_elem? views pass ≡ some v
     → All (Fits reader seat (got ++ x ∷ []) all) (set views pass (worker v.made (v.got ++ x ∷ []) v.told))
 taken_more reader seat got all views pass v x is_worker fits at =
     let own = (fits pass v at).1 is_worker in
     all_set (Fits reader seat (got ++ x ∷ []) all) views pass (worker v.made (v.got ++ x ∷ []) v.told) (
       (λ wrong. absurd (true≢false (sym wrong))),
-      λ _. (own.0, ap (λ (l : List Tag). l ++ x ∷ []) own.1, own.2, own.3),
+      λ _. (own.0, ap (λ (l : List MessageView). l ++ x ∷ []) own.1, own.2, own.3),
     )
     (λ j u apart e.
     let theirs = fits j u e in (
@@ -167,13 +167,13 @@ pub takes : (pass : ℕ) (v : View) → v.gets ≡ true
     → Pops Delivers pass v (λ x w. w ≡ worker v.made (v.got ++ x ∷ []) v.told)
 takes pass v is_worker x items views h at =
     let w : View = worker v.made (v.got ++ x ∷ []) v.told in
-    let got : List Tag = h.2 ++ x ∷ [] in (
+    let got : List MessageView = h.2 ++ x ∷ [] in (
       w,
       (
         h.0,
         h.1,
         got,
-        subst (λ (all : List Tag). All (Fits h.0 h.1 got all) (set views pass w))
+        subst (λ (all : List MessageView). All (Fits h.0 h.1 got all) (set views pass w))
             (sym (append_assoc h.2 (x ∷ []) items))
             (taken_more h.0 h.1 h.2 (h.2 ++ x ∷ items) views pass v x is_worker h.3 at),
       ),
@@ -181,7 +181,7 @@ takes pass v is_worker x items views h at =
     )
 
 -- a pass is made for the next proxy
-forked : (reader : ℕ) (seat : ℕ → Option ℕ) (got all : List Tag) (views : List View)
+forked : (reader : ℕ) (seat : ℕ → Option ℕ) (got all : List MessageView) (views : List View)
     (pass : ℕ) (v : View) → v.gets ≡ true
     → All (Fits reader seat got all) views → get_elem? views pass ≡ some v
     → let vs : List View = set views pass (worker (v.made + 1) v.got None) in
@@ -236,7 +236,7 @@ forks pass v is_worker items views h at =
     )
 
 -- the pass of a proxy is joined to the worker's
-merged : (reader : ℕ) (seat : ℕ → Option ℕ) (got all : List Tag) (views : List View)
+merged : (reader : ℕ) (seat : ℕ → Option ℕ) (got all : List MessageView) (views : List View)
     (pass : ℕ) (v : View) (other : ℕ) (u : View) → v.gets ≡ true → u.sends ≡ true
     → All (Fits reader seat got all) views → get_elem? views pass ≡ some v
     → get_elem? views other ≡ some u
@@ -260,7 +260,7 @@ merged reader seat got all views pass v other u is_worker is_sender fits at was 
             let old = own.2 p beyond in
             (none_either (eqb p u.from) (seat p) old.0, old.1)),
         λ t told.
-            let Known : ℕ × List Tag → Type 0 = λ t. (next t.0 ≡ None) × (t.1 ≡ of_proxy t.0 all) in
+            let Known : ℕ × List MessageView → Type 0 = λ t. (next t.0 ≡ None) × (t.1 ≡ of_proxy t.0 all) in
             subst Known (told_is (u.from, u.put) t told) (seat_here seat u.from None, theirs.1),
       ),
     ))
@@ -295,6 +295,6 @@ learns pass v is_worker items views h at t told =
     let known = own.3 t told in (
       of_proxy t.0 items,
       known.1
-          ∙ filter-append (λ (m : Tag). m.proxy == t.0) h.2 items
-          ∙ ap (λ (l : List Tag). of_proxy t.0 l ++ of_proxy t.0 items) (sym own.1),
+          ∙ filter-append (λ (m : MessageView). m.proxy == t.0) h.2 items
+          ∙ ap (λ (l : List MessageView). of_proxy t.0 l ++ of_proxy t.0 items) (sym own.1),
     )

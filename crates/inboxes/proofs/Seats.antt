@@ -5,12 +5,12 @@ use Rattle.crossbeam_channel.specs.declared.flavors.array.Key.{Key}
 use Rattle.crossbeam_channel.specs.declared.flavors.array.Doing.{Doing}
 use Rattle.crossbeam_channel.specs.declared.flavors.array.Rows.{Rows}
 use Rattle.crossbeam_channel.specs.Claims.{Pass, IsKeyed, IsSeatAt}
-use Rattle.inboxes.specs.declared.tag.Tag.{Tag}
-use Rattle.inboxes.specs.declared.tag.View.{View}
+use Rattle.inboxes.specs.declared.views.MessageView.{MessageView}
+use Rattle.inboxes.specs.declared.views.View.{View}
 use Rattle.inboxes.specs.Places.{Place, IsHandOf, place_of}
 
 pub seat_at : {Q M L A : Type 0} (place : Place)
-    (ring : Rows (Badge (Key Tag)) (Doing Tag View) Q M (Key Tag) L A) (hand : Pass Tag View)
+    (ring : Rows (Badge (Key MessageView)) (Doing MessageView View) Q M (Key MessageView) L A) (hand : Pass MessageView View)
     → place_of ring ≡ place → IsKeyed ring → IsHandOf place hand → IsSeatAt ring hand
 seat_at place ring hand is keyed of = (
   of.0 ∙ sym (ap (λ (p : Place). p.table) is),
@@ -20,7 +20,7 @@ seat_at place ring hand is keyed of = (
 )
 
 pub hand_of : {Q M L A : Type 0} (place : Place)
-    (ring : Rows (Badge (Key Tag)) (Doing Tag View) Q M (Key Tag) L A) (hand : Pass Tag View)
+    (ring : Rows (Badge (Key MessageView)) (Doing MessageView View) Q M (Key MessageView) L A) (hand : Pass MessageView View)
     → place_of ring ≡ place → IsSeatAt ring hand → IsHandOf place hand
 hand_of place ring hand is seat = (
   seat.0 ∙ ap (λ (p : Place). p.table) is,

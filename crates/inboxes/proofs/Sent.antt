@@ -4,15 +4,15 @@ use Rattle.std.specs.Prelude.{⊤, IfOk, IfErr, filter}
 use Rattle.std.proofs.lemmas.List.{append-nil}
 use Rattle.std.proofs.lemmas.List.Elements.{filter-append}
 use Rattle.std.proofs.lemmas.Option.{slice_get_within}
-use Rattle.inboxes.specs.declared.tag.Tag.{Tag}
-use Rattle.inboxes.specs.declared.tag.Kind.{Kind}
+use Rattle.inboxes.specs.declared.views.MessageView.{MessageView}
+use Rattle.inboxes.specs.declared.views.Kind.{Kind}
 use Rattle.inboxes.specs.Ends.{AreSenders, IsEach, ProxyView, SenderView, fresh_sender}
 use Rattle.inboxes.specs.Sending.{AreEndedSenders, AreOpen, AreSent, ChangesEnd, IsEndedSender, IsFor, IsSent, IsSentTo, ends_in, is_end, is_last_kind, with_gone, with_sent}
-use Rattle.inboxes.specs.Tags.{end_tag}
+use Rattle.inboxes.specs.MessageViews.{end_view}
 use Rattle.inboxes.proofs.Each.{get_set}
 
 -- through the first of the ends the message was sent so, and nothing through the others
-pub record AreSentTo (done : ℕ) (message : Tag) (before after : List SenderView) : Type 0 where
+pub record AreSentTo (done : ℕ) (message : MessageView) (before after : List SenderView) : Type 0 where
   pub count : length after ≡ length before
   pub each :
       (k : ℕ) (e : SenderView) → slice_get after k ≡ Some e
@@ -21,35 +21,35 @@ pub record AreSentTo (done : ℕ) (message : Tag) (before after : List SenderVie
 
 -- ---- how many Ends there are
 
-pub one_end : (ms : List Tag) (x : Tag) → is_end x ≡ true → ends_in (ms ++ x ∷ []) ≡ ends_in ms + 1
+pub one_end : (ms : List MessageView) (x : MessageView) → is_end x ≡ true → ends_in (ms ++ x ∷ []) ≡ ends_in ms + 1
 one_end ms x last =
-    ap (λ (l : List Tag). length l) (filter-append is_end ms (x ∷ []) ∙ ap (λ (b : Bool). filter is_end ms ++ cond b (x ∷ []) []) last)
+    ap (λ (l : List MessageView). length l) (filter-append is_end ms (x ∷ []) ∙ ap (λ (b : Bool). filter is_end ms ++ cond b (x ∷ []) []) last)
     ∙ length-append (filter is_end ms) (x ∷ [])
 
-pub no_end : (ms : List Tag) (x : Tag) → is_end x ≡ false → ends_in (ms ++ x ∷ []) ≡ ends_in ms
+pub no_end : (ms : List MessageView) (x : MessageView) → is_end x ≡ false → ends_in (ms ++ x ∷ []) ≡ ends_in ms
 no_end ms x other =
-    ap (λ (l : List Tag). length l)
+    ap (λ (l : List MessageView). length l)
     (filter-append is_end ms (x ∷ []) ∙ ap (λ (b : Bool). filter is_end ms ++ cond b (x ∷ []) []) other ∙ append-nil (filter is_end ms))
 
 -- a Close and a request are no End
-pub not_end : (resolver : ℕ) (x : Tag) → IsFor resolver x → is_end x ≡ false
+pub not_end : (resolver : ℕ) (x : MessageView) → IsFor resolver x → is_end x ≡ false
 not_end resolver x (inl closes) = ap (λ (k : Kind). is_last_kind k) closes
 not_end resolver x (inr asks) = ap (λ (k : Kind). is_last_kind k) asks.0
 
 -- ---- one end of a proxy
 
-pub sent_or_gone : (result : Result ⊤ Tag) (message : Tag) (before after : SenderView)
+pub sent_or_gone : (result : Result ⊤ MessageView) (message : MessageView) (before after : SenderView)
     → IfOk result (λ _. after ≡ with_sent message before)
     → IfErr result (λ back. (back ≡ message) × (after ≡ with_gone before)) → IsSent message before after
 sent_or_gone (Ok done) message before after sent refused = inl sent
 sent_or_gone (Err back) message before after sent refused = inr refused.1
 
-pub sent_same : (message : Tag) (before after : SenderView) → IsSent message before after
+pub sent_same : (message : MessageView) (before after : SenderView) → IsSent message before after
     → (after.resolver ≡ before.resolver) × (after.proxy ≡ before.proxy)
 sent_same message before after (inl sent) = (ap (λ (s : SenderView). s.resolver) sent, ap (λ (s : SenderView). s.proxy) sent)
 sent_same message before after (inr gone) = (ap (λ (s : SenderView). s.resolver) gone, ap (λ (s : SenderView). s.proxy) gone)
 
-pub still_open : (resolver : ℕ) (message : Tag) (before after : SenderView) → IsFor resolver message
+pub still_open : (resolver : ℕ) (message : MessageView) (before after : SenderView) → IsFor resolver message
     → IsSent message before after → ends_in before.put ≡ 0 → ends_in after.put ≡ 0
 still_open resolver message before after for_it (inl sent) none =
     ap (λ (s : SenderView). ends_in s.put) sent ∙ no_end before.put message (not_end resolver message for_it) ∙ none
@@ -73,14 +73,14 @@ fresh_are_open proxy n ends each k e at = ap (λ (s : SenderView). ends_in s.put
 
 -- ---- one end after another
 
-pub sent_none : (message : Tag) (ends : List SenderView) → AreSentTo 0 message ends ends
+pub sent_none : (message : MessageView) (ends : List SenderView) → AreSentTo 0 message ends ends
 sent_none message ends =
     record {
       count = refl;
       each = λ k e at. (e, at, (λ below. absurd (omega (arith, below))), λ _. refl);
     }
 
-pub sent_next : (done : ℕ) (message : Tag) (before between : List SenderView) (old new : SenderView)
+pub sent_next : (done : ℕ) (message : MessageView) (before between : List SenderView) (old new : SenderView)
     → AreSentTo done message before between → slice_get between done ≡ Some old → IsSent message old new
     → AreSentTo (done + 1) message before (set between done new)
 sent_next done message before between old new are there sent =
@@ -108,7 +108,7 @@ sent_next done message before between old new are there sent =
           (λ above. own.3 (omega (arith, above))),
         )
 
-pub sent_all : (done : ℕ) (message : Tag) (before after : List SenderView) → AreSentTo done message before after
+pub sent_all : (done : ℕ) (message : MessageView) (before after : List SenderView) → AreSentTo done message before after
     → done ≡ length before → AreSent message before after
 sent_all done message before after are all =
     record {
@@ -122,15 +122,15 @@ sent_all done message before after are all =
 
 -- ---- the last message
 
-ended_one : (proxy : ℕ) (before after : SenderView) → IsSent (end_tag proxy) before after → ends_in before.put ≡ 0 → IsEndedSender proxy after
+ended_one : (proxy : ℕ) (before after : SenderView) → IsSent (end_view proxy) before after → ends_in before.put ≡ 0 → IsEndedSender proxy after
 ended_one proxy before after (inl sent) none = inl (before.put, none, ap (λ (s : SenderView). s.put) sent)
 ended_one proxy before after (inr gone) none = inr (ap (λ (s : SenderView). ends_in s.put) gone ∙ none, ap (λ (s : SenderView). s.gone) gone)
 
-pub all_ended : (proxy : ℕ) (before after : List SenderView) → AreSent (end_tag proxy) before after → AreOpen before → AreEndedSenders proxy after
+pub all_ended : (proxy : ℕ) (before after : List SenderView) → AreSent (end_view proxy) before after → AreOpen before → AreEndedSenders proxy after
 all_ended proxy before after are unended k e at =
     let own = are.each k e at in ended_one proxy own.0 e own.2 (unended k own.0 own.1)
 
-pub sent_senders : (proxy n : ℕ) (message : Tag) (before after : List SenderView) → AreSent message before after → AreSenders proxy n before → AreSenders proxy n after
+pub sent_senders : (proxy n : ℕ) (message : MessageView) (before after : List SenderView) → AreSent message before after → AreSenders proxy n before → AreSenders proxy n after
 sent_senders proxy n message before after are senders = (
   are.count ∙ senders.0,
   λ k e at.
@@ -141,20 +141,20 @@ sent_senders proxy n message before after are senders = (
 )
 
 -- the ends so far are the proxy's, to their resolvers
-pub sent_to_senders : (done proxy n : ℕ) (message : Tag) (before after : List SenderView) → AreSentTo done message before after → AreSenders proxy n before
+pub sent_to_senders : (done proxy n : ℕ) (message : MessageView) (before after : List SenderView) → AreSentTo done message before after → AreSenders proxy n before
     → (k : ℕ) (e : SenderView) → done ≤ k → slice_get after k ≡ Some e → e.proxy ≡ proxy
 sent_to_senders done proxy n message before after are senders k e above at =
     let own = are.each k e at in ap (λ (s : SenderView). s.proxy) (own.3 above) ∙ (senders.1 k own.0 own.1).1
 
 -- ---- a send to a resolver
 
-pub changed : (result : Result ⊤ Tag) (resolver : ℕ) (message : Tag) (before after : ProxyView)
+pub changed : (result : Result ⊤ MessageView) (resolver : ℕ) (message : MessageView) (before after : ProxyView)
     → IfOk result (λ _. ChangesEnd resolver (with_sent message) before after)
     → IfErr result (λ back. (back ≡ message) × ChangesEnd resolver with_gone before after) → IsSentTo resolver message before after
 changed (Ok done) resolver message before after sent refused = inl sent
 changed (Err back) resolver message before after sent refused = inr refused.1
 
-pub to_next : (done : ℕ) (message : Tag) (first : List SenderView) (before after : ProxyView)
+pub to_next : (done : ℕ) (message : MessageView) (first : List SenderView) (before after : ProxyView)
     → AreSentTo done message first before.ends → IsSentTo done message before after
     → AreSentTo (done + 1) message first after.ends
 to_next done message first before after are (inl sent) =
@@ -164,6 +164,6 @@ to_next done message first before after are (inr gone) =
     subst (λ (ends : List SenderView). AreSentTo (done + 1) message first ends) (sym gone.ends)
     (sent_next done message first before.ends gone.sender (with_gone gone.sender) are gone.there (inr refl))
 
-pub to_proxy : (resolver : ℕ) (message : Tag) (before after : ProxyView) → IsSentTo resolver message before after → after.proxy ≡ before.proxy
+pub to_proxy : (resolver : ℕ) (message : MessageView) (before after : ProxyView) → IsSentTo resolver message before after → after.proxy ≡ before.proxy
 to_proxy resolver message before after (inl sent) = sent.proxy
 to_proxy resolver message before after (inr gone) = gone.proxy

@@ -14,20 +14,20 @@ pub record BlankSenderView : Type 0 where
   pub proxy : ℕ
 
 -- the sending ends of a proxy, by the channels that they are of
-pub record BlankRow : Type 0 where
+pub record BlankSendersView : Type 0 where
   pub proxy : ℕ
   pub places : List Place
 
--- so many proxies, each with an end of each of these channels, in their order
-abbrev pub AreRows : ℕ → List Place → List BlankRow → Type 0
-AreRows proxies places = IsEach (λ p. record { proxy = p; places = places }) proxies
+-- the given number of proxies, each with an end of each of these channels, in their order
+abbrev pub AreBlankSenders : ℕ → List Place → List BlankSendersView → Type 0
+AreBlankSenders proxies places = IsEach (λ p. record { proxy = p; places = places }) proxies
 
--- the side of the proxy: an end to each of so many resolvers, in order, through which nothing was sent
+-- the side of the proxy: an end to each of the cluster's resolvers, in order, through which nothing was sent
 abbrev pub IsFreshSide : (proxy resolvers : ℕ) → ProxyView → Type 0
 IsFreshSide proxy resolvers side =
     (side.proxy ≡ proxy) × IsEach (fresh_sender proxy) resolvers side.ends
 
--- the sides of so many proxies, in order, each with so many ends, through which nothing was sent
+-- the sides of all proxies, in order, each with an end to each resolver, through which nothing was sent
 abbrev pub AreSides : (proxies resolvers : ℕ) → List ProxyView → Type 0
 AreSides proxies resolvers sides =
     (length sides ≡ proxies)

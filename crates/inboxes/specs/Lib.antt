@@ -3,7 +3,7 @@
 -- the views that a pass may have
 pub mod Views
 -- what contracts see of a message
-pub mod Tags
+pub mod MessageViews
 -- the rule of an inbox
 pub mod Delivers
 -- which channel an end and a pass belong to

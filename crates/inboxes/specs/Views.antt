@@ -1,10 +1,10 @@
 -- The views that a pass may have.
 use Rattle.std.specs.Prelude.{ℕ, true, false, List, [], Option, None}
-use Rattle.inboxes.specs.declared.tag.Tag.{Tag}
-use Rattle.inboxes.specs.declared.tag.View.{View}
+use Rattle.inboxes.specs.declared.views.MessageView.{MessageView}
+use Rattle.inboxes.specs.declared.views.View.{View}
 
 -- the pass of a proxy that sent these messages
-abbrev pub sender : ℕ → List Tag → View
+abbrev pub sender : ℕ → List MessageView → View
 sender proxy put = record {
   sends = true;
   from = proxy;
@@ -15,9 +15,9 @@ sender proxy put = record {
   told = None;
 }
 
--- The worker's pass: it took these messages, passes were made for so many proxies, and it was told
+-- The worker's pass: it took these messages, passes were made for this number of proxies, and it was told
 -- this of the proxy whose pass was joined last.
-abbrev pub worker : ℕ → List Tag → Option (ℕ × List Tag) → View
+abbrev pub worker : ℕ → List MessageView → Option (ℕ × List MessageView) → View
 worker made got told = record {
   sends = false;
   from = 0;

@@ -3,16 +3,16 @@
 ghost use Rattle.std.specs.Prelude.{◌≡◌, ◌+◌, ◌<◌, ◌∷◌, ◌++◌, [], All, map, replicate, IfOk};
 ghost use Rattle.crossbeam_channel.specs.Claims.{IsSeatAt};
 ghost use Rattle.crossbeam_channel.specs.Ends.{receives_on, sends_on};
-ghost use Rattle.inboxes.specs.Blanks.{AreRows, BlankInboxView, BlankRow, BlankSenderView};
+ghost use Rattle.inboxes.specs.Blanks.{AreBlankSenders, BlankInboxView, BlankSendersView, BlankSenderView};
 ghost use Rattle.inboxes.specs.Ends.{fresh_sender};
 ghost use Rattle.inboxes.specs.Places.{known, place_at, place_of};
 
 use crate::channels::Channels;
-use crate::ended_sender::EndedSender;
+use crate::sender_end::SenderEnd;
 use crate::inbox_end::FreshEnd;
 use crate::question::Question;
-use crate::rule::{Hand, Inbox, Post, admit, make};
-use crate::taker::Taker;
+use crate::rule::{Hand, Inbox, Post, add_sender, make};
+use crate::worker_pass::WorkerPass;
 use agreed_ledger::Naming;
 use model::{ProxyNumber, ResolverNumber};
 use std::alloc::{AllocError, Global};
@@ -54,13 +54,13 @@ impl<C: Question> BlankInbox<C> {
     }
 
     /// The sending end of the next proxy, which has the number `proxy`.
-    pub(crate) fn admit(&mut self, proxy: ProxyNumber) -> Result<BlankSender<C>, AllocError>
+    pub(crate) fn add_sender(&mut self, proxy: ProxyNumber) -> Result<BlankSender<C>, AllocError>
         requires { proxy ≡ self.old.made }
         ensures { IfOk result (λ sender. (sender ≡ record { place = self.old.place; proxy = proxy })
             × (self.new ≡ record { place = self.old.place; made = proxy + 1 })) }
     {
         let post = self.post.try_clone()?;
-        let hand = admit(&self.post, &mut self.hand);
+        let hand = add_sender(&self.post, &mut self.hand);
         Ok(BlankSender { proxy, post, hand })
     }
 
@@ -114,12 +114,12 @@ impl<C: Question> BlankSender<C> {
     pub(crate) fn named<N: Naming, M: Channels>(
         self,
         resolver: ResolverNumber,
-    ) -> EndedSender<N, C, M>
+    ) -> SenderEnd<N, C, M>
         requires place { self.place ≡ place_at M.places resolver }
         requires proxy { self.proxy < N.cells.config.proxies }
         ensures { result ≡ fresh_sender self.proxy resolver }
     {
-        EndedSender::new(resolver, self.proxy, self.post, self.hand)
+        SenderEnd::new(resolver, self.proxy, self.post, self.hand)
     }
 }
 
@@ -161,7 +161,7 @@ impl<N: Naming, C: Question> BlankEnd<N, C> {
             counts,
             of: _,
         } = self;
-        FreshEnd::new(inbox, Taker::new(resolver, hand, counts))
+        FreshEnd::new(inbox, WorkerPass::new(resolver, hand, counts))
     }
 }
 
@@ -174,9 +174,9 @@ pub(crate) struct BlankSenders<C: Question> {
 
 impl<C: Question> Model for BlankSenders<C> {
     ghost use Rattle.std.specs.Prelude.{◌≡◌, All, map};
-    ghost use Rattle.inboxes.specs.Blanks.{BlankRow};
+    ghost use Rattle.inboxes.specs.Blanks.{BlankSendersView};
 
-    ghost Value = { BlankRow };
+    ghost Value = { BlankSendersView };
 
     ghost view = { λ b. record {
       proxy = b.proxy;
@@ -187,7 +187,7 @@ impl<C: Question> Model for BlankSenders<C> {
 }
 
 impl<C: Question> BlankSenders<C> {
-    /// No ends, with room for so many.
+    /// No ends, with room for `resolvers` of them.
     pub(crate) fn new(
         alloc: Global,
         proxy: ProxyNumber,

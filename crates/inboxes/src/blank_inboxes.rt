@@ -2,7 +2,7 @@
 
 ghost use Rattle.std.specs.Prelude.{◌≡◌, ◌+◌, ◌<◌, ◌≤◌, [], length, IfOk, OnOk};
 ghost use Rattle.std.specs.Vec.{vec_capacity};
-ghost use Rattle.inboxes.specs.Blanks.{AreRows, AreSides, IsFreshSide};
+ghost use Rattle.inboxes.specs.Blanks.{AreBlankSenders, AreSides, IsFreshSide};
 ghost use Rattle.inboxes.specs.Ends.{IsEach};
 
 use crate::blank::{BlankEnd, BlankInbox, BlankSenders};
@@ -26,7 +26,7 @@ pub struct BlankInboxes<N: Naming, C: Question> {
 
 impl<N: Naming, C: Question> Model for BlankInboxes<N, C> {
     ghost use Rattle.std.specs.Prelude.{◌≡◌, List, length};
-    ghost use Rattle.inboxes.specs.Blanks.{AreRows};
+    ghost use Rattle.inboxes.specs.Blanks.{AreBlankSenders};
     ghost use Rattle.inboxes.specs.Places.{Place};
 
     ghost Value = { List Place };
@@ -34,7 +34,7 @@ impl<N: Naming, C: Question> Model for BlankInboxes<N, C> {
     ghost view = { λ b. b.ends.items };
 
     ghost invariant = { λ b. (length b.ends.items ≡ N.cells.config.resolvers)
-        × AreRows N.cells.config.proxies b.ends.items b.rows.items };
+        × AreBlankSenders N.cells.config.proxies b.ends.items b.rows.items };
 }
 
 impl<N: Naming, C: Question> BlankInboxes<N, C> {
@@ -43,7 +43,7 @@ impl<N: Naming, C: Question> BlankInboxes<N, C> {
     pub fn new(alloc: Global, ledger: &Ledger<N>) -> Result<BlankInboxes<N, C>, OutOfMemory> {
         let proxies = ledger.config().proxies();
         let resolvers = ledger.config().resolvers();
-        let mut rows = empty_rows(alloc, proxies, resolvers)?;
+        let mut rows = new_blank_senders(alloc, proxies, resolvers)?;
         let mut ends = Vec::with_capacity(alloc, resolvers)?;
         for _ in 0..resolvers {
             add_inbox(alloc, &mut rows, &mut ends)?;
@@ -68,17 +68,17 @@ impl<N: Naming, C: Question> BlankInboxes<N, C> {
             sides,
             fresh,
         } = room;
-        (named_rows(rows, rooms, sides), named_ends(ends, fresh))
+        (name_senders(rows, rooms, sides), name_ends(ends, fresh))
     }
 }
 
-/// For each proxy a row with no ends.
-fn empty_rows<C: Question>(
+/// For each proxy no sending ends yet.
+fn new_blank_senders<C: Question>(
     alloc: Global,
     proxies: usize,
     resolvers: usize,
 ) -> Result<Vec<BlankSenders<C>>, AllocError>
-    ensures { IfOk result (λ rows. AreRows proxies [] rows.items) }
+    ensures { IfOk result (λ rows. AreBlankSenders proxies [] rows.items) }
 {
     let mut rows = Vec::with_capacity(alloc, proxies)?;
     for proxy in 0..proxies {
@@ -93,13 +93,13 @@ fn add_inbox<N: Naming, C: Question>(
     rows: &mut Vec<BlankSenders<C>>,
     ends: &mut Vec<BlankEnd<N, C>>,
 ) -> Result<(), AllocError>
-    requires { AreRows N.cells.config.proxies ends.old.items rows.old.items }
-    ensures rows { OnOk result (AreRows N.cells.config.proxies ends.new.items rows.new.items) }
+    requires { AreBlankSenders N.cells.config.proxies ends.old.items rows.old.items }
+    ensures rows { OnOk result (AreBlankSenders N.cells.config.proxies ends.new.items rows.new.items) }
     ensures ends { OnOk result (length ends.new.items ≡ length ends.old.items + 1) }
 {
     let mut inbox = BlankInbox::new(alloc)?;
     for proxy in 0..rows.len() {
-        let sender = inbox.admit(proxy)?;
+        let sender = inbox.add_sender(proxy)?;
         rows[proxy].push(sender)?;
     }
     let counts = Vec::from_elem(alloc, 0, rows.len())?;
@@ -108,12 +108,12 @@ fn add_inbox<N: Naming, C: Question>(
 }
 
 /// Names the ends of all proxies.
-fn named_rows<N: Naming, C: Question, M: Channels>(
+fn name_senders<N: Naming, C: Question, M: Channels>(
     rows: Vec<BlankSenders<C>>,
     mut rooms: Vec<SenderRoom<N, C, M>>,
     mut sides: Vec<ProxySenders<N, C, M>>,
 ) -> Vec<ProxySenders<N, C, M>>
-    requires rows { AreRows N.cells.config.proxies M.places rows.items }
+    requires rows { AreBlankSenders N.cells.config.proxies M.places rows.items }
     requires all { length M.places ≡ N.cells.config.resolvers }
     requires rooms { length rooms.items ≡ N.cells.config.proxies }
     requires empty { sides.items ≡ [] }
@@ -124,13 +124,13 @@ fn named_rows<N: Naming, C: Question, M: Channels>(
         let Some(room) = rooms.pop() else {
             unreachable!();
         };
-        sides.push_reserved(named_row(row, room));
+        sides.push_reserved(name_senders_of_proxy(row, room));
     }
     sides
 }
 
 /// Names the ends of one proxy.
-fn named_row<N: Naming, C: Question, M: Channels>(
+fn name_senders_of_proxy<N: Naming, C: Question, M: Channels>(
     row: BlankSenders<C>,
     room: SenderRoom<N, C, M>,
 ) -> ProxySenders<N, C, M>
@@ -149,7 +149,7 @@ fn named_row<N: Naming, C: Question, M: Channels>(
 }
 
 /// Names the receiving ends.
-fn named_ends<N: Naming, C: Question, M: Channels>(
+fn name_ends<N: Naming, C: Question, M: Channels>(
     blank: Vec<BlankEnd<N, C>>,
     mut ends: Vec<FreshEnd<N, C, M>>,
 ) -> Vec<FreshEnd<N, C, M>>

@@ -4,14 +4,14 @@ ghost use Rattle.std.specs.Prelude.{◌≡◌, ◌∷◌, ◌++◌, [], IfOk, On
 ghost use Rattle.crossbeam_channel.specs.Claims.{IsKeyed};
 ghost use Rattle.crossbeam_channel.specs.Ends.{receives_on, ruled_capacity};
 ghost use Rattle.inboxes.specs.Delivers.{inbox_limit};
-ghost use Rattle.inboxes.specs.Ends.{TakerView};
+ghost use Rattle.inboxes.specs.Ends.{WorkerPassView};
 ghost use Rattle.inboxes.specs.Places.{place_at, place_of};
 
 use crate::channels::Channels;
 use crate::message::Message;
 use crate::question::Question;
 use crate::rule::Inbox;
-use crate::taker::Taker;
+use crate::worker_pass::WorkerPass;
 use agreed_ledger::Naming;
 use crossbeam_channel::RecvError;
 use model::ResolverNumber;
@@ -22,7 +22,7 @@ use std::sync::Wait;
 #[derive(Drop)]
 pub struct InboxEnd<N: Naming, C: Question, M: Channels> {
     inbox: Inbox<C>,
-    taker: Taker<N, C, M>,
+    pass: WorkerPass<N, C, M>,
 }
 
 impl<N: Naming, C: Question, M: Channels> Model for InboxEnd<N, C, M> {
@@ -30,14 +30,14 @@ impl<N: Naming, C: Question, M: Channels> Model for InboxEnd<N, C, M> {
     ghost use Rattle.crossbeam_channel.specs.Claims.{IsKeyed};
     ghost use Rattle.crossbeam_channel.specs.Ends.{receives_on, ruled_capacity};
     ghost use Rattle.inboxes.specs.Delivers.{inbox_limit};
-    ghost use Rattle.inboxes.specs.Ends.{TakerView};
+    ghost use Rattle.inboxes.specs.Ends.{WorkerPassView};
     ghost use Rattle.inboxes.specs.Places.{place_at, place_of};
 
-    ghost Value = { TakerView };
+    ghost Value = { WorkerPassView };
 
-    ghost view = { λ e. e.taker };
+    ghost view = { λ e. e.pass };
 
-    ghost invariant = { λ e. (place_of (receives_on e.inbox) ≡ place_at M.places e.taker.resolver)
+    ghost invariant = { λ e. (place_of (receives_on e.inbox) ≡ place_at M.places e.pass.resolver)
         × IsKeyed (receives_on e.inbox)
         × (ruled_capacity (receives_on e.inbox) ≡ inbox_limit) };
 }
@@ -47,14 +47,14 @@ impl<N: Naming, C: Question, M: Channels> InboxEnd<N, C, M> {
     pub fn resolver(&self) -> ResolverNumber
         ensures { result ≡ self.now.resolver }
     {
-        self.taker.resolver()
+        self.pass.resolver()
     }
 
     /// How many proxies there are, each with a sending end.
     pub fn proxies(&self) -> usize
         ensures { result ≡ N.cells.config.proxies }
     {
-        self.taker.proxies()
+        self.pass.proxies()
     }
 
     /// Takes the message at the front of the inbox, and waits while there is none. Fails, and takes
@@ -64,14 +64,14 @@ impl<N: Naming, C: Question, M: Channels> InboxEnd<N, C, M> {
             ≡ record self.old { got = self.old.got ++ message ∷ [] }) }
         ensures none { OnErr result (self.new ≡ self.old) }
     {
-        self.taker.take_from(rt, &self.inbox)
+        self.pass.take_from(rt, &self.inbox)
     }
 
     /// The worker's pass alone. The receiving end is let go, so that later sends are refused.
-    pub fn into_taker(self) -> Taker<N, C, M>
+    pub fn into_pass(self) -> WorkerPass<N, C, M>
         ensures { result ≡ self }
     {
-        self.taker
+        self.pass
     }
 }
 
@@ -94,15 +94,15 @@ impl<N: Naming, C: Question, M: Channels> Model for FreshEnd<N, C, M> {
 
 impl<N: Naming, C: Question, M: Channels> FreshEnd<N, C, M> {
     /// The end of this inbox, by a pass that took nothing.
-    pub(crate) fn new(inbox: Inbox<C>, taker: Taker<N, C, M>) -> FreshEnd<N, C, M>
-        requires place { place_of (receives_on inbox) ≡ place_at M.places taker.resolver }
+    pub(crate) fn new(inbox: Inbox<C>, pass: WorkerPass<N, C, M>) -> FreshEnd<N, C, M>
+        requires place { place_of (receives_on inbox) ≡ place_at M.places pass.resolver }
         requires keyed { IsKeyed (receives_on inbox) }
         requires capacity { ruled_capacity (receives_on inbox) ≡ inbox_limit }
-        requires empty { taker.got ≡ [] }
-        ensures { result ≡ taker.resolver }
+        requires empty { pass.got ≡ [] }
+        ensures { result ≡ pass.resolver }
     {
         FreshEnd {
-            end: InboxEnd { inbox, taker },
+            end: InboxEnd { inbox, pass },
         }
     }
 

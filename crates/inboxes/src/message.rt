@@ -1,7 +1,7 @@
 //! The messages of an inbox.
 
 ghost use Rattle.std.specs.Prelude.{◌≡◌};
-ghost use Rattle.inboxes.specs.Tags.{close_tag, end_tag, request_tag, tag};
+ghost use Rattle.inboxes.specs.MessageViews.{close_view, end_view, request_view, message_view};
 
 use crate::question::Question;
 use model::ProxyNumber;
@@ -18,7 +18,7 @@ pub enum Body<C: Question> {
     End,
 }
 
-/// A message of a proxy. Contracts see its tag.
+/// A message of a proxy. Contracts see its `MessageView`.
 #[derive(Drop)]
 pub struct Message<C: Question> {
     proxy: ProxyNumber,
@@ -26,18 +26,18 @@ pub struct Message<C: Question> {
 }
 
 impl<C: Question> Model for Message<C> {
-    ghost use Rattle.inboxes.specs.Tags.{tag};
-    ghost use Rattle.inboxes.specs.declared.tag.Tag.{Tag};
+    ghost use Rattle.inboxes.specs.MessageViews.{message_view};
+    ghost use Rattle.inboxes.specs.declared.views.MessageView.{MessageView};
 
-    ghost Value = { Tag };
+    ghost Value = { MessageView };
 
-    ghost view = { λ m. tag C.resolver_of C.row_of m.proxy m.body };
+    ghost view = { λ m. message_view C.resolver_of C.row_of m.proxy m.body };
 }
 
 impl<C: Question> Message<C> {
     /// The proxy's request, with where its answer goes.
     pub fn request(proxy: ProxyNumber, question: C) -> Message<C>
-        ensures { result ≡ request_tag proxy (C.resolver_of question) (C.row_of question) }
+        ensures { result ≡ request_view proxy (C.resolver_of question) (C.row_of question) }
     {
         Message {
             proxy,
@@ -47,7 +47,7 @@ impl<C: Question> Message<C> {
 
     /// The proxy asks that the resolver be closed.
     pub fn close(proxy: ProxyNumber) -> Message<C>
-        ensures { result ≡ close_tag proxy }
+        ensures { result ≡ close_view proxy }
     {
         Message {
             proxy,
@@ -57,7 +57,7 @@ impl<C: Question> Message<C> {
 
     /// The last message of the proxy.
     pub fn end(proxy: ProxyNumber) -> Message<C>
-        ensures { result ≡ end_tag proxy }
+        ensures { result ≡ end_view proxy }
     {
         Message {
             proxy,
@@ -74,7 +74,7 @@ impl<C: Question> Message<C> {
 
     /// What the message says.
     pub fn into_body(self) -> Body<C>
-        ensures { tag C.resolver_of C.row_of self.proxy result ≡ self }
+        ensures { message_view C.resolver_of C.row_of self.proxy result ≡ self }
     {
         self.body
     }

@@ -4,10 +4,10 @@ ghost use Rattle.std.specs.Prelude.{◌≡◌, ◌<◌, length, IfErr, IfOk};
 ghost use Rattle.inboxes.specs.Ends.{AreSenders, ProxyView};
 ghost use Rattle.inboxes.specs.Sending.{AreEndedSenders, AreOpen, AreSent, ChangesEnd, IsFor};
 ghost use Rattle.inboxes.specs.Sending.{with_gone, with_sent};
-ghost use Rattle.inboxes.specs.Tags.{end_tag};
+ghost use Rattle.inboxes.specs.MessageViews.{end_view};
 
 use crate::channels::Channels;
-use crate::ended_sender::EndedSender;
+use crate::sender_end::{EndedSender, SenderEnd};
 use crate::message::Message;
 use crate::question::Question;
 use agreed_ledger::Naming;
@@ -20,7 +20,7 @@ use std::sync::Wait;
 #[derive(Drop)]
 pub struct ProxySenders<N: Naming, C: Question, M: Channels> {
     proxy: ProxyNumber,
-    ends: Vec<EndedSender<N, C, M>>,
+    ends: Vec<SenderEnd<N, C, M>>,
 }
 
 impl<N: Naming, C: Question, M: Channels> Model for ProxySenders<N, C, M> {
@@ -37,7 +37,7 @@ impl<N: Naming, C: Question, M: Channels> Model for ProxySenders<N, C, M> {
 
 impl<N: Naming, C: Question, M: Channels> ProxySenders<N, C, M> {
     /// The proxy's ends, one for each resolver.
-    pub(crate) fn new(proxy: ProxyNumber, ends: Vec<EndedSender<N, C, M>>) -> ProxySenders<N, C, M>
+    pub(crate) fn new(proxy: ProxyNumber, ends: Vec<SenderEnd<N, C, M>>) -> ProxySenders<N, C, M>
         requires senders { AreSenders proxy N.cells.config.resolvers ends.items }
         requires not_ended { AreOpen ends.items }
         ensures { result ≡ record { proxy = proxy; ends = ends.items } }
@@ -86,7 +86,7 @@ impl<N: Naming, C: Question, M: Channels> ProxySenders<N, C, M> {
     /// Allocates nothing.
     pub fn into_ended<R: Wait>(self, rt: &R) -> Vec<EndedSender<N, C, M>>
         ensures senders { AreSenders self.proxy N.cells.config.resolvers result.items }
-        ensures sent { AreSent (end_tag self.proxy) self.ends result.items }
+        ensures sent { AreSent (end_view self.proxy) self.ends result.items }
         ensures ended { AreEndedSenders self.proxy result.items }
     {
         let ProxySenders { proxy, ends } = self;
@@ -100,10 +100,10 @@ impl<N: Naming, C: Question, M: Channels> ProxySenders<N, C, M> {
 fn send_ends<N: Naming, C: Question, M: Channels, R: Wait>(
     rt: &R,
     proxy: ProxyNumber,
-    ends: &mut Vec<EndedSender<N, C, M>>,
+    ends: &mut Vec<SenderEnd<N, C, M>>,
 )
     requires { AreSenders proxy (length ends.old.items) ends.old.items }
-    ensures { AreSent (end_tag proxy) ends.old.items ends.new.items }
+    ensures { AreSent (end_view proxy) ends.old.items ends.new.items }
 {
     for resolver in 0..ends.len() {
         let _sent = ends[resolver].send(rt, Message::end(proxy));

@@ -3,7 +3,7 @@
 ghost use Rattle.std.specs.Prelude.{◌≡◌, length, IfOk};
 
 use crate::channels::Channels;
-use crate::ended_sender::EndedSender;
+use crate::sender_end::SenderEnd;
 use crate::inbox_end::FreshEnd;
 use crate::proxy_senders::ProxySenders;
 use crate::question::Question;
@@ -15,7 +15,7 @@ use system_keys::OutOfMemory;
 /// Room for the sending ends of one proxy.
 #[derive(Drop)]
 pub(crate) struct SenderRoom<N: Naming, C: Question, M: Channels> {
-    pub(crate) ends: Vec<EndedSender<N, C, M>>,
+    pub(crate) ends: Vec<SenderEnd<N, C, M>>,
 }
 
 impl<N: Naming, C: Question, M: Channels> Model for SenderRoom<N, C, M> {

@@ -9,11 +9,11 @@ ghost use Rattle.crossbeam_channel.specs.Ends.{receives_on, ruled_capacity, send
 ghost use Rattle.inboxes.specs.Delivers.{inbox_limit, of_proxy};
 ghost use Rattle.inboxes.specs.Places.{known};
 ghost use Rattle.inboxes.specs.Views.{sender, worker};
-ghost use Rattle.inboxes.specs.declared.tag.Tag.{Tag};
+ghost use Rattle.inboxes.specs.declared.views.MessageView.{MessageView};
 
 use crate::message::Message;
 use crate::question::Question;
-use crate::tag::{Tag, View};
+use crate::views::{MessageView, View};
 use crossbeam_channel::protocol::{Join, Lesson, Outcome, Protocol, Split};
 use crossbeam_channel::{Pass, RecvError, RuledReceiver, RuledSender, bounded_with};
 use std::alloc::{AllocError, Global};
@@ -158,7 +158,7 @@ pub(crate) fn take_one<C: Question, R: Wait>(
 }
 
 /// Makes the pass of the next proxy.
-pub(crate) fn admit<C: Question>(post: &Post<C>, hand: &mut Hand<C>) -> Hand<C>
+pub(crate) fn add_sender<C: Question>(post: &Post<C>, hand: &mut Hand<C>) -> Hand<C>
     requires place { IsSeatAt (sends_on post.now) hand.old }
     requires worker { (known hand.old).gets ≡ true }
     ensures place { IsSeatAt (sends_on post.now) hand.new }
@@ -178,7 +178,7 @@ pub(crate) fn join<C: Question>(post: &Post<C>, hand: &mut Hand<C>, ended: Hand<
     ensures place { IsSeatAt (sends_on post.now) hand.new }
     ensures worker { ((known hand.new).gets ≡ true)
         × ((known hand.new).got ≡ (known hand.old).got) }
-    ensures begins { (rest : List Tag)
+    ensures begins { (rest : List MessageView)
         × ((known ended).put ≡ of_proxy (known ended).from (known hand.old).got ++ rest) }
 {
     post.absorb::<Ends>(hand, ended);

@@ -6,7 +6,7 @@ use Rattle.std.proofs.lemmas.Option.{same_Some, slice_get_within}
 use Rattle.model.specs.Configs.{Config}
 use Rattle.model.specs.Records.{Record}
 use Rattle.model.specs.Shares.{each_below}
-use Rattle.model.specs.Stamps.{Given}
+use Rattle.model.specs.Stamps.{AdmittedTransaction}
 use Rattle.model.specs.Requests.{Request, request, request_back_to}
 use Rattle.model.specs.World.{record_after}
 use Rattle.model.proofs.History.Growth.{slice_get-push}
@@ -106,7 +106,7 @@ takes_record config v whose some is taken rec at =
 
 -- ---- a batch that got its record
 
-pub sequenced_holds : (config : Config) (before after : SequencedView) (p : ℕ) (batch : List Given) (t : TicketView) → HasSequenced config before p batch after t → HoldsBatch p t.row t.records batch
+pub sequenced_holds : (config : Config) (before after : SequencedView) (p : ℕ) (batch : List AdmittedTransaction) (t : TicketView) → HasSequenced config before p batch after t → HoldsBatch p t.row t.records batch
 sequenced_holds config before after p batch t has =
     record {
       rec = rec;

@@ -18,7 +18,7 @@ use Rattle.model.specs.Outcomes.{outcomes, outcomes_after}
 use Rattle.model.specs.PrivateCopies.{private_copy}
 use Rattle.model.specs.Records.{Record, IsHistory, last_version}
 use Rattle.model.specs.Serial.{Place, IsCommitted}
-use Rattle.model.specs.Transactions.{Transaction}
+use Rattle.model.specs.Transactions.{StampedTransaction}
 use Rattle.model.specs.World.{IsTaggedBy, finished_after, tagged_all, tagged_from, tagged_one, rows_up_to, up_to_version}
 use Rattle.model.proofs.Agreement.Holders.{finished_outcomes, finished_tags}
 use Rattle.model.proofs.Agreement.Sources.{journal_push}
@@ -65,7 +65,7 @@ change_tagged rows number n (suc place) at (first ∷ changes) change is there =
     record { mutation = later.mutation; there = inr later.there; number_is = later.number_is; place_is = later.place_is; change_is = later.change_is }
 
 -- each change of a transaction of the batch that is committed is tagged
-batch_tagged : (rows : Entries) (ts : List Transaction) (results : List Outcome) (n : ℕ) (t : Transaction) (version number place : ℕ) (change : Change) → slice_get ts n ≡ Some t → slice_get results n ≡ Some (Committed version number) → slice_get t.changes place ≡ Some change → Tags (tagged_all rows ts results) number place change
+batch_tagged : (rows : Entries) (ts : List StampedTransaction) (results : List Outcome) (n : ℕ) (t : StampedTransaction) (version number place : ℕ) (change : Change) → slice_get ts n ≡ Some t → slice_get results n ≡ Some (Committed version number) → slice_get t.changes place ≡ Some change → Tags (tagged_all rows ts results) number place change
 batch_tagged rows [] results n t version number place change at told there = absurd (cc)
 batch_tagged rows (first ∷ ts) [] n t version number place change at told there = absurd (cc)
 batch_tagged rows (first ∷ ts) (result ∷ results) zero t version number place change at told there =

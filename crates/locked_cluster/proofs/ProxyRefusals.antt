@@ -1,4 +1,4 @@
--- Calls of a proxy that have no fault are refused for want of memory alone.
+-- Calls of a proxy that have no fault are refused with `OutOfMemory` alone.
 use Rattle.std.proofs.Common.{◌≡◌, refl, sym, ℕ, ◌-◌, ◌<◌, List, length, take, true, nat_eq, None, arith}
 use Rattle.std.proofs.lemmas.Bool.{eq-eqb}
 use Rattle.model.specs.Records.{Record}

@@ -40,7 +40,7 @@ pub record NotedRoutingView : Type 0 where
   pub columns : Columns
 
 -- The view is agreed up to some row, whose version is not below that of the routing, and the cells
--- of the rows before it hold the definition's verdicts. The routing is that of the metadata of these
+-- of the rows before it hold the definition's verdicts. The routing is read off the metadata of these
 -- rows, up to the version of the routing.
 pub record IsNotedRouting (config : Config) (v : NotedRoutingView) : Type 0 where
   pub rows : ℕ

@@ -10,7 +10,7 @@ use Rattle.agreed_ledger.specs.Cells.{ColumnView}
 abbrev pub known_columns : List ColumnView → Columns
 known_columns columns = map (λ (column : ColumnView). column.rows.known) columns
 
--- the column at each place is that of the resolver of this number, and begins at row 0
+-- the column at each place belongs to the resolver of this number, and begins at row 0
 abbrev pub AreInOrder : List ColumnView → Type 0
 AreInOrder columns =
     (r : ResolverNumber) (column : ColumnView) → slice_get columns r ≡ Some column

@@ -3,7 +3,7 @@ use Rattle.std.specs.Prelude.{◌≡◌, List, slice_get, Option, Some, IsFalse}
 use Rattle.model.specs.Numbers.{ProxyNumber, RowNumber}
 use Rattle.model.specs.Configs.{Config}
 use Rattle.model.specs.Records.{Record, MovesFollow}
-use Rattle.model.specs.Stamps.{Given, stamped_from}
+use Rattle.model.specs.Stamps.{AdmittedTransaction, stamped_from}
 use Rattle.agreed_ledger.specs.Cells.{Cells}
 use Rattle.agreed_ledger.specs.Refusals.{refusal_fault}
 use Rattle.agreed_ledger.specs.Sequencing.{SequencedView, TicketView, sequence_fault}
@@ -20,7 +20,7 @@ use Rattle.locked_cluster.specs.declared.commits.commit_fault.CommitFault.TheVar
 
 -- the record of the row is of this proxy, and holds the batch with the stamps of its version
 pub record HoldsBatch
-    (p : ProxyNumber) (row : RowNumber) (records : List Record) (batch : List Given) :
+    (p : ProxyNumber) (row : RowNumber) (records : List Record) (batch : List AdmittedTransaction) :
     Type 0 where
   pub rec : Record
   pub there : slice_get records row ≡ Some rec
@@ -35,14 +35,15 @@ TakesRecord whose begun =
 -- the finished record is of this proxy and holds the batch, and this proxy is shown and has just
 -- finished it
 pub record IsCommitted
-    (p : ProxyNumber) (batch : List Given) (noted : NotedFinishedView) (v : LockedProxyView) :
+    (p : ProxyNumber) (batch : List AdmittedTransaction) (noted : NotedFinishedView)
+    (v : LockedProxyView) :
     Type 0 where
   pub holds : HoldsBatch p noted.finished.row noted.records batch
   pub number : v.proxy.number ≡ p
   pub shown : ShowsFinished noted v
 
 -- The sequencer, in some state that its lock may keep, refuses a batch of this proxy so: with its
--- first fault, or, where there is none, for want of memory or a taken cell.
+-- first fault, or, where there is none, `OutOfMemory` or a taken cell.
 abbrev pub WasSequenceRefused : Cells → ProxyNumber → LedgerRefusal → Type 0
 WasSequenceRefused cells p refusal =
     (s : SequencedView) × MovesFollow cells.config s.records s.moves
@@ -64,7 +65,7 @@ WasFinishRefused config p ready refusal =
 -- Each fault of a commit of a proxy returns what its phase was given, the batch or what holds it, and
 -- its refusal is one of that phase. (`whose`: whose requests the way to ask takes.)
 abbrev pub HandsBack :
-    {N : Type 0} → Cells → (whose : Option ProxyNumber) → ProxyNumber → List Given
+    {N : Type 0} → Cells → (whose : Option ProxyNumber) → ProxyNumber → List AdmittedTransaction
     → CommitFault N → Type 0
 HandsBack cells whose p batch (faults.Sequencing refusal returned) =
     (returned ≡ batch) × WasSequenceRefused cells p refusal

@@ -62,7 +62,7 @@ pub record HasMutation
   pub place_is : mutation.place ≡ place
   pub change_is : mutation.change ≡ change
 
--- The records of the answer are a history, whose last record is that of the answer's row and version.
+-- The records of the answer are a history, whose last record has the answer's row and version.
 -- The answer is the definition's for it. A client is told Committed exactly if its transaction is
 -- committed. Each mutation of each committed transaction of the record stands in the answer, and each
 -- mutation in the answer has the tags, and the private copy, that the metadata after the record gives

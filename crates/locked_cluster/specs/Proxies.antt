@@ -42,8 +42,8 @@ FollowOneAnother version last (rec ∷ later) =
     (rec.own_previous ≡ version) × FollowOneAnother rec.version last later
 
 -- The view is agreed with the ledger up to the row of the proxy's version, the cells of these rows
--- hold the definition's verdicts, and the journal is that of these rows by the cells. (The metadata is
--- always that of the journal.) The version is that of the last record of this proxy among these rows,
+-- hold the definition's verdicts, and the journal is made of these rows by the cells. (The metadata is
+-- always the fold of the journal.) The version is the version of this proxy's last record among these rows,
 -- or 0. The records begun and not finished are of this proxy, stand among the records, and follow one
 -- another; the last record is the one begun last, and the map of owners holds its moves.
 pub record IsLockedProxy (config : Config) (v : LockedProxyView) : Type 0 where

@@ -29,7 +29,7 @@ use Rattle.model.proofs.Resolvers.Judged.{map_each}
 use Rattle.model.proofs.Resolvers.Offers.{answer_early, answer_judged, answer_known, answer_repeat, given_up, kept_at}
 use Rattle.model.proofs.Resolvers.Requests.{last_of_requests, request_reply_is, requests_for}
 use Rattle.model.proofs.Verdicts.Places.{row_at, slice_get-take}
-use Rattle.state_memory.specs.Answers.{AnswersAfterJudged, GainsRequest, RepliesAfterJudged, answer_of}
+use Rattle.state_memory.specs.Answers.{AnswersAfterJudged, GainsRequest, RepliesAfterJudged, offer_answer_of}
 use Rattle.state_memory.specs.declared.answer.Answer.{Answer as OfferAnswer}
 use Rattle.state_memory.specs.declared.answer.Answer.TheVariants as answers
 use Rattle.agreed_ledger.specs.Cells.{AllHaveRows, AreKnownAt, Cells, ColumnView, IsWithin, NotedVerdicts, verdict_cells, with_rows}
@@ -580,7 +580,7 @@ pub is_repeating : (config : Config) (v : LockedResolverView) (q : RequestView) 
 is_repeating config v q p reply answer plain keeps agree plain_is is answered = record { answers = again; was = was; noted = noted_again config v q p reply keeps was; own = sym (ap (λ (one : Reply). one.resolver) was.reply_is) }
   where
     again : AnswerHas v.memory q.plain (λ answer. answer ≡ Ok (offers.Again reply))
-    again = subst (λ (one : Request). AnswerHas v.memory one (λ found. found ≡ Ok (offers.Again reply))) plain_is (λ judged stands. answered judged stands ∙ ap (λ (one : OfferAnswer). Ok (answer_of one)) is)
+    again = subst (λ (one : Request). AnswerHas v.memory one (λ found. found ≡ Ok (offers.Again reply))) plain_is (λ judged stands. answered judged stands ∙ ap (λ (one : OfferAnswer). Ok (offer_answer_of one)) is)
 
     was : WasJudged config v q p.rec reply
     was = was_judged config v q p reply keeps agree again
@@ -601,7 +601,7 @@ offered_again config v now q p reply after noted_reply is is_open keeps repeatin
 pub never_judged : (config : Config) (v : LockedResolverView) (q : RequestView) (reply : Reply) (answer : OfferAnswer) (plain : Request) → IsLockedResolver config v → (course v.memory q.plain ≡ Ok Judge → ⊥) → plain ≡ q.plain → answer ≡ answers.Judged reply → AnswersAfterJudged v.memory plain (Ok answer) → ⊥
 never_judged config v q reply answer plain keeps other plain_is is answered =
     not_judged v.memory (requests_to config keeps.stands.received v.memory.number v.records) q.plain reply keeps.stands.requests other
-    (ap (λ (one : Request). answer_to v.memory.number (length v.memory.proxies) v.memory.written.window (requests_to config keeps.stands.received v.memory.number v.records) one) (sym plain_is) ∙ answered (requests_to config keeps.stands.received v.memory.number v.records) keeps.stands.requests ∙ ap (λ (one : OfferAnswer). Ok (answer_of one)) is)
+    (ap (λ (one : Request). answer_to v.memory.number (length v.memory.proxies) v.memory.written.window (requests_to config keeps.stands.received v.memory.number v.records) one) (sym plain_is) ∙ answered (requests_to config keeps.stands.received v.memory.number v.records) keeps.stands.requests ∙ ap (λ (one : OfferAnswer). Ok (offer_answer_of one)) is)
 
 -- ---- a resolver before its first request
 

@@ -118,7 +118,7 @@ pub record HasRepeated
   pub noted_column : noted.column ≡ before.column
   pub answer : AnswerHas before.memory request.plain (λ answer. answer ≡ Ok (offers.Again noted.reply))
 
--- the resolver is open, the request is to it, and the reply is that of a judging or of a repeat
+-- the resolver is open, the request is to it, and the reply is of a judging or of a repeat
 pub record HasOffered
     (before : LockedResolverView) (request : RequestView)
     (after : LockedResolverView) (noted : NotedReplyView) : Type 0 where
@@ -165,7 +165,7 @@ after_refusal before refusal = before
 
 -- ---- what a call that waits its turn returns
 
--- the refusal is not that of an early request
+-- the refusal is not `Early`
 abbrev pub IsNotEarly : Refusal → Type 0
 IsNotEarly (refusals.Early version) = ⊥
 IsNotEarly refusal = Unit {0}

@@ -10,7 +10,7 @@ use crate::asking::Asking;
 use crate::noted_reply::NotedReply;
 use crate::refusal::Refusal;
 use crate::request::Request;
-use crate::shared::SharedResolver;
+use crate::shared_resolver::SharedResolver;
 use agreed_ledger::Naming;
 use std::alloc::Global;
 use std::sync::Wait;

@@ -11,18 +11,18 @@
 
 mod all_resolvers;
 mod asking;
-mod locked;
+mod locked_resolver;
 mod noted_reply;
 mod refusal;
 mod refused;
 mod request;
-mod shared;
+mod shared_resolver;
 
 pub use all_resolvers::AllResolvers;
 pub use asking::Asking;
-pub use locked::LockedResolver;
+pub use locked_resolver::LockedResolver;
 pub use noted_reply::NotedReply;
 pub use refusal::Refusal;
 pub use refused::Refused;
 pub use request::Request;
-pub use shared::{ResolverGuard, SharedResolver};
+pub use shared_resolver::{ResolverGuard, SharedResolver};

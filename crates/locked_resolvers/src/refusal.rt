@@ -33,7 +33,7 @@ pub enum Refusal {
     /// The record does not follow the one that the proxy has begun last, at version `expected`.
     #[error("the record does not follow the last one begun, at version {expected}")]
     OutOfOrder { expected: Version },
-    /// The record is not the one that the proxy finishes next: that of row `expected`, if any is
+    /// The record is not the one that the proxy finishes next: the record of row `expected`, if any is
     /// begun.
     #[error("the record is not the one that is finished next")]
     OutOfTurn { expected: Option<RowNumber> },

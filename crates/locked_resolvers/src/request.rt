@@ -63,7 +63,7 @@ impl<N: Naming> Request<N> {
         self.plain.row()
     }
 
-    /// The version before that of its record.
+    /// The version of the record before its own.
     pub fn previous(&self) -> Version
         ensures { result ≡ self.now.plain.previous }
     {

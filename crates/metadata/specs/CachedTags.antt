@@ -50,7 +50,7 @@ AreTags lists values =
     → is_in key_servers_family key ≡ true → values key ≡ Some value
     → lists key ≡ Some (tags_by values value)
 
--- the key is that of a keyServers row
+-- a keyServers row has the key
 pub record IsRowKey (values : Values) (key : Key) : Type 0 where
   pub own : is_in key_servers_family key ≡ true
   pub there : is_some (values key) ≡ true

@@ -22,7 +22,7 @@ ghost use Rattle.metadata.specs.ServerTables.{AreServerKeys};
 
 use crate::key_runs::KeyRuns;
 use crate::key_set::{KeySet, is_next};
-use crate::order::{is_between, precedes};
+use crate::order::{is_between, is_key_below};
 use std::alloc::Global;
 use std::collections::BTreeMap;
 use std::collections::btree_map::{Iter, Range};
@@ -82,7 +82,7 @@ impl EntryMap {
     }
 
     /// The keys of the serverTag entries. Fails only with `OutOfMemory`.
-    pub(crate) fn server_keys(&self) -> Result<KeySet, OutOfMemory>
+    pub(crate) fn server_tag_keys(&self) -> Result<KeySet, OutOfMemory>
         ensures { IfOk result (λ keys. AreServerKeys keys self.now) }
     {
         let mut keys = KeySet::new(self.alloc);
@@ -178,7 +178,7 @@ impl EntryMap {
                 from = range.begin();
                 up_to = range.begin();
             }
-            if precedes(up_to, range.end()) {
+            if is_key_below(up_to, range.end()) {
                 self.list_keys_between(up_to, range.end(), &mut keys)?;
                 up_to = range.end();
             }
@@ -327,7 +327,7 @@ impl EntryMap {
     {
         let Undo { missing, displaced } = undo;
         self.remove_listed(&missing, &EntryMap::new(self.alloc));
-        self.write(displaced);
+        self.overwrite_all(displaced);
         missing
     }
 
@@ -345,19 +345,19 @@ impl EntryMap {
 
     /// Puts all entries of the other map, if this one has an entry at each of their keys. Does not
     /// allocate.
-    fn write(&mut self, puts: EntryMap)
+    fn overwrite_all(&mut self, puts: EntryMap)
         ensures values { ((key : Key) → has_entry puts key ≡ true → has_entry self.old key ≡ true)
             → (key : Key) → entry_value self.new key
             ≡ option_or (entry_value puts key) (entry_value self.old key) }
         ensures order { IsInOrder self.old → IsInOrder self.new }
     {
         for (key, value) in puts.values {
-            self.fill(key, value);
+            self.overwrite(key, value);
         }
     }
 
     /// Puts the value at the key, if the map has an entry there. Does not allocate.
-    fn fill(&mut self, key: Vec<u8>, value: Bytes)
+    fn overwrite(&mut self, key: Vec<u8>, value: Bytes)
         ensures value { has_entry self.old key.items ≡ true
             → self.new ≡ insert_entry (slice_cmp nat_cmp) self.old key.items value }
         ensures order { IsInOrder self.new }
@@ -421,7 +421,7 @@ impl EntryMap {
             → IsHiddenRun hidden.now self.now (first.now.items, last.now.items) }
     {
         let begins = first.as_slice().starts_with(KEY_SERVERS_PREFIX);
-        if !begins || precedes(last.as_slice(), first.as_slice()) {
+        if !begins || is_key_below(last.as_slice(), first.as_slice()) {
             return false;
         }
         let mut listed = hidden.from_key(first);
@@ -464,7 +464,7 @@ impl EntryMap {
             ≡ filter (is_serving_after key.now.items range.now) self.now) }
     {
         let end = key_servers_key(self.alloc, range.end())?;
-        if precedes(key.as_slice(), end.as_slice()) {
+        if is_key_below(key.as_slice(), end.as_slice()) {
             let bounds = (Bound::Excluded(key), Bound::Excluded(&end));
             Ok(self.values.range(bounds))
         } else {

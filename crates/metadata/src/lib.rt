@@ -7,7 +7,7 @@
 #![tactic(auto)]
 
 mod applying;
-mod changing;
+mod changed_tags;
 mod entry_map;
 mod entry_view;
 mod journal_fold;
@@ -20,8 +20,8 @@ mod private_copies;
 mod raw_ids;
 mod routes;
 mod server_table;
-mod server_tags;
-mod server_view;
+mod value_tags;
+mod servers_after_puts;
 mod staged;
 mod started;
 mod tag_key;

@@ -19,7 +19,7 @@ ghost use Rattle.metadata.specs.ServerTables.{AreServerKeys, ServersTakeBack};
 ghost use Rattle.metadata.specs.Started.{after_rows, IsStarted, HasStarted};
 
 use crate::applying::{any_applied, only_change};
-use crate::changing::{all_tags, changed_tags};
+use crate::changed_tags::{all_tags, changed_tags};
 use crate::entry_view::EntryView;
 use crate::kept_entries::KeptEntries;
 use crate::key_runs::KeyRuns;
@@ -27,7 +27,7 @@ use crate::key_set::KeySet;
 use crate::private_copies::private_of;
 use crate::routes::routes;
 use crate::server_table::ServerTable;
-use crate::server_view::ServerView;
+use crate::servers_after_puts::ServersAfterPuts;
 use crate::staged::Staged;
 use crate::started::{Put, StartedRows};
 use crate::tag_map::{TagMap, TagRow};
@@ -85,7 +85,7 @@ impl Metadata {
     {
         let map = entries.map();
         let alloc = map.alloc();
-        let keys = map.server_keys()?;
+        let keys = map.server_tag_keys()?;
         let servers = ServerTable::of(&keys, map)?;
         let rows = all_tags(map, &servers)?;
         let tags = TagMap::of(alloc, rows)?;
@@ -244,9 +244,9 @@ impl Metadata {
         ensures kept { OnOk result (AreKept self.new) }
         ensures err { OnErr result (self.new ≡ self.old) }
     {
-        let servers = puts.map().server_keys()?;
+        let servers = puts.map().server_tag_keys()?;
         let changed = self.changed_by(&puts, &servers)?;
-        let displaced = self.tags.displaced_by(&changed)?;
+        let displaced = self.tags.displaced_tags(&changed)?;
         self.servers.reserve(&servers)?;
         let undo = self.entries.put_over(puts)?;
         let Ok(()) = self.tags.put_each(changed) else {
@@ -272,7 +272,7 @@ impl Metadata {
     {
         let others = self.entries.map();
         let put_servers = ServerTable::of(keys, puts.map())?;
-        let over = ServerView::new(puts.map(), &put_servers, others, &self.servers);
+        let over = ServersAfterPuts::new(puts.map(), &put_servers, others, &self.servers);
         changed_tags(&over)
     }
 

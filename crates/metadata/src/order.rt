@@ -4,7 +4,7 @@ ghost use Rattle.std.specs.Prelude.{◌≡◌, ◌&&◌, not};
 ghost use Rattle.system_keys.specs.Keys.{is_key_below};
 
 /// Whether the key `a` is below the key `b`.
-pub(crate) fn precedes(a: &[u8], b: &[u8]) -> bool
+pub(crate) fn is_key_below(a: &[u8], b: &[u8]) -> bool
     ensures { result ≡ is_key_below a.now b.now }
 {
     a.cmp(b).is_lt()
@@ -14,5 +14,5 @@ pub(crate) fn precedes(a: &[u8], b: &[u8]) -> bool
 pub(crate) fn is_between(key: &[u8], from: &[u8], up_to: &[u8]) -> bool
     ensures { result ≡ (not (is_key_below key.now from.now) && not (is_key_below up_to.now key.now)) }
 {
-    !precedes(key, from) && !precedes(up_to, key)
+    !is_key_below(key, from) && !is_key_below(up_to, key)
 }

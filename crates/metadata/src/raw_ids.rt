@@ -7,7 +7,7 @@ ghost use Rattle.system_keys.specs.Rows.{Id, counted_ids_at, ids_in, ids_listed}
 ghost use Rattle.metadata.specs.CachedTags.{names_put};
 ghost use Rattle.metadata.specs.Overwrites.{has_entry};
 
-use crate::server_view::ServerView;
+use crate::servers_after_puts::ServersAfterPuts;
 use system_keys::ServerId;
 
 /// How many bytes an id has.
@@ -16,14 +16,14 @@ const ID_LENGTH: usize = 16;
 /// Whether a keyServers value may name a server of which an entry is put: if the id of one stands
 /// among its ids, or if the value ends before the ids that it counts. A value that lists tags begins
 /// with two counts of zero ids, so it names none. Does not allocate.
-pub(crate) fn may_name_put(over: &ServerView<'_>, value: &[u8]) -> bool
+pub(crate) fn may_name_put(over: &ServersAfterPuts<'_>, value: &[u8]) -> bool
     ensures { result ≡ false → names_put over.now.puts value.now ≡ false }
 {
     may_list_put(over, value) || may_list_put(over, behind_ids(value))
 }
 
 /// Whether one of the ids behind a count byte may be that of a server of which an entry is put.
-fn may_list_put(over: &ServerView<'_>, bytes: &[u8]) -> bool
+fn may_list_put(over: &ServersAfterPuts<'_>, bytes: &[u8]) -> bool
     ensures { result ≡ false
         → list_any (λ id. has_entry over.now.puts (server_tag_family.prefix ++ id))
         (ids_listed bytes.now) ≡ false }
@@ -36,7 +36,7 @@ fn may_list_put(over: &ServerView<'_>, bytes: &[u8]) -> bool
 
 /// Whether one of the first `count` ids may be that of a server of which an entry is put, or the
 /// bytes end before.
-fn may_hold_put(over: &ServerView<'_>, count: u8, bytes: &[u8]) -> bool
+fn may_hold_put(over: &ServersAfterPuts<'_>, count: u8, bytes: &[u8]) -> bool
     ensures { result ≡ false
         → list_any (λ id. has_entry over.now.puts (server_tag_family.prefix ++ id))
         (ids_in count bytes.now) ≡ false }

@@ -6,7 +6,7 @@ ghost use Rattle.metadata.specs.CachedTags.{AreTags, tags_at};
 ghost use Rattle.metadata.specs.OwnRoutes.{own_routes};
 
 use crate::entry_map::EntryMap;
-use crate::tag_map::{TagMap, TagSteps, copied_tags};
+use crate::tag_map::{TagMap, TagSteps, copy_tags};
 use model::Route;
 use std::alloc::Global;
 use system_keys::{Bytes, Items, KEY_SERVERS_PREFIX, OutOfMemory, Tag};
@@ -55,6 +55,6 @@ fn new_route(alloc: Global, key: &[u8], tags: &[Tag]) -> Result<Route, OutOfMemo
 {
     Ok(Route {
         key: Bytes::from(Vec::from_slice(alloc, key)?),
-        tags: copied_tags(alloc, tags)?,
+        tags: copy_tags(alloc, tags)?,
     })
 }

@@ -28,7 +28,7 @@ pub(crate) fn key_behind_prefix(alloc: Global, whole: Vec<u8>) -> Option<Ordered
     let behind = behind_prefix(whole.as_slice())?;
     match short_key(alloc, behind) {
         Some(key) => Some(key),
-        None => turned(whole),
+        None => key_in_block(whole),
     }
 }
 
@@ -43,7 +43,7 @@ fn short_key(alloc: Global, bytes: &[u8]) -> Option<OrderedKey>
 }
 
 /// The same as `key_behind_prefix`, in the block of the whole key.
-fn turned(mut whole: Vec<u8>) -> Option<OrderedKey>
+fn key_in_block(mut whole: Vec<u8>) -> Option<OrderedKey>
     ensures none { IfNone result (is_in key_servers_family whole.items ≡ false) }
     ensures some { IfSome result (λ key. whole.items ≡ key_servers_family.prefix ++ key) }
 {

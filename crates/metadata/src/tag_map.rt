@@ -175,7 +175,7 @@ impl TagMap {
     }
 
     /// Puts the tags at the key, if there are some already. Does not allocate.
-    fn fill(&mut self, row: TagRow)
+    fn overwrite(&mut self, row: TagRow)
         ensures { is_some (tags_at self.old row.0) ≡ true → (key : Key) → tags_at self.new key
             ≡ (if is_same_key key row.0 then Some row.1 else tags_at self.old key) }
     {
@@ -199,7 +199,7 @@ impl TagMap {
     }
 
     /// Copies of what is kept at the keys. Fails only with `OutOfMemory`.
-    pub(crate) fn displaced_by(&self, rows: &[TagRow]) -> Result<Vec<TagRow>, OutOfMemory>
+    pub(crate) fn displaced_tags(&self, rows: &[TagRow]) -> Result<Vec<TagRow>, OutOfMemory>
         ensures { IfOk result (λ found. found.items ≡ displaced_tags (tags_at self.now) rows.now) }
     {
         let mut found = Vec::new(self.alloc);
@@ -216,20 +216,20 @@ impl TagMap {
         let Some(tags) = self.get(&row.key) else {
             return Ok(());
         };
-        let tags = copied_tags(self.alloc, tags)?;
+        let tags = copy_tags(self.alloc, tags)?;
         let key = row.key.copy()?;
         found.push(TagRow { key, tags })?;
         Ok(())
     }
 
     /// Puts the tags at the keys, if there are some at each already. Does not allocate.
-    pub(crate) fn write(&mut self, rows: Vec<TagRow>)
+    pub(crate) fn overwrite_all(&mut self, rows: Vec<TagRow>)
         ensures { ((key : Key) → is_listed (keys_of rows.items) key ≡ true
             → is_some (tags_at self.old key) ≡ true)
             → (key : Key) → tags_at self.new key ≡ tags_written (tags_at self.old) rows.items key }
     {
         for row in rows {
-            self.fill(row);
+            self.overwrite(row);
         }
     }
 
@@ -242,7 +242,7 @@ impl TagMap {
             ≡ (if is_listed (bytes_of_keys missing.items) key then None
             else tags_written (tags_at self.old) displaced.items key) }
     {
-        self.write(displaced);
+        self.overwrite_all(displaced);
         self.remove_each(missing);
     }
 
@@ -356,7 +356,7 @@ impl<'a> TagSteps<'a> {
 }
 
 /// A copy of the tags. Fails only with `OutOfMemory`.
-pub(crate) fn copied_tags(alloc: Global, tags: &[Tag]) -> Result<Items<Tag>, OutOfMemory>
+pub(crate) fn copy_tags(alloc: Global, tags: &[Tag]) -> Result<Items<Tag>, OutOfMemory>
     ensures { IfOk result (λ copied. copied ≡ tags.now) }
 {
     Ok(Items::from(Vec::from_slice(alloc, tags)?))

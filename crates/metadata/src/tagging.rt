@@ -14,7 +14,7 @@ ghost use Rattle.metadata.specs.Overwrites.{is_listed};
 
 use crate::entry_view::EntryView;
 use crate::key_set::KeySet;
-use crate::tag_map::{TagSteps, copied_tags};
+use crate::tag_map::{TagSteps, copy_tags};
 use std::alloc::Global;
 use std::collections::BTreeSet;
 use system_keys::{Change, Items, KeyRange, OutOfMemory, Tag};
@@ -34,7 +34,7 @@ pub(crate) fn tags_of_key(entries: &EntryView, key: &[u8]) -> Result<Items<Tag>,
     ensures { IfOk result (λ found. found ≡ tags_of_key entries.now key.now) }
 {
     match entries.serving_tags(key)? {
-        Some(tags) => copied_tags(entries.alloc(), tags),
+        Some(tags) => copy_tags(entries.alloc(), tags),
         None => Ok(Items::from(Vec::new(entries.alloc()))),
     }
 }
@@ -46,7 +46,7 @@ fn tags_of_range(entries: &EntryView, range: &KeyRange) -> Result<Items<Tag>, Ou
     let mut tags = BTreeSet::new(entries.alloc());
     add_tags_of_key(entries, range.begin(), &mut tags)?;
     add_tags_inside(entries, range, &mut tags)?;
-    listed(entries.alloc(), &tags)
+    list_tags(entries.alloc(), &tags)
 }
 
 /// Adds the tags of the entry that serves the key.
@@ -125,7 +125,7 @@ fn add_tags(list: &[Tag], tags: &mut BTreeSet<Tag>) -> Result<(), OutOfMemory>
 }
 
 /// The tags of a set, in their order. Fails only with `OutOfMemory`.
-fn listed(alloc: Global, tags: &BTreeSet<Tag>) -> Result<Items<Tag>, OutOfMemory>
+fn list_tags(alloc: Global, tags: &BTreeSet<Tag>) -> Result<Items<Tag>, OutOfMemory>
     ensures { IfOk result (λ list. list ≡ tags.now.keys) }
 {
     let mut list = Vec::with_capacity(alloc, tags.len())?;

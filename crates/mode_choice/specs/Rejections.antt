@@ -34,12 +34,12 @@ abbrev pub DisplaysThen : (displayed : Option (List ℕ)) → (ending text : Lis
 DisplaysThen (Some said) ending text = text ≡ said ++ ending
 DisplaysThen None ending text = EndsSo ending text
 
--- the rejection has a text that ends as that of an error of this kind, unless an allocation failed
+-- the rejection's text ends as the text of an error of this kind, unless an allocation failed
 abbrev pub TellsKind : ErrorKind → Rejection → Type 0
 TellsKind kind OutOfMemory = Unit {0}
 TellsKind kind (Words text) = EndsSo (ending_of kind) (string_bytes text)
 
--- the text ends as that of an error of one of these kinds
+-- the text ends as the text of an error of one of these kinds
 abbrev pub IsTextOf : Kinds → (text : List ℕ) → Type 0
 IsTextOf faults text =
     (kind : ErrorKind) × IsAmong kind faults × EndsSo (ending_of kind) text

@@ -28,7 +28,7 @@ pub fn choose_mode<'a, W: AsStr>(alloc: Global, words: &'a [W]) -> Result<Mode, 
 {
     match read_mode(alloc, words) {
         Ok(Some(mode)) => Ok(mode),
-        // Each name that the command line takes is that of a mode.
+        // Each name that the command line takes is a mode's name.
         Ok(None) => unreachable!(),
         Err(error) => Err(rejection_of(alloc, &error)),
     }
@@ -49,7 +49,7 @@ fn rejection_of(alloc: Global, error: &Error) -> Rejection
     if kind == ErrorKind::OutOfMemory {
         return Rejection::OutOfMemory;
     }
-    match displayed_then(alloc, error, ending_of(kind)) {
+    match display_then(alloc, error, ending_of(kind)) {
         Ok(text) => Rejection::Words(text),
         Err(_) => Rejection::OutOfMemory,
     }
@@ -67,7 +67,7 @@ fn ending_of(kind: ErrorKind) -> &'static str
 }
 
 // What the value displays, and then the ending.
-fn displayed_then<E: Display>(alloc: Global, value: &E, ending: &str) -> Result<String, AllocError>
+fn display_then<E: Display>(alloc: Global, value: &E, ending: &str) -> Result<String, AllocError>
     ensures { IfOk result (λ text.
         DisplaysThen (E.output value.now) ending.now (string_bytes text)) }
 {

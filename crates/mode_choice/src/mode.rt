@@ -18,7 +18,7 @@ pub static NAMES: [&str; 3] = ["fold", "turns", "threads"];
 
 impl Mode {
     /// The mode of this name.
-    pub fn named(name: &str) -> Option<Mode>
+    pub fn from_name(name: &str) -> Option<Mode>
         ensures { result ≡ mode_named name.now }
     {
         match name {

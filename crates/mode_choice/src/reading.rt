@@ -16,7 +16,7 @@ pub fn read_mode<'a, W: AsStr>(alloc: Global, words: &'a [W]) -> Result<Option<M
 {
     let command = command(alloc)?;
     let matches = command.try_get_matches_from(words)?;
-    Ok(mode_in(&matches))
+    Ok(mode_given(&matches))
 }
 
 // What the program does, as the help says it.
@@ -42,11 +42,11 @@ fn command<'a>(alloc: Global) -> Result<Command<'a>, AllocError>
 }
 
 // The mode that the matches name.
-fn mode_in(matches: &ArgMatches<'_>) -> Option<Mode>
+fn mode_given(matches: &ArgMatches<'_>) -> Option<Mode>
     ensures { result ≡ mode_given (first_value (found_of matches.now) (codes "mode")) }
 {
     match matches.get_str("mode") {
-        Some(name) => Mode::named(name),
+        Some(name) => Mode::from_name(name),
         None => Some(Mode::Fold),
     }
 }

@@ -37,7 +37,7 @@ pub record IsAgreed (config : Config) (records : List Record) (columns : Columns
   pub rows : n ≤ length records
   pub cells : (r : ResolverNumber) → r < config.resolvers → KnowsRows (list_at columns r) n
 
--- the journal is that of the first n records of the view, by the verdicts in its columns
+-- the journal is made of the first n records of the view, by the verdicts in its columns
 abbrev pub IsKnownJournal :
     Config → (records : List Record) (columns : Columns) (n : ℕ) → List JournalRow → Type 0
 IsKnownJournal config records columns n rows =

@@ -6,7 +6,7 @@ use Rattle.system_keys.specs.Keys.{Key, Range, Overlap, holds, only}
 use Rattle.model.specs.Numbers.{Version, TransactionNumber}
 use Rattle.model.specs.Configs.{Config, IsConfig}
 use Rattle.model.specs.declared.outcome.Outcome.TheVariants.{Committed}
-use Rattle.model.specs.Transactions.{Transaction, is_state_transaction, locked_key, all_reads}
+use Rattle.model.specs.Transactions.{StampedTransaction, is_state_transaction, locked_key, all_reads}
 use Rattle.model.specs.Records.{Record, IsHistory}
 use Rattle.model.specs.Journal.{history_verdicts}
 use Rattle.model.specs.Outcomes.{outcomes}
@@ -34,7 +34,7 @@ SerialIsByKeys = (config : Config) (h : List Record) → IsSerial config h ↔ I
 -- ---- the lock row
 
 -- the transaction writes over the lock row: some range of its writes contains the row's key
-pub record WritesLockRow (t : Transaction) : Type 0 where
+pub record WritesLockRow (t : StampedTransaction) : Type 0 where
   pub write : Range
   pub write_in : Contains t.writes write
   pub over : IsTrue (holds write locked_key)
@@ -43,7 +43,7 @@ pub record WritesLockRow (t : Transaction) : Type 0 where
 -- overlaps the range of the lock row alone
 abbrev pub WritingTheLockRowIsOverlap : Type 0
 WritingTheLockRowIsOverlap =
-    (t : Transaction)
+    (t : StampedTransaction)
     → WritesLockRow t
     ↔ ((write : Range) × Contains t.writes write × Overlap write (only locked_key))
 

@@ -21,8 +21,8 @@ use Rattle.model.specs.declared.moves.Move.{Move}
 use Rattle.model.specs.Owners.{owners}
 use Rattle.model.specs.OwnerMaps.{DatesInOrder}
 use Rattle.model.specs.World.{Again, NoSuchRow}
-use Rattle.model.specs.Stamps.{Set, SetStamped, Given, stamped_value, stamp, stamped_from}
-use Rattle.model.specs.Transactions.{locked_key, Transaction}
+use Rattle.model.specs.Stamps.{Set, SetStamped, AdmittedTransaction, stamped_value, stamp, stamped_from}
+use Rattle.model.specs.Transactions.{locked_key, StampedTransaction}
 use Rattle.model.specs.Records.{Record, oldest}
 use Rattle.model.specs.Shares.{asked, share}
 use Rattle.model.specs.Metadata.{metadata, tags_of_key, routing, tags}
@@ -152,7 +152,7 @@ AStampAmongText =
     stamped_value 258 3 (replicate 268 97 ++ codes "xy" ++ 2 ∷ 1 ∷ 0 ∷ 0 ∷ [])
     ≡ replicate 258 97 ++ 0 ∷ 0 ∷ 0 ∷ 0 ∷ 0 ∷ 0 ∷ 1 ∷ 2 ∷ 0 ∷ 3 ∷ codes "xy"
 
-abbrev pub stamping_a : Given
+abbrev pub stamping_a : AdmittedTransaction
 stamping_a = mutating (SetStamped a (replicate 14 0) ∷ [])
 
 abbrev pub stamped_a : ℕ → List Change
@@ -161,7 +161,7 @@ stamped_a number = changes.Set a (0 ∷ 0 ∷ 0 ∷ 0 ∷ 0 ∷ 0 ∷ 0 ∷ 10 �
 -- each transaction of a batch is stamped with its own number, plain ones counted
 abbrev pub EachStampHasItsNumber : Type 0
 EachStampHasItsNumber =
-    map (λ (t : Transaction). t.changes)
+    map (λ (t : StampedTransaction). t.changes)
     (stamped_from 10 0 (stamping_a ∷ mutating (Set b [] ∷ []) ∷ stamping_a ∷ stamping_a ∷ []))
     ≡ stamped_a 0 ∷ (changes.Set b [] ∷ []) ∷ stamped_a 2 ∷ stamped_a 3 ∷ []
 

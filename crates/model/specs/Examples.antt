@@ -18,8 +18,8 @@ use Rattle.model.specs.declared.journal.JournalRow.{JournalRow}
 use Rattle.model.specs.declared.unseen.UnseenRow.{UnseenRow}
 use Rattle.model.specs.declared.outcome.Outcome.{Outcome}
 use Rattle.model.specs.declared.outcome.Tagged.{Tagged}
-use Rattle.model.specs.Stamps.{Mutation, Given}
-use Rattle.model.specs.World.{Event, Answer, Completed, initial_world, answers}
+use Rattle.model.specs.Stamps.{Mutation, AdmittedTransaction}
+use Rattle.model.specs.World.{Event, Answer, FinishedBatch, initial_world, answers}
 use Rattle.model.specs.World as world
 
 -- the cluster of most cases
@@ -52,11 +52,11 @@ abbrev pub m_to_t : Range
 m_to_t = range (codes "m") (codes "t")
 
 -- a transaction of nothing
-abbrev pub blank : Given
+abbrev pub blank : AdmittedTransaction
 blank = record { snapshot = 0; reads = []; writes = []; mutations = []; lock_aware = false }
 
 -- a transaction of these mutations alone
-abbrev pub mutating : List Mutation → Given
+abbrev pub mutating : List Mutation → AdmittedTransaction
 mutating mutations = record blank { mutations = mutations }
 
 -- a resolver's first reply to the request for a row of a proxy, at this version
@@ -74,7 +74,7 @@ judged proxy row version resolver verdicts unseen =
 -- the answer to a finish
 abbrev pub completed : (row version : ℕ) → List Outcome → List Tagged → Answer
 completed row version outcomes tagged =
-    Completed (record { row = row; version = version; outcomes = outcomes; tagged = tagged })
+    FinishedBatch (record { row = row; version = version; outcomes = outcomes; tagged = tagged })
 
 -- the tags `0:1`, `0:2`, ..
 abbrev pub tag : ℕ → Tag

@@ -19,7 +19,7 @@ use Rattle.model.specs.declared.unseen.UnseenState.{UnseenState}
 use Rattle.model.specs.declared.unseen.UnseenRow.{UnseenRow}
 use Rattle.model.specs.declared.reply.Reply.{Reply}
 use Rattle.model.specs.declared.outcome.Finished.{Finished}
-use Rattle.model.specs.Transactions.{Transaction}
+use Rattle.model.specs.Transactions.{StampedTransaction}
 use Rattle.model.specs.Records.{Record}
 use Rattle.model.specs.OwnerMaps.{OwnerMapView, StandsForMoves}
 use Rattle.model.specs.Shares.{share, asks, each_below}
@@ -47,7 +47,7 @@ abbrev pub unseen_of_reply : Option Reply → List UnseenRow
 unseen_of_reply None = []
 unseen_of_reply (Some reply) = reply.unseen
 
--- The verdicts on a record by the replies to it, whatever row is named: that of resolver r on
+-- The verdicts on a record by the replies to it, whatever row is named: the verdict of resolver r on
 -- transaction n stands at the place of its part in the share of r.
 unfoldable pub replied_verdicts : Config → Record → Replies → VerdictSource
 replied_verdicts config rec replies r i n =
@@ -99,7 +99,7 @@ AreRepliesBy config verdict_by before rec replies =
     → (verdicts : List Verdict)
     × (reply_from replies r ≡ Some (reply_with verdicts verdict_by r before rec))
     × (length verdicts ≡ length (share config rec r))
-    × ((n : TransactionNumber) (t : Transaction) → slice_get rec.batch n ≡ Some t
+    × ((n : TransactionNumber) (t : StampedTransaction) → slice_get rec.batch n ≡ Some t
     → IsTrue (asks config rec r t)
     → verdict_at (share config rec r) verdicts n ≡ verdict_by r rec.row n)
 
@@ -122,9 +122,9 @@ row_from replies k r = slice_get (unseen_of_reply (reply_from replies r)) k
 
 -- state transaction j of row k: the content that resolver 0 replies, and the verdict that each
 -- resolver replies
-abbrev pub told_state :
+abbrev pub state_by_replies :
     (resolvers : ℕ) → Replies → (k j : ℕ) → (of_0 : UnseenState) → StateTxn
-told_state resolvers replies k j state =
+state_by_replies resolvers replies k j state =
     record {
       mutations = (content_of state).mutations;
       lock_aware = (content_of state).lock_aware;
@@ -134,33 +134,33 @@ told_state resolvers replies k j state =
     }
 
 -- the state transactions of row k, numbered from j
-abbrev pub told_states_from :
+abbrev pub states_by_replies_from :
     (resolvers : ℕ) → Replies → (k j : ℕ) → (of_0 : List UnseenState) → List StateTxn
-told_states_from resolvers replies k j [] = []
-told_states_from resolvers replies k j (state ∷ states) =
-    told_state resolvers replies k j state
-    ∷ told_states_from resolvers replies k (suc j) states
+states_by_replies_from resolvers replies k j [] = []
+states_by_replies_from resolvers replies k j (state ∷ states) =
+    state_by_replies resolvers replies k j state
+    ∷ states_by_replies_from resolvers replies k (suc j) states
 
 -- row k: the version that resolver 0 replies, and the state transactions
-abbrev pub told_row : (resolvers : ℕ) → Replies → (k : ℕ) → (of_0 : UnseenRow) → JournalRow
-told_row resolvers replies k row =
+abbrev pub row_by_replies : (resolvers : ℕ) → Replies → (k : ℕ) → (of_0 : UnseenRow) → JournalRow
+row_by_replies resolvers replies k row =
     record {
       version = row.version;
-      states = told_states_from resolvers replies k 0 row.states;
+      states = states_by_replies_from resolvers replies k 0 row.states;
     }
 
 -- the rows from place k on
-abbrev pub told_rows_from :
+abbrev pub rows_by_replies_from :
     (resolvers : ℕ) → Replies → (k : ℕ) → (of_0 : List UnseenRow) → List JournalRow
-told_rows_from resolvers replies k [] = []
-told_rows_from resolvers replies k (row ∷ rows) =
-    told_row resolvers replies k row ∷ told_rows_from resolvers replies (suc k) rows
+rows_by_replies_from resolvers replies k [] = []
+rows_by_replies_from resolvers replies k (row ∷ rows) =
+    row_by_replies resolvers replies k row ∷ rows_by_replies_from resolvers replies (suc k) rows
 
 -- the rows that the replies tell, if they agree: the versions and the contents of resolver 0, and
 -- the verdicts of all resolvers
-abbrev pub told_rows : (resolvers : ℕ) → Replies → List JournalRow
-told_rows resolvers replies =
-    told_rows_from resolvers replies 0 (unseen_of_reply (reply_from replies 0))
+abbrev pub rows_by_replies : (resolvers : ℕ) → Replies → List JournalRow
+rows_by_replies resolvers replies =
+    rows_by_replies_from resolvers replies 0 (unseen_of_reply (reply_from replies 0))
 
 -- ---- replies that disagree
 
@@ -179,7 +179,7 @@ is_reply_to config rec r (Some reply) =
 abbrev pub carries_as : (r : ResolverNumber) → UnseenState → Bool
 carries_as r state = if nat_eq r 0 then is_some state.carried else not (is_some state.carried)
 
--- the row that resolver r replies is of this version, and has so many state transactions
+-- the row that resolver r replies is of this version, and has this number of state transactions
 abbrev pub row_fits : Version → (count : ℕ) (r : ResolverNumber) → Option UnseenRow → Bool
 row_fits version count r None = false
 row_fits version count r (Some row) =
@@ -294,7 +294,7 @@ proxy_view_after v rec rest replies rows =
     }
 
 -- the proxy finished the earliest record that it had begun, by these replies: they agree on the
--- rows that it had not seen, and the finished batch is that of the record after these rows
+-- rows that it had not seen, and the finished batch is the record's after these rows
 pub record HasFinished (v new : ProxyView) (replies : Replies) (finished : Finished) :
     Type 0 where
   pub rec : Record

@@ -11,7 +11,7 @@ use Rattle.model.specs.declared.unseen.UnseenState.{UnseenState}
 use Rattle.model.specs.declared.unseen.UnseenRow.{UnseenRow}
 use Rattle.model.specs.declared.reply.Reply.{Reply}
 use Rattle.model.specs.Records.{Record}
-use Rattle.model.specs.Finishing.{Replies, replied_verdicts, unreplied, told_rows, disagreements}
+use Rattle.model.specs.Finishing.{Replies, replied_verdicts, unreplied, rows_by_replies, disagreements}
 use Rattle.model.specs.Examples.{cluster, a, s1, s2, s3, tag_row, version_row, journal_row_of}
 
 -- ---- replies that agree
@@ -122,7 +122,7 @@ agreeing = both reply_of_0 reply_of_1
 abbrev pub TheRowsThatRepliesTell : Type 0
 TheRowsThatRepliesTell =
     (disagreements cluster 10 learning_record agreeing ≡ [])
-    × (told_rows 2 agreeing
+    × (rows_by_replies 2 agreeing
     ≡ journal_row_of 20
     ((record {
       mutations = first_change ∷ [];

@@ -17,7 +17,7 @@ use Rattle.model.specs.declared.journal.JournalRow.{JournalRow}
 use Rattle.model.specs.declared.unseen.Carried.{Carried}
 use Rattle.model.specs.declared.unseen.UnseenState.{UnseenState}
 use Rattle.model.specs.declared.unseen.UnseenRow.{UnseenRow}
-use Rattle.model.specs.Transactions.{Transaction, is_state_transaction}
+use Rattle.model.specs.Transactions.{StampedTransaction, is_state_transaction}
 use Rattle.model.specs.Records.{Record, last_version, records_of_proxy}
 use Rattle.model.specs.Shares.{share, asks, each_below}
 use Rattle.model.specs.Verdicts.{verdict_of}
@@ -32,7 +32,7 @@ VerdictSource = (resolver : ResolverNumber) (row : RowNumber) (number : Transact
 -- argument is the transaction; if it is None, the verdict is missing and counts as Conflict.
 abbrev pub history_verdict_in_record :
     Config → ResolverNumber → (before : List Record) (rec : Record) (n : TransactionNumber)
-    → Option Transaction → Verdict
+    → Option StampedTransaction → Verdict
 history_verdict_in_record config r before rec n None = Conflict
 history_verdict_in_record config r before rec n (Some t) =
     verdict_of config r before rec (take n rec.batch) t
@@ -87,7 +87,7 @@ cell_verdicts config h columns r i n =
 pub record CellCommits
     (config : Config) (rec : Record) (r : ResolverNumber) (n : TransactionNumber)
     (verdicts : List Verdict) : Type 0 where
-  pub transaction : Transaction
+  pub transaction : StampedTransaction
   pub there : slice_get rec.batch n ≡ Some transaction
   pub asking : IsTrue (asks config rec r transaction)
   pub place : ℕ
@@ -101,7 +101,7 @@ pub record CellCommits
 pub record AgreeOn (config : Config) (verdict_by other : VerdictSource) (rec : Record) :
     Type 0 where
   pub same :
-      (r : ResolverNumber) (n : TransactionNumber) (t : Transaction)
+      (r : ResolverNumber) (n : TransactionNumber) (t : StampedTransaction)
       → r < config.resolvers → slice_get rec.batch n ≡ Some t → IsTrue (asks config rec r t)
       → verdict_by r rec.row n ≡ other r rec.row n
 
@@ -110,7 +110,7 @@ pub record AgreeOn (config : Config) (verdict_by other : VerdictSource) (rec : R
 -- a state transaction, number n of the record: its state mutations, its lock-aware flag, and the
 -- verdict of every resolver
 abbrev pub state_of :
-    Config → VerdictSource → Record → (n : TransactionNumber) → Transaction → StateTxn
+    Config → VerdictSource → Record → (n : TransactionNumber) → StampedTransaction → StateTxn
 state_of config verdict_by rec n t =
     record {
       mutations = filter is_state t.changes;
@@ -121,7 +121,8 @@ state_of config verdict_by rec n t =
 
 -- the state transactions among some transactions of the record, numbered from n
 abbrev pub states_from :
-    Config → VerdictSource → Record → (n : TransactionNumber) → List Transaction → List StateTxn
+    Config → VerdictSource → Record → (n : TransactionNumber) → List StampedTransaction
+    → List StateTxn
 states_from config verdict_by rec n [] = []
 states_from config verdict_by rec n (t ∷ ts) =
     if is_state_transaction t
@@ -141,7 +142,7 @@ journal config verdict_by h = map (journal_row config verdict_by) h
 
 -- The content of a state transaction that resolver r gets and replies. Resolver 0 gets its state
 -- mutations and its lock-aware flag, and the others get nothing.
-abbrev pub carried_by : ResolverNumber → Transaction → Option Carried
+abbrev pub carried_by : ResolverNumber → StampedTransaction → Option Carried
 carried_by r t =
     let content : Carried =
     record { mutations = filter is_state t.changes; lock_aware = t.lock_aware } in
@@ -150,7 +151,7 @@ carried_by r t =
 -- what resolver r replies of the state transactions among some transactions of the record, numbered
 -- from n
 abbrev pub reply_states_from :
-    VerdictSource → ResolverNumber → Record → (n : TransactionNumber) → List Transaction
+    VerdictSource → ResolverNumber → Record → (n : TransactionNumber) → List StampedTransaction
     → List UnseenState
 reply_states_from verdict_by r rec n [] = []
 reply_states_from verdict_by r rec n (t ∷ ts) =

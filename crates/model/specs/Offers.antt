@@ -87,7 +87,7 @@ answer_in_order window judged last q =
 abbrev pub is_in_order : Request → Bool
 is_in_order q = nat_lt q.previous q.version && nat_le q.last_received q.previous
 
--- What resolver `number` of a cluster of so many proxies answers to a request, after it judged the
+-- What resolver `number` of a cluster of `proxies` proxies answers to a request, after it judged the
 -- others. *Profile*: the order in which requests are refused.
 unfoldable pub answer_to :
     (number proxies window : ℕ) (judged : List Request) (q : Request) → OfferResult

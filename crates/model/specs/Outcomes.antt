@@ -8,7 +8,7 @@ use Rattle.model.specs.declared.verdict.Verdict.TheVariants as verdicts
 use Rattle.model.specs.declared.journal.JournalRow.{JournalRow}
 use Rattle.model.specs.declared.outcome.Outcome.{Outcome}
 use Rattle.model.specs.declared.outcome.Outcome.TheVariants.{Committed, Conflict, TooOld, Locked}
-use Rattle.model.specs.Transactions.{Transaction}
+use Rattle.model.specs.Transactions.{StampedTransaction}
 use Rattle.model.specs.Records.{Record}
 use Rattle.model.specs.Shares.{asked}
 use Rattle.model.specs.Verdicts.{joined}
@@ -17,12 +17,12 @@ use Rattle.model.specs.Journal.{VerdictSource, journal}
 
 -- the joined verdict of the resolvers that get a part of transaction n of the record
 unfoldable pub joined_verdict :
-    Config → VerdictSource → Record → (n : TransactionNumber) → Transaction → Verdict
+    Config → VerdictSource → Record → (n : TransactionNumber) → StampedTransaction → Verdict
 joined_verdict config verdict_by rec n t =
     joined (map (λ (r : ResolverNumber). verdict_by r rec.row n) (asked config rec t))
 
 -- the lock refuses the transaction: the database is locked, and the transaction is not lock aware
-abbrev pub is_refused : (locked : Bool) → Transaction → Bool
+abbrev pub is_refused : (locked : Bool) → StampedTransaction → Bool
 is_refused locked t = not t.lock_aware && locked
 
 -- The outcome by the joined verdict. The lock may refuse what the resolvers committed.
@@ -36,7 +36,7 @@ outcome_by verdicts.Committed refused version number =
 -- the outcome of transaction n of the record; `locked` is the lock in the metadata before the
 -- record
 unfoldable pub outcome :
-    Config → VerdictSource → (locked : Bool) → Record → (n : TransactionNumber) → Transaction
+    Config → VerdictSource → (locked : Bool) → Record → (n : TransactionNumber) → StampedTransaction
     → Outcome
 outcome config verdict_by locked rec n t =
     outcome_by (joined_verdict config verdict_by rec n t) (is_refused locked t) rec.version n
@@ -44,7 +44,7 @@ outcome config verdict_by locked rec n t =
 -- the outcomes of some transactions of the record, numbered from n
 abbrev pub outcomes_from :
     Config → VerdictSource → (locked : Bool) → Record → (n : TransactionNumber)
-    → List Transaction → List Outcome
+    → List StampedTransaction → List Outcome
 outcomes_from config verdict_by locked rec n [] = []
 outcomes_from config verdict_by locked rec n (t ∷ ts) =
     outcome config verdict_by locked rec n t

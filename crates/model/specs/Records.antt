@@ -7,7 +7,7 @@ use Rattle.std.specs.Prelude.{filter, slice_get, Some, All}
 use Rattle.model.specs.Numbers.{Version, ProxyNumber, RowNumber}
 use Rattle.model.specs.Configs.{Config, version_limit}
 use Rattle.model.specs.declared.moves.Move.{Move}
-use Rattle.model.specs.Transactions.{Transaction}
+use Rattle.model.specs.Transactions.{StampedTransaction}
 
 -- What the sequencer gives to a batch. `row` is its place in the order of all batches. `previous`
 -- is the version before, and `own_previous` that of this proxy's record before (0 if it has none).
@@ -19,7 +19,7 @@ pub record Record : Type 0 where
   pub own_previous : Version
   pub proxy : ProxyNumber
   pub moves : List Move
-  pub batch : List Transaction
+  pub batch : List StampedTransaction
 
 -- the version of the last element of a list, or 0 if the list is empty
 abbrev pub last_version_by : {X : Type 0} → (version_of : X → Version) → List X → Version
@@ -45,7 +45,7 @@ records_of_proxy p records = filter (λ (rec : Record). nat_eq rec.proxy p) reco
 -- one. Its destination is a resolver of the cluster.
 pub record IsMadeAfter (config : Config) (previous : Version) (m : Move) : Type 0 where
   pub date : m.date ≡ previous + 1
-  pub destination : m.dest < config.resolvers
+  pub dest : m.dest < config.resolvers
 
 -- The record may come next after those before it.
 -- *Profile*: versions lie one step apart, and each is below 2^63.

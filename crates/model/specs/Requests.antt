@@ -15,7 +15,7 @@ use Rattle.model.specs.declared.reply.Reply.{Reply}
 use Rattle.model.specs.declared.unseen.StateMark.{StateMark}
 use Rattle.model.specs.declared.unseen.UnseenState.{UnseenState}
 use Rattle.model.specs.declared.unseen.UnseenRow.{UnseenRow}
-use Rattle.model.specs.Transactions.{Transaction, is_state_transaction}
+use Rattle.model.specs.Transactions.{StampedTransaction, is_state_transaction}
 use Rattle.model.specs.Records.{Record, last_version_by, oldest}
 use Rattle.model.specs.Shares.{share_back_to, each_below}
 use Rattle.model.specs.Verdicts.{JudgedPart, judged_at, verdicts_after}
@@ -26,7 +26,7 @@ use Rattle.model.specs.Journal.{carried_by, verdict_at, least}
 -- the marks of the state transactions among some transactions, numbered from n, in the request to
 -- resolver r
 abbrev pub marks_from :
-    ResolverNumber → (n : TransactionNumber) → List Transaction → List StateMark
+    ResolverNumber → (n : TransactionNumber) → List StampedTransaction → List StateMark
 marks_from r n [] = []
 marks_from r n (t ∷ ts) =
     if is_state_transaction t

@@ -9,7 +9,7 @@ use Rattle.model.specs.Numbers.{ResolverNumber, RowNumber, TransactionNumber}
 use Rattle.model.specs.Configs.{Config}
 use Rattle.model.specs.declared.verdict.Verdict.{Verdict}
 use Rattle.model.specs.declared.verdict.Verdict.TheVariants.{Committed as SaysCommitted}
-use Rattle.model.specs.Transactions.{Transaction, all_reads}
+use Rattle.model.specs.Transactions.{StampedTransaction, all_reads}
 use Rattle.model.specs.Records.{Record}
 use Rattle.model.specs.Shares.{part_of, asks}
 use Rattle.model.specs.Verdicts.{JudgedPart, is_too_old, verdict_of}
@@ -23,7 +23,7 @@ pub record Place (h : List Record) : Type 0 where
   pub i : RowNumber
   pub n : TransactionNumber
   pub rec : Record
-  pub transaction : Transaction
+  pub transaction : StampedTransaction
   pub record_is : slice_get h i ≡ Some rec
   pub transaction_is : slice_get rec.batch n ≡ Some transaction
 

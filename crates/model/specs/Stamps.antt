@@ -6,7 +6,7 @@ use Rattle.system_keys.specs.declared.change.Change.{Change}
 use Rattle.system_keys.specs.declared.change.Change.TheVariants as changes
 use Rattle.system_keys.specs.Keys.{Key, Range}
 use Rattle.model.specs.Numbers.{Version, TransactionNumber}
-use Rattle.model.specs.Transactions.{Transaction}
+use Rattle.model.specs.Transactions.{StampedTransaction}
 
 -- a mutation as a client submits it: a SetStamped is a Set whose value awaits its versionstamp
 pub data Mutation : Type 0 where
@@ -16,7 +16,7 @@ pub data Mutation : Type 0 where
 
 -- A transaction as a client submits it. It read the ranges `reads` at version `snapshot`, and the
 -- ranges `writes` count as written by it. Its mutations add no range to either.
-pub record Given : Type 0 where
+pub record AdmittedTransaction : Type 0 where
   pub snapshot : Version
   pub reads : List Range
   pub writes : List Range
@@ -65,7 +65,7 @@ stamped_mutation version number (SetStamped key value) =
     changes.Set key (stamped_value version number value)
 
 -- transaction `number` of the batch of `version`, with its versionstamps filled in
-abbrev pub stamped : Version → TransactionNumber → Given → Transaction
+abbrev pub stamped : Version → TransactionNumber → AdmittedTransaction → StampedTransaction
 stamped version number t =
     record {
       snapshot = t.snapshot;
@@ -76,6 +76,7 @@ stamped version number t =
     }
 
 -- the transactions of a batch, numbered from n, each with its versionstamps filled in
-abbrev pub stamped_from : Version → (n : TransactionNumber) → List Given → List Transaction
+abbrev pub stamped_from : Version → (n : TransactionNumber) → List AdmittedTransaction
+    → List StampedTransaction
 stamped_from version n [] = []
 stamped_from version n (t ∷ ts) = stamped version n t ∷ stamped_from version (suc n) ts

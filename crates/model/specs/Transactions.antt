@@ -12,7 +12,7 @@ use Rattle.model.specs.Numbers.{Version}
 -- A transaction. It read the ranges `reads` at version `snapshot`, and the ranges `writes` count as
 -- written by it. Its mutations `changes` add no range to either. A lock-aware transaction may
 -- commit while the database is locked.
-pub record Transaction : Type 0 where
+pub record StampedTransaction : Type 0 where
   pub snapshot : Version
   pub reads : List Range
   pub writes : List Range
@@ -20,7 +20,7 @@ pub record Transaction : Type 0 where
   pub lock_aware : Bool
 
 -- a state transaction: one with a state mutation
-abbrev pub is_state_transaction : Transaction → Bool
+abbrev pub is_state_transaction : StampedTransaction → Bool
 is_state_transaction t = list_any is_state t.changes
 
 -- the key of the row that locks the database
@@ -34,5 +34,5 @@ lock_read false = []
 
 -- All that a transaction reads: its own ranges, and the lock row if it is a state transaction that
 -- is not lock aware. *Profile*: the added read stands last.
-abbrev pub all_reads : Transaction → List Range
+abbrev pub all_reads : StampedTransaction → List Range
 all_reads t = t.reads ++ lock_read (is_state_transaction t && not t.lock_aware)

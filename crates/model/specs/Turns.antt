@@ -25,7 +25,7 @@ success_or_refusal (world.Sequenced row version) = Ok (world.Sequenced row versi
 success_or_refusal (world.Moved date) = Ok (world.Moved date)
 success_or_refusal (world.Judged reply) = Ok (world.Judged reply)
 success_or_refusal (world.Again reply) = Ok (world.Again reply)
-success_or_refusal (world.Completed finished) = Ok (world.Completed finished)
+success_or_refusal (world.FinishedBatch finished) = Ok (world.FinishedBatch finished)
 success_or_refusal (world.Refused refusal) = Err refusal
 
 -- the answer of a cluster to an event

@@ -11,7 +11,7 @@ use Rattle.model.specs.Configs.{Config}
 use Rattle.model.specs.declared.part.Part.{Part}
 use Rattle.model.specs.declared.verdict.Verdict.{Verdict}
 use Rattle.model.specs.declared.verdict.Verdict.TheVariants.{Conflict, TooOld, Committed}
-use Rattle.model.specs.Transactions.{Transaction}
+use Rattle.model.specs.Transactions.{StampedTransaction}
 use Rattle.model.specs.Records.{Record}
 use Rattle.model.specs.Shares.{share, parts_from, part_of, asks}
 
@@ -125,7 +125,8 @@ verdicts_after window before (t ∷ ts) =
 -- All parts that resolver r judges before a transaction of `rec`: its shares of the records before,
 -- and its parts of the transactions `earlier`, which come first in the batch.
 unfoldable pub judged_before :
-    Config → ResolverNumber → (before : List Record) (rec : Record) (earlier : List Transaction)
+    Config → ResolverNumber
+    → (before : List Record) (rec : Record) (earlier : List StampedTransaction)
     → List JudgedPart
 judged_before config r before rec earlier =
     flat_map (λ (s : Record). judged_at s.version (share config s r)) before
@@ -134,8 +135,9 @@ judged_before config r before rec earlier =
 -- the verdict of resolver r on transaction t of `rec`, with the records `before` that one, and the
 -- transactions `earlier` before t in its batch
 unfoldable pub verdict_of :
-    Config → ResolverNumber → (before : List Record) (rec : Record) (earlier : List Transaction)
-    → (t : Transaction) → Verdict
+    Config → ResolverNumber
+    → (before : List Record) (rec : Record) (earlier : List StampedTransaction)
+    → (t : StampedTransaction) → Verdict
 verdict_of config r before rec earlier t =
     let part = part_of config rec r (length earlier) t in
     let judged : JudgedPart = record { version = rec.version; part = part } in
@@ -153,7 +155,7 @@ share_verdicts config r before rec =
 -- order. The transactions `earlier` come before them in the batch.
 abbrev pub verdicts_of_askers :
     Config → ResolverNumber → (before : List Record) (rec : Record)
-    → (earlier transactions : List Transaction) → List Verdict
+    → (earlier transactions : List StampedTransaction) → List Verdict
 verdicts_of_askers config r before rec earlier [] = []
 verdicts_of_askers config r before rec earlier (t ∷ ts) =
     let rest = verdicts_of_askers config r before rec (earlier ++ t ∷ []) ts in

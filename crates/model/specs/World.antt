@@ -19,8 +19,8 @@ use Rattle.model.specs.declared.outcome.Outcome.{Outcome}
 use Rattle.model.specs.declared.outcome.Outcome.TheVariants as outcomes
 use Rattle.model.specs.declared.outcome.Tagged.{Tagged}
 use Rattle.model.specs.declared.outcome.Finished.{Finished}
-use Rattle.model.specs.Stamps.{Given, stamped_from}
-use Rattle.model.specs.Transactions.{Transaction}
+use Rattle.model.specs.Stamps.{AdmittedTransaction, stamped_from}
+use Rattle.model.specs.Transactions.{StampedTransaction}
 use Rattle.model.specs.Records.{Record, MovesFollow, last_version, records_of_proxy}
 use Rattle.model.specs.Shares.{each_below}
 use Rattle.model.specs.Verdicts.{share_verdicts}
@@ -44,8 +44,8 @@ pub record World : Type 0 where
 -- An event: a proxy's batch gets its record, a range moves to a resolver, a resolver gets the
 -- request for a row, or a proxy finishes its earliest unfinished record.
 pub data Event : Type 0 where
-  Sequence : (proxy : ProxyNumber) (batch : List Given) → Event
-  MoveRange : (range : Range) (destination : ResolverNumber) → Event
+  Sequence : (proxy : ProxyNumber) (batch : List AdmittedTransaction) → Event
+  MoveRange : (range : Range) (dest : ResolverNumber) → Event
   Offer : (row : RowNumber) (resolver : ResolverNumber) → Event
   Finish : (proxy : ProxyNumber) → Event
 
@@ -70,7 +70,7 @@ pub data Answer : Type 0 where
   Moved : (date : Version) → Answer
   Judged : (reply : Reply) → Answer
   Again : (reply : Reply) → Answer
-  Completed : (finished : Finished) → Answer
+  FinishedBatch : (finished : Finished) → Answer
   Refused : (refusal : Refusal) → Answer
 
 -- the world after an event, and the answer to the event
@@ -103,7 +103,7 @@ finished_version w p =
 -- The record that the next batch gets after these records, with all moves so far.
 -- *Profile*: its version is one step after the last.
 abbrev pub record_after :
-    Config → List Record → List Move → (p : ProxyNumber) → List Given → Record
+    Config → List Record → List Move → (p : ProxyNumber) → List AdmittedTransaction → Record
 record_after config records moves p batch =
     let previous = last_version records in
     record {
@@ -117,12 +117,12 @@ record_after config records moves p batch =
     }
 
 -- the record that the next batch gets in a world
-abbrev pub next_record : Config → World → (p : ProxyNumber) → List Given → Record
+abbrev pub next_record : Config → World → (p : ProxyNumber) → List AdmittedTransaction → Record
 next_record config w p batch = record_after config w.history w.moves p batch
 
 -- A batch gets the next record. *Profile*: it is refused first if the cluster has no such proxy,
 -- and then if the version reaches the limit.
-abbrev pub handle_sequence : Config → World → (p : ProxyNumber) → List Given → Handled
+abbrev pub handle_sequence : Config → World → (p : ProxyNumber) → List AdmittedTransaction → Handled
 handle_sequence config w p batch =
     let rec = next_record config w p batch in
     let received = w.received ++ finished_version w p ∷ [] in
@@ -135,11 +135,11 @@ handle_sequence config w p batch =
 
 -- A range moves to a resolver, from the version after the last one given out.
 -- *Profile*: the move is refused if the cluster has no such resolver.
-abbrev pub handle_move : Config → World → Range → (destination : ResolverNumber) → Handled
-handle_move config w range destination =
+abbrev pub handle_move : Config → World → Range → (dest : ResolverNumber) → Handled
+handle_move config w range dest =
     let date = last_version w.history + 1 in
-    let move : Move = record { range = range; date = date; dest = destination } in
-    if nat_le config.resolvers destination then refuse w NoSuchResolver
+    let move : Move = record { range = range; date = date; dest = dest } in
+    if nat_le config.resolvers dest then refuse w NoSuchResolver
     else record { world = record w { moves = w.moves ++ move ∷ [] }; answer = Moved date }
 
 -- ---- a resolver gets a request
@@ -238,14 +238,14 @@ pub record IsTaggedBy (entries : Entries) (mutation : Tagged) : Type 0 where
   pub private : mutation.private ≡ private_copy entries mutation.change
 
 -- the tagged mutations of a transaction, state mutations too, if it is committed; otherwise none
-abbrev pub tagged_one : Entries → Transaction → Outcome → List Tagged
+abbrev pub tagged_one : Entries → StampedTransaction → Outcome → List Tagged
 tagged_one entries t (outcomes.Committed version number) = tagged_from entries number 0 t.changes
 tagged_one entries t outcomes.Conflict = []
 tagged_one entries t outcomes.TooOld = []
 tagged_one entries t outcomes.Locked = []
 
 -- the tagged mutations of a batch with these outcomes, in order
-abbrev pub tagged_all : Entries → List Transaction → List Outcome → List Tagged
+abbrev pub tagged_all : Entries → List StampedTransaction → List Outcome → List Tagged
 tagged_all entries [] outcomes = []
 tagged_all entries (t ∷ ts) [] = []
 tagged_all entries (t ∷ ts) (outcome ∷ outcomes) =
@@ -287,7 +287,7 @@ finish_record config w p rec [] =
     let verdict_by = history_verdicts config w.history in
     record {
       world = record w { finished = finished };
-      answer = Completed (finished_batch config verdict_by (take rec.row w.history) rec);
+      answer = FinishedBatch (finished_batch config verdict_by (take rec.row w.history) rec);
     }
 
 -- A proxy finishes its earliest unfinished record, once every resolver has judged it. The last
@@ -302,7 +302,7 @@ handle_finish config w p (Some rec) =
 -- the world after an event, and the answer to the event
 unfoldable pub handle_event : Config → World → Event → Handled
 handle_event config w (Sequence p batch) = handle_sequence config w p batch
-handle_event config w (MoveRange range destination) = handle_move config w range destination
+handle_event config w (MoveRange range dest) = handle_move config w range dest
 handle_event config w (Offer row r) = handle_offer config w row r (slice_get w.history row)
 handle_event config w (Finish p) =
     let next = slice_get (records_of_proxy p w.history) (slice_index w.finished p) in
@@ -331,13 +331,13 @@ up_to_version version h = filter (λ (rec : Record). nat_le rec.version version)
 abbrev pub rows_up_to : Version → List Record → ℕ
 rows_up_to version h = length (up_to_version version h)
 
--- the journal of a proxy: that of the records up to its version, the last one that it finished
+-- the journal of a proxy: the rows of the records up to its version, the last one that it finished
 unfoldable pub proxy_journal : Config → World → ProxyNumber → List JournalRow
 proxy_journal config w p =
     journal config (history_verdicts config w.history)
     (up_to_version (finished_version w p) w.history)
 
--- the metadata of a proxy: that of its journal
+-- the metadata of a proxy: the fold of its journal
 abbrev pub proxy_metadata : Config → World → ProxyNumber → Entries
 proxy_metadata config w p = metadata (proxy_journal config w p)
 

@@ -15,8 +15,8 @@ use Rattle.system_keys.specs.Keys.{Key, Range, is_key_below, is_key_up_to}
 use Rattle.system_keys.specs.Families.{kind_of}
 use Rattle.system_keys.specs.Locations.{is_row_value}
 use Rattle.system_keys.specs.Limits.{key_limit, end_limit, value_limit, key_space_end}
-use Rattle.model.specs.Stamps.{Mutation, Set, Clear, SetStamped, Given, text_of, offset_of, stamp, stamped_at, stamped_value, stamped_mutation, stamped}
-use Rattle.model.specs.Transactions.{Transaction}
+use Rattle.model.specs.Stamps.{Mutation, Set, Clear, SetStamped, AdmittedTransaction, text_of, offset_of, stamp, stamped_at, stamped_value, stamped_mutation, stamped}
+use Rattle.model.specs.Transactions.{StampedTransaction}
 use Rattle.mutation.specs.declared.refusal.Refusal.{Refusal}
 use Rattle.mutation.specs.declared.refusal.Refusal.TheVariants as refusals
 use Rattle.mutation.specs.Faults.{first_fault, fault_of_range, fault_of_set, fault_of_stamp, fault_of_mutation, transaction_fault, faults_of, fault_of_change, stamped_fault, has_place, is_formed}
@@ -176,7 +176,7 @@ within_mutation (SetStamped key value) h =
     none_or (fault_of_set key value) (fault_of_stamp key value) (within_row key value h.0) (stamp_taken key value h.1)
 
 -- a transaction without a fault is one in which every limit holds
-pub limits_from_faultless : (t : Given) → transaction_fault t ≡ None → EveryLimitHolds t
+pub limits_from_faultless : (t : AdmittedTransaction) → transaction_fault t ≡ None → EveryLimitHolds t
 limits_from_faultless t h =
     let parts = or_none (first_fault fault_of_range t.reads) (option_or (first_fault fault_of_range t.writes) (first_fault fault_of_mutation t.mutations)) h in
     let later = or_none (first_fault fault_of_range t.writes) (first_fault fault_of_mutation t.mutations) parts.1 in
@@ -186,7 +186,7 @@ limits_from_faultless t h =
       mutations = All-weaker (λ m. fault_of_mutation m ≡ None) IsMutation mutation_within t.mutations (all_faultless fault_of_mutation t.mutations later.1);
     }
 
-pub faultless_from_limits : (t : Given) → EveryLimitHolds t → transaction_fault t ≡ None
+pub faultless_from_limits : (t : AdmittedTransaction) → EveryLimitHolds t → transaction_fault t ≡ None
 faultless_from_limits t h =
     none_or (first_fault fault_of_range t.reads) (option_or (first_fault fault_of_range t.writes) (first_fault fault_of_mutation t.mutations))
     (faultless_all fault_of_range t.reads (All-weaker IsRange (λ r. fault_of_range r ≡ None) within_range t.reads h.reads))
@@ -228,13 +228,13 @@ change_within version number (SetStamped key value) h =
     }
 
 -- every limit holds in the changes that come of an admitted transaction
-changes_within : (version number : ℕ) (t : Given) → EveryLimitHolds t → All IsChange (stamped version number t).changes
+changes_within : (version number : ℕ) (t : AdmittedTransaction) → EveryLimitHolds t → All IsChange (stamped version number t).changes
 changes_within version number t h =
     All-map IsChange (stamped_mutation version number) t.mutations
     (All-weaker IsMutation (λ m. IsChange (stamped_mutation version number m)) (change_within version number) t.mutations h.mutations)
 
 -- every limit holds in the transaction that comes of an admitted one
-pub limits_kept : (version number : ℕ) (t : Given) → EveryLimitHolds t → EveryLimitStillHolds (stamped version number t)
+pub limits_kept : (version number : ℕ) (t : AdmittedTransaction) → EveryLimitHolds t → EveryLimitStillHolds (stamped version number t)
 limits_kept version number t h = record { reads = h.reads; writes = h.writes; changes = changes_within version number t h }
 
 change_from_faultless : (change : Change) → fault_of_change change ≡ None → IsChange change
@@ -246,7 +246,7 @@ faultless_change (changes.Set key value) h = within_row key value h
 faultless_change (changes.Clear range) h = within_range range h
 
 -- a transaction with its stamps in has no fault exactly where every limit holds in it
-pub limits_when_stamped : (t : Transaction) → stamped_fault t ≡ None → EveryLimitStillHolds t
+pub limits_when_stamped : (t : StampedTransaction) → stamped_fault t ≡ None → EveryLimitStillHolds t
 limits_when_stamped t h =
     let parts = or_none (first_fault fault_of_range t.reads) (option_or (first_fault fault_of_range t.writes) (first_fault fault_of_change t.changes)) h in
     let later = or_none (first_fault fault_of_range t.writes) (first_fault fault_of_change t.changes) parts.1 in
@@ -256,7 +256,7 @@ limits_when_stamped t h =
       changes = All-weaker (λ c. fault_of_change c ≡ None) IsChange change_from_faultless t.changes (all_faultless fault_of_change t.changes later.1);
     }
 
-pub faultless_when_stamped : (t : Transaction) → EveryLimitStillHolds t → stamped_fault t ≡ None
+pub faultless_when_stamped : (t : StampedTransaction) → EveryLimitStillHolds t → stamped_fault t ≡ None
 faultless_when_stamped t h =
     none_or (first_fault fault_of_range t.reads) (option_or (first_fault fault_of_range t.writes) (first_fault fault_of_change t.changes))
     (faultless_all fault_of_range t.reads (All-weaker IsRange (λ r. fault_of_range r ≡ None) within_range t.reads h.reads))
@@ -265,7 +265,7 @@ faultless_when_stamped t h =
     (faultless_all fault_of_change t.changes (All-weaker IsChange (λ c. fault_of_change c ≡ None) faultless_change t.changes h.changes)))
 
 -- the transaction that comes of one without a fault has none
-pub stamped_faultless : (version number : ℕ) (t : Given) → transaction_fault t ≡ None → stamped_fault (stamped version number t) ≡ None
+pub stamped_faultless : (version number : ℕ) (t : AdmittedTransaction) → transaction_fault t ≡ None → stamped_fault (stamped version number t) ≡ None
 stamped_faultless version number t h =
     faultless_when_stamped (stamped version number t) (limits_kept version number t (limits_from_faultless t h))
 
@@ -285,7 +285,7 @@ first_fault-head fault_of (x ∷ xs) =
     ap (λ later. option_or (fault_of x) later) (first_fault-head fault_of xs) ∙ sym (first_of_cons (fault_of x) (filter_map fault_of xs))
 
 -- the fault of a transaction is the first of the list of all its faults
-pub transaction_fault-head : (t : Given) → transaction_fault t ≡ slice_get (faults_of t) 0
+pub transaction_fault-head : (t : AdmittedTransaction) → transaction_fault t ≡ slice_get (faults_of t) 0
 transaction_fault-head t =
     let reads = filter_map fault_of_range t.reads in
     let writes = filter_map fault_of_range t.writes in

@@ -11,8 +11,8 @@ use Rattle.system_keys.specs.declared.refusal.Refusal.TheVariants.{BadRow}
 use Rattle.system_keys.specs.Keys.{Key, Range}
 use Rattle.system_keys.specs.Families.{kind_of}
 use Rattle.system_keys.specs.Limits.{range_fault, set_fault}
-use Rattle.model.specs.Stamps.{Mutation, Set, Clear, SetStamped, Given, text_of, offset_of}
-use Rattle.model.specs.Transactions.{Transaction}
+use Rattle.model.specs.Stamps.{Mutation, Set, Clear, SetStamped, AdmittedTransaction, text_of, offset_of}
+use Rattle.model.specs.Transactions.{StampedTransaction}
 use Rattle.mutation.specs.declared.refusal.Refusal.{Refusal}
 use Rattle.mutation.specs.declared.refusal.Refusal.TheVariants as refusals
 
@@ -56,14 +56,14 @@ fault_of_mutation (SetStamped key value) =
     option_or (fault_of_set key value) (fault_of_stamp key value)
 
 -- the first fault of a transaction: of its reads, then of its writes, then of its mutations
-abbrev pub transaction_fault : Given → Option Refusal
+abbrev pub transaction_fault : AdmittedTransaction → Option Refusal
 transaction_fault t =
     option_or (first_fault fault_of_range t.reads)
     (option_or (first_fault fault_of_range t.writes) (first_fault fault_of_mutation t.mutations))
 
 -- all faults of a transaction: those of its reads, then of its writes, then of its mutations, each
 -- in order
-abbrev pub faults_of : Given → List Refusal
+abbrev pub faults_of : AdmittedTransaction → List Refusal
 faults_of t =
     filter_map fault_of_range t.reads
     ++ filter_map fault_of_range t.writes
@@ -76,7 +76,7 @@ fault_of_change (changes.Clear range) = fault_of_range range
 
 -- the first fault of a transaction with its stamps in: of its reads, then of its writes, then of
 -- its changes
-abbrev pub stamped_fault : Transaction → Option Refusal
+abbrev pub stamped_fault : StampedTransaction → Option Refusal
 stamped_fault t =
     option_or (first_fault fault_of_range t.reads)
     (option_or (first_fault fault_of_range t.writes) (first_fault fault_of_change t.changes))

@@ -7,8 +7,8 @@ use Rattle.system_keys.specs.Keys.{Key, Range, is_key_below, is_key_up_to}
 use Rattle.system_keys.specs.Families.{kind_of}
 use Rattle.system_keys.specs.Locations.{is_row_value}
 use Rattle.system_keys.specs.Limits.{key_limit, end_limit, value_limit, key_space_end}
-use Rattle.model.specs.Stamps.{Mutation, Set, Clear, SetStamped, Given, offset_of}
-use Rattle.model.specs.Transactions.{Transaction}
+use Rattle.model.specs.Stamps.{Mutation, Set, Clear, SetStamped, AdmittedTransaction, offset_of}
+use Rattle.model.specs.Transactions.{StampedTransaction}
 use Rattle.mutation.specs.Faults.{is_formed}
 
 -- the transactions of a batch
@@ -44,7 +44,7 @@ IsMutation (Clear range) = IsRange range
 IsMutation (SetStamped key value) = IsRow key value × TakesStamp key value
 
 -- every limit holds in the transaction
-pub record EveryLimitHolds (t : Given) : Type 0 where
+pub record EveryLimitHolds (t : AdmittedTransaction) : Type 0 where
   pub reads : All IsRange t.reads
   pub writes : All IsRange t.writes
   pub mutations : All IsMutation t.mutations
@@ -55,7 +55,7 @@ IsChange (changes.Set key value) = IsRow key value
 IsChange (changes.Clear range) = IsRange range
 
 -- every limit holds in the transaction with its stamps in
-pub record EveryLimitStillHolds (t : Transaction) : Type 0 where
+pub record EveryLimitStillHolds (t : StampedTransaction) : Type 0 where
   pub reads : All IsRange t.reads
   pub writes : All IsRange t.writes
   pub changes : All IsChange t.changes

@@ -1,7 +1,7 @@
 -- A transaction of unchecked bytes, as the model's transaction as given.
 use Rattle.std.specs.Prelude.{map}
 use Rattle.system_keys.specs.Keys.{Range}
-use Rattle.model.specs.Stamps.{Mutation, Given}
+use Rattle.model.specs.Stamps.{Mutation, AdmittedTransaction}
 use Rattle.model.specs.Stamps as given
 use Rattle.mutation.specs.declared.transaction.GivenRange.{GivenRange}
 use Rattle.mutation.specs.declared.transaction.Mutation.{Mutation as UncheckedMutation}
@@ -19,7 +19,7 @@ from_unchecked (Clear begin end) = given.Clear (record { begin = begin; end = en
 from_unchecked (SetStamped key value) = given.SetStamped key value
 
 -- the transaction of unchecked bytes, as given
-abbrev pub given_from : Transaction → Given
+abbrev pub given_from : Transaction → AdmittedTransaction
 given_from t =
     record {
       snapshot = t.snapshot;

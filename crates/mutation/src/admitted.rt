@@ -57,9 +57,9 @@ pub struct Admitted {
 impl Model for Admitted {
     ghost use Rattle.std.specs.Prelude.{◌≡◌, None, map};
     ghost use Rattle.std.specs.Arc.{arc_value};
-    ghost use Rattle.model.specs.Stamps.{Given};
+    ghost use Rattle.model.specs.Stamps.{AdmittedTransaction};
 
-    ghost Value = { Given };
+    ghost Value = { AdmittedTransaction };
 
     ghost use Rattle.mutation.specs.Admitted.{from_admitted};
     ghost use Rattle.mutation.specs.Faults.{transaction_fault};
@@ -84,7 +84,7 @@ impl Model for Admitted {
 impl Admitted {
     ghost use Rattle.std.specs.Prelude.{map};
     ghost use Rattle.std.specs.Arc.{arc_value};
-    ghost use Rattle.model.specs.Stamps.{Given, stamped};
+    ghost use Rattle.model.specs.Stamps.{AdmittedTransaction, stamped};
     ghost use Rattle.mutation.specs.Admitted.{from_admitted};
     ghost use Rattle.mutation.specs.Faults.{transaction_fault};
 

@@ -18,10 +18,10 @@ pub struct Batch {
 
 impl Model for Batch {
     ghost use Rattle.std.specs.Prelude.{List, ◌≤◌, length};
-    ghost use Rattle.model.specs.Stamps.{Given};
+    ghost use Rattle.model.specs.Stamps.{AdmittedTransaction};
     ghost use Rattle.mutation.specs.Limits.{batch_limit};
 
-    ghost Value = { List Given };
+    ghost Value = { List AdmittedTransaction };
 
     ghost view = { λ b. b.transactions };
 

@@ -30,10 +30,10 @@ pub struct Stamped {
 impl Model for Stamped {
     ghost use Rattle.std.specs.Prelude.{◌≡◌, None};
     ghost use Rattle.std.specs.Arc.{arc_value};
-    ghost use Rattle.model.specs.Transactions.{Transaction};
+    ghost use Rattle.model.specs.Transactions.{StampedTransaction};
     ghost use Rattle.mutation.specs.Faults.{stamped_fault};
 
-    ghost Value = { Transaction };
+    ghost Value = { StampedTransaction };
 
     ghost view = { λ t. record {
       snapshot = t.snapshot;

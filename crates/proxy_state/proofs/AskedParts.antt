@@ -3,7 +3,7 @@ use Rattle.std.proofs.Common.{◌≡◌, refl, ap, ℕ, suc, ◌<◌, List, [], 
 use Rattle.std.proofs.lemmas.Bool.{eqb-true, eq-eqb, false_from_ne_true}
 use Rattle.model.specs.Configs.{Config}
 use Rattle.model.specs.Records.{Record}
-use Rattle.model.specs.Transactions.{Transaction}
+use Rattle.model.specs.Transactions.{StampedTransaction}
 use Rattle.model.specs.Shares.{share, share_back_to, parts_from, part_of, asks, asked, each_below}
 use Rattle.model.proofs.History.Growth.{Has-each_below}
 use Rattle.model.proofs.Members.{list_any-from_Has, Passing-from_list_any, Has-filter, Has-from_filter}
@@ -22,10 +22,10 @@ is_in_passing test n r below = by (test r) refl
         let same : one.x ≡ r = eqb-true one.x r one.passes in
         absurd (cc))
 
-pub is_in_asked : (config : Config) (rec : Record) (t : Transaction) (r : ℕ) → r < config.resolvers → is_in r (asked config rec t) ≡ asks config rec r t
+pub is_in_asked : (config : Config) (rec : Record) (t : StampedTransaction) (r : ℕ) → r < config.resolvers → is_in r (asked config rec t) ≡ asks config rec r t
 is_in_asked config rec t r below = is_in_passing (λ s. asks config rec s t) config.resolvers r below
 
-parts_counted : (config : Config) (rec : Record) (r n : ℕ) (ts : List Transaction) → r < config.resolvers → length (parts_from config rec r n ts) ≡ part_count r (map (asked config rec) ts)
+parts_counted : (config : Config) (rec : Record) (r n : ℕ) (ts : List StampedTransaction) → r < config.resolvers → length (parts_from config rec r n ts) ≡ part_count r (map (asked config rec) ts)
 parts_counted config rec r n [] below = refl
 parts_counted config rec r n (t ∷ ts) below = rw (is_in_asked config rec t r below) (by (asks config rec r t) (parts_counted config rec r (suc n) ts below))
   where

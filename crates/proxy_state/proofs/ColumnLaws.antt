@@ -6,7 +6,7 @@ use Rattle.model.specs.Configs.{Config}
 use Rattle.model.specs.declared.part.Part.{Part}
 use Rattle.model.specs.declared.verdict.Verdict.{Verdict}
 use Rattle.model.specs.declared.verdict.Verdict.TheVariants.{Conflict}
-use Rattle.model.specs.Transactions.{Transaction}
+use Rattle.model.specs.Transactions.{StampedTransaction}
 use Rattle.model.specs.Records.{Record}
 use Rattle.model.specs.Shares.{share_back_to, parts_from, part_of, asks, asked}
 use Rattle.model.specs.Journal.{verdict_at, AgreeOn}
@@ -24,7 +24,7 @@ no_verdicts [] n = refl
 no_verdicts (part ∷ parts) n = refl
 
 -- parts numbered from m have no verdict for a lower number
-later_parts : (config : Config) (rec : Record) (r m : ℕ) (ts : List Transaction) (verdicts : List Verdict) (n : ℕ) → n < m → verdict_at (parts_from config rec r m ts) verdicts n ≡ Conflict
+later_parts : (config : Config) (rec : Record) (r m : ℕ) (ts : List StampedTransaction) (verdicts : List Verdict) (n : ℕ) → n < m → verdict_at (parts_from config rec r m ts) verdicts n ≡ Conflict
 later_parts config rec r m [] verdicts n below = refl
 later_parts config rec r m (t ∷ ts) verdicts n below = by (asks config rec r t) verdicts (λ rest. later_parts config rec r (suc m) ts rest n (omega (arith, below)))
   where
@@ -38,7 +38,7 @@ later_parts config rec r m (t ∷ ts) verdicts n below = by (asks config rec r t
     by false verdicts rest = rest verdicts
 
 -- element k of a column is the verdict on transaction m + k
-column_at : (config : Config) (rec : Record) (r m : ℕ) (ts : List Transaction) (verdicts : List Verdict) (k n : ℕ) → r < config.resolvers → k < length ts → n ≡ m + k
+column_at : (config : Config) (rec : Record) (r m : ℕ) (ts : List StampedTransaction) (verdicts : List Verdict) (k n : ℕ) → r < config.resolvers → k < length ts → n ≡ m + k
     → slice_get (column_by r (map (asked config rec) ts) verdicts) k ≡ Some (verdict_at (parts_from config rec r m ts) verdicts n)
 column_at config rec r m [] verdicts k n below within is = absurd (omega (arith, within))
 column_at config rec r m (t ∷ ts) verdicts k n below within is =
@@ -80,13 +80,13 @@ columns_agree config rec replies =
 
 -- ---- outcomes
 
-outcomes_listed : (config : Config) (columns : List (List Verdict)) (locked : Bool) (rec : Record) (n : ℕ) (ts : List Transaction) → outcomes_by columns locked rec.version n ts (map (asked config rec) ts) ≡ outcomes_from config (by_columns columns) locked rec n ts
+outcomes_listed : (config : Config) (columns : List (List Verdict)) (locked : Bool) (rec : Record) (n : ℕ) (ts : List StampedTransaction) → outcomes_by columns locked rec.version n ts (map (asked config rec) ts) ≡ outcomes_from config (by_columns columns) locked rec n ts
 unfolding outcome joined_verdict
 outcomes_listed config columns locked rec n [] = refl
 outcomes_listed config columns locked rec n (t ∷ ts) = λ i. outcome config (by_columns columns) locked rec n t ∷ outcomes_listed config columns locked rec (suc n) ts i
 
 -- the same of what a call for them is given
-pub outcomes_called : (config : Config) (columns : List (List Verdict)) (locked : Bool) (rec : Record) (version : ℕ) (batch : List Transaction) (lists asking : List (List ℕ))
+pub outcomes_called : (config : Config) (columns : List (List Verdict)) (locked : Bool) (rec : Record) (version : ℕ) (batch : List StampedTransaction) (lists asking : List (List ℕ))
     → version ≡ rec.version → batch ≡ rec.batch → lists ≡ asking → asking ≡ map (asked config rec) rec.batch
     → outcomes_by columns locked version 0 batch lists ≡ outcomes_from config (by_columns columns) locked rec 0 rec.batch
 outcomes_called config columns locked rec version batch lists asking same_version same_batch same_lists is = rw (same_version, same_batch, same_lists, is) (outcomes_listed config columns locked rec 0 rec.batch)

@@ -12,7 +12,7 @@ use Rattle.model.specs.OwnerMaps.{OwnerMapView}
 use Rattle.model.specs.Journal.{AgreeOn, journal_row}
 use Rattle.model.specs.Outcomes.{outcomes_after}
 use Rattle.model.specs.World.{finished_after}
-use Rattle.model.specs.Finishing.{ProxyView, Replies, disagreements, told_rows, replied_verdicts, AgreeOnRows, HasFinished}
+use Rattle.model.specs.Finishing.{ProxyView, Replies, disagreements, rows_by_replies, replied_verdicts, AgreeOnRows, HasFinished}
 use Rattle.model.proofs.Proxies.AgreeingReplies.{agree_on_told}
 use Rattle.model.proofs.Shares.Askers.{journal_row_alike}
 use Rattle.model.proofs.Agreement.AgreeingSources.{finished_after_alike}
@@ -45,7 +45,7 @@ replied_first config owned version last (first ∷ later) journal entries v repl
 -- ---- what the replies tell
 
 pub learned_from : (v : ProxyView) (config : Config) (replies : Replies) (one : BegunRecord) (learned : Learned)
-    → IsReplied v replies one → config ≡ v.config → learned.told.items ≡ told_rows config.resolvers replies → learned.own ≡ journal_row config (by_columns learned.columns.items) one.rec
+    → IsReplied v replies one → config ≡ v.config → learned.told.items ≡ rows_by_replies config.resolvers replies → learned.own ≡ journal_row config (by_columns learned.columns.items) one.rec
     → learned.columns.items ≡ columns_of config.resolvers one.asked replies → IsLearned v replies learned
 learned_from v config replies one learned replied same told own columns =
     let columns_are : learned.columns.items ≡ columns_of v.config.resolvers (map (asked v.config one.rec) one.rec.batch) replies =
@@ -54,7 +54,7 @@ learned_from v config replies one learned replied same told own columns =
       rec = one.rec;
       rest = replied.rest;
       begun_is = replied.begun_is;
-      agree = subst (AgreeOnRows v.config v.version one.rec replies) (sym (told ∙ (λ i. told_rows (same i).resolvers replies))) replied.agree;
+      agree = subst (AgreeOnRows v.config v.version one.rec replies) (sym (told ∙ (λ i. rows_by_replies (same i).resolvers replies))) replied.agree;
       own = own ∙ ap (λ (numbers : Config). journal_row numbers (by_columns learned.columns.items) one.rec) same;
       alike = subst (λ (columns : List (List Verdict)). AgreeOn v.config (by_columns columns) (replied_verdicts v.config one.rec replies) one.rec) (sym columns_are) (columns_agree v.config one.rec replies);
     }

@@ -1,4 +1,4 @@
--- Calls of a proxy, and of its replies, that have no fault are refused for want of memory alone.
+-- Calls of a proxy, and of its replies, that have no fault are refused with `OutOfMemory` alone.
 use Rattle.std.proofs.Common.{◌≡◌, refl, ap, ◌∙◌, ℕ, zero, suc, ◌<◌, List, [], ◌∷◌, ◌++◌, length, replicate, slice_get, Option, Some, None, arith}
 use Rattle.model.specs.Finishing.{Replies}
 use Rattle.model.specs.declared.reply.Reply.{Reply}
@@ -7,7 +7,7 @@ use Rattle.proxy_state.specs.Refusals.{place_fault, put_fault}
 use Rattle.proxy_state.specs.declared.refusal.Refusal.{Refusal}
 use Rattle.proxy_state.specs.declared.refusal.Refusal.TheVariants as refusals
 
--- a refusal that names no fault is want of memory
+-- a refusal that names no fault is `OutOfMemory`
 pub wants_memory : (refusal : Refusal) → refusal_fault refusal ≡ None → refusal ≡ refusals.OutOfMemory
 wants_memory refusals.WrongResolver none = absurd (cc)
 wants_memory refusals.NotMine none = absurd (cc)

@@ -6,7 +6,7 @@ use Rattle.model.specs.declared.outcome.Outcome.{Outcome}
 use Rattle.model.specs.declared.outcome.Outcome.TheVariants.{Committed, Conflict, TooOld, Locked}
 use Rattle.model.specs.declared.outcome.Tagged.{Tagged}
 use Rattle.model.specs.Metadata.{Entries}
-use Rattle.model.specs.Transactions.{Transaction}
+use Rattle.model.specs.Transactions.{StampedTransaction}
 use Rattle.model.specs.World.{tagged_from, tagged_one, tagged_all}
 use Rattle.proxy_state.specs.TakenChanges.{without_change, with_changes, changes_if, changes_of}
 
@@ -19,13 +19,13 @@ from_changes : (entries : Entries) (number n : ℕ) (changes : List Change) → 
 from_changes entries number n [] = refl
 from_changes entries number n (change ∷ changes) = ap (λ (cs : List Change). change ∷ cs) (from_changes entries number (suc n) changes)
 
-one_changes : (entries : Entries) (t : Transaction) (outcome : Outcome) → map change_of (tagged_one entries t outcome) ≡ changes_if t outcome
+one_changes : (entries : Entries) (t : StampedTransaction) (outcome : Outcome) → map change_of (tagged_one entries t outcome) ≡ changes_if t outcome
 one_changes entries t (Committed version number) = from_changes entries number 0 t.changes
 one_changes entries t Conflict = refl
 one_changes entries t TooOld = refl
 one_changes entries t Locked = refl
 
-all_changes : (entries : Entries) (ts : List Transaction) (outcomes : List Outcome) → map change_of (tagged_all entries ts outcomes) ≡ changes_of ts outcomes
+all_changes : (entries : Entries) (ts : List StampedTransaction) (outcomes : List Outcome) → map change_of (tagged_all entries ts outcomes) ≡ changes_of ts outcomes
 all_changes entries [] outcomes = refl
 all_changes entries (t ∷ ts) [] = refl
 all_changes entries (t ∷ ts) (outcome ∷ outcomes) =
@@ -37,12 +37,12 @@ put_back [] = refl
 put_back (mutation ∷ mutations) = ap (λ (ts : List Tagged). mutation ∷ ts) (put_back mutations)
 
 -- with the changes of the batch put in, the mutations are those of the definition
-pub all_put : (entries : Entries) (ts : List Transaction) (outcomes : List Outcome) → with_changes (map without_change (tagged_all entries ts outcomes)) (changes_of ts outcomes) ≡ tagged_all entries ts outcomes
+pub all_put : (entries : Entries) (ts : List StampedTransaction) (outcomes : List Outcome) → with_changes (map without_change (tagged_all entries ts outcomes)) (changes_of ts outcomes) ≡ tagged_all entries ts outcomes
 all_put entries ts outcomes =
     ap (with_changes (map without_change (tagged_all entries ts outcomes))) (sym (all_changes entries ts outcomes))
     ∙ put_back (tagged_all entries ts outcomes)
 
-pub all_room : (entries : Entries) (ts : List Transaction) (outcomes : List Outcome) → length (changes_of ts outcomes) ≤ length (map without_change (tagged_all entries ts outcomes))
+pub all_room : (entries : Entries) (ts : List StampedTransaction) (outcomes : List Outcome) → length (changes_of ts outcomes) ≤ length (map without_change (tagged_all entries ts outcomes))
 all_room entries ts outcomes =
     let changes : length (map change_of (tagged_all entries ts outcomes)) ≡ length (tagged_all entries ts outcomes) = length-map (tagged_all entries ts outcomes) change_of in
     let labels : length (map without_change (tagged_all entries ts outcomes)) ≡ length (tagged_all entries ts outcomes) = length-map (tagged_all entries ts outcomes) without_change in
@@ -101,12 +101,12 @@ put_run xs now i m cs more left whole room next is split so_far =
 -- ---- the transactions that are left
 
 -- of the transactions that are left the first has its changes first
-pub next_changes : (ts rest : List Transaction) (t : Transaction) (outcomes : List Outcome) (n m : ℕ) (d : Outcome) (cs : List Change) → ts ≡ t ∷ rest → n < length outcomes → cs ≡ changes_if t (get_or outcomes n d) → m ≡ n + 1
+pub next_changes : (ts rest : List StampedTransaction) (t : StampedTransaction) (outcomes : List Outcome) (n m : ℕ) (d : Outcome) (cs : List Change) → ts ≡ t ∷ rest → n < length outcomes → cs ≡ changes_if t (get_or outcomes n d) → m ≡ n + 1
     → changes_of ts (drop n outcomes) ≡ cs ++ changes_of rest (drop m outcomes)
 next_changes ts rest t outcomes n m d cs split within is next =
     let step : suc n ≡ m = omega (arith, next) in
     let front : drop n outcomes ≡ get_or outcomes n d ∷ drop m outcomes = drop-cons outcomes n d within ∙ ap (λ (k : ℕ). get_or outcomes n d ∷ drop k outcomes) step in
-    ap₂ (λ (left : List Transaction) (later : List Outcome). changes_of left later) split front
+    ap₂ (λ (left : List StampedTransaction) (later : List Outcome). changes_of left later) split front
     ∙ ap (λ (all : List Change). all ++ changes_of rest (drop m outcomes)) (sym is)
 
 -- there is room for its changes, and then for the others
@@ -116,19 +116,19 @@ room_for left cs more i room split fits =
     (omega (arith, size, fits), omega (arith, size, fits))
 
 -- after the last transaction all changes are put in
-pub put_all : (xs : List Tagged) (i : ℕ) (ts : List Transaction) (outcomes : List Outcome) (whole : List Tagged) → length ts ≡ 0 → take i xs ++ with_changes (drop i xs) (changes_of ts outcomes) ≡ whole → xs ≡ whole
+pub put_all : (xs : List Tagged) (i : ℕ) (ts : List StampedTransaction) (outcomes : List Outcome) (whole : List Tagged) → length ts ≡ 0 → take i xs ++ with_changes (drop i xs) (changes_of ts outcomes) ≡ whole → xs ≡ whole
 put_all xs i [] outcomes whole none so_far = put_last xs i [] whole refl so_far
 put_all xs i (t ∷ ts) outcomes whole none so_far = absurd (omega (arith, none))
 
 -- ---- the mutations of a batch
 
 -- there is a mutation for each change
-pub labels_have_room : (entries : Entries) (lent batch : List Transaction) (told outcomes : List Outcome) (labelled : List Tagged) → lent ≡ batch → told ≡ outcomes → labelled ≡ map without_change (tagged_all entries lent told) → length (changes_of batch outcomes) ≤ length labelled
+pub labels_have_room : (entries : Entries) (lent batch : List StampedTransaction) (told outcomes : List Outcome) (labelled : List Tagged) → lent ≡ batch → told ≡ outcomes → labelled ≡ map without_change (tagged_all entries lent told) → length (changes_of batch outcomes) ≤ length labelled
 labels_have_room entries lent batch told outcomes labelled same alike are =
     rw (are, same, alike) (all_room entries batch outcomes)
 
 -- with the changes put in they are those of the definition
-pub labels_put : (entries : Entries) (lent batch : List Transaction) (told outcomes : List Outcome) (labelled now : List Tagged) → lent ≡ batch → told ≡ outcomes → labelled ≡ map without_change (tagged_all entries lent told) → now ≡ with_changes labelled (changes_of batch outcomes) → now ≡ tagged_all entries batch outcomes
+pub labels_put : (entries : Entries) (lent batch : List StampedTransaction) (told outcomes : List Outcome) (labelled now : List Tagged) → lent ≡ batch → told ≡ outcomes → labelled ≡ map without_change (tagged_all entries lent told) → now ≡ with_changes labelled (changes_of batch outcomes) → now ≡ tagged_all entries batch outcomes
 labels_put entries lent batch told outcomes labelled now same alike are is =
     is
     ∙ ap (λ (ts : List Tagged). with_changes ts (changes_of batch outcomes)) (are ∙ (λ i. map without_change (tagged_all entries (same i) (alike i))))

@@ -29,7 +29,7 @@ AreBegun config version last (begun ∷ later) =
     × (begun.asked ≡ map (asked config begun.rec) begun.rec.batch)
     × AreBegun config begun.rec.version last later
 
--- What the type of a proxy keeps: its metadata is that of its journal, its begun records follow one
+-- What the type of a proxy keeps: its metadata is the fold of its journal, its begun records follow one
 -- another, and its map of owners has the resolvers of the cluster and remembers far enough back.
 pub record IsKept
     (config : Config) (owned : OwnerMapView) (version last : Version) (begun : List BegunRecord)

@@ -6,14 +6,14 @@ use Rattle.model.specs.Configs.{Config}
 use Rattle.model.specs.declared.verdict.Verdict.{Verdict}
 use Rattle.model.specs.declared.outcome.Outcome.{Outcome}
 use Rattle.model.specs.declared.outcome.Finished.{Finished}
-use Rattle.model.specs.Transactions.{Transaction}
+use Rattle.model.specs.Transactions.{StampedTransaction}
 use Rattle.model.specs.Records.{Record}
 use Rattle.model.specs.Verdicts.{joined}
 use Rattle.model.specs.Metadata.{Entries, after_journal_row}
 use Rattle.model.specs.Outcomes.{outcome_by, is_refused, outcomes_from}
 use Rattle.model.specs.World.{tagged_all}
 use Rattle.model.specs.Journal.{journal_row, AgreeOn}
-use Rattle.model.specs.Finishing.{ProxyView, Replies, unreplied, disagreements, told_rows}
+use Rattle.model.specs.Finishing.{ProxyView, Replies, unreplied, disagreements, rows_by_replies}
 use Rattle.model.specs.Finishing.{replied_verdicts, AgreeOnRows}
 use Rattle.metadata.specs.Started.{after_rows}
 use Rattle.proxy_state.specs.Learning.{AskedAreKept, by_columns}
@@ -51,7 +51,7 @@ pub record IsReplied (v : ProxyView) (replies : Replies) (begun : BegunRecord) :
   pub begun_is : v.begun ≡ begun.rec ∷ rest
   pub asking : AskedAreKept v.config begun
   pub agree :
-      AgreeOnRows v.config v.version begun.rec replies (told_rows v.config.resolvers replies)
+      AgreeOnRows v.config v.version begun.rec replies (rows_by_replies v.config.resolvers replies)
 
 -- what the replies to the earliest record of the proxy tell: the rows that it has not seen, on which
 -- they agree, and its own row by columns of verdicts that are those of the replies
@@ -70,7 +70,7 @@ pub record IsLearned (v : ProxyView) (replies : Replies) (learned : Learned) : T
 -- the outcome of transaction n of a record of this version, which asks the resolvers of the list
 abbrev pub outcome_asked :
     (columns : List (List Verdict)) (locked : Bool) → Version → (n : TransactionNumber)
-    → Transaction → (list : List ℕ) → Outcome
+    → StampedTransaction → (list : List ℕ) → Outcome
 outcome_asked columns locked version n t list =
     outcome_by (joined (map (λ r. by_columns columns r 0 n) list)) (is_refused locked t) version n
 
@@ -78,7 +78,7 @@ outcome_asked columns locked version n t list =
 -- transaction stands the list of the resolvers that it asks
 abbrev pub outcomes_by :
     (columns : List (List Verdict)) (locked : Bool) → Version → (n : TransactionNumber)
-    → List Transaction → (lists : List (List ℕ)) → List Outcome
+    → List StampedTransaction → (lists : List (List ℕ)) → List Outcome
 outcomes_by columns locked version n [] lists = []
 outcomes_by columns locked version n (t ∷ ts) [] = []
 outcomes_by columns locked version n (t ∷ ts) (list ∷ lists) =

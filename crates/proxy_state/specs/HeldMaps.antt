@@ -32,7 +32,7 @@ pub record IsHeld (resolvers oldest : ℕ) (moves : List Move) (kept : Option Ow
   pub in_order : DatesInOrder 0 moves
   pub alike : IfSome kept (IsAlike (held_map resolvers oldest moves))
 
--- the map stands for the moves, has so many resolvers, and remembers owners at least back to `oldest`
+-- the map stands for the moves, has this number of resolvers, and remembers owners at least back to `oldest`
 pub record IsMapOf (moves : List Move) (count oldest : ℕ) (map : OwnerMapView) : Type 0 where
   pub stands : StandsForMoves map moves
   pub resolvers : map.resolvers ≡ count
@@ -52,7 +52,7 @@ IsForgetful before oldest after =
 
 -- ---- a map that proxies share
 
--- the map asks as the moves do, has so many resolvers, and remembers owners at least back to `oldest`
+-- the map asks as the moves do, has this number of resolvers, and remembers owners at least back to `oldest`
 pub record AsksBackTo (moves : List Move) (count oldest : ℕ) (map : OwnerMapView) : Type 0 where
   pub asks : AsksAs map moves
   pub resolvers : map.resolvers ≡ count

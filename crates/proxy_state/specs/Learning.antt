@@ -37,7 +37,7 @@ column_by r (list ∷ lists) verdicts =
     then first_verdict verdicts ∷ column_by r lists (drop 1 verdicts)
     else Conflict ∷ column_by r lists verdicts
 
--- the reply has the numbers of resolver r and of the record, and so many verdicts
+-- the reply has the numbers of resolver r and of the record, and this number of verdicts
 abbrev pub has_numbers : Record → (r count : ℕ) → Reply → Bool
 has_numbers rec r count reply =
     nat_eq reply.resolver r
@@ -51,7 +51,7 @@ abbrev pub columns_of : (resolvers : ℕ) → List (List ℕ) → Replies → Li
 columns_of resolvers lists replies =
     map (λ r. column_by r lists (verdicts_of_reply (reply_from replies r))) (each_below resolvers)
 
--- the verdicts on a record by columns, whatever row is named: that of resolver r on transaction n is
+-- the verdicts on a record by columns, whatever row is named: the verdict of resolver r on transaction n is
 -- element n of its column, or Conflict if there is none
 abbrev pub by_columns : (columns : List (List Verdict)) → VerdictSource
 by_columns columns r i n =

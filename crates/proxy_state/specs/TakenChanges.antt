@@ -6,7 +6,7 @@ use Rattle.system_keys.specs.declared.change.Change.TheVariants.{Set}
 use Rattle.model.specs.declared.outcome.Outcome.{Outcome}
 use Rattle.model.specs.declared.outcome.Outcome.TheVariants.{Committed, Conflict, TooOld, Locked}
 use Rattle.model.specs.declared.outcome.Tagged.{Tagged}
-use Rattle.model.specs.Transactions.{Transaction}
+use Rattle.model.specs.Transactions.{StampedTransaction}
 
 -- what stands in the place of a change until it is put in
 abbrev pub no_change : Change
@@ -24,14 +24,14 @@ with_changes (mutation ∷ mutations) (change ∷ changes) =
     record mutation { change = change } ∷ with_changes mutations changes
 
 -- the changes of a transaction, if it is committed
-abbrev pub changes_if : Transaction → Outcome → List Change
+abbrev pub changes_if : StampedTransaction → Outcome → List Change
 changes_if t (Committed version number) = t.changes
 changes_if t Conflict = []
 changes_if t TooOld = []
 changes_if t Locked = []
 
 -- the changes of the committed transactions of a batch with these outcomes
-abbrev pub changes_of : List Transaction → List Outcome → List Change
+abbrev pub changes_of : List StampedTransaction → List Outcome → List Change
 changes_of [] outcomes = []
 changes_of (t ∷ ts) [] = []
 changes_of (t ∷ ts) (outcome ∷ outcomes) = changes_if t outcome ++ changes_of ts outcomes

@@ -9,8 +9,8 @@ ghost use Rattle.model.specs.Verdicts.{joined};
 ghost use Rattle.model.specs.Finishing.{reply_from, verdicts_of_reply};
 ghost use Rattle.proxy_state.specs.Learning.{column_by, columns_of, by_columns};
 
-use crate::joining::least_of;
-use crate::learning::{is_in, reply_from};
+use crate::joined_verdict::least_of;
+use crate::disagreements::{is_in, reply_from};
 use model::{Reply, ResolverNumber, TransactionNumber, Verdict};
 use std::alloc::Global;
 use system_keys::{Items, OutOfMemory};
@@ -105,7 +105,7 @@ pub(crate) fn verdicts_by(
 
 /// The least verdict of the resolvers in the list on the transaction of this number.
 #[tactic(auto, using(crate::proofs::Joins::least_of_least))]
-pub(crate) fn joined_by(
+pub(crate) fn joined_verdict_by(
     columns: &[Items<Verdict>],
     list: &[ResolverNumber],
     number: TransactionNumber,

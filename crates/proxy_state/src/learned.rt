@@ -2,13 +2,13 @@
 
 ghost use Rattle.std.specs.Prelude.{◌≡◌, IfOk};
 ghost use Rattle.model.specs.Journal.{journal_row};
-ghost use Rattle.model.specs.Finishing.{told_rows};
+ghost use Rattle.model.specs.Finishing.{rows_by_replies};
 ghost use Rattle.proxy_state.specs.Learning.{columns_of, by_columns};
 
 use crate::begun::BegunRecord;
 use crate::columns::columns_of;
 use crate::own_row::own_row;
-use crate::telling::told_rows;
+use crate::rows_by_replies::rows_by_replies;
 use model::{Config, JournalRow, Reply, Verdict};
 use std::alloc::Global;
 use system_keys::{Items, OutOfMemory};
@@ -33,13 +33,13 @@ impl Learned {
         replies: &[Option<Reply>],
     ) -> Result<Learned, OutOfMemory>
         ensures told { IfOk result (λ learned.
-            learned.told.items ≡ told_rows config.now.resolvers replies.now) }
+            learned.told.items ≡ rows_by_replies config.now.resolvers replies.now) }
         ensures own { IfOk result (λ learned.
             learned.own ≡ journal_row config.now (by_columns learned.columns.items) begun.now.rec) }
         ensures columns { IfOk result (λ learned. learned.columns.items
             ≡ columns_of config.now.resolvers begun.now.asked replies.now) }
     {
-        let told = told_rows(alloc, config.resolvers(), replies)?;
+        let told = rows_by_replies(alloc, config.resolvers(), replies)?;
         let columns = columns_of(alloc, config.resolvers(), begun.asked.as_slice(), replies)?;
         let own = own_row(alloc, config, &columns, &begun.rec)?;
         Ok(Learned { told, own, columns })

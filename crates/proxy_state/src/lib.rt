@@ -7,9 +7,9 @@
 mod begun;
 mod columns;
 mod finishing;
-mod joining;
+mod joined_verdict;
 mod learned;
-mod learning;
+mod disagreements;
 mod moving;
 mod outcomes;
 mod own_row;
@@ -18,9 +18,9 @@ mod owners;
 mod proxy;
 mod refusal;
 mod replies;
-mod telling;
+mod rows_by_replies;
 
-pub use joining::join;
+pub use joined_verdict::join;
 pub use metadata::Metadata;
 pub use model::{
     Finished, JournalRow, Outcome, PrivateCopy, Route, Routing, StateTxn, Tagged, Verdict,

@@ -34,7 +34,7 @@ fn make_move(owners: &mut OwnerMap, one: &Move) -> Result<(), OutOfMemory>
     requires { move_fault owners.old one.now.date one.now.dest ≡ None }
     ensures { OnOk result (HasGained owners.old (one.now ∷ []) owners.new) }
 {
-    made(owners, one)
+    apply_move(owners, one)
 }
 
 /// Makes all moves in the map, one after another. They were made before, in another map.
@@ -45,13 +45,13 @@ pub(crate) fn make_again(owners: &mut OwnerMap, moves: &Moves) -> Result<(), Out
         let Some(one) = moves.get(place) else {
             unreachable!();
         };
-        made(owners, one)?;
+        apply_move(owners, one)?;
     }
     Ok(())
 }
 
 /// Makes one move. It is not refused, so it fails only with `OutOfMemory`.
-fn made(owners: &mut OwnerMap, one: &Move) -> Result<(), OutOfMemory>
+fn apply_move(owners: &mut OwnerMap, one: &Move) -> Result<(), OutOfMemory>
     ensures { OnOk result (HasGained owners.old (one.now ∷ []) owners.new) }
 {
     match owners.move_range(&one.range, one.date, one.dest) {

@@ -13,7 +13,7 @@ ghost use Rattle.proxy_state.specs.TakenChanges.{no_change, without_change, with
 ghost use Rattle.proxy_state.specs.TakenChanges.{changes_if, changes_of};
 
 use crate::begun::BegunRecord;
-use crate::columns::joined_by;
+use crate::columns::joined_verdict_by;
 use metadata::{EntryView, private_of, tags_of};
 use model::{
     Config, Finished, Outcome, ResolverNumber, Tagged, TransactionNumber, Verdict, Version,
@@ -39,7 +39,7 @@ pub(crate) fn finished_by(
     ensures err { OnErr result (begun.new ≡ begun.old) }
 {
     let outcomes = outcomes_of(alloc, config, columns, locked, begun)?;
-    let mut tagged = labelled_all(alloc, entries, begun.rec.batch(), &outcomes)?;
+    let mut tagged = label_all(alloc, entries, begun.rec.batch(), &outcomes)?;
     let (row, version) = (begun.rec.row(), begun.rec.version());
     let batch = begun.rec.take_batch(alloc)?;
     put_changes(alloc, &mut tagged, batch, &outcomes);
@@ -103,7 +103,7 @@ fn outcome_asked(
     ensures { result
         ≡ outcome_asked columns.now locked version number transaction.now list.now }
 {
-    let verdict = joined_by(columns, list.as_slice(), number);
+    let verdict = joined_verdict_by(columns, list.as_slice(), number);
     outcome_by(verdict, is_refused(locked, transaction), version, number)
 }
 
@@ -139,7 +139,7 @@ fn outcome_by(
 /// The mutations of the committed transactions, each with its tags and its private copy, but without
 /// its change.
 #[tactic(auto, using(crate::proofs::TakenChanges::labels_append))]
-fn labelled_all(
+fn label_all(
     alloc: Global,
     entries: &EntryView,
     batch: &[Stamped],

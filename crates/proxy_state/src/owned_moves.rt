@@ -67,7 +67,7 @@ impl OwnedMoves {
         Ok(())
     }
 
-    /// The map, if there is one of so many resolvers that remembers owners back to `oldest`.
+    /// The map, if there is one of this number of resolvers that remembers owners back to `oldest`.
     pub(crate) fn map_back_to(&self, resolvers: usize, oldest: Version) -> Option<&OwnerMap>
         ensures { IfSome result (λ map. AsksBackTo self.now resolvers oldest map.now) }
     {

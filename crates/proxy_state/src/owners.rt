@@ -71,20 +71,20 @@ impl ProxyOwners {
         ensures gained { IfOk result (HasGained self.old (drop from moves.now)) }
         ensures same { self.new ≡ self.old }
     {
-        let mut owners = self.taken(alloc)?;
+        let mut owners = self.take_map(alloc)?;
         make_moves(&mut owners, moves, from)?;
         Ok(owners)
     }
 
     /// The map itself, or a new one with all moves if it is used up. Afterwards it is used up.
     #[tactic(auto, using(crate::proofs::HeldMaps::held_none))]
-    fn taken(&mut self, alloc: Global) -> Result<OwnerMap, OutOfMemory>
+    fn take_map(&mut self, alloc: Global) -> Result<OwnerMap, OutOfMemory>
         ensures alike { IfOk result (λ map. IsAlike self.old map) }
         ensures same { self.new ≡ self.old }
     {
         match self.map.take() {
             Some(map) => Ok(map),
-            None => made_again(alloc, self.resolvers, &self.moves, self.oldest),
+            None => new_map_with(alloc, self.resolvers, &self.moves, self.oldest),
         }
     }
 
@@ -99,7 +99,7 @@ impl ProxyOwners {
     {
         self.oldest = oldest;
         self.moves = moves;
-        self.map = forgetful(map, oldest);
+        self.map = forget_back_to(map, oldest);
     }
 
     /// Returns a deep copy. Fails only with `OutOfMemory`.
@@ -111,14 +111,14 @@ impl ProxyOwners {
             resolvers: self.resolvers,
             oldest: self.oldest,
             moves: self.moves.copy()?,
-            map: copied(&self.map)?,
+            map: copy_map(&self.map)?,
         })
     }
 }
 
 /// The map once it has forgotten back to `oldest`, if there is one.
 #[tactic(auto, using(crate::proofs::HeldMaps::forgetful_map))]
-fn forgetful(map: Option<OwnerMap>, oldest: Version) -> Option<OwnerMap>
+fn forget_back_to(map: Option<OwnerMap>, oldest: Version) -> Option<OwnerMap>
     ensures { IsForgetful map oldest result }
 {
     match map {
@@ -132,7 +132,7 @@ fn forgetful(map: Option<OwnerMap>, oldest: Version) -> Option<OwnerMap>
 }
 
 /// A deep copy of the map, if there is one.
-fn copied(map: &Option<OwnerMap>) -> Result<Option<OwnerMap>, OutOfMemory>
+fn copy_map(map: &Option<OwnerMap>) -> Result<Option<OwnerMap>, OutOfMemory>
     ensures { IfOk result (λ copy. copy ≡ map.now) }
 {
     match map {
@@ -143,7 +143,7 @@ fn copied(map: &Option<OwnerMap>) -> Result<Option<OwnerMap>, OutOfMemory>
 
 /// A new map, in which all moves are made. Fails only with `OutOfMemory`.
 #[tactic(auto, using(crate::proofs::HeldMaps::again_alike))]
-fn made_again(
+fn new_map_with(
     alloc: Global,
     resolvers: usize,
     moves: &Moves,

@@ -16,7 +16,7 @@ ghost use Rattle.proxy_state.specs.Finishing.{finish_fault, IsReplied, IsLearned
 use crate::begun::BegunRecord;
 use crate::finishing::finish_batch;
 use crate::learned::Learned;
-use crate::learning::{first_disagreement, first_unreplied};
+use crate::disagreements::{first_disagreement, first_unreplied};
 use crate::moving::keep_map;
 use crate::owned_moves::OwnedMoves;
 use crate::owners::ProxyOwners;
@@ -32,7 +32,7 @@ use std::marker::Model;
 use system_keys::OutOfMemory;
 
 /// A commit proxy over time: it begins records, in the order of their versions, and finishes them in
-/// the same order. Its metadata is always that of its journal.
+/// the same order. Its metadata is always the fold of its journal.
 #[derive(Drop)]
 pub struct Proxy {
     number: ProxyNumber,
@@ -107,7 +107,7 @@ impl Proxy {
 
     /// The earliest record that is begun and not finished: the one that is finished next. This
     /// proxy's record before it is the one last finished, if there is one.
-    pub fn awaited(&self) -> Option<&Record>
+    pub fn next_to_finish(&self) -> Option<&Record>
         ensures first { MatchOption result
             (self.now.begun ≡ []) (λ rec. IsFirst self.now.begun rec.now) }
         ensures own { IfSome result (λ rec. rec.now.own_previous ≡ self.now.version) }
@@ -152,7 +152,7 @@ impl Proxy {
             });
         }
         let alloc: Global = *self.journal.allocator();
-        Ok(folded_up_to(alloc, version, &self.journal)?)
+        Ok(fold_up_to(alloc, version, &self.journal)?)
     }
 
     /// Begins a record of this proxy, and returns the requests for it. Several records may be begun
@@ -217,7 +217,7 @@ impl Proxy {
                 expected: self.last_begun,
             });
         }
-        let (requests, map) = self.asked(rec, shared)?;
+        let (requests, map) = self.requests_and_map(rec, shared)?;
         let begun = BegunRecord::of_requests(rec, &requests)?;
         let moves = rec.moves().copy()?;
         let Ok(()) = self.begun.reserve(1) else {
@@ -233,7 +233,7 @@ impl Proxy {
     /// The requests for the record, by the map that proxies share, or by the proxy's own, which then
     /// is beside them, with the moves of the record.
     #[tactic(auto, using(crate::proofs::KeptProxies::in_order_for, crate::proofs::KeptProxies::in_order_own))]
-    fn asked(
+    fn requests_and_map(
         &mut self,
         rec: &Record,
         shared: Option<&OwnerMap>,
@@ -251,7 +251,7 @@ impl Proxy {
         match shared {
             Some(map) => Ok((self.requests_by(map, rec)?, None)),
             None => {
-                let map = self.moved_map(rec)?;
+                let map = self.map_with_moves(rec)?;
                 Ok((self.requests_by(&map, rec)?, Some(map)))
             }
         }
@@ -259,7 +259,7 @@ impl Proxy {
 
     /// The proxy's map of owners with the moves of the record.
     #[tactic(auto, using(crate::proofs::KeptProxies::may_gain, crate::proofs::KeptProxies::has_map))]
-    fn moved_map(&mut self, rec: &Record) -> Result<OwnerMap, OutOfMemory>
+    fn map_with_moves(&mut self, rec: &Record) -> Result<OwnerMap, OutOfMemory>
         requires may { MayBegin self.old rec.now }
         requires own { begin_fault self.old rec.now ≡ None }
         ensures map { IfOk result (HasMapFor self.old.config rec.now) }
@@ -284,7 +284,7 @@ impl Proxy {
 
     /// Finishes the earliest record that is begun and not finished, by the replies to it. The journal
     /// grows by the rows that the replies tell and by the record's own row, the metadata follows it,
-    /// and the version is that of the record. Returns the outcome of each transaction of the batch,
+    /// and the version is the record's. Returns the outcome of each transaction of the batch,
     /// and each mutation of the committed ones with its tags and its private copy, by the metadata
     /// after the whole batch.
     ///
@@ -374,14 +374,14 @@ impl Proxy {
             last_begun: self.last_begun,
             begun: self.begun.clone()?,
             version: self.version,
-            journal: copied_rows(&self.journal)?,
+            journal: copy_journal(&self.journal)?,
             metadata: self.metadata.copy()?,
         })
     }
 }
 
 /// Copies of the rows.
-fn copied_rows(rows: &Vec<JournalRow>) -> Result<Vec<JournalRow>, OutOfMemory>
+fn copy_journal(rows: &Vec<JournalRow>) -> Result<Vec<JournalRow>, OutOfMemory>
     ensures { IfOk result (λ copied. copied.items ≡ rows.now.items) }
 {
     let mut copied = Vec::with_capacity(*rows.allocator(), rows.len())?;
@@ -393,7 +393,7 @@ fn copied_rows(rows: &Vec<JournalRow>) -> Result<Vec<JournalRow>, OutOfMemory>
 
 /// The fold of the rows up to a version. Does not allocate if there is none.
 #[tactic(auto, unfolding(model::specs::Metadata::metadata))]
-fn folded_up_to(
+fn fold_up_to(
     alloc: Global,
     version: Version,
     journal: &[JournalRow],

@@ -7,7 +7,7 @@ use Rattle.std.proofs.lemmas.List.Folds.{list_any-append}
 use Rattle.system_keys.specs.Keys.{Range, only}
 use Rattle.model.specs.declared.moves.Move.{Move}
 use Rattle.model.specs.declared.part.Part.{Part}
-use Rattle.model.specs.Transactions.{Transaction, is_state_transaction, locked_key, lock_read, all_reads}
+use Rattle.model.specs.Transactions.{StampedTransaction, is_state_transaction, locked_key, lock_read, all_reads}
 use Rattle.model.specs.Owners.{asks_read, asks_write}
 use Rattle.model.specs.Records.{Record}
 use Rattle.model.specs.Shares.{each_below, read_bound, part_back_to, asks_back_to, parts_back_to, asked_back_to}
@@ -52,17 +52,17 @@ lock_ranges : (map_of : OwnerMapView) (moves : List Move) (snapshot r : ℕ) (b 
 lock_ranges map_of moves snapshot r true = refl
 lock_ranges map_of moves snapshot r false = refl
 
-reads_are : (map_of : OwnerMapView) (rec : Record) (r n : ℕ) (t : Transaction) → r < map_of.resolvers → (part_by r n t (asked_resolvers_of map_of rec.moves t)).reads ≡ filter (asks_read rec.moves (read_bound map_of.oldest t) r) (all_reads t)
+reads_are : (map_of : OwnerMapView) (rec : Record) (r n : ℕ) (t : StampedTransaction) → r < map_of.resolvers → (part_by r n t (asked_resolvers_of map_of rec.moves t)).reads ≡ filter (asks_read rec.moves (read_bound map_of.oldest t) r) (all_reads t)
 reads_are map_of rec r n t below =
     let p = λ (s : ℕ) (range : Range). asks_read rec.moves (read_bound map_of.oldest t) s range in
     let b = is_state_transaction t && not t.lock_aware in
     ap₂ (λ (xs ys : List Range). xs ++ ys) (ranges_for_filter p r map_of.resolvers t.reads below) (lock_ranges map_of rec.moves t.snapshot r b ∙ ranges_for_filter p r map_of.resolvers (lock_read b) below)
     ∙ sym (filter-append (p r) t.reads (lock_read b))
 
-writes_are : (map_of : OwnerMapView) (rec : Record) (r n : ℕ) (t : Transaction) → r < map_of.resolvers → (part_by r n t (asked_resolvers_of map_of rec.moves t)).writes ≡ filter (asks_write rec.moves r) t.writes
+writes_are : (map_of : OwnerMapView) (rec : Record) (r n : ℕ) (t : StampedTransaction) → r < map_of.resolvers → (part_by r n t (asked_resolvers_of map_of rec.moves t)).writes ≡ filter (asks_write rec.moves r) t.writes
 writes_are map_of rec r n t below = ranges_for_filter (λ (s : ℕ) (range : Range). asks_write rec.moves s range) r map_of.resolvers t.writes below
 
-part_is : (map_of : OwnerMapView) (rec : Record) (r n : ℕ) (t : Transaction) → r < map_of.resolvers → part_by r n t (asked_resolvers_of map_of rec.moves t) ≡ part_back_to map_of.oldest rec r n t
+part_is : (map_of : OwnerMapView) (rec : Record) (r n : ℕ) (t : StampedTransaction) → r < map_of.resolvers → part_by r n t (asked_resolvers_of map_of rec.moves t) ≡ part_back_to map_of.oldest rec r n t
 part_is map_of rec r n t below =
     ap₂ (λ (reads writes : List Range). record { number = n; snapshot = t.snapshot; reads = reads; writes = writes }) (reads_are map_of rec r n t below) (writes_are map_of rec r n t below)
 
@@ -75,21 +75,21 @@ or_four true p q r = refl
 or_four false true q r = refl
 or_four false false q r = refl
 
-sent_is : (map_of : OwnerMapView) (rec : Record) (r n : ℕ) (t : Transaction) → is_sent (is_state_transaction t) (part_back_to map_of.oldest rec r n t) ≡ asks_back_to map_of.oldest rec r t
+sent_is : (map_of : OwnerMapView) (rec : Record) (r n : ℕ) (t : StampedTransaction) → is_sent (is_state_transaction t) (part_back_to map_of.oldest rec r n t) ≡ asks_back_to map_of.oldest rec r t
 sent_is map_of rec r n t =
     ap₂ (λ x y. is_state_transaction t || (x || y)) (any_filter (asks_read rec.moves (read_bound map_of.oldest t) r) (all_reads t)) (any_filter (asks_write rec.moves r) t.writes)
     ∙ or_assoc (is_state_transaction t) (list_any (asks_read rec.moves (read_bound map_of.oldest t) r) (all_reads t)) (list_any (asks_write rec.moves r) t.writes)
 
 -- ---- all transactions
 
-pub parts_are : (map_of : OwnerMapView) (rec : Record) (r n : ℕ) (ts : List Transaction) → r < map_of.resolvers → parts_by r n ts (map (asked_resolvers_of map_of rec.moves) ts) ≡ parts_back_to map_of.oldest rec r n ts
+pub parts_are : (map_of : OwnerMapView) (rec : Record) (r n : ℕ) (ts : List StampedTransaction) → r < map_of.resolvers → parts_by r n ts (map (asked_resolvers_of map_of rec.moves) ts) ≡ parts_back_to map_of.oldest rec r n ts
 parts_are map_of rec r n [] below = refl
 parts_are map_of rec r n (t ∷ ts) below =
     ap₂ (λ (part : Part) (rest : List Part). sent_part (is_state_transaction t) part ++ rest) (part_is map_of rec r n t below) (parts_are map_of rec r (suc n) ts below)
     ∙ ap (λ (b : Bool). cond b (part_back_to map_of.oldest rec r n t ∷ []) [] ++ parts_back_to map_of.oldest rec r (suc n) ts) (sent_is map_of rec r n t)
     ∙ cond_cons (asks_back_to map_of.oldest rec r t) (part_back_to map_of.oldest rec r n t) (parts_back_to map_of.oldest rec r (suc n) ts)
 
-pub marks_are : (map_of : OwnerMapView) (moves : List Move) (r n : ℕ) (ts : List Transaction) → marks_by r n ts (map (asked_resolvers_of map_of moves) ts) ≡ marks_from r n ts
+pub marks_are : (map_of : OwnerMapView) (moves : List Move) (r n : ℕ) (ts : List StampedTransaction) → marks_by r n ts (map (asked_resolvers_of map_of moves) ts) ≡ marks_from r n ts
 marks_are map_of moves r n [] = refl
 marks_are map_of moves r n (t ∷ ts) =
     ap (λ rest. mark_by r n t (asked_resolvers_of map_of moves t) ++ rest) (marks_are map_of moves r (suc n) ts)
@@ -97,7 +97,7 @@ marks_are map_of moves r n (t ∷ ts) =
 
 -- ---- the resolvers that are asked
 
-asked_is : (map_of : OwnerMapView) (rec : Record) (t : Transaction) (r : ℕ) → r < map_of.resolvers → is_asked_by (asked_resolvers_of map_of rec.moves t) r ≡ asks_back_to map_of.oldest rec r t
+asked_is : (map_of : OwnerMapView) (rec : Record) (t : StampedTransaction) (r : ℕ) → r < map_of.resolvers → is_asked_by (asked_resolvers_of map_of rec.moves t) r ≡ asks_back_to map_of.oldest rec r t
 asked_is map_of rec t r below =
     let p = λ (s : ℕ) (range : Range). asks_read rec.moves (read_bound map_of.oldest t) s range in
     let q = λ (s : ℕ) (range : Range). asks_write rec.moves s range in
@@ -106,6 +106,6 @@ asked_is map_of rec t r below =
     ∙ or_four (is_state_transaction t) (list_any (p r) t.reads) (list_any (p r) (lock_read b)) (list_any (q r) t.writes)
     ∙ ap (λ x. is_state_transaction t || x || list_any (q r) t.writes) (sym (list_any-append (p r) t.reads (lock_read b)))
 
-pub asked_are : (map_of : OwnerMapView) (rec : Record) (t : Transaction) → asked_by map_of.resolvers (asked_resolvers_of map_of rec.moves t) ≡ asked_back_to map_of.oldest map_of.resolvers rec t
+pub asked_are : (map_of : OwnerMapView) (rec : Record) (t : StampedTransaction) → asked_by map_of.resolvers (asked_resolvers_of map_of rec.moves t) ≡ asked_back_to map_of.oldest map_of.resolvers rec t
 asked_are map_of rec t =
     filter_below (is_asked_by (asked_resolvers_of map_of rec.moves t)) (λ r. asks_back_to map_of.oldest rec r t) map_of.resolvers (asked_is map_of rec t)

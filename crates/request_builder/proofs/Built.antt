@@ -3,7 +3,7 @@ use Rattle.std.proofs.Common.{◌≡◌, ℕ, zero, suc, ◌<◌, refl, sym, ap,
 use Rattle.std.proofs.lemmas.List.{map-append}
 use Rattle.model.specs.declared.part.Part.{Part}
 use Rattle.model.specs.declared.unseen.StateMark.{StateMark}
-use Rattle.model.specs.Transactions.{Transaction}
+use Rattle.model.specs.Transactions.{StampedTransaction}
 use Rattle.model.specs.Records.{Record}
 use Rattle.model.specs.Shares.{each_below, share_back_to, asked_back_to}
 use Rattle.model.specs.Requests.{request_back_to}
@@ -37,7 +37,7 @@ requests_are map_of oldest rec last_received askings asks asked =
 
 -- ---- the asked lists
 
-each_asked : (map_of : OwnerMapView) (rec : Record) (ts : List Transaction) → map (asked_by map_of.resolvers) (map (asked_resolvers_of map_of rec.moves) ts) ≡ map (asked_back_to map_of.oldest map_of.resolvers rec) ts
+each_asked : (map_of : OwnerMapView) (rec : Record) (ts : List StampedTransaction) → map (asked_by map_of.resolvers) (map (asked_resolvers_of map_of rec.moves) ts) ≡ map (asked_back_to map_of.oldest map_of.resolvers rec) ts
 each_asked map_of rec [] = refl
 each_asked map_of rec (t ∷ ts) = ap₂ (λ (xs : List ℕ) (xss : List (List ℕ)). xs ∷ xss) (asked_are map_of rec t) (each_asked map_of rec ts)
 

@@ -6,7 +6,7 @@ use Rattle.system_keys.specs.Changes.{is_state}
 use Rattle.model.specs.declared.part.Part.{Part}
 use Rattle.model.specs.declared.unseen.Carried.{Carried}
 use Rattle.model.specs.declared.unseen.StateMark.{StateMark}
-use Rattle.model.specs.Transactions.{Transaction}
+use Rattle.model.specs.Transactions.{StampedTransaction}
 use Rattle.model.specs.Journal.{carried_by}
 use Rattle.model.specs.Requests.{Request}
 use Rattle.model.specs.RequestRules.{NumbersRise, part_numbers, KeepsRequestRule}
@@ -21,7 +21,7 @@ rise_from_less less least (part ∷ parts) h rise =
     let first : least ≤ part.number = rise.0 in
     (omega arith, rise.1)
 
-parts_rise : (r n : ℕ) (ts : List Transaction) (askings : List AskedResolvers) → NumbersRise n (parts_by r n ts askings)
+parts_rise : (r n : ℕ) (ts : List StampedTransaction) (askings : List AskedResolvers) → NumbersRise n (parts_by r n ts askings)
 parts_rise r n [] askings = tt
 parts_rise r n (t ∷ ts) [] = tt
 parts_rise r n (t ∷ ts) (asking ∷ askings) =
@@ -41,7 +41,7 @@ named_behind more parts mark named =
     let behind = Contains-append_right (part_numbers more) (part_numbers parts) mark.number named in
     subst (λ (numbers : List ℕ). Contains numbers mark.number) (sym (map-append (λ (part : Part). part.number) more parts)) behind
 
-own_named : (r n : ℕ) (t : Transaction) (asking : AskedResolvers) (later : List Part) → All (IsNamed (sent_part asking.is_state (part_by r n t asking) ++ later)) (mark_by r n t asking)
+own_named : (r n : ℕ) (t : StampedTransaction) (asking : AskedResolvers) (later : List Part) → All (IsNamed (sent_part asking.is_state (part_by r n t asking) ++ later)) (mark_by r n t asking)
 own_named r n t asking later = by asking.is_state
   where
     by : (b : Bool) → All (IsNamed (sent_part b (part_by r n t asking) ++ later)) (cond b (record { number = n; carried = carried_by r t } ∷ []) [])
@@ -49,7 +49,7 @@ own_named r n t asking later = by asking.is_state
         All-cons (IsNamed (part_by r n t asking ∷ later)) (record { number = n; carried = carried_by r t }) [] (0, omega arith, refl) (All-nil (IsNamed (part_by r n t asking ∷ later)))
     by false = All-nil (IsNamed (sent_part false (part_by r n t asking) ++ later))
 
-marks_named : (r n : ℕ) (ts : List Transaction) (askings : List AskedResolvers) → All (IsNamed (parts_by r n ts askings)) (marks_by r n ts askings)
+marks_named : (r n : ℕ) (ts : List StampedTransaction) (askings : List AskedResolvers) → All (IsNamed (parts_by r n ts askings)) (marks_by r n ts askings)
 marks_named r n [] askings = All-nil (IsNamed [])
 marks_named r n (t ∷ ts) [] = All-nil (IsNamed [])
 marks_named r n (t ∷ ts) (asking ∷ askings) =
@@ -67,7 +67,7 @@ some_if : (b : Bool) (content : Carried) → is_some (cond b (Some content) None
 some_if true content = refl
 some_if false content = refl
 
-own_content : (r n : ℕ) (t : Transaction) (asking : AskedResolvers) → All (HasContent r) (mark_by r n t asking)
+own_content : (r n : ℕ) (t : StampedTransaction) (asking : AskedResolvers) → All (HasContent r) (mark_by r n t asking)
 own_content r n t asking = by asking.is_state
   where
     by : (b : Bool) → All (HasContent r) (cond b (record { number = n; carried = carried_by r t } ∷ []) [])
@@ -75,7 +75,7 @@ own_content r n t asking = by asking.is_state
         All-cons (HasContent r) (record { number = n; carried = carried_by r t }) [] (some_if (nat_eq r 0) (record { mutations = filter is_state t.changes; lock_aware = t.lock_aware })) (All-nil (HasContent r))
     by false = All-nil (HasContent r)
 
-marks_have_content : (r n : ℕ) (ts : List Transaction) (askings : List AskedResolvers) → All (HasContent r) (marks_by r n ts askings)
+marks_have_content : (r n : ℕ) (ts : List StampedTransaction) (askings : List AskedResolvers) → All (HasContent r) (marks_by r n ts askings)
 marks_have_content r n [] askings = All-nil (HasContent r)
 marks_have_content r n (t ∷ ts) [] = All-nil (HasContent r)
 marks_have_content r n (t ∷ ts) (asking ∷ askings) =
@@ -83,7 +83,7 @@ marks_have_content r n (t ∷ ts) (asking ∷ askings) =
 
 -- ---- all three
 
-pub request_kept : (q : Request) (batch : List Transaction) (askings : List AskedResolvers) → q.share ≡ parts_by q.resolver 0 batch askings → q.states ≡ marks_by q.resolver 0 batch askings → KeepsRequestRule q
+pub request_kept : (q : Request) (batch : List StampedTransaction) (askings : List AskedResolvers) → q.share ≡ parts_by q.resolver 0 batch askings → q.states ≡ marks_by q.resolver 0 batch askings → KeepsRequestRule q
 request_kept q batch askings share_is states_is =
     record {
       rising = subst (NumbersRise 0) (sym share_is) (parts_rise q.resolver 0 batch askings);

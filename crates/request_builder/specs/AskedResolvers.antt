@@ -7,7 +7,7 @@ use Rattle.system_keys.specs.Keys.{Range, only}
 use Rattle.model.specs.declared.moves.Move.{Move}
 use Rattle.model.specs.declared.part.Part.{Part}
 use Rattle.model.specs.declared.unseen.StateMark.{StateMark}
-use Rattle.model.specs.Transactions.{Transaction, is_state_transaction, locked_key, lock_read}
+use Rattle.model.specs.Transactions.{StampedTransaction, is_state_transaction, locked_key, lock_read}
 use Rattle.model.specs.Records.{Record}
 use Rattle.model.specs.Shares.{each_below}
 use Rattle.model.specs.Journal.{carried_by}
@@ -28,7 +28,7 @@ writer_lists map_of moves ranges =
     map (λ (range : Range). writers map_of.resolvers moves range) ranges
 
 -- whom the map asks about a transaction, by these moves
-abbrev pub asked_resolvers_of : OwnerMapView → List Move → Transaction → AskedResolvers
+abbrev pub asked_resolvers_of : OwnerMapView → List Move → StampedTransaction → AskedResolvers
 asked_resolvers_of map_of moves t =
     let is_state = is_state_transaction t in
     record {
@@ -63,14 +63,14 @@ AreWriterLists map_of ranges lists =
 
 -- these are whom it asks about a transaction
 abbrev pub AreAskedResolvers :
-    (oldest : ℕ) → OwnerMapView → Transaction → AskedResolvers → Type 0
+    (oldest : ℕ) → OwnerMapView → StampedTransaction → AskedResolvers → Type 0
 AreAskedResolvers oldest map_of t asking =
     (moves : List Move) → AsksAs map_of moves
     → asking ≡ asked_resolvers_of (back_to oldest map_of) moves t
 
 -- and about each transaction of a batch
 abbrev pub AreAllAskedResolvers :
-    (oldest : ℕ) → OwnerMapView → List Transaction → List AskedResolvers → Type 0
+    (oldest : ℕ) → OwnerMapView → List StampedTransaction → List AskedResolvers → Type 0
 AreAllAskedResolvers oldest map_of batch askings =
     (moves : List Move) → AsksAs map_of moves
     → askings ≡ map (asked_resolvers_of (back_to oldest map_of) moves) batch
@@ -93,7 +93,7 @@ ranges_for r (range ∷ ranges) (list ∷ lists) =
     (if is_in r list then range ∷ [] else []) ++ ranges_for r ranges lists
 
 -- the part of transaction t, number n of the batch
-abbrev pub part_by : (r n : ℕ) → Transaction → AskedResolvers → Part
+abbrev pub part_by : (r n : ℕ) → StampedTransaction → AskedResolvers → Part
 part_by r n t asking =
     record {
       number = n;
@@ -110,19 +110,19 @@ abbrev pub sent_part : (is_state : Bool) → Part → List Part
 sent_part is_state part = if is_sent is_state part then part ∷ [] else []
 
 -- the parts of these transactions, numbered from n
-abbrev pub parts_by : (r n : ℕ) → List Transaction → List AskedResolvers → List Part
+abbrev pub parts_by : (r n : ℕ) → List StampedTransaction → List AskedResolvers → List Part
 parts_by r n [] askings = []
 parts_by r n (t ∷ ts) [] = []
 parts_by r n (t ∷ ts) (asking ∷ askings) =
     sent_part asking.is_state (part_by r n t asking) ++ parts_by r (suc n) ts askings
 
 -- the mark of a transaction, if it is a state transaction
-abbrev pub mark_by : (r n : ℕ) → Transaction → AskedResolvers → List StateMark
+abbrev pub mark_by : (r n : ℕ) → StampedTransaction → AskedResolvers → List StateMark
 mark_by r n t asking =
     if asking.is_state then record { number = n; carried = carried_by r t } ∷ [] else []
 
 -- the marks of these transactions, numbered from n
-abbrev pub marks_by : (r n : ℕ) → List Transaction → List AskedResolvers → List StateMark
+abbrev pub marks_by : (r n : ℕ) → List StampedTransaction → List AskedResolvers → List StateMark
 marks_by r n [] askings = []
 marks_by r n (t ∷ ts) [] = []
 marks_by r n (t ∷ ts) (asking ∷ askings) =

@@ -9,7 +9,7 @@ ghost use Rattle.request_builder.specs.AskedResolvers.{AreReaderLists, AreWriter
 ghost use Rattle.request_builder.specs.AskedResolvers.{AreAskedResolvers, AreAllAskedResolvers};
 ghost use Rattle.request_builder.specs.AskedResolvers.{is_in, is_in_some, is_asked_about, asked_by};
 
-use dated_owners::{OwnerMap, ResolverSet, flag, flagged};
+use dated_owners::{OwnerMap, ResolverSet, flag, flagged_resolvers};
 use model::{ResolverNumber, Version};
 use mutation::Stamped;
 use std::alloc::Global;
@@ -156,13 +156,13 @@ pub(crate) fn asked_lists(
 {
     let mut lists = Vec::with_capacity(alloc, askings.len())?;
     for asking in askings {
-        lists.push(asked_by(alloc, resolvers, asking)?)?;
+        lists.push(resolvers_asked_by(alloc, resolvers, asking)?)?;
     }
     Ok(Items::from(lists))
 }
 
 /// The resolvers that get a part of the transaction, in rising order.
-fn asked_by(
+fn resolvers_asked_by(
     alloc: Global,
     resolvers: usize,
     asking: &AskedResolvers,
@@ -171,7 +171,7 @@ fn asked_by(
 {
     let mut flags = vec![in alloc; asking.is_state; resolvers]?;
     flag_asked(asking, &mut flags);
-    flagged(alloc, &flags)
+    flagged_resolvers(alloc, &flags)
 }
 
 /// Flags the resolvers that are asked about some range.

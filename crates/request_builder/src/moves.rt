@@ -69,7 +69,7 @@ impl Moves {
         };
         let alloc: Global = *self.chunks.allocator();
         let (kept, room) = kept_and_room(&self.chunks);
-        let moves = joined(alloc, room, &self.chunks[kept..], one)?;
+        let moves = join_chunks(alloc, room, &self.chunks[kept..], one)?;
         let chunk = Arc::new(alloc, Items::from(moves))?;
         let Ok(()) = self.chunks.reserve(1) else {
             return Err(OutOfMemory);
@@ -132,7 +132,7 @@ fn kept_and_room(chunks: &[Arc<Items<Move>>]) -> (usize, usize)
 }
 
 /// Copies of the moves of the chunks, and one more move.
-fn joined(
+fn join_chunks(
     alloc: Global,
     room: usize,
     chunks: &[Arc<Items<Move>>],

@@ -7,7 +7,7 @@ use Rattle.model.specs.declared.verdict.Verdict.{Verdict}
 use Rattle.model.specs.declared.verdict.Verdict.TheVariants.{Committed}
 use Rattle.model.specs.declared.outcome.Outcome.TheVariants as outcomes
 use Rattle.model.specs.declared.outcome.Tagged.{Tagged}
-use Rattle.model.specs.Stamps.{Mutation, Set, Clear, Given}
+use Rattle.model.specs.Stamps.{Mutation, Set, Clear, AdmittedTransaction}
 use Rattle.model.specs.Metadata.{tags}
 use Rattle.model.specs.World.{Event, Sequence, Finish, Answer, Sequenced, proxy_routing}
 use Rattle.model.specs.Examples.{cluster, told, a, b, range, mutating, judged, completed, tag, s1}
@@ -39,7 +39,7 @@ four_servers_set =
     ∷ tagged 0 7 (changes.Set (servers_row (codes "q")) (one_source s4)) last_tags ∷ []
 
 -- proxy 0 commits a batch of one transaction
-abbrev pub alone : ℕ → Given → List Event
+abbrev pub alone : ℕ → AdmittedTransaction → List Event
 alone row t = Sequence 0 (t ∷ []) ∷ to_both row ++ Finish 0 ∷ []
 
 -- the answers: its verdicts by both resolvers, none if it asks none, and its mutations with their

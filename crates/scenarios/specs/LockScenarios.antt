@@ -9,7 +9,7 @@ use Rattle.model.specs.declared.verdict.Verdict.TheVariants.{Conflict, TooOld, C
 use Rattle.model.specs.declared.unseen.UnseenRow.{UnseenRow}
 use Rattle.model.specs.declared.outcome.Outcome.{Outcome}
 use Rattle.model.specs.declared.outcome.Outcome.TheVariants as outcomes
-use Rattle.model.specs.Stamps.{Set, Clear, Given}
+use Rattle.model.specs.Stamps.{Set, Clear, AdmittedTransaction}
 use Rattle.model.specs.Transactions.{locked_key}
 use Rattle.model.specs.World.{Event, Sequence, Finish, Answer, Sequenced, proxy_metadata}
 use Rattle.model.specs.Examples.{cluster, told, a, b, mutating, judged, completed, s1, tag_row}
@@ -17,7 +17,7 @@ use Rattle.scenarios.specs.Vocabulary.{after, putting, lock_aware, to_both, set_
 use Rattle.scenarios.specs.Vocabulary.{set_row_by_1, tagged, tag_bytes}
 
 -- a lock-aware transaction locks the database, and a plain one stands behind it in the batch
-abbrev pub locking : List Given
+abbrev pub locking : List AdmittedTransaction
 locking = lock_aware (putting locked_key (codes "L")) ∷ putting a (codes "1") ∷ []
 
 abbrev pub lock_over_two_proxies : List Event

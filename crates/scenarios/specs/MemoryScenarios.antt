@@ -5,7 +5,7 @@ use Rattle.model.specs.declared.verdict.Verdict.TheVariants.{Committed}
 use Rattle.model.specs.declared.journal.JournalRow.{JournalRow}
 use Rattle.model.specs.declared.unseen.UnseenRow.{UnseenRow}
 use Rattle.model.specs.declared.outcome.Outcome.TheVariants as outcomes
-use Rattle.model.specs.Stamps.{Set, Given}
+use Rattle.model.specs.Stamps.{Set, AdmittedTransaction}
 use Rattle.model.specs.Records.{Record}
 use Rattle.model.specs.World.{Event, Sequence, Offer, Finish, Early, GivenUp, Answer, Sequenced}
 use Rattle.model.specs.World.{Refused, proxy_journal, proxy_metadata, remembered_by}
@@ -14,7 +14,7 @@ use Rattle.model.specs.Examples.{committed_by, journal_row_of}
 use Rattle.scenarios.specs.Vocabulary.{after, to_both, again, empty_row, set_row_by_0, set_row_by_1}
 use Rattle.scenarios.specs.Vocabulary.{tagged}
 
-abbrev pub versioning : ℕ → Given
+abbrev pub versioning : ℕ → AdmittedTransaction
 versioning i = mutating (Set version_row (i ∷ []) ∷ [])
 
 -- proxy 0 sequences a batch, both resolvers judge it, and the proxy finishes it

@@ -2,7 +2,7 @@
 use Rattle.std.specs.Prelude.{◌≡◌, ℕ, List, [], ◌∷◌, ◌++◌, map, codes, false, None}
 use Rattle.system_keys.specs.Keys.{Key}
 use Rattle.model.specs.declared.routing.Route.{Route}
-use Rattle.model.specs.Stamps.{Set, Given}
+use Rattle.model.specs.Stamps.{Set, AdmittedTransaction}
 use Rattle.model.specs.Metadata.{tags_of_key}
 use Rattle.model.specs.World.{Event, Sequence, Finish, proxy_metadata, proxy_routing}
 use Rattle.model.specs.declared.routing.Routing.{Routing}
@@ -11,7 +11,7 @@ use Rattle.model.specs.Examples.{servers_row, version_row}
 use Rattle.scenarios.specs.Vocabulary.{after, to_both, tag_bytes, route}
 
 -- a transaction that gives a server the tag `0:id`, and that server the keys from one on
-abbrev pub giving_keys : ℕ → Key → Key → Given
+abbrev pub giving_keys : ℕ → Key → Key → AdmittedTransaction
 giving_keys id server key =
     mutating
     (Set (tag_row server) (tag_bytes id) ∷ Set (servers_row key) (one_source server) ∷ [])

@@ -9,7 +9,7 @@ use Rattle.model.specs.declared.verdict.Verdict.{Verdict}
 use Rattle.model.specs.declared.unseen.UnseenRow.{UnseenRow}
 use Rattle.model.specs.declared.routing.Route.{Route}
 use Rattle.model.specs.declared.outcome.Tagged.{Tagged}
-use Rattle.model.specs.Stamps.{Set, Given}
+use Rattle.model.specs.Stamps.{Set, AdmittedTransaction}
 use Rattle.model.specs.Metadata.{tags}
 use Rattle.model.specs.World.{World, Event, Offer, Answer, Again, initial_world, world_after}
 use Rattle.model.specs.Examples.{cluster, blank, tag}
@@ -23,18 +23,18 @@ abbrev pub one_proxy : Config
 one_proxy = record cluster { proxies = 1 }
 
 -- transactions of one range at a key
-abbrev pub reading : ℕ → Key → Given
+abbrev pub reading : ℕ → Key → AdmittedTransaction
 reading snapshot key = record blank { snapshot = snapshot; reads = only key ∷ [] }
 
-abbrev pub writing : Key → Given
+abbrev pub writing : Key → AdmittedTransaction
 writing key = record blank { writes = only key ∷ [] }
 
 -- a Set that also writes at its key
-abbrev pub putting : Key → List ℕ → Given
+abbrev pub putting : Key → List ℕ → AdmittedTransaction
 putting key value = record blank { writes = only key ∷ []; mutations = Set key value ∷ [] }
 
 -- the same transaction, lock aware
-abbrev pub lock_aware : Given → Given
+abbrev pub lock_aware : AdmittedTransaction → AdmittedTransaction
 lock_aware t = record t { lock_aware = true }
 
 -- the requests for a row come to both resolvers

@@ -1,11 +1,11 @@
 -- What a text in memory is, and what a call leaves that places it in its caller's room.
 use Rattle.std.specs.Prelude.{◌≡◌, ◌<◌, ◌≤◌, ◌⊎◌, ◌++◌, ℕ, List, drop, length}
-use Rattle.scripts.specs.Answers.{Answer}
+use Rattle.scripts.specs.Outputs.{OutputView}
 use Rattle.scripts.specs.Statuses.{run_status_number}
 use Rattle.script_texts.specs.declared.text.ScriptText.{ScriptText}
 
 -- the bytes and the status of the answer to a script
-pub record IsTextOf (answer : Answer) (made : ScriptText) : Type 0 where
+pub record IsTextOf (answer : OutputView) (made : ScriptText) : Type 0 where
   pub text : made.bytes.items ≡ answer.text
   pub status : made.status ≡ answer.status
 
@@ -16,7 +16,8 @@ IsPlaced text old new = new ≡ text ++ drop (length text) old
 -- What a call leaves of the room and of the number that its caller gave, by the answer to its script:
 -- the answer's own status with its whole text, 6 where the room is too small, and 3 or 4 where there
 -- is no text.
-pub record Places (answer : Answer) (status : ℕ) (out_old out_new : List ℕ) (made_old made_new : ℕ)
+pub record Places (answer : OutputView) (status : ℕ) (out_old out_new : List ℕ)
+    (made_old made_new : ℕ)
     : Type 0 where
   pub statuses : (status ≤ 1) ⊎ (status ≡ 6) ⊎ (status ≡ 3) ⊎ (status ≡ 4)
   pub is_status : status ≤ 1 → status ≡ run_status_number answer.status

@@ -9,4 +9,4 @@ mod placing;
 mod text;
 
 pub use placing::{OUT_OF_MEMORY, TOO_LONG, TOO_SMALL, place};
-pub use text::{ScriptText, TextFault, fold_script, turns_script};
+pub use text::{ScriptText, TextFault, fold_text, turns_text};

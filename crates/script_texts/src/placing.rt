@@ -1,9 +1,9 @@
 //! Where a text is placed that a caller gave room for.
 
 ghost use Rattle.std.specs.Prelude.{◌≡◌, IfOk, IsErrOf};
-ghost use Rattle.scripts.specs.Statuses.{IsAnswered};
+ghost use Rattle.scripts.specs.Statuses.{IsWholeText};
 ghost use Rattle.script_texts.specs.Texts.{IsTextOf, Places};
-ghost use Rattle.scripts.specs.Answers.{Answer};
+ghost use Rattle.scripts.specs.Outputs.{OutputView};
 
 use crate::text::{ScriptText, TextFault};
 
@@ -19,8 +19,8 @@ pub const OUT_OF_MEMORY: u8 = 4;
 /// Places a text at the front of `out`, and its length in `made`, and returns the status of the call.
 /// Where `out` is too small only `made` changes, and without a text nothing does.
 pub fn place(found: Result<ScriptText, TextFault>, out: &mut [u8], made: &mut usize) -> u8
-    requires { IfOk found (λ text. IsAnswered text.status) }
-    ensures places { (answer : Answer) → IfOk found (IsTextOf answer)
+    requires { IfOk found (λ text. IsWholeText text.status) }
+    ensures places { (answer : OutputView) → IfOk found (IsTextOf answer)
         → Places answer result out.old out.new made.old made.new }
     ensures long { result ≡ 3 → IsErrOf found TextFault.TooLong }
 {

@@ -2,7 +2,7 @@
 
 ghost use Rattle.std.specs.Prelude.{◌≡◌, ◌≤◌, length, IfOk, IsErrOf, OnErr};
 ghost use Rattle.scripts.specs.Devices.{read_limit};
-ghost use Rattle.scripts.specs.Statuses.{IsAnswered};
+ghost use Rattle.scripts.specs.Statuses.{IsWholeText};
 ghost use Rattle.fold_run.specs.Text.{fold_text};
 ghost use Rattle.turns_run.specs.Text.{turns_text};
 ghost use Rattle.script_texts.specs.Texts.{IsTextOf};
@@ -32,9 +32,9 @@ pub enum TextFault {
 }
 
 /// Returns the text of a fold script, or of its refusal (this project's profile).
-pub fn fold_script(alloc: Global, script: &[u8]) -> Result<ScriptText, TextFault>
+pub fn fold_text(alloc: Global, script: &[u8]) -> Result<ScriptText, TextFault>
     ensures text { IfOk result (IsTextOf (fold_text script.now)) }
-    ensures answered { IfOk result (λ made. IsAnswered made.status) }
+    ensures answered { IfOk result (λ made. IsWholeText made.status) }
     ensures long { IsErrOf result TextFault.TooLong → read_limit ≤ length script.now }
 {
     let mut reader = Reader::new(script);
@@ -48,9 +48,9 @@ pub fn fold_script(alloc: Global, script: &[u8]) -> Result<ScriptText, TextFault
 }
 
 /// Returns the text of a turns script, or of its refusal (this project's profile).
-pub fn turns_script(alloc: Global, script: &[u8]) -> Result<ScriptText, TextFault>
+pub fn turns_text(alloc: Global, script: &[u8]) -> Result<ScriptText, TextFault>
     ensures text { IfOk result (IsTextOf (turns_text script.now)) }
-    ensures answered { IfOk result (λ made. IsAnswered made.status) }
+    ensures answered { IfOk result (λ made. IsWholeText made.status) }
     ensures long { IsErrOf result TextFault.TooLong → read_limit ≤ length script.now }
 {
     let mut reader = Reader::new(script);
@@ -66,7 +66,7 @@ pub fn turns_script(alloc: Global, script: &[u8]) -> Result<ScriptText, TextFaul
 /// What a sink holds after a run that ended so. Without a whole text the fault is `OutOfMemory`.
 fn text_of(sink: MemorySink, status: RunStatus) -> Result<ScriptText, TextFault>
     ensures text { IfOk result (λ made. (made.bytes ≡ sink.bytes) × (made.status ≡ status)) }
-    ensures answered { IfOk result (λ made. IsAnswered made.status) }
+    ensures answered { IfOk result (λ made. IsWholeText made.status) }
     ensures memory { OnErr result (result ≡ Err TextFault.OutOfMemory) }
 {
     match status {

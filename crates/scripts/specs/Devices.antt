@@ -2,7 +2,7 @@
 use Rattle.std.specs.Prelude.{◌≡◌, ◌+◌, ◌-◌, ◌^◌, ◌*◌, ◌++◌, min, ℕ, List, Option}
 use Rattle.std.specs.Io.KnownBytes.{Appends}
 
--- a count after so many more calls; it stays at the largest number once it has reached it
+-- the count after `calls` further calls; it stays at the largest number once it has reached it
 abbrev pub saturating_add : ℕ → ℕ → ℕ
 saturating_add calls count = count + min calls (2 ^ 64 - 1 - count)
 

@@ -1,6 +1,6 @@
 -- What a run writes, on small values.
 use Rattle.std.specs.Prelude.{List, ℕ, Some, None, codes}
-use Rattle.scripts.specs.Answers.{done}
+use Rattle.scripts.specs.Outputs.{done}
 use Rattle.scripts.specs.Runs.{WritesTextOf}
 use Rattle.scripts.specs.declared.status.RunStatus.{RunStatus}
 use Rattle.scripts.specs.declared.status.RunStatus.TheVariants.{Done, ScriptRefused}

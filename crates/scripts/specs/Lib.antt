@@ -7,7 +7,7 @@ pub mod Devices
 -- how a run ends
 pub mod Statuses
 -- a text, and the status that goes with it
-pub mod Answers
+pub mod Outputs
 -- the lines that are printed
 pub mod Lines
 -- the script that bytes are, by its form and its checks

@@ -13,10 +13,10 @@ run_status_number OutOfMemory = 4
 run_status_number ClusterRefused = 5
 
 -- a whole text was written: the result of the script, or its refusal
-abbrev pub IsAnswered : RunStatus → Type 0
-IsAnswered Done = Unit {0}
-IsAnswered ScriptRefused = Unit {0}
-IsAnswered _ = ⊥
+abbrev pub IsWholeText : RunStatus → Type 0
+IsWholeText Done = Unit {0}
+IsWholeText ScriptRefused = Unit {0}
+IsWholeText _ = ⊥
 
 -- no device failed, and the limit on read calls was not passed
 abbrev pub IsUnfailed : RunStatus → Type 0

@@ -49,6 +49,6 @@ pub fn stream_batch(alloc: Global, bytes: &[u8]) -> Option<Batch>
 fn batch_of_value(alloc: Global, value: &Value) -> Result<Batch, ScriptFault>
     ensures { IsReadAs (λ found. found) result (batch_of_shape (batch_shape (view value.now))) }
 {
-    let given: Items<Transaction> = Items::shaped(alloc, value)?;
+    let given: Items<Transaction> = Items::from_value(alloc, value)?;
     admit_batch(alloc, given)
 }

@@ -11,7 +11,7 @@ use std::alloc::Global;
 impl Shaped for GivenRange {
     ghost shape = { range_shape };
 
-    fn shaped(alloc: Global, value: &Value) -> Result<GivenRange, ScriptFault> {
+    fn from_value(alloc: Global, value: &Value) -> Result<GivenRange, ScriptFault> {
         let (begin, end) = pair(alloc, value)?;
         Ok(GivenRange { begin, end })
     }
@@ -20,7 +20,7 @@ impl Shaped for GivenRange {
 impl Shaped for Transaction {
     ghost shape = { transaction_shape };
 
-    fn shaped(alloc: Global, value: &Value) -> Result<Transaction, ScriptFault> {
+    fn from_value(alloc: Global, value: &Value) -> Result<Transaction, ScriptFault> {
         if !has_fields(value, 5) {
             return Err(ScriptFault::BadShape);
         }

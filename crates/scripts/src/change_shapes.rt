@@ -18,7 +18,7 @@ use system_keys::Bytes;
 impl Shaped for RawChange {
     ghost shape = { change_shape };
 
-    fn shaped(alloc: Global, value: &Value) -> Result<RawChange, ScriptFault> {
+    fn from_value(alloc: Global, value: &Value) -> Result<RawChange, ScriptFault> {
         match pair_named(alloc, value, "set")? {
             Some((key, value)) => Ok(RawChange::Set { key, value }),
             None => clear(alloc, value),
@@ -29,10 +29,10 @@ impl Shaped for RawChange {
 impl Shaped for Mutation {
     ghost shape = { mutation_shape };
 
-    fn shaped(alloc: Global, value: &Value) -> Result<Mutation, ScriptFault> {
+    fn from_value(alloc: Global, value: &Value) -> Result<Mutation, ScriptFault> {
         match pair_named(alloc, value, "set_stamped")? {
             Some((key, value)) => Ok(Mutation::SetStamped { key, value }),
-            None => Ok(from_raw(RawChange::shaped(alloc, value)?)),
+            None => Ok(from_raw(RawChange::from_value(alloc, value)?)),
         }
     }
 }

@@ -4,7 +4,7 @@
 //! Source: this project's profile (scripts, lines and statuses).
 #![tactic(auto)]
 
-mod answer;
+mod script_kind;
 mod batch_checks;
 mod batch_reading;
 mod batch_shapes;
@@ -14,6 +14,7 @@ mod change_streams;
 mod checks;
 mod devices;
 mod edges;
+mod keys;
 mod lines;
 mod output;
 mod raw_change;
@@ -28,14 +29,15 @@ mod stream_tokens;
 mod streams;
 mod value_reading;
 
-pub use answer::ScriptKind;
+pub use script_kind::ScriptKind;
 pub use batch_checks::admit_batch;
 pub use batch_reading::{read_batch, stream_batch};
 pub use checks::{Checked, check_each, check_range};
 pub use devices::{Failed, ReadFault, Reader, Sink, Source, Writer, read_all, write_all};
 pub use edges::written_edges;
+pub use keys::copy_keys;
 pub use lines::{print_asked, print_routing, push_quoted, push_tag, push_tags};
-pub use output::{Output, refused};
+pub use output::{Output, output_of_fault};
 pub use raw_change::RawChange;
 pub use reading::{read_checked, stream_checked};
 pub use run::run_script;

@@ -7,7 +7,7 @@ ghost use Rattle.scripts.specs.Lines.{version_line, locked_line, metadata_versio
 ghost use Rattle.scripts.specs.Lines.{route_line, routing_text, tags_line, refused_line};
 
 use itoa::Buffer;
-use model::{Route, Routing};
+use model::{Route, Routing, Version};
 use std::alloc::Global;
 use std::fmt::Write;
 use system_keys::{Bytes, OutOfMemory, Tag, print_bytes};
@@ -53,7 +53,7 @@ pub fn print_refusal(text: &mut String, number: u32, name: &str) -> Result<(), O
     Ok(())
 }
 
-fn print_version(text: &mut String, version: u64) -> Result<(), OutOfMemory>
+fn print_version(text: &mut String, version: Version) -> Result<(), OutOfMemory>
     ensures { OnOk result (string_bytes text.new ≡ string_bytes text.old ++ version_line version) }
 {
     writeln!(text, "version {version}")?;

@@ -1,9 +1,9 @@
 //! The output for a script: a text, and how the run ends.
 
 ghost use Rattle.std.specs.Prelude.{IfOk, IsSome, OnOk};
-ghost use Rattle.scripts.specs.Answers.{IsOutput, refused_answer};
+ghost use Rattle.scripts.specs.Outputs.{IsOutput, refused_output};
 ghost use Rattle.scripts.specs.ScriptFaults.{fault_number};
-ghost use Rattle.scripts.specs.Statuses.{IsAnswered};
+ghost use Rattle.scripts.specs.Statuses.{IsWholeText};
 
 use crate::lines::print_refusal;
 use crate::script_fault::ScriptFault;
@@ -22,10 +22,10 @@ pub struct Output {
 
 /// The output for a script with this fault: the line of the refusal. Fails only with `OutOfMemory`,
 /// which is also what it makes of the fault `OutOfMemory`.
-pub fn refused(alloc: Global, fault: ScriptFault) -> Result<Output, OutOfMemory>
+pub fn output_of_fault(alloc: Global, fault: ScriptFault) -> Result<Output, OutOfMemory>
     ensures numbered { OnOk result (IsSome (fault_number fault)) }
-    ensures output { IfOk result (IsOutput (refused_answer fault)) }
-    ensures answered { IfOk result (λ output. IsAnswered output.status) }
+    ensures output { IfOk result (IsOutput (refused_output fault)) }
+    ensures answered { IfOk result (λ output. IsWholeText output.status) }
 {
     let number = fault.number().ok_or(OutOfMemory)?;
     let mut text = String::new(alloc);

@@ -48,6 +48,6 @@ fn check_value<R: Shaped, X: Checked<R>>(alloc: Global, value: &Value) -> Result
     ensures { IsReadAs (λ found. found) result
         (checked_raw X.checked (R.shape (view value.now))) }
 {
-    let raw = R::shaped(alloc, value)?;
+    let raw = R::from_value(alloc, value)?;
     X::check(alloc, raw)
 }

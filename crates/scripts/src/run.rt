@@ -2,12 +2,12 @@
 ghost use Rattle.std.specs.Prelude.{◌-◌, ◌^◌, ◌<◌};
 ghost use Rattle.scripts.specs.Runs.{LeavesDevices, WritesTextOf};
 
-use crate::answer::{ScriptKind, answer};
+use crate::script_kind::{ScriptKind, output_for};
 use crate::devices::{Failed, ReadFault, Sink, Source, read_all, write_all};
 use crate::status::RunStatus;
 use std::alloc::Global;
 
-/// Reads a script from the source to its end, and writes the text that it comes to. If a read
+/// Reads a script from the source to its end, and writes its text. If a read
 /// fails, or the limit on read calls is passed, nothing is written.
 #[tactic(auto, using(crate::proofs::RunLemmas::begins_nothing, crate::proofs::RunLemmas::begins_text, crate::proofs::RunLemmas::writes_text))]
 pub fn run_script<K: ScriptKind, S: Source, T: Sink>(
@@ -17,9 +17,9 @@ pub fn run_script<K: ScriptKind, S: Source, T: Sink>(
 ) -> RunStatus
     requires read_count { S.failed source.old < 2 ^ 64 - 1 }
     requires write_count { T.failed sink.old < 2 ^ 64 - 1 }
-    ensures text { WritesTextOf K.answer_to (S.remaining source.old)
+    ensures text { WritesTextOf K.output_to (S.remaining source.old)
         (T.written sink.old) (T.written sink.new) result }
-    ensures devices { LeavesDevices K.answer_to S.Source source.old source.new
+    ensures devices { LeavesDevices K.output_to S.Source source.old source.new
         T.Sink sink.old sink.new result }
 {
     let bytes = match read_all(alloc, source) {
@@ -28,7 +28,7 @@ pub fn run_script<K: ScriptKind, S: Source, T: Sink>(
         Err(ReadFault::Device) => return RunStatus::DeviceFailed,
         Err(ReadFault::Limit) => return RunStatus::DeviceFailed,
     };
-    let Ok(output) = answer::<K>(alloc, bytes) else {
+    let Ok(output) = output_for::<K>(alloc, bytes) else {
         return RunStatus::OutOfMemory;
     };
     match write_all(sink, output.text.as_bytes()) {

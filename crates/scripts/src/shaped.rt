@@ -24,14 +24,14 @@ pub trait Shaped: Drop {
     ghost shape: { Data → Option Self };
 
     /// Returns what the value stands for. Fails with `BadShape` if it does not have the shape.
-    fn shaped(alloc: Global, value: &Value) -> Result<Self, ScriptFault>
+    fn from_value(alloc: Global, value: &Value) -> Result<Self, ScriptFault>
         ensures { IsReadAs (λ found. found) result (or_bad_shape (shape (view value.now))) };
 }
 
 impl Shaped for bool {
     ghost shape = { as_bool };
 
-    fn shaped(_alloc: Global, value: &Value) -> Result<bool, ScriptFault> {
+    fn from_value(_alloc: Global, value: &Value) -> Result<bool, ScriptFault> {
         value.as_bool().ok_or(ScriptFault::BadShape)
     }
 }
@@ -39,7 +39,7 @@ impl Shaped for bool {
 impl Shaped for u64 {
     ghost shape = { number_shape };
 
-    fn shaped(_alloc: Global, value: &Value) -> Result<u64, ScriptFault> {
+    fn from_value(_alloc: Global, value: &Value) -> Result<u64, ScriptFault> {
         let number = value.as_u64().ok_or(ScriptFault::BadShape)?;
         if number <= NUMBER_LIMIT {
             Ok(number)
@@ -52,8 +52,8 @@ impl Shaped for u64 {
 impl Shaped for usize {
     ghost shape = { number_shape };
 
-    fn shaped(alloc: Global, value: &Value) -> Result<usize, ScriptFault> {
-        let number = u64::shaped(alloc, value)?;
+    fn from_value(alloc: Global, value: &Value) -> Result<usize, ScriptFault> {
+        let number = u64::from_value(alloc, value)?;
         Ok(number as usize)
     }
 }
@@ -61,7 +61,7 @@ impl Shaped for usize {
 impl Shaped for Bytes {
     ghost shape = { bytes_shape };
 
-    fn shaped(alloc: Global, value: &Value) -> Result<Bytes, ScriptFault> {
+    fn from_value(alloc: Global, value: &Value) -> Result<Bytes, ScriptFault> {
         let text = value.as_str().ok_or(ScriptFault::BadShape)?;
         match Bytes::from_text(alloc, text) {
             Ok(bytes) => Ok(bytes),
@@ -74,7 +74,7 @@ impl Shaped for Bytes {
 impl Shaped for Verdict {
     ghost shape = { verdict_shape };
 
-    fn shaped(_alloc: Global, value: &Value) -> Result<Verdict, ScriptFault> {
+    fn from_value(_alloc: Global, value: &Value) -> Result<Verdict, ScriptFault> {
         match value.as_str() {
             Some("conflict") => Ok(Verdict::Conflict),
             Some("too_old") => Ok(Verdict::TooOld),
@@ -87,7 +87,7 @@ impl Shaped for Verdict {
 impl<X: Shaped> Shaped for Items<X> {
     ghost shape = { list_shape X.shape };
 
-    fn shaped(alloc: Global, value: &Value) -> Result<Items<X>, ScriptFault> {
+    fn from_value(alloc: Global, value: &Value) -> Result<Items<X>, ScriptFault> {
         let values = value.as_array().ok_or(ScriptFault::BadShape)?;
         Ok(Items::from(each(alloc, values)?))
     }
@@ -100,7 +100,7 @@ fn each<X: Shaped>(alloc: Global, values: &[Value]) -> Result<Vec<X>, ScriptFaul
 {
     let mut items = Vec::with_capacity(alloc, values.len())?;
     for value in values {
-        items.push(X::shaped(alloc, value)?)?;
+        items.push(X::from_value(alloc, value)?)?;
     }
     Ok(items)
 }
@@ -110,7 +110,7 @@ pub fn field<X: Shaped>(alloc: Global, value: &Value, name: &str) -> Result<X, S
     ensures { IsReadAs (λ found. found) result
         (or_bad_shape (field_shape X.shape name.now (view value.now))) }
 {
-    X::shaped(alloc, value.get(name).ok_or(ScriptFault::BadShape)?)
+    X::from_value(alloc, value.get(name).ok_or(ScriptFault::BadShape)?)
 }
 
 /// Whether the value is an object with this many fields.
@@ -136,7 +136,7 @@ fn pair_of(alloc: Global, values: &[Value]) -> Result<(Bytes, Bytes), ScriptFaul
     ensures { IsReadAs (λ found. found) result (or_bad_shape (pair_of (items_view values.now))) }
 {
     match values {
-        [first, second] => Ok((Bytes::shaped(alloc, first)?, Bytes::shaped(alloc, second)?)),
+        [first, second] => Ok((Bytes::from_value(alloc, first)?, Bytes::from_value(alloc, second)?)),
         _ => Err(ScriptFault::BadShape),
     }
 }

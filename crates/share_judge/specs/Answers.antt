@@ -65,7 +65,7 @@ abbrev pub AreSteps : (last : Key → Version) (begin : Key) (nexts : List Key) 
 AreSteps last begin [] = HaveOneLast last begin key_space_end
 AreSteps last begin (next ∷ nexts) = IsStep last begin next × AreSteps last next nexts
 
--- from the empty key up to `\xff\xff` there are so many greatest ranges of keys with one last
+-- from the empty key up to `\xff\xff` there is this number of greatest ranges of keys with one last
 -- version
 pub record IsCount (last : Key → Version) (count : ℕ) : Type 0 where
   pub nexts : List Key

@@ -76,7 +76,7 @@ pub(crate) fn judge_parts(
     let mut verdicts = Vec::with_capacity(alloc, parts.len())?;
     let mut listed = Vec::new(alloc);
     for part in parts {
-        let verdict = verdict_on(steps, judging, part)?;
+        let verdict = verdict_by_steps(steps, judging, part)?;
         let writes = committed_writes(verdict, part);
         write_ranges(steps, judging.version, writes, &mut listed)?;
         verdicts.push(verdict)?;
@@ -86,7 +86,7 @@ pub(crate) fn judge_parts(
 
 /// The verdict on a part, where the steps have the writes of the shares before, and of the parts
 /// before it in its share.
-fn verdict_on(steps: &StepMap, judging: Judging, part: &Part) -> Result<Verdict, OutOfMemory>
+fn verdict_by_steps(steps: &StepMap, judging: Judging, part: &Part) -> Result<Verdict, OutOfMemory>
     ensures { let t : JudgedPart = record { version = judging.version; part = part.now } in
         IfOk result (λ verdict. verdict
         ≡ verdict_by_steps judging.window judging.dropped (starts_now steps.now) t) }
@@ -127,7 +127,7 @@ fn has_overwritten_read(steps: &StepMap, judging: Judging, part: &Part) -> Resul
 }
 
 /// Versions above this one count against the part: those above its snapshot that were not dropped,
-/// and that of its share, which only parts before it have written.
+/// and the version of its share, which only parts before it have written.
 fn bound_of(judging: Judging, part: &Part) -> Version
     ensures { let t : JudgedPart = record { version = judging.version; part = part.now } in
         result ≡ bound_of judging.dropped t }

@@ -27,12 +27,12 @@ impl Step {
     {
         Step {
             version: share,
-            before: self.before_share(share),
+            before: self.version_before(share),
         }
     }
 
     /// The version before the share of this version.
-    pub(crate) fn before_share(self, share: Version) -> Version
+    pub(crate) fn version_before(self, share: Version) -> Version
         ensures { result ≡ version_before share self }
     {
         if self.version == share {

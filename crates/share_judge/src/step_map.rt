@@ -141,9 +141,9 @@ impl StepMap {
         let end = StepKey::new(self.alloc, range.end())?;
         let edges = self.edges(&begin, &end);
         if let Some(at_begin) = edges.begin {
-            return self.overwrite_free(begin, end, at_begin, edges.end, version);
+            return self.overwrite_between_starts(begin, end, at_begin, edges.end, version);
         }
-        self.overwrite_steps(&begin, &end, edges.end, version, listed)
+        self.overwrite_across_starts(&begin, &end, edges.end, version, listed)
     }
 
     /// What there is at the two keys. Does not allocate.
@@ -187,7 +187,7 @@ impl StepMap {
     }
 
     /// Gives the keys from `begin` up to `end` the version, where no start lies between.
-    fn overwrite_free(
+    fn overwrite_between_starts(
         &mut self,
         begin: StepKey,
         end: StepKey,
@@ -211,7 +211,7 @@ impl StepMap {
     }
 
     /// Gives the keys from `begin` up to `end` the version, and lists the starts between.
-    fn overwrite_steps(
+    fn overwrite_across_starts(
         &mut self,
         begin: &StepKey,
         end: &StepKey,
@@ -234,7 +234,7 @@ impl StepMap {
         self.put_edge(begin.copy()?)?;
         let first = listed.len();
         self.list_between(begin, end, listed)?;
-        self.mark(&listed[first..], version);
+        self.set_versions(&listed[first..], version);
         Ok(())
     }
 
@@ -299,18 +299,18 @@ impl StepMap {
     }
 
     /// Gives the starts at the keys the version. Does not allocate.
-    fn mark(&mut self, keys: &[StepKey], version: Version)
+    fn set_versions(&mut self, keys: &[StepKey], version: Version)
         ensures now { starts_now self.new ≡ marked (is_listed keys.now) version (starts_now self.old) }
         ensures before { starts_before version self.new ≡ starts_before version self.old }
         ensures rising { AreRising self.old → AreRising self.new }
     {
         for key in keys {
-            self.mark_one(key, version);
+            self.set_version(key, version);
         }
     }
 
     /// Gives the start at the key the version, if there is one.
-    fn mark_one(&mut self, key: &StepKey, version: Version)
+    fn set_version(&mut self, key: &StepKey, version: Version)
         ensures now { starts_now self.new
             ≡ marked (is_same_key key.now) version (starts_now self.old) }
         ensures before { starts_before version self.new ≡ starts_before version self.old }
@@ -355,7 +355,7 @@ impl StepMap {
             |_, step| -> bool
                 ensures { (step.new.version ≡ version_before share step.old) × (result ≡ true) }
             {
-                step.version = step.before_share(share);
+                step.version = step.version_before(share);
                 true
             },
         );
@@ -374,7 +374,7 @@ impl StepMap {
                     × (result ≡ not (nat_eq step.new.version last.entry))
                     × (last.exit ≡ step.new.version) }
             {
-                step.version = unless_dropped(bound, step.version);
+                step.version = unless_forgotten(bound, step.version);
                 let is_new = step.version != last;
                 last = step.version;
                 is_new
@@ -391,7 +391,7 @@ impl StepMap {
         let mut count = 1;
         let mut last = 0;
         for (key, step) in &self.steps {
-            let version = unless_dropped(dropped, step.version);
+            let version = unless_forgotten(dropped, step.version);
             if is_counted(key.as_slice()) && version != last {
                 count += 1;
             }
@@ -422,7 +422,7 @@ fn step_up_to(key: &StepKey, step: Step, begin: &StepKey) -> Option<Step>
 }
 
 /// The version, or 0 if it is at or below the bound.
-fn unless_dropped(bound: Version, version: Version) -> Version
+fn unless_forgotten(bound: Version, version: Version) -> Version
     ensures { result ≡ unless_forgotten bound version }
 {
     if version <= bound { 0 } else { version }
@@ -433,11 +433,11 @@ fn unless_dropped(bound: Version, version: Version) -> Version
 fn is_counted(key: &[u8]) -> bool
     ensures { result ≡ is_counted key.now }
 {
-    precedes(b"", key) && precedes(key, KEY_SPACE_END)
+    is_key_below(b"", key) && is_key_below(key, KEY_SPACE_END)
 }
 
 /// Whether the key `a` is below the key `b`.
-fn precedes(a: &[u8], b: &[u8]) -> bool
+fn is_key_below(a: &[u8], b: &[u8]) -> bool
     ensures { result ≡ is_key_below a.now b.now }
 {
     a.cmp(b).is_lt()

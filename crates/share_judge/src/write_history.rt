@@ -15,7 +15,7 @@ use std::alloc::Global;
 use std::marker::Model;
 use system_keys::{Items, OutOfMemory};
 
-/// A sweep needs at least twice so many starts.
+/// A sweep needs at least twice this number of starts.
 const SWEPT_AT_LEAST: usize = 8;
 
 /// The committed writes of one resolver, with their versions.

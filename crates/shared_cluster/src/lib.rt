@@ -7,7 +7,7 @@
 
 pub use inboxes::{
     BlankInboxes, Body, Channels, Counts, EndedSender, FreshEnd, Inbox, InboxEnd, InboxRoom,
-    Message, ProxySenders, Question, Refusal as InboxRefusal, Taker,
+    Message, ProxySenders, Question, Refusal as InboxRefusal, WorkerPass,
 };
 pub use locked_cluster::{
     AllResolvers, Asking, Begun, BehindBy, Columns, CommitFault, LockedProxy, LockedResolver,
@@ -22,5 +22,5 @@ pub use model::{
 pub use proxy_state::Metadata;
 pub use turn_world::{Answer, Event, OfferAnswer, Refusal as TurnRefusal, Stopped, TurnWorld};
 pub use workers::{
-    AskedRequest, EndedWorker, Gate, Open, Place, ProxyInboxes, ResolverWorker, SendersGuard,
+    PendingRequest, EndedWorker, Gate, Open, Place, ProxyInboxes, ResolverWorker, SendersGuard,
 };

@@ -9,7 +9,7 @@ use Rattle.model.specs.Requests.{Request}
 use Rattle.model.specs.ResolverMemory.{ProxyMemory as Kept, reached_by_all, proxy_after}
 use Rattle.model.proofs.History.Growth.{push_cases}
 use Rattle.state_memory.specs.declared.proxy_memory.ProxyMemory.{ProxyMemory}
-use Rattle.state_memory.specs.Kept.{AreNew, HasNoted, nothing_kept, kept_of, all_kept, rows_above, replies_above, is_first_row_up_to, is_first_reply_up_to}
+use Rattle.state_memory.specs.Kept.{AreNew, HasKeptReply, nothing_kept, kept_of, all_kept, rows_above, replies_above, is_first_row_up_to, is_first_reply_up_to}
 use Rattle.state_memory.specs.Order.{RowsIncrease, RepliesIncrease}
 use Rattle.state_memory.proofs.RowLaws.{from_lower, all_above, stops}
 
@@ -95,7 +95,7 @@ raw_there (x ∷ proxies) zero one there is = ap Some (sym is)
 raw_there (x ∷ proxies) (suc i) one there is = raw_there proxies i one (omega arith) is
 
 -- what was noted of the proxy at its place
-pub noted : (proxies : List ProxyMemory) (i p : ℕ) (one new : ProxyMemory) (q : Request) (reply : Reply) → i ≡ p → p ≡ q.proxy → i < length proxies → one ≡ get_or proxies i one → kept_of new ≡ proxy_after (kept_of one) q reply → HasNoted (all_kept proxies) q reply (all_kept (slice_set proxies i new))
+pub noted : (proxies : List ProxyMemory) (i p : ℕ) (one new : ProxyMemory) (q : Request) (reply : Reply) → i ≡ p → p ≡ q.proxy → i < length proxies → one ≡ get_or proxies i one → kept_of new ≡ proxy_after (kept_of one) q reply → HasKeptReply (all_kept proxies) q reply (all_kept (slice_set proxies i new))
 noted proxies i p one new q reply same own there is after found at =
     let here : slice_get (all_kept proxies) q.proxy ≡ Some (kept_of one) = ap (slice_get (all_kept proxies)) (sym own ∙ sym same) ∙ kept_there proxies i one there is in
     let both : Some (kept_of one) ≡ Some found = sym here ∙ at in

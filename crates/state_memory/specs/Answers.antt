@@ -19,9 +19,9 @@ use Rattle.state_memory.specs.declared.refusal.Refusal.{Refusal}
 use Rattle.state_memory.specs.declared.refusal.Refusal.TheVariants as refusals
 
 -- the answer, in the model's words
-abbrev pub answer_of : Answer → OfferAnswer
-answer_of (answers.Judged reply) = offers.Judged reply
-answer_of (answers.Again reply) = offers.Again reply
+abbrev pub offer_answer_of : Answer → OfferAnswer
+offer_answer_of (answers.Judged reply) = offers.Judged reply
+offer_answer_of (answers.Again reply) = offers.Again reply
 
 -- what it does, in the model's words
 abbrev pub course_of : Course → Way
@@ -60,7 +60,7 @@ abbrev pub AnswersAfterJudged :
     (before : ResolverView) (q : Request) (result : Result Answer Refusal) → Type 0
 AnswersAfterJudged before q result =
     (judged : List Request) → StandsForRequests before judged
-    → IsAsSpecified fault_of answer_of result
+    → IsAsSpecified fault_of offer_answer_of result
     (answer_to before.number (length before.proxies) before.written.window judged q)
 
 -- what an answer tells of the course: the request was judged, or this reply was given again
@@ -126,7 +126,7 @@ AreVerdictsAfterJudged before q verdicts =
     (judged : List Request) → StandsForRequests before judged
     → verdicts ≡ request_verdicts before.written.window judged q
 
--- whatever requests the resolver stands for, so many of them are remembered
+-- whatever requests the resolver stands for, this number of them is remembered
 abbrev pub IsRememberedCount : (memory : ResolverView) (count : ℕ) → Type 0
 IsRememberedCount memory count =
     (judged : List Request) → StandsForRequests memory judged

@@ -48,7 +48,7 @@ is_first_reply_up_to version (reply ∷ replies) = nat_le reply.version version
 abbrev pub nothing_kept : Kept
 nothing_kept = record { last = 0; acknowledged = 0; replies = [] }
 
--- there are so many proxies, and nothing is kept of any
+-- there is this number of proxies, and nothing is kept of any
 pub record AreNew (proxies : ℕ) (made : List ProxyMemory) : Type 0 where
   pub count : length made ≡ proxies
   pub each :
@@ -89,8 +89,9 @@ AllIncrease proxies =
 
 -- of the proxy of the request it is kept that it was judged, with this reply, and of the others
 -- what was kept before
-abbrev pub HasNoted : (before : List Kept) (q : Request) (reply : Reply) (after : List Kept) → Type 0
-HasNoted before q reply after =
+abbrev pub HasKeptReply : (before : List Kept) (q : Request) (reply : Reply) (after : List Kept)
+    → Type 0
+HasKeptReply before q reply after =
     (one : Kept) → slice_get before q.proxy ≡ Some one
     → after ≡ slice_set before q.proxy (proxy_after one q reply)
 

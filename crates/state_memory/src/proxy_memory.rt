@@ -41,7 +41,7 @@ impl ProxyMemory {
     }
 
     /// What the resolver, which has come to version `last`, does with a repeat of this version.
-    pub(crate) fn again(&self, version: Version, last: Version) -> Result<Course, Refusal>
+    pub(crate) fn decide_repeat(&self, version: Version, last: Version) -> Result<Course, Refusal>
         requires { RepliesIncrease self.now.replies.items }
         ensures { let kept = reply_at version (kept_of self.now).replies in
             IsAsSpecified fault_of course_of result
@@ -88,9 +88,9 @@ impl ProxyMemory {
         Ok(())
     }
 
-    /// Notes that the request was judged, and that this reply was given. There must be room for one
+    /// Keeps that the request was judged, and this reply to it. There must be room for one
     /// more reply. Allocates nothing.
-    pub(crate) fn note(&mut self, request: &Request, reply: Reply)
+    pub(crate) fn keep_reply(&mut self, request: &Request, reply: Reply)
         requires room { deque_len self.old.replies < deque_capacity self.old.replies }
         requires order { RepliesIncrease self.old.replies.items }
         ensures { kept_of self.new ≡ proxy_after (kept_of self.old) request.now reply }
@@ -121,13 +121,13 @@ fn forget_replies(replies: &mut VecDeque<Reply>, version: Version)
     ensures room { deque_len replies.old < deque_capacity replies.old
         → deque_len replies.new < deque_capacity replies.new }
 {
-    while is_first_up_to(replies, version) {
+    while is_first_reply_up_to(replies, version) {
         replies.pop_front();
     }
 }
 
 /// Whether the first reply is at or below the version.
-fn is_first_up_to(replies: &VecDeque<Reply>, version: Version) -> bool
+fn is_first_reply_up_to(replies: &VecDeque<Reply>, version: Version) -> bool
     ensures { result ≡ is_first_reply_up_to version replies.now.items }
 {
     match replies.front() {

@@ -9,7 +9,7 @@ ghost use Rattle.state_memory.specs.Answers.{AnswersAfterJudged, TakesCourse, Is
 ghost use Rattle.state_memory.specs.Answers.{ComesTo, ForgetsIfJudged, IsJudged, IsRememberedCount};
 ghost use Rattle.state_memory.specs.Answers.{fault_of, course_of, AreVerdictsAfterJudged};
 ghost use Rattle.share_judge.specs.Answers.{IfNotKept, IfOutOfMemory};
-ghost use Rattle.state_memory.specs.Kept.{AreNew, HasRoom, AllIncrease, HasNoted, all_kept, reply_of};
+ghost use Rattle.state_memory.specs.Kept.{AreNew, HasRoom, AllIncrease, HasKeptReply, all_kept, reply_of};
 ghost use Rattle.state_memory.specs.Kept.{kept_reply, IsPrepared};
 ghost use Rattle.state_memory.specs.Order.{RowsIncrease};
 ghost use Rattle.std.specs.VecDeque.{deque_len, deque_capacity};
@@ -17,7 +17,7 @@ ghost use Rattle.std.specs.VecDeque.{deque_len, deque_capacity};
 use crate::answer::{Answer, Course};
 use crate::proxy_memory::{ProxyMemory, reached_by_all};
 use crate::refusal::Refusal;
-use crate::rows::{copies_above, forget_rows, judge_states, unjudged_states};
+use crate::rows::{rows_above, copy_rows, forget_rows, judge_states, unjudged_states};
 use model::{ProxyNumber, Reply, ResolverNumber, UnseenRow, UnseenState, Verdict, Version};
 use request_builder::Request;
 use share_judge::{NotJudged, Verdicts, WriteHistory};
@@ -157,7 +157,7 @@ impl Resolver {
         ensures window { self.new.written.window ≡ self.old.written.window }
         ensures err { OnErr result (self.new ≡ self.old) }
     {
-        match self.course(request)? {
+        match self.decide(request)? {
             Course::GiveAgain(reply) => Ok(Answer::Again(reply)),
             Course::Judge => Ok(Answer::Judged(self.judge(request)?)),
         }
@@ -208,7 +208,7 @@ impl Resolver {
             states: Items::from(states),
         });
         let noted = reply(request, Items::from(kept_verdicts), kept_unseen);
-        note_reply(&mut self.proxies, request, noted);
+        keep_reply(&mut self.proxies, request, noted);
         self.version = request.version();
         forget_rows(&mut self.rows, reached_by_all(&self.proxies));
         self.history.forget(request.version());
@@ -229,7 +229,7 @@ impl Resolver {
     }
 
     /// What it does with the request.
-    fn course(&self, request: &Request) -> Result<Course, Refusal>
+    fn decide(&self, request: &Request) -> Result<Course, Refusal>
         ensures { IsAsSpecified fault_of course_of result (course self.now request.now) }
     {
         let version = self.version;
@@ -243,7 +243,7 @@ impl Resolver {
             return Err(Refusal::OutsideChain { version });
         }
         if request.version() <= version {
-            return proxy.again(request.version(), version);
+            return proxy.decide_repeat(request.version(), version);
         }
         if version < request.previous() {
             return Err(Refusal::Early { version });
@@ -268,7 +268,7 @@ impl Resolver {
     }
 }
 
-/// What is kept of so many proxies without requests.
+/// The memory of each of `proxies` proxies before its first request.
 fn new_proxies(alloc: Global, proxies: usize) -> Result<Vec<ProxyMemory>, OutOfMemory>
     ensures { IfOk result (λ made. AreNew proxies made.items) }
 {
@@ -297,7 +297,7 @@ fn prepare(
 {
     let alloc: Global = *rows.allocator();
     let place = request.proxy();
-    let unseen = copies_above(alloc, rows, proxies[place].last)?;
+    let unseen = rows_above(alloc, rows, proxies[place].last)?;
     let kept_unseen = copy_rows(&unseen)?;
     let states = unjudged_states(alloc, request)?;
     let parts = request.share().parts();
@@ -323,13 +323,13 @@ fn reserve_reply(proxies: &mut Vec<ProxyMemory>, place: usize) -> Result<(), Out
 }
 
 /// Notes at its proxy that the request was judged, and that this reply was given.
-fn note_reply(proxies: &mut Vec<ProxyMemory>, request: &Request, reply: Reply)
+fn keep_reply(proxies: &mut Vec<ProxyMemory>, request: &Request, reply: Reply)
     requires there { request.now.proxy < length proxies.old.items }
     requires room { HasRoom proxies.old.items request.now.proxy }
     requires order { AllIncrease proxies.old.items }
-    ensures { HasNoted (all_kept proxies.old.items) request.now reply (all_kept proxies.new.items) }
+    ensures { HasKeptReply (all_kept proxies.old.items) request.now reply (all_kept proxies.new.items) }
 {
-    proxies[request.proxy()].note(request, reply);
+    proxies[request.proxy()].keep_reply(request, reply);
 }
 
 /// A deep copy of what is kept of the proxies.
@@ -337,13 +337,6 @@ fn copy_proxies(proxies: &Vec<ProxyMemory>) -> Result<Vec<ProxyMemory>, OutOfMem
     ensures { IfOk result (λ copy. all_kept copy.items ≡ all_kept proxies.now.items) }
 {
     Ok(proxies.clone()?)
-}
-
-/// A deep copy of the rows.
-fn copy_rows(rows: &Items<UnseenRow>) -> Result<Items<UnseenRow>, OutOfMemory>
-    ensures { IfOk result (λ copy. copy ≡ rows.now) }
-{
-    Ok(rows.clone()?)
 }
 
 /// Copies the verdicts, if there is a place for each.

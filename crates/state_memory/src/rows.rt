@@ -13,7 +13,7 @@ use std::collections::VecDeque;
 use system_keys::{Items, OutOfMemory};
 
 /// Copies of the rows above the version.
-pub(crate) fn copies_above(
+pub(crate) fn rows_above(
     alloc: Global,
     rows: &VecDeque<UnseenRow>,
     version: Version,
@@ -27,6 +27,13 @@ pub(crate) fn copies_above(
         copies.push(rows[i].copy()?)?;
     }
     Ok(Items::from(copies))
+}
+
+/// A deep copy of the rows.
+pub(crate) fn copy_rows(rows: &Items<UnseenRow>) -> Result<Items<UnseenRow>, OutOfMemory>
+    ensures { IfOk result (λ copy. copy ≡ rows.now) }
+{
+    Ok(rows.clone()?)
 }
 
 /// The place of the first row above the version.
@@ -50,13 +57,13 @@ pub(crate) fn forget_rows(rows: &mut VecDeque<UnseenRow>, version: Version)
     requires { RowsIncrease rows.old.items }
     ensures { rows.new.items ≡ rows_above version rows.old.items }
 {
-    while is_first_up_to(rows, version) {
+    while is_first_row_up_to(rows, version) {
         rows.pop_front();
     }
 }
 
 /// Whether the first row is at or below the version.
-fn is_first_up_to(rows: &VecDeque<UnseenRow>, version: Version) -> bool
+fn is_first_row_up_to(rows: &VecDeque<UnseenRow>, version: Version) -> bool
     ensures { result ≡ is_first_row_up_to version rows.now.items }
 {
     match rows.front() {

@@ -1,4 +1,4 @@
--- The families of rows that the metadata keeps, that of server keys, which it does not keep, and the
+-- The families of rows that the metadata keeps, the family of server keys, which it does not keep, and the
 -- kind of each key (release 7.1; that no other family is kept is this project's profile).
 use Rattle.std.specs.Prelude.{ℕ, ◌+◌, List, [], ◌∷◌, ◌++◌, length, drop, codes, nat_eq, Bool, true}
 use Rattle.std.specs.Prelude.{false, ◌&&◌, ◌||◌, not, if◌then◌else◌}

@@ -6,7 +6,7 @@ pub mod Keys
 pub mod KeptRanges
 -- a number that is in the order of keys
 pub mod OrderedKeys
--- the families of rows, as data: the four that the metadata keeps, and that of server keys; and the
+-- the families of rows, as data: the four that the metadata keeps, and the family of server keys; and the
 -- kind of any key
 pub mod Families
 -- what servers and tags a row value names: its encoding, and reading it from the front

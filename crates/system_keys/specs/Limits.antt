@@ -13,15 +13,15 @@ use Rattle.system_keys.specs.Keys.{Key, is_key_below, is_key_up_to}
 abbrev pub key_space_end : Key
 key_space_end = 255 ∷ 255 ∷ []
 
--- a key, and the begin of a range, has at most so many bytes
+-- the greatest length in bytes of a key, and of the begin of a range
 abbrev pub key_limit : ℕ
 key_limit = 10000
 
--- the end of a range has at most so many bytes
+-- the greatest length in bytes of the end of a range
 abbrev pub end_limit : ℕ
 end_limit = 10001
 
--- a value, as it is given, has at most so many bytes
+-- the greatest length in bytes of a value, before its versionstamp is filled in
 abbrev pub value_limit : ℕ
 value_limit = 100000
 

@@ -8,7 +8,7 @@ use std::alloc::{AllocError, Global};
 use std::cmp::Ordering;
 use std::marker::Model;
 
-/// So many bytes lie in the value itself, and want no block of memory.
+/// Up to this number of bytes lie in the value itself, without an allocation.
 pub(crate) const SHORT_LENGTH: usize = 24;
 
 /// Owned bytes: a key, or the value of a row. Up to 24 bytes lie in the value itself, and take no block
@@ -39,7 +39,7 @@ impl Bytes {
         })
     }
 
-    /// No bytes, with room for so many. Fails only with `OutOfMemory`.
+    /// No bytes, with room for `capacity`. Fails only with `OutOfMemory`.
     pub(crate) fn with_capacity(alloc: Global, capacity: usize) -> Result<Bytes, OutOfMemory>
         ensures { IfOk result (λ bytes. bytes ≡ []) }
     {

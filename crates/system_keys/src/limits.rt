@@ -6,7 +6,7 @@ ghost use Rattle.system_keys.specs.Limits.{range_fault, set_fault};
 
 use crate::kind::classify;
 use crate::location::is_row_value;
-use crate::order::{is_at_most, precedes};
+use crate::order::{is_key_up_to, is_key_below};
 use crate::refusal::Refusal;
 
 /// The greatest number of bytes of a key (this project's profile).
@@ -32,10 +32,10 @@ pub fn check_range(begin: &[u8], end: &[u8]) -> Result<(), Refusal>
     if begin.len() > KEY_LIMIT || end.len() > END_LIMIT {
         return Err(Refusal::KeyTooLong);
     }
-    if !is_at_most(end, KEY_SPACE_END) || !precedes(begin, KEY_SPACE_END) {
+    if !is_key_up_to(end, KEY_SPACE_END) || !is_key_below(begin, KEY_SPACE_END) {
         return Err(Refusal::KeyOutside);
     }
-    if !precedes(begin, end) {
+    if !is_key_below(begin, end) {
         return Err(Refusal::EmptyRange);
     }
     Ok(())
@@ -55,7 +55,7 @@ pub fn check_set(key: &[u8], value: &[u8]) -> Result<(), Refusal>
     if value.len() > VALUE_LIMIT {
         return Err(Refusal::ValueTooLong);
     }
-    if !precedes(key, KEY_SPACE_END) {
+    if !is_key_below(key, KEY_SPACE_END) {
         return Err(Refusal::KeyOutside);
     }
     if !is_row_value(classify(key), value) {

@@ -6,14 +6,14 @@ ghost use Rattle.system_keys.specs.Keys.{is_key_below, is_key_up_to};
 ghost use Rattle.system_keys.specs.Rows.{is_above};
 
 /// Whether the key `a` is below the key `b`.
-pub(crate) fn precedes(a: &[u8], b: &[u8]) -> bool
+pub(crate) fn is_key_below(a: &[u8], b: &[u8]) -> bool
     ensures { result ≡ is_key_below a.now b.now }
 {
     a.cmp(b).is_lt()
 }
 
 /// Whether the key `a` is at or below the key `b`.
-pub(crate) fn is_at_most(a: &[u8], b: &[u8]) -> bool
+pub(crate) fn is_key_up_to(a: &[u8], b: &[u8]) -> bool
     ensures { result ≡ is_key_up_to a.now b.now }
 {
     a.cmp(b).is_le()
@@ -23,7 +23,7 @@ pub(crate) fn is_at_most(a: &[u8], b: &[u8]) -> bool
 pub(crate) fn both_precede(a: &[u8], b: &[u8], c: &[u8], d: &[u8]) -> bool
     ensures { result ≡ (is_key_below a.now b.now && is_key_below c.now d.now) }
 {
-    precedes(a, b) && precedes(c, d)
+    is_key_below(a, b) && is_key_below(c, d)
 }
 
 /// Whether the server id is above the previous one, if there is one.
@@ -31,7 +31,7 @@ pub(crate) fn is_above(before: Option<&[u8]>, id: &[u8]) -> bool
     ensures { result ≡ is_above (option_copied before.entry) id.now }
 {
     match before {
-        Some(before) => precedes(before, id),
+        Some(before) => is_key_below(before, id),
         None => true,
     }
 }

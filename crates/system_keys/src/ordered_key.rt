@@ -9,7 +9,7 @@ use std::alloc::{AllocError, Global};
 use std::cmp::Ordering;
 use std::marker::Model;
 
-/// Up to so many bytes of a key lie in the `OrderedKey` itself.
+/// The number of bytes of a key that the `OrderedKey` itself holds.
 pub const SHORT_KEY: usize = 15;
 
 /// A key that is compared by a number before its bytes: most comparisons look at the numbers alone.

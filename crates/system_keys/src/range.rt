@@ -6,14 +6,14 @@ ghost use Rattle.system_keys.specs.KeptRanges.{begin_of, HasFront};
 use crate::bytes::Bytes;
 use crate::limits::check_range;
 use crate::memory::OutOfMemory;
-use crate::order::{both_precede, precedes};
+use crate::order::{both_precede, is_key_below};
 use crate::refusal::Refusal;
 use std::marker::Model;
 
 /// Where a range begins.
 #[derive(Clone, Debug, Drop)]
 enum Begin {
-    /// At the key that so many first bytes of the range's end make.
+    /// At the key that is this number of first bytes of the range's end.
     Front(usize),
     /// At another key.
     Other(Bytes),
@@ -111,7 +111,7 @@ impl KeyRange {
     pub fn contains(&self, key: &[u8]) -> bool
         ensures { result ≡ holds self.now key.now }
     {
-        !precedes(key, self.begin()) && precedes(key, self.end())
+        !is_key_below(key, self.begin()) && is_key_below(key, self.end())
     }
 
     /// Whether some key is in both ranges.

@@ -7,7 +7,7 @@ ghost use Rattle.system_keys.specs.Changes.{is_inside_non_metadata};
 ghost use Rattle.system_keys.specs.Families.{system_prefix, non_metadata_prefix};
 
 use crate::change::Change;
-use crate::order::precedes;
+use crate::order::is_key_below;
 use crate::range::KeyRange;
 
 /// Whether the change goes to every commit proxy (release 7.1).
@@ -48,5 +48,5 @@ fn ends_past_system_prefix(end: &[u8]) -> bool
 fn is_inside_non_metadata(range: &KeyRange) -> bool
     ensures { result ≡ is_inside_non_metadata range.now }
 {
-    !precedes(range.begin(), b"\xff\x02") && !precedes(b"\xff\x03", range.end())
+    !is_key_below(range.begin(), b"\xff\x02") && !is_key_below(b"\xff\x03", range.end())
 }

@@ -3,7 +3,7 @@
 use std::alloc::Global;
 
 // How many bytes are asked for to learn whether an allocation has failed: `tests/memory/refuse.c`
-// knows this number, and nothing else asks for so many.
+// knows this number, and nothing else asks for as many.
 const ASKED: usize = 1_000_003;
 
 /// Whether an allocation has failed in this run. With ample memory none has, and these bytes are there;

@@ -17,15 +17,15 @@ mod transactions;
 
 pub use again::is_memory_refused;
 pub use key_ranges::{Ends, given_range, given_ranges, range, ranges};
-pub use lists::{bytes, list, none, one, repeated, room};
+pub use lists::{bytes, list, none, one, repeat_byte, room};
 pub use random::Random;
 pub use replies::{
-    Joined, ReplyLine, Told, ToldRow, carried, carried_if, journal_row, reply, reply_by,
+    StateLine, ReplyLine, UnseenLine, UnseenRowLine, content_of_line, content_if, journal_row, reply, reply_by,
     unseen_rows,
 };
 pub use shares::{PartLine, part, parts};
-pub use texts::{are_shown_as, joined, text_room};
+pub use texts::{are_shown_as, join_texts, text_room};
 pub use transactions::{
-    Content, Given, NOTHING, Step, admitted, batch, batch_of, change, changes, content_batch,
+    Content, TransactionLine, EMPTY_TRANSACTION, MutationLine, admit_line, batch, batch_of, change, changes, content_batch,
     mutation, mutations, plain_batch, transaction, transaction_of,
 };

@@ -5,7 +5,7 @@ ghost use Rattle.std.specs.Prelude.{◌≡◌, [], IfOk};
 use std::alloc::{AllocError, Global};
 use system_keys::{Bytes, Items};
 
-/// An empty list with room for so many.
+/// An empty list with room for `count` items.
 pub fn room<T: Drop>(alloc: Global, count: usize) -> Result<Vec<T>, AllocError>
     ensures { IfOk result (λ list. list.items ≡ []) }
 {
@@ -26,8 +26,8 @@ pub fn bytes(alloc: Global, text: &[u8]) -> Result<Bytes, AllocError>
     Ok(Bytes::from(list(alloc, text)?))
 }
 
-/// The byte so many times.
-pub fn repeated(alloc: Global, byte: u8, count: usize) -> Result<Vec<u8>, AllocError> {
+/// The byte `count` times.
+pub fn repeat_byte(alloc: Global, byte: u8, count: usize) -> Result<Vec<u8>, AllocError> {
     let mut bytes = room(alloc, count)?;
     for _ in 0..count {
         bytes.push(byte)?;

@@ -8,13 +8,13 @@ use std::test::Fail;
 use system_keys::Items;
 
 /// A state transaction of an unseen row: the resolver's verdict, and the content.
-pub type Told<'a> = (Verdict, Content<'a>);
+pub type UnseenLine<'a> = (Verdict, Content<'a>);
 
 /// An unseen row: its version and its state transactions.
-pub type ToldRow<'a> = (u64, &'a [Told<'a>]);
+pub type UnseenRowLine<'a> = (u64, &'a [UnseenLine<'a>]);
 
 /// A state transaction of the journal: the verdict of each resolver, and the content.
-pub type Joined<'a> = (&'a [Verdict], Content<'a>);
+pub type StateLine<'a> = (&'a [Verdict], Content<'a>);
 
 /// A reply as plain data.
 #[derive(Clone, Copy)]
@@ -30,13 +30,13 @@ pub struct ReplyLine<'a> {
     /// The verdicts on the share.
     pub verdicts: &'a [Verdict],
     /// The rows that the proxy has not seen.
-    pub unseen: &'a [ToldRow<'a>],
+    pub unseen: &'a [UnseenRowLine<'a>],
 }
 
 /// The content of a state transaction.
-pub fn carried(alloc: Global, content: Content<'_>) -> Result<Carried, Fail> {
-    let (steps, lock_aware) = content;
-    let mutations = changes(alloc, steps)?;
+pub fn content_of_line(alloc: Global, content: Content<'_>) -> Result<Carried, Fail> {
+    let (lines, lock_aware) = content;
+    let mutations = changes(alloc, lines)?;
     Ok(Carried {
         mutations,
         lock_aware,
@@ -44,25 +44,25 @@ pub fn carried(alloc: Global, content: Content<'_>) -> Result<Carried, Fail> {
 }
 
 /// The content, if it is wanted.
-pub fn carried_if(
+pub fn content_if(
     alloc: Global,
     is_wanted: bool,
     content: Content<'_>,
 ) -> Result<Option<Carried>, Fail> {
     if is_wanted {
-        Ok(Some(carried(alloc, content)?))
+        Ok(Some(content_of_line(alloc, content)?))
     } else {
         Ok(None)
     }
 }
 
-fn unseen_state(alloc: Global, carries: bool, told: Told<'_>) -> Result<UnseenState, Fail> {
+fn unseen_state(alloc: Global, carries: bool, told: UnseenLine<'_>) -> Result<UnseenState, Fail> {
     let (verdict, content) = told;
-    let carried = carried_if(alloc, carries, content)?;
+    let carried = content_if(alloc, carries, content)?;
     Ok(UnseenState { verdict, carried })
 }
 
-fn unseen_row(alloc: Global, carries: bool, told: ToldRow<'_>) -> Result<UnseenRow, Fail> {
+fn unseen_row(alloc: Global, carries: bool, told: UnseenRowLine<'_>) -> Result<UnseenRow, Fail> {
     let (version, lines) = told;
     let mut states = room(alloc, lines.len())?;
     for line in lines {
@@ -76,7 +76,7 @@ fn unseen_row(alloc: Global, carries: bool, told: ToldRow<'_>) -> Result<UnseenR
 pub fn unseen_rows(
     alloc: Global,
     carries: bool,
-    told: &[ToldRow<'_>],
+    told: &[UnseenRowLine<'_>],
 ) -> Result<Items<UnseenRow>, Fail> {
     let mut rows = room(alloc, told.len())?;
     for row in told {
@@ -104,9 +104,9 @@ pub fn reply(alloc: Global, line: ReplyLine<'_>) -> Result<Reply, Fail> {
     reply_by(alloc, line.resolver == 0, line)
 }
 
-fn state(alloc: Global, joined: Joined<'_>) -> Result<StateTxn, Fail> {
-    let (verdicts, (steps, lock_aware)) = joined;
-    let mutations = changes(alloc, steps)?;
+fn state(alloc: Global, joined: StateLine<'_>) -> Result<StateTxn, Fail> {
+    let (verdicts, (lines, lock_aware)) = joined;
+    let mutations = changes(alloc, lines)?;
     let verdicts = Items::from(list(alloc, verdicts)?);
     Ok(StateTxn {
         mutations,
@@ -116,7 +116,7 @@ fn state(alloc: Global, joined: Joined<'_>) -> Result<StateTxn, Fail> {
 }
 
 /// The row of the journal with these state transactions.
-pub fn journal_row(alloc: Global, version: u64, lines: &[Joined<'_>]) -> Result<JournalRow, Fail> {
+pub fn journal_row(alloc: Global, version: u64, lines: &[StateLine<'_>]) -> Result<JournalRow, Fail> {
     let mut states = room(alloc, lines.len())?;
     for line in lines {
         states.push(state(alloc, *line)?)?;

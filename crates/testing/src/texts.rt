@@ -4,7 +4,7 @@ use std::alloc::{AllocError, Global};
 use std::fmt::Display;
 
 /// The texts, one after the other.
-pub fn joined(alloc: Global, texts: &[&str]) -> Result<String, AllocError> {
+pub fn join_texts(alloc: Global, texts: &[&str]) -> Result<String, AllocError> {
     let mut joined = String::new(alloc);
     for text in texts {
         joined.push_str(text)?;
@@ -12,7 +12,7 @@ pub fn joined(alloc: Global, texts: &[&str]) -> Result<String, AllocError> {
     Ok(joined)
 }
 
-/// An empty text with room for so many bytes.
+/// An empty text with room for `count` bytes.
 pub fn text_room(alloc: Global, count: usize) -> Result<String, AllocError> {
     String::with_capacity(alloc, count)
 }

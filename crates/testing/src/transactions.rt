@@ -10,7 +10,7 @@ use system_keys::{Change, Items};
 
 /// A mutation as plain data.
 #[derive(Clone, Copy)]
-pub enum Step<'a> {
+pub enum MutationLine<'a> {
     /// A Set of the key to the value.
     Set(&'a [u8], &'a [u8]),
     /// A Clear from the one key up to the other.
@@ -20,11 +20,11 @@ pub enum Step<'a> {
 }
 
 /// What a transaction changes, and whether it is lock aware.
-pub type Content<'a> = (&'a [Step<'a>], bool);
+pub type Content<'a> = (&'a [MutationLine<'a>], bool);
 
 /// A transaction as plain data.
 #[derive(Clone, Copy)]
-pub struct Given<'a> {
+pub struct TransactionLine<'a> {
     /// The version that it read at.
     pub snapshot: u64,
     /// What it read.
@@ -32,13 +32,13 @@ pub struct Given<'a> {
     /// What it wants to write.
     pub writes: &'a [Ends<'a>],
     /// What it wants to change.
-    pub mutations: &'a [Step<'a>],
+    pub mutations: &'a [MutationLine<'a>],
     /// Whether it may commit while the database is locked.
     pub lock_aware: bool,
 }
 
 /// A transaction with nothing in it, at snapshot 0 and not lock aware.
-pub const NOTHING: Given<'static> = Given {
+pub const EMPTY_TRANSACTION: TransactionLine<'static> = TransactionLine {
     snapshot: 0,
     reads: &[],
     writes: &[],
@@ -47,17 +47,17 @@ pub const NOTHING: Given<'static> = Given {
 };
 
 /// The mutation, unchecked.
-pub fn mutation(alloc: Global, step: Step<'_>) -> Result<Mutation, AllocError> {
-    Ok(match step {
-        Step::Set(key, value) => Mutation::Set {
+pub fn mutation(alloc: Global, line: MutationLine<'_>) -> Result<Mutation, AllocError> {
+    Ok(match line {
+        MutationLine::Set(key, value) => Mutation::Set {
             key: bytes(alloc, key)?,
             value: bytes(alloc, value)?,
         },
-        Step::Clear(begin, end) => Mutation::Clear {
+        MutationLine::Clear(begin, end) => Mutation::Clear {
             begin: bytes(alloc, begin)?,
             end: bytes(alloc, end)?,
         },
-        Step::SetStamped(key, value) => Mutation::SetStamped {
+        MutationLine::SetStamped(key, value) => Mutation::SetStamped {
             key: bytes(alloc, key)?,
             value: bytes(alloc, value)?,
         },
@@ -65,37 +65,37 @@ pub fn mutation(alloc: Global, step: Step<'_>) -> Result<Mutation, AllocError> {
 }
 
 /// The mutations, unchecked.
-pub fn mutations(alloc: Global, steps: &[Step<'_>]) -> Result<Items<Mutation>, AllocError> {
-    let mut list = room(alloc, steps.len())?;
-    for step in steps {
-        list.push(mutation(alloc, *step)?)?;
+pub fn mutations(alloc: Global, lines: &[MutationLine<'_>]) -> Result<Items<Mutation>, AllocError> {
+    let mut list = room(alloc, lines.len())?;
+    for line in lines {
+        list.push(mutation(alloc, *line)?)?;
     }
     Ok(Items::from(list))
 }
 
 /// The change, whose range has no fault. There is none with a stamp.
-pub fn change(alloc: Global, step: Step<'_>) -> Result<Change, Fail> {
-    match step {
-        Step::Set(key, value) => Ok(Change::Set {
+pub fn change(alloc: Global, line: MutationLine<'_>) -> Result<Change, Fail> {
+    match line {
+        MutationLine::Set(key, value) => Ok(Change::Set {
             key: bytes(alloc, key)?,
             value: bytes(alloc, value)?,
         }),
-        Step::Clear(begin, end) => Ok(Change::clear(range(alloc, begin, end)?)),
-        Step::SetStamped(_, _) => Err(Fail::from("a change has no stamp")),
+        MutationLine::Clear(begin, end) => Ok(Change::clear(range(alloc, begin, end)?)),
+        MutationLine::SetStamped(_, _) => Err(Fail::from("a change has no stamp")),
     }
 }
 
 /// The changes, whose ranges have no fault.
-pub fn changes(alloc: Global, steps: &[Step<'_>]) -> Result<Items<Change>, Fail> {
-    let mut list = room(alloc, steps.len())?;
-    for step in steps {
-        list.push(change(alloc, *step)?)?;
+pub fn changes(alloc: Global, lines: &[MutationLine<'_>]) -> Result<Items<Change>, Fail> {
+    let mut list = room(alloc, lines.len())?;
+    for line in lines {
+        list.push(change(alloc, *line)?)?;
     }
     Ok(Items::from(list))
 }
 
 /// The transaction, unchecked.
-pub fn transaction(alloc: Global, given: Given<'_>) -> Result<Transaction, AllocError> {
+pub fn transaction(alloc: Global, given: TransactionLine<'_>) -> Result<Transaction, AllocError> {
     Ok(Transaction {
         snapshot: given.snapshot,
         reads: given_ranges(alloc, given.reads)?,
@@ -106,26 +106,26 @@ pub fn transaction(alloc: Global, given: Given<'_>) -> Result<Transaction, Alloc
 }
 
 /// The transaction of this mutation alone, unchecked, at snapshot 0 and lock aware.
-pub fn transaction_of(alloc: Global, step: Step<'_>) -> Result<Transaction, AllocError> {
+pub fn transaction_of(alloc: Global, line: MutationLine<'_>) -> Result<Transaction, AllocError> {
     Ok(Transaction {
         snapshot: 0,
         reads: none(alloc),
         writes: none(alloc),
-        mutations: one(alloc, mutation(alloc, step)?)?,
+        mutations: one(alloc, mutation(alloc, line)?)?,
         lock_aware: true,
     })
 }
 
 /// The transaction, which has no fault.
-pub fn admitted(alloc: Global, given: Given<'_>) -> Result<Admitted, Fail> {
+pub fn admit_line(alloc: Global, given: TransactionLine<'_>) -> Result<Admitted, Fail> {
     Ok(admit(alloc, &transaction(alloc, given)?)?)
 }
 
 /// The batch of these transactions, which have no fault.
-pub fn batch(alloc: Global, transactions: &[Given<'_>]) -> Result<Batch, Fail> {
+pub fn batch(alloc: Global, transactions: &[TransactionLine<'_>]) -> Result<Batch, Fail> {
     let mut list = room(alloc, transactions.len())?;
     for given in transactions {
-        list.push(admitted(alloc, *given)?)?;
+        list.push(admit_line(alloc, *given)?)?;
     }
     batch_of(list)
 }
@@ -161,12 +161,12 @@ pub fn plain_batch(alloc: Global, lines: &[PartLine<'_>]) -> Result<Batch, Fail>
 
 /// The transaction of this content, without ranges, at snapshot 0.
 fn of_content(alloc: Global, content: Content<'_>) -> Result<Transaction, AllocError> {
-    let (steps, lock_aware) = content;
+    let (lines, lock_aware) = content;
     Ok(Transaction {
         snapshot: 0,
         reads: none(alloc),
         writes: none(alloc),
-        mutations: mutations(alloc, steps)?,
+        mutations: mutations(alloc, lines)?,
         lock_aware,
     })
 }

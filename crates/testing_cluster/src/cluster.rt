@@ -7,7 +7,7 @@ use std::alloc::Global;
 use std::test::Fail;
 use testing::room;
 
-/// A ledger of so many rows, for so many proxies and resolvers. The window is 1000 versions, and each
+/// A ledger of `rows` rows for the given proxies and resolvers. The window is 1000 versions, and each
 /// row takes ten.
 pub fn blank(
     alloc: Global,

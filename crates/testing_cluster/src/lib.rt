@@ -10,5 +10,5 @@ mod phases;
 mod watches;
 
 pub use cluster::{Cluster, blank};
-pub use phases::{begun, close_all, commit_empty, finished, number, sequenced};
+pub use phases::{begin_batch, close_all, commit_empty, finish_record, number, sequence_batch};
 pub use watches::{ends_in_time, pause, reaches};

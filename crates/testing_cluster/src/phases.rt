@@ -7,15 +7,15 @@ use mutation::Batch;
 use std::alloc::Global;
 use std::sync::Wait;
 use std::test::Fail;
-use testing::{Given, batch};
+use testing::{TransactionLine, batch};
 
 /// The ticket of a batch of the proxy of this number.
-pub fn sequenced<N: Naming, R: Wait>(
+pub fn sequence_batch<N: Naming, R: Wait>(
     rt: &R,
     alloc: Global,
     cluster: &Cluster<'_, N>,
     proxy: usize,
-    given: &[Given<'_>],
+    given: &[TransactionLine<'_>],
 ) -> Result<Ticket<N>, Fail> {
     let batch = batch(alloc, given)?;
     match cluster.sequencer.lock(rt).sequence(proxy, batch) {
@@ -25,14 +25,14 @@ pub fn sequenced<N: Naming, R: Wait>(
 }
 
 /// The requests for the record of a batch, which the proxy of this number begins.
-pub fn begun<N: Naming, R: Wait>(
+pub fn begin_batch<N: Naming, R: Wait>(
     rt: &R,
     alloc: Global,
     cluster: &Cluster<'_, N>,
     proxy: usize,
-    given: &[Given<'_>],
+    given: &[TransactionLine<'_>],
 ) -> Result<Begun<N>, Fail> {
-    let ticket = sequenced(rt, alloc, cluster, proxy, given)?;
+    let ticket = sequence_batch(rt, alloc, cluster, proxy, given)?;
     match cluster.proxy(proxy)?.lock(rt).begin(ticket) {
         Ok(begun) => Ok(begun),
         Err((refusal, _ticket)) => Err(Fail::from(refusal)),
@@ -40,7 +40,7 @@ pub fn begun<N: Naming, R: Wait>(
 }
 
 /// Asks all resolvers in this way for a record that the proxy began, and finishes it.
-pub fn finished<N: Naming, A: Asking<N>, R: Wait>(
+pub fn finish_record<N: Naming, A: Asking<N>, R: Wait>(
     rt: &R,
     asking: &A,
     proxy: &SharedProxy<'_, N>,
@@ -57,7 +57,7 @@ pub fn finished<N: Naming, A: Asking<N>, R: Wait>(
 }
 
 /// Commits an empty batch by asking in this way. Returns its version, or the number of the refusal,
-/// which is 0 for want of memory.
+/// which is 0 for `OutOfMemory`.
 pub fn commit_empty<N: Naming, A: Asking<N>, R: Wait>(
     rt: &R,
     alloc: Global,
@@ -74,7 +74,7 @@ pub fn commit_empty<N: Naming, A: Asking<N>, R: Wait>(
     }
 }
 
-/// The number of the refusal, which is 0 for want of memory.
+/// The number of the refusal, which is 0 for `OutOfMemory`.
 pub fn number<N: Naming>(fault: &CommitFault<N>) -> u32 {
     let number = match fault {
         CommitFault::Sequencing { refusal, .. } => refusal.number(),

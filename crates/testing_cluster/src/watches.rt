@@ -7,12 +7,12 @@ use std::time::{Clock, Duration};
 /// How many milliseconds lie between two looks.
 const STEP: u64 = 2;
 
-/// Sleeps so many milliseconds.
+/// Sleeps for this number of milliseconds.
 pub fn pause<R: Clock>(rt: &R, millis: u64) {
     thread::sleep(rt, Duration::from_millis(millis));
 }
 
-/// Whether the count comes to `wanted` before so many milliseconds of sleep.
+/// Whether the count reaches `wanted` before this number of milliseconds of sleep.
 pub fn reaches<R: Clock>(rt: &R, count: &AtomicU64, wanted: u64, millis: u64) -> bool {
     for _look in 0..millis / STEP {
         if wanted <= count.load(Ordering::SeqCst) {

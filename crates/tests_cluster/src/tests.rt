@@ -1,5 +1,5 @@
 //! Tests of resolvers and proxies behind locks, with threads and without, and of workers that proxies
-//! ask through inboxes. A test that wants memory for its data ends with that error; the tested calls
+//! ask through inboxes. A test ends with that error if an allocation for its own data fails; the tested calls
 //! are made again.
 
 mod answers;

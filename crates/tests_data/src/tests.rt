@@ -1,7 +1,7 @@
 //! Tests of what only calls can show, against vectors and values worked out by hand: among them that
 //! right batches and fold scripts are read by their tokens alone, and how often devices are called. A
-//! tested call that takes memory is made again if it was refused memory; a test that wants memory for
-//! its data ends with that error. Limits, first faults and printed refusals are shown by the scripts in
+//! tested call that takes memory is made again if it was refused memory; a test ends with that error
+//! if an allocation for its own data fails. Limits, first faults and printed refusals are shown by the scripts in
 //! `tests/scripts`; the built program meets failing devices in `tests/memory`.
 
 mod devices;

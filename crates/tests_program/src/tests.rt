@@ -11,14 +11,14 @@ mod of_turns_run;
 use model::Config;
 use mutation::{Admitted, AdmittedMutation, Batch};
 use system_keys::{Bytes, KeyRange};
-use testing::{Given, Step};
+use testing::{TransactionLine, MutationLine};
 
 /// A transaction with something in each field.
-const GIVEN: Given<'static> = Given {
+const GIVEN: TransactionLine<'static> = TransactionLine {
     snapshot: 7,
     reads: &[(b"a", b"b")],
     writes: &[(b"c", b"d")],
-    mutations: &[Step::Set(b"k", b"v")],
+    mutations: &[MutationLine::Set(b"k", b"v")],
     lock_aware: true,
 };
 

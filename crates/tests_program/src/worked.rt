@@ -21,7 +21,7 @@ use std::thread::Threads;
 use threads::THREADS;
 use turns::TURNS;
 
-/// What a script comes to.
+/// The expected result of a script.
 #[derive(Clone, Copy)]
 enum Expected {
     /// The whole text.
@@ -30,7 +30,7 @@ enum Expected {
     Lines(&'static [u8]),
 }
 
-/// A script, in parts that stand there so many times, and what a run on it comes to.
+/// A script, in parts that each stand there a number of times, and the result of a run on it.
 #[derive(Clone, Copy)]
 struct Worked {
     name: &'static str,

@@ -1,5 +1,5 @@
 //! Tests against values worked out by hand. A tested call that allocates is made again after a failed
-//! allocation; a test that wants memory for its data ends with that error. A function whose name ends with
+//! allocation; a test ends with that error if an allocation for its own data fails. A function whose name ends with
 //! `by_call` makes a tested call once, and `twice!` calls that function: so the check reads the contract of
 //! the tested call once, and not at each of the two calls.
 //!
@@ -21,7 +21,7 @@ use std::alloc::{AllocError, Global};
 use std::fmt::Debug;
 use std::test::Fail;
 use system_keys::{Items, OutOfMemory};
-use testing::{Content, PartLine, carried_if, parts, room, twice};
+use testing::{Content, PartLine, content_if, parts, room, twice};
 
 /// Whether the two are printed as one text, with all that they hold.
 pub(crate) fn are_alike<T: Debug>(alloc: Global, one: &T, other: &T) -> Result<bool, AllocError> {
@@ -30,7 +30,7 @@ pub(crate) fn are_alike<T: Debug>(alloc: Global, one: &T, other: &T) -> Result<b
     Ok(one.as_str() == other.as_str())
 }
 
-/// A type whose values are copied by a call that wants memory.
+/// A type whose values are copied by a call that allocates.
 pub(crate) trait Copied: Drop {
     /// The copy, by one call.
     fn copied(&self) -> Result<Self, OutOfMemory>;
@@ -59,7 +59,7 @@ pub(crate) fn marks(
 ) -> Result<Items<StateMark>, Fail> {
     let mut marks = room(alloc, numbers.len())?;
     for number in numbers {
-        let (number, carried) = (*number, carried_if(alloc, has_content, content)?);
+        let (number, carried) = (*number, content_if(alloc, has_content, content)?);
         marks.push(StateMark { number, carried })?;
     }
     Ok(Items::from(marks))

@@ -1,5 +1,5 @@
 //! Tests of cells that are set once, with threads and without. A tested call that allocates is made
-//! again after a failed allocation; a test that wants memory for its data ends with that error.
+//! again after a failed allocation; a test ends with that error if an allocation for its own data fails.
 
 mod of_agreed_ledger;
 mod of_facts;

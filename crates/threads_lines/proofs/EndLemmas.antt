@@ -4,7 +4,7 @@ use Rattle.std.specs.Prelude.{Option, Some, None, Ok}
 use Rattle.std.proofs.lemmas.Bool.{leb-true, leb-false}
 use Rattle.model.specs.Configs.{Config, version_limit}
 use Rattle.model.specs.Records.{Record, last_version}
-use Rattle.model.specs.Stamps.{Given}
+use Rattle.model.specs.Stamps.{AdmittedTransaction}
 use Rattle.agreed_ledger.specs.Cells.{Cells}
 use Rattle.agreed_ledger.specs.declared.refusal.Refusal.{Refusal}
 use Rattle.agreed_ledger.specs.declared.refusal.Refusal.TheVariants as refusals
@@ -64,7 +64,7 @@ end_of_sequence cells p refusals.CellTaken printed was is = absurd (cc)
 end_of_sequence cells p refusals.OutOfMemory printed was is = absurd (cc)
 
 -- a commit whose fault is printed got no record
-pub end_of_commit : {N : Type 0} (cells : Cells) (whose : Option ℕ) (p : ℕ) (batch : List Given) (fault : CommitFault N) (printed : Refusal)
+pub end_of_commit : {N : Type 0} (cells : Cells) (whose : Option ℕ) (p : ℕ) (batch : List AdmittedTransaction) (fault : CommitFault N) (printed : Refusal)
     → HandsBack cells whose p batch fault → printed_refusal fault ≡ Ok printed → IsEnd cells.config (length cells.records) printed
 end_of_commit cells whose p batch (phases.Sequencing refusal returned) printed back is = end_of_sequence cells p refusal printed back.1 is
 end_of_commit cells whose p batch (phases.Beginning refusal ticket) printed back is = absurd (cc)

@@ -45,7 +45,7 @@ joined_parts (Ok before) (Err fault) text is = absurd (cc)
 joined_parts (Err fault) (Ok part) text is = absurd (cc)
 joined_parts (Err fault) (Err second) text is = absurd (cc)
 
--- a fault for want of memory may come in place of any result
+-- the fault `OutOfMemory` may come in place of any result
 spared : (fault : RunFault) (specified : Result (List ℕ) RunFault) → fault ≡ faults.OutOfMemory → IsFaultIfAllocated (run_fault fault) specified
 spared faults.OutOfMemory specified is = search
 spared faults.Refused specified is = absurd (cc)

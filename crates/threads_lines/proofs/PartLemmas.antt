@@ -3,7 +3,7 @@ use Rattle.std.proofs.Common.{◌≡◌, ◌++◌, ◌+◌, ◌∙◌, ◌<◌, 
 use Rattle.std.specs.Prelude.{slice_get, Some}
 use Rattle.std.proofs.lemmas.List.{append-nil}
 use Rattle.model.specs.Configs.{Config}
-use Rattle.model.specs.Stamps.{Given}
+use Rattle.model.specs.Stamps.{AdmittedTransaction}
 use Rattle.threads_lines.specs.Answers.{AreClosingLines, AreWorkLines, IsBatchLine, IsLineOf}
 use Rattle.threads_lines.specs.Histories.{Known}
 use Rattle.threads_lines.specs.Lines.{batch_line}
@@ -54,7 +54,7 @@ turns_weaker IsTurn Is first (suc count) last text weaker are =
     )
 
 -- one more batch was answered
-pub one_more_batch : (config : Config) (rows : ℕ) (p : ℕ) (batches : List (List Given)) (first between last : Known) (count : ℕ) (batch : List Given) (old middle new : List ℕ)
+pub one_more_batch : (config : Config) (rows : ℕ) (p : ℕ) (batches : List (List AdmittedTransaction)) (first between last : Known) (count : ℕ) (batch : List AdmittedTransaction) (old middle new : List ℕ)
     → slice_get batches count ≡ Some batch
     → GrowsBy (IsInTurns (IsBatchLine config rows p batches) first count between) old middle → GrowsBy (IsLineOf config rows p (batch_line p count) batch between last) middle new
     → GrowsBy (IsInTurns (IsBatchLine config rows p batches) first (count + 1) last) old new
@@ -63,7 +63,7 @@ one_more_batch config rows p batches first between last count batch old middle n
     one_more_turn (IsBatchLine config rows p batches) first between last count old middle new earlier (part, (batch, there, is), end)
 
 -- the lines of all batches, and then those of the closings
-pub all_answer_lines : (config : Config) (rows : ℕ) (work : List (List (List Given))) (proxies : ℕ) (between known : Known) (old new : List ℕ)
+pub all_answer_lines : (config : Config) (rows : ℕ) (work : List (List (List AdmittedTransaction))) (proxies : ℕ) (between known : Known) (old new : List ℕ)
     → AreWorkLines config rows work between old → GrowsBy (AreClosingLines config rows proxies between known) old new
     → AreAnswerLines config rows work proxies known new
 all_answer_lines config rows work proxies between known old new answered later =

@@ -3,7 +3,7 @@ use Rattle.std.proofs.Common.{◌≡◌, ◌++◌, ◌+◌, ◌∙◌, ◌<◌, 
 use Rattle.std.specs.Prelude.{◌⊎◌, ⊤, slice_get, Some, Result, Ok, Err, IfOk, OnOk, MatchResult}
 use Rattle.std.proofs.lemmas.Option.{same_Some}
 use Rattle.model.proofs.History.Chain.{element_at}
-use Rattle.model.specs.Stamps.{Given}
+use Rattle.model.specs.Stamps.{AdmittedTransaction}
 use Rattle.model.proofs.History.Growth.{push_cases}
 use Rattle.model.specs.Configs.{Config}
 use Rattle.threads_lines.specs.Answers.{AreBatchLines, AreLinesOfProxy, AreWorkLines}
@@ -33,7 +33,7 @@ one_more_in_place numbers number is before p found at = by (push_cases numbers n
   by (inr (within, earlier)) = before p found earlier
 
 -- one more thread was started
-pub one_more_thread : {X : Type 0} (threads : List X) (number : X → ℕ) (batches : X → List (List Given)) (work : List (List (List Given))) (thread : X)
+pub one_more_thread : {X : Type 0} (threads : List X) (number : X → ℕ) (batches : X → List (List AdmittedTransaction)) (work : List (List (List AdmittedTransaction))) (thread : X)
     → number thread ≡ length threads → slice_get work (length threads) ≡ Some (batches thread)
     → AreInOrder threads number batches work → AreInOrder (threads ++ thread ∷ []) number batches work
 one_more_thread threads number batches work thread is there before p found at = by (push_cases threads thread p found at) where
@@ -42,7 +42,7 @@ one_more_thread threads number batches work thread is there before p found at = 
   by (inr (within, earlier)) = before p found earlier
 
 -- one more thread was joined
-pub one_more_joined : {X Y : Type 0} (Keeps : ℕ → List (List Given) → Y → Type 0) (threads : List X) (number : X → ℕ) (batches : X → List (List Given))
+pub one_more_joined : {X Y : Type 0} (Keeps : ℕ → List (List AdmittedTransaction) → Y → Type 0) (threads : List X) (number : X → ℕ) (batches : X → List (List AdmittedTransaction))
     (returned : List (Result Y RunFault)) (thread : X) (one : Result Y RunFault)
     → slice_get threads (length returned) ≡ Some thread → IfOk one (Keeps (number thread) (batches thread))
     → KeepPromises Keeps threads number batches returned → KeepPromises Keeps threads number batches (returned ++ one ∷ [])
@@ -56,7 +56,7 @@ one_more_joined {X = X} {Y = Y} Keeps threads number batches returned thread one
     by (inr (within, earlier)) = before place found result at earlier
 
 -- what the threads returned is what the proxies are answered
-pub work_lines : {X Y : Type 0} (config : Config) (rows : ℕ) (threads : List X) (number : X → ℕ) (batches : X → List (List Given)) (work : List (List (List Given)))
+pub work_lines : {X Y : Type 0} (config : Config) (rows : ℕ) (threads : List X) (number : X → ℕ) (batches : X → List (List AdmittedTransaction)) (work : List (List (List AdmittedTransaction)))
     (returned : List (Result Y RunFault)) (bytes : Y → List ℕ) (known : Y → Known) (last : Known) (text : List ℕ)
     → AreInOrder threads number batches work → length threads ≡ length work → length returned ≡ length threads
     → KeepPromises (λ p given one. AreBatchLines config rows p given (known one) (bytes one)) threads number batches returned
@@ -76,7 +76,7 @@ work_lines {Y = Y} config rows threads number batches work returned bytes known 
         (batches thread, known one, given, subst (AreBatchLines config rows p (batches thread) (known one)) (sym is) mine, joins)
 
 -- the same if each thread returned a text
-pub answered_proxies : {X Y : Type 0} (config : Config) (rows : ℕ) (threads : List X) (number : X → ℕ) (batches : X → List (List Given)) (work : List (List (List Given)))
+pub answered_proxies : {X Y : Type 0} (config : Config) (rows : ℕ) (threads : List X) (number : X → ℕ) (batches : X → List (List AdmittedTransaction)) (work : List (List (List AdmittedTransaction)))
     (returned : List (Result Y RunFault)) (result : Result Y RunFault) (bytes : Y → List ℕ) (known : Y → Known)
     → AreInOrder threads number batches work → length threads ≡ length work → length returned ≡ length threads
     → KeepPromises (λ p given one. AreBatchLines config rows p given (known one) (bytes one)) threads number batches returned

@@ -5,13 +5,13 @@ use Rattle.std.specs.Prelude.{◌≡◌, ◌+◌, ◌<◌, ◌≤◌, ℕ, List,
 use Rattle.model.specs.Configs.{Config, version_limit}
 use Rattle.model.specs.Numbers.{ProxyNumber}
 use Rattle.model.specs.Records.{Record, IsHistory, last_version}
-use Rattle.model.specs.Stamps.{Given}
+use Rattle.model.specs.Stamps.{AdmittedTransaction}
 use Rattle.agreed_ledger.specs.declared.refusal.Refusal.{Refusal}
 use Rattle.agreed_ledger.specs.declared.refusal.Refusal.TheVariants as refusals
 use Rattle.locked_cluster.specs.Answers.{NotedFinishedView, IsNotedFinished}
 use Rattle.locked_cluster.specs.Commits.{HoldsBatch}
 use Rattle.threads_lines.specs.Histories.{IsStartOf, Joins, Known, SeesFinished, nothing_known}
-use Rattle.threads_lines.specs.Lines.{Answer, batch_line, closing_line}
+use Rattle.threads_lines.specs.Lines.{CommitResult, batch_line, closing_line}
 use Rattle.threads_lines.specs.Parts.{IsInTurns}
 use Rattle.threads_lines.specs.declared.committer.Committed.{Committed}
 use Rattle.threads_lines.specs.declared.committer.Committed.TheVariants as committed
@@ -21,7 +21,8 @@ use Rattle.threads_lines.specs.declared.committer.Committed.TheVariants as commi
 -- The outcomes and the tags are the definition's for the last of some records, which are a history;
 -- this last record is of proxy p, and holds the batch.
 pub record FinishesBatch
-    (config : Config) (p : ProxyNumber) (batch : List Given) (noted : NotedFinishedView) :
+    (config : Config) (p : ProxyNumber) (batch : List AdmittedTransaction)
+    (noted : NotedFinishedView) :
     Type 0 where
   pub is : IsNotedFinished config noted
   pub holds : HoldsBatch p noted.finished.row noted.records batch
@@ -49,7 +50,8 @@ IsEnd config rows refusal =
 
 -- what a commit of the batch by proxy p may come to
 abbrev pub IsCommitOf :
-    {N : Type 0} → Config → (rows : ℕ) → ProxyNumber → List Given → Committed N → Type 0
+    {N : Type 0} → Config → (rows : ℕ) → ProxyNumber → List AdmittedTransaction → Committed N
+    → Type 0
 IsCommitOf config rows p batch (committed.Finished noted) = FinishesBatch config p batch noted
 IsCommitOf config rows p batch (committed.NoRecord refusal) = IsEnd config rows refusal
 
@@ -65,7 +67,8 @@ pub record SeesEnd (config : Config) (rows : ℕ) (refusal : Refusal) (before af
 -- records, beyond all that were known, which are known then; or there is no record for it, since none
 -- can follow those that are known then.
 abbrev pub AnswersBatch :
-    Config → (rows : ℕ) → ProxyNumber → List Given → (before after : Known) → Answer → Type 0
+    Config → (rows : ℕ) → ProxyNumber → List AdmittedTransaction → (before after : Known)
+    → CommitResult → Type 0
 AnswersBatch config rows p batch before after (Ok finished) =
     (noted : NotedFinishedView) × FinishesBatch config p batch noted
     × SeesFinished noted before after × (finished ≡ noted.finished)
@@ -76,38 +79,41 @@ AnswersBatch config rows p batch before after (Err refusal) =
 
 -- the line of an answer to the batch of proxy p
 abbrev pub IsLineOf :
-    Config → (rows : ℕ) → ProxyNumber → (line : Answer → List ℕ) → List Given
+    Config → (rows : ℕ) → ProxyNumber → (line : CommitResult → List ℕ) → List AdmittedTransaction
     → (before after : Known) → (text : List ℕ) → Type 0
 IsLineOf config rows p line batch before after text =
-    (answer : Answer) × AnswersBatch config rows p batch before after answer
+    (answer : CommitResult) × AnswersBatch config rows p batch before after answer
     × (text ≡ line answer)
 
 -- the line of an answer to the batch at this place among those of proxy p
 abbrev pub IsBatchLine :
-    Config → (rows : ℕ) → ProxyNumber → List (List Given) → (place : ℕ)
+    Config → (rows : ℕ) → ProxyNumber → List (List AdmittedTransaction) → (place : ℕ)
     → (before after : Known) → (text : List ℕ) → Type 0
 IsBatchLine config rows p batches place before after text =
-    (batch : List Given) × (slice_get batches place ≡ Some batch)
+    (batch : List AdmittedTransaction) × (slice_get batches place ≡ Some batch)
     × IsLineOf config rows p (batch_line p place) batch before after text
 
 -- The lines of answers to these batches of proxy p, in order, after which so much is known by them: so
 -- the rows of those that are finished rise.
 abbrev pub AreBatchLines :
-    Config → (rows : ℕ) → ProxyNumber → List (List Given) → Known → (text : List ℕ) → Type 0
+    Config → (rows : ℕ) → ProxyNumber → List (List AdmittedTransaction) → Known → (text : List ℕ)
+    → Type 0
 AreBatchLines config rows p batches known text =
     IsInTurns (IsBatchLine config rows p batches) nothing_known (length batches) known text
 
 -- the lines of answers to the batches that proxy p commits, and what is known by them
 abbrev pub AreLinesOfProxy :
-    Config → (rows : ℕ) → (work : List (List (List Given))) → ProxyNumber
+    Config → (rows : ℕ) → (work : List (List (List AdmittedTransaction))) → ProxyNumber
     → (before after : Known) → (text : List ℕ) → Type 0
 AreLinesOfProxy config rows work p before after text =
-    (batches : List (List Given)) × (known : Known) × (slice_get work p ≡ Some batches)
+    (batches : List (List AdmittedTransaction)) × (known : Known)
+    × (slice_get work p ≡ Some batches)
     × AreBatchLines config rows p batches known text × Joins known before after
 
 -- the lines of answers to the batches of all proxies, in the order of the proxies
 abbrev pub AreWorkLines :
-    Config → (rows : ℕ) → (work : List (List (List Given))) → Known → (text : List ℕ) → Type 0
+    Config → (rows : ℕ) → (work : List (List (List AdmittedTransaction))) → Known → (text : List ℕ)
+    → Type 0
 AreWorkLines config rows work known text =
     IsInTurns (AreLinesOfProxy config rows work) nothing_known (length work) known text
 
@@ -117,7 +123,7 @@ abbrev pub IsClosingLine :
 IsClosingLine config rows p before after text =
     IsLineOf config rows p (closing_line p) [] before after text
 
--- The lines of answers to the closings of so many proxies, in order: the rows of those that are finished
+-- The lines of answers to the closings of this number of proxies, in order: the rows of those that are finished
 -- rise, beyond all records that were known before.
 abbrev pub AreClosingLines :
     Config → (rows proxies : ℕ) → (before after : Known) → (text : List ℕ) → Type 0

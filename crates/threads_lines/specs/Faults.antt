@@ -18,7 +18,7 @@ abbrev pub graver : RunFault → RunFault → RunFault
 graver faults.OutOfMemory other = faults.OutOfMemory
 graver faults.Refused other = other
 
--- the fault of a run: that of its proxies, but `OutOfMemory` if a worker was refused memory
+-- the fault of a run: its proxies' fault, but `OutOfMemory` if a worker was refused memory
 abbrev pub fault_beside : RunFault → (refused_memory : Bool) → RunFault
 fault_beside fault true = faults.OutOfMemory
 fault_beside fault false = fault

@@ -33,7 +33,7 @@ one_of version = record {
   batch = [];
 } ∷ []
 
--- a cluster in which so many versions lie between two records
+-- a cluster in which this number of versions lies between two records
 abbrev pub steps_of : Version → Config
 steps_of step = record { proxies = 2; resolvers = 2; window = 100; step = step }
 

@@ -12,8 +12,8 @@ use Rattle.agreed_ledger.specs.declared.refusal.Refusal.{Refusal}
 use Rattle.agreed_ledger.specs.declared.refusal.Refusal.TheVariants as refusals
 
 -- what a batch is answered: it is finished, or it got no record
-abbrev pub Answer : Type 0
-Answer = Result Finished Refusal
+abbrev pub CommitResult : Type 0
+CommitResult = Result Finished Refusal
 
 -- ---- words
 
@@ -36,12 +36,12 @@ abbrev pub version_text : Version → List ℕ
 version_text version = codes "version " ++ decimal version
 
 -- the outcomes of the batch, or why it got no record
-abbrev pub outcomes_text : Answer → List ℕ
+abbrev pub outcomes_text : CommitResult → List ℕ
 outcomes_text (Ok finished) = list_text (map outcome_name finished.outcomes)
 outcomes_text (Err refusal) = refusal_text refusal
 
 -- the version of the batch, or why it got no record
-abbrev pub closed_text : Answer → List ℕ
+abbrev pub closed_text : CommitResult → List ℕ
 closed_text (Ok finished) = version_text finished.version
 closed_text (Err refusal) = refusal_text refusal
 
@@ -51,12 +51,12 @@ closed_text (Err refusal) = refusal_text refusal
 abbrev pub batch_text : ProxyNumber → (place : ℕ) → List ℕ
 batch_text p place = codes "batch " ++ decimal p ++ spaced (decimal place) ++ codes " "
 
-abbrev pub batch_line : ProxyNumber → (place : ℕ) → Answer → List ℕ
+abbrev pub batch_line : ProxyNumber → (place : ℕ) → CommitResult → List ℕ
 batch_line p place answer = line (batch_text p place ++ outcomes_text answer)
 
 -- how the line of the batch begins by which proxy p closes
 abbrev pub closing_text : ProxyNumber → List ℕ
 closing_text p = codes "closing " ++ decimal p ++ codes " "
 
-abbrev pub closing_line : ProxyNumber → Answer → List ℕ
+abbrev pub closing_line : ProxyNumber → CommitResult → List ℕ
 closing_line p answer = line (closing_text p ++ closed_text answer)

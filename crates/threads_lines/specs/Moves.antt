@@ -26,7 +26,7 @@ pub record HaveMoved (before : SequencedView) (moves : List UndatedMove) (after 
   pub moves_are :
       after.moves ≡ before.moves ++ map (dated (last_version before.records + 1)) moves
 
--- how a run fails in which this move fails: for want of memory, unless it goes to a resolver that is
+-- how a run fails in which this move fails: with `OutOfMemory`, unless it goes to a resolver that is
 -- not there
 pub record IsFaultOfMove (config : Config) (failed : UndatedMove) (fault : RunFault) : Type 0 where
   pub missing : config.resolvers ≤ failed.dest → fault ≡ faults.Refused

@@ -1,7 +1,7 @@
 -- Texts of several parts, one after the other.
 use Rattle.std.specs.Prelude.{◌≡◌, ℕ, zero, suc, List, [], ◌++◌}
 
--- The text is so many parts, in order. Each is as `IsPart` says of its number, counted from 0.
+-- The text is this number of parts, in order. Each is as `IsPart` says of its number, counted from 0.
 abbrev pub IsInParts :
     (IsPart : (number : ℕ) → (part : List ℕ) → Type 0) → (count : ℕ) → (text : List ℕ) → Type 0
 IsInParts IsPart zero text = text ≡ []
@@ -9,7 +9,7 @@ IsInParts IsPart (suc count) text =
     (before : List ℕ) × (part : List ℕ) × IsInParts IsPart count before × IsPart count part
     × (text ≡ before ++ part)
 
--- The text is so many parts, in order, with each of which more is known: `first` before all of them,
+-- The text is this number of parts, in order, with each of which more is known: `first` before all of them,
 -- `last` after them. Each is as `IsTurn` says of its number, counted from 0, of what is known before
 -- it, and of what is known after it.
 abbrev pub IsInTurns :

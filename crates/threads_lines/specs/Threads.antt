@@ -3,7 +3,7 @@
 use Rattle.std.specs.Prelude.{◌≡◌, ℕ, List, slice_get, Some, ◌++◌, Result, Ok, IfOk}
 use Rattle.model.specs.Configs.{Config}
 use Rattle.model.specs.Numbers.{ProxyNumber}
-use Rattle.model.specs.Stamps.{Given}
+use Rattle.model.specs.Stamps.{AdmittedTransaction}
 use Rattle.threads_lines.specs.Answers.{AreClosingLines, AreWorkLines}
 use Rattle.threads_lines.specs.Histories.{Joins, Known}
 use Rattle.threads_lines.specs.declared.faults.RunFault.{RunFault}
@@ -15,7 +15,8 @@ AreInPlace numbers = (p number : ℕ) → slice_get numbers p ≡ Some number �
 -- each thread is of the proxy at its place, and of the batches that stand there
 abbrev pub AreInOrder :
     {X : Type 0} → (threads : List X) → (number : X → ProxyNumber)
-    → (batches : X → List (List Given)) → (work : List (List (List Given))) → Type 0
+    → (batches : X → List (List AdmittedTransaction))
+    → (work : List (List (List AdmittedTransaction))) → Type 0
 AreInOrder threads number batches work =
     (p : ℕ) (thread : _) → slice_get threads p ≡ Some thread
     → (number thread ≡ p) × (slice_get work p ≡ Some (batches thread))
@@ -23,9 +24,10 @@ AreInOrder threads number batches work =
 -- each thread returned what it promises, if it did not fail; `Keeps` says what is promised for these
 -- batches of this proxy
 abbrev pub KeepPromises :
-    {X Y : Type 0} → (Keeps : ProxyNumber → List (List Given) → Y → Type 0)
+    {X Y : Type 0} → (Keeps : ProxyNumber → List (List AdmittedTransaction) → Y → Type 0)
     → (threads : List X) → (number : X → ProxyNumber)
-    → (batches : X → List (List Given)) → (returned : List (Result Y RunFault)) → Type 0
+    → (batches : X → List (List AdmittedTransaction)) → (returned : List (Result Y RunFault))
+    → Type 0
 KeepPromises Keeps threads number batches returned =
     (place : ℕ) (thread : _) (one : _) → slice_get threads place ≡ Some thread
     → slice_get returned place ≡ Some one
@@ -46,7 +48,7 @@ IsTextOf bytes known returned place before after text =
 pub record AreAnswerLines
     (config : Config)
     (rows : ℕ)
-    (work : List (List (List Given)))
+    (work : List (List (List AdmittedTransaction)))
     (proxies : ℕ)
     (known : Known)
     (text : List ℕ) : Type 0 where

@@ -24,7 +24,7 @@ pub fn check_answered<N: Naming>(history: &RunHistory<N>) -> Result<(), RunFault
     ensures checked { OnOk result (history.now.finished ≡ length history.now.records) }
     ensures err { IfErr result (FailsCheckOf (history.now.finished ≡ length history.now.records)) }
 {
-    if history.finished() == history.records().end() {
+    if history.finished_count() == history.records().end() {
         Ok(())
     } else {
         Err(RunFault::Refused)

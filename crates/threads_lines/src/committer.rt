@@ -70,11 +70,11 @@ impl<'a, 'l, N: Naming, A: Asking<N>> Committer<'a, 'l, N, A> {
     {
         let mut text = String::new(alloc);
         let mut history = RunHistory::new(alloc);
-        self.print_batches(rt, &mut text, &mut history, batches)?;
+        self.commit_and_print_batches(rt, &mut text, &mut history, batches)?;
         Ok(AnsweredLines { text, history })
     }
 
-    fn print_batches<R: Wait>(
+    fn commit_and_print_batches<R: Wait>(
         &self,
         rt: &R,
         text: &mut String,
@@ -87,7 +87,7 @@ impl<'a, 'l, N: Naming, A: Asking<N>> Committer<'a, 'l, N, A> {
             (string_bytes text.old) (string_bytes text.new)) }
     {
         for (place, batch) in batches.iter().enumerate() {
-            self.print_batch(rt, text, history, place, batch)?;
+            self.commit_and_print_batch(rt, text, history, place, batch)?;
         }
         Ok(())
     }
@@ -96,7 +96,7 @@ impl<'a, 'l, N: Naming, A: Asking<N>> Committer<'a, 'l, N, A> {
     /// it gets no record. Fails with `OutOfMemory` if an allocation failed, and with `Refused` if the
     /// cluster refuses the batch otherwise, if the history knows its row, or if it gets no record though
     /// one could follow those given out.
-    fn print_batch<R: Wait>(
+    fn commit_and_print_batch<R: Wait>(
         &self,
         rt: &R,
         text: &mut String,
@@ -125,7 +125,7 @@ impl<'a, 'l, N: Naming, A: Asking<N>> Committer<'a, 'l, N, A> {
 
     /// Commits an empty batch, by which the proxy closes, prints its answer, and learns the records up to
     /// it, or all that were given out if it gets no record. Fails as for any batch.
-    pub fn print_closing<R: Wait>(
+    pub fn commit_and_print_closing<R: Wait>(
         &self,
         rt: &R,
         text: &mut String,

@@ -35,7 +35,7 @@ impl RunFault {
     }
 
     /// Of two faults the one that the run ends with: `OutOfMemory`, if either is that.
-    pub fn or(self, other: RunFault) -> RunFault
+    pub fn graver(self, other: RunFault) -> RunFault
         ensures { result ≡ graver self other }
     {
         match self {
@@ -46,7 +46,7 @@ impl RunFault {
 
     /// The fault of a run whose proxies failed with this one: `OutOfMemory` if a worker was refused
     /// memory, of which a proxy may have seen only that a resolver was closed.
-    pub fn beside(self, refused_memory: bool) -> RunFault
+    pub fn fault_beside(self, refused_memory: bool) -> RunFault
         ensures { result ≡ fault_beside self refused_memory }
     {
         if refused_memory {

@@ -17,8 +17,8 @@ mod lines;
 mod meetings;
 mod moves;
 mod run_history;
-mod serving;
-mod threads;
+mod worker_threads;
+mod proxy_threads;
 
 pub use checks::{check_answered, check_moves, check_proxies, check_resolvers, records_of};
 pub use cluster::Cluster;
@@ -27,5 +27,5 @@ pub use faults::{RunFault, status_of};
 pub use laws::{audit_law, end_law};
 pub use meetings::{print_audits, print_meetings};
 pub use run_history::RunHistory;
-pub use serving::{RunOutcome, ServesInbox, commit_over_workers};
-pub use threads::{CommitsBatches, EndsProxies};
+pub use worker_threads::{RunOutcome, ServesInbox, commit_over_workers};
+pub use proxy_threads::{CommitsBatches, EndsProxies};

@@ -7,7 +7,7 @@ ghost use Rattle.threads_lines.specs.Lines.{batch_line, batch_text, closing_line
 ghost use Rattle.threads_lines.specs.Lines.{refusal_text, refusal_value, version_text};
 
 use agreed_ledger::Refusal;
-use cluster_lines::{outcome_name, push_refused};
+use cluster_lines::{outcome_name, push_number_and_name};
 use model::{Finished, Outcome, ProxyNumber, Version};
 use std::fmt::Write;
 use system_keys::OutOfMemory;
@@ -40,7 +40,7 @@ pub(crate) fn print_refused_batch(
         ≡ string_bytes text.old ++ batch_line proxy place (Err refusal.now)) }
 {
     push_batch(text, proxy, place)?;
-    push_refusal(text, refusal)?;
+    push_ledger_refusal(text, refusal)?;
     text.push_str("\n")?;
     Ok(())
 }
@@ -70,7 +70,7 @@ pub(crate) fn print_refused_closing(
         ≡ string_bytes text.old ++ closing_line proxy (Err refusal.now)) }
 {
     push_closing(text, proxy)?;
-    push_refusal(text, refusal)?;
+    push_ledger_refusal(text, refusal)?;
     text.push_str("\n")?;
     Ok(())
 }
@@ -130,12 +130,12 @@ fn push_spaced_outcomes(text: &mut String, outcomes: &[Outcome]) -> Result<(), O
 }
 
 // Fails also for the refusal `OutOfMemory`, which has no number.
-fn push_refusal(text: &mut String, refusal: &Refusal) -> Result<(), OutOfMemory>
+fn push_ledger_refusal(text: &mut String, refusal: &Refusal) -> Result<(), OutOfMemory>
     ensures { OnOk result (string_bytes text.new
         ≡ string_bytes text.old ++ refusal_text refusal.now) }
 {
     let number = refusal.number().ok_or(OutOfMemory)?;
-    push_refused(text, number, refusal.name())?;
+    push_number_and_name(text, number, refusal.name())?;
     push_refusal_value(text, refusal)
 }
 

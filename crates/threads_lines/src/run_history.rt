@@ -57,7 +57,7 @@ impl<N: Naming> RunHistory<N> {
     }
 
     /// How many batches were seen finished, closings among them.
-    pub fn finished(&self) -> usize
+    pub fn finished_count(&self) -> usize
         ensures { result ≡ self.now.finished }
     {
         self.finished
@@ -145,7 +145,7 @@ impl<N: Naming> RunHistory<N> {
         Ok(())
     }
 
-    /// Counts so many batches more as seen finished. Fails only with `OutOfMemory`.
+    /// Adds `more` to the number of batches seen finished. Fails only with `OutOfMemory`.
     fn count(&mut self, more: usize) -> Result<(), OutOfMemory>
         ensures kept { self.new.records ≡ self.old.records }
         ensures counted { OnOk result (self.new.finished ≡ self.old.finished + more) }
@@ -172,7 +172,7 @@ impl<N: Naming> RunHistory<N> {
         }
     }
 
-    /// The ledger has so many rows, and each has a record. Fails exactly if that is not so, with `Refused`.
+    /// The ledger has `rows` rows, and each has a record. Fails exactly if that is not so, with `Refused`.
     fn check_full(&self, ledger: &Ledger<N>, rows: usize) -> Result<(), RunFault>
         ensures checked { OnOk result (IsFull (length N.cells.records) self.now.records rows) }
         ensures err { IfErr result (FailsCheckOf

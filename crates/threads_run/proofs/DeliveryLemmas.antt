@@ -9,7 +9,7 @@ use Rattle.std.proofs.lemmas.Option.{same_Some, slice_get_within, slice_get-get_
 use Rattle.model.specs.Configs.{Config}
 use Rattle.model.specs.Records.{Record, records_of_proxy}
 use Rattle.locked_resolvers.proofs.Lists.{got}
-use Rattle.inboxes.specs.declared.tag.Tag.{Tag}
+use Rattle.inboxes.specs.declared.views.Tag.{Tag}
 use Rattle.inboxes.specs.Counts.{counted}
 use Rattle.inboxes.specs.Delivers.{of_proxy}
 use Rattle.inboxes.specs.Ends.{AreSenders, IsBeginning, ProxyView, SenderView}

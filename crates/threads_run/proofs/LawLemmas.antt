@@ -7,15 +7,15 @@ use Rattle.std.proofs.lemmas.List.Elements.{All-cons, All-nil}
 use Rattle.std.proofs.lemmas.Option.{get_or_from_slice_get, none-some, same_Some, slice_get-map, slice_get_within}
 use Rattle.model.specs.Configs.{Config}
 use Rattle.model.specs.Records.{Record, IsHistory, last_version, records_of_proxy}
-use Rattle.model.specs.Stamps.{Given}
+use Rattle.model.specs.Stamps.{AdmittedTransaction}
 use Rattle.model.proofs.History.Chain.{version_before}
 use Rattle.model.proofs.History.Growth.{own_version_up_to}
 use Rattle.agreed_ledger.specs.declared.refusal.Refusal.TheVariants as refusals
-use Rattle.inboxes.specs.declared.tag.Tag.{Tag}
+use Rattle.inboxes.specs.declared.views.Tag.{Tag}
 use Rattle.inboxes.specs.Delivers.{of_proxy}
 use Rattle.inboxes.specs.Ends.{ProxyView, SenderView}
 use Rattle.inboxes.specs.Sending.{HasEndLast, ends_in}
-use Rattle.inboxes.specs.Tags.{close_tag}
+use Rattle.inboxes.specs.MessageViews.{close_view}
 use Rattle.inboxes.proofs.Sent.{one_end}
 use Rattle.locked_cluster.specs.Proxies.{LockedProxyView}
 use Rattle.locked_resolvers.specs.Resolvers.{LockedResolverView}
@@ -26,7 +26,7 @@ use Rattle.workers.specs.Workers.{EndedView}
 use Rattle.threads_lines.specs.Answers.{AnswersBatch, AreLinesOfProxy, IsBatchLine, IsClosingLine}
 use Rattle.threads_lines.specs.Histories.{HasFinishedAll, HasJudgedAll, IsStartOf, Known, nothing_known}
 use Rattle.threads_lines.specs.Laws.{HaveVersionOf, one_of, reached_by_all}
-use Rattle.threads_lines.specs.Lines.{Answer, closing_line}
+use Rattle.threads_lines.specs.Lines.{CommitResult, closing_line}
 use Rattle.threads_lines.specs.Meetings.{AreMeetingLines, IsAuditLine, audit_line}
 use Rattle.threads_lines.specs.Parts.{IsInParts, IsInTurns}
 use Rattle.threads_lines.proofs.CheckLemmas.{all_at}
@@ -89,7 +89,7 @@ each_audit_is_ok script text is =
 -- ---- records and lines
 
 -- one line is of at most one batch that is finished
-one_more : (config : Config) (rows p : ℕ) (batch : List Given) (before after : Known) (answer : Answer)
+one_more : (config : Config) (rows p : ℕ) (batch : List AdmittedTransaction) (before after : Known) (answer : CommitResult)
     → AnswersBatch config rows p batch before after answer → after.finished ≤ before.finished + 1
 one_more config rows p batch before after (Ok finished) is = let counted = is.2.counted in omega (arith, counted)
 one_more config rows p batch before after (Err refusal) is = let counted = is.counted in omega (arith, counted)
@@ -105,15 +105,15 @@ as_many Turn first last (suc count) text one (between, earlier, part, turns, tur
     omega (arith, before, more)
 
 -- one list of batches more
-more_batches : (work : List (List (List Given))) (k : ℕ) (batches : List (List Given)) → slice_get work k ≡ Some batches
+more_batches : (work : List (List (List AdmittedTransaction))) (k : ℕ) (batches : List (List AdmittedTransaction)) → slice_get work k ≡ Some batches
     → batches_in (take (k + 1) work) ≡ batches_in (take k work) + length batches
 more_batches work k batches at =
-    let size = λ (bs : List (List Given)). length bs in
+    let size = λ (bs : List (List AdmittedTransaction)). length bs in
     let one : sum_by size (batches ∷ []) ≡ length batches = omega arith in
     ap batches_in (take_next work k batches at) ∙ sum_by-append size (take k work) (batches ∷ []) ∙ ap (λ (n : ℕ). batches_in (take k work) + n) one
 
 -- the lines of the work of the first proxies
-work_lines : (config : Config) (rows : ℕ) (work : List (List (List Given))) (known : Known) (count : ℕ) (text : List ℕ)
+work_lines : (config : Config) (rows : ℕ) (work : List (List (List AdmittedTransaction))) (known : Known) (count : ℕ) (text : List ℕ)
     → IsInTurns (AreLinesOfProxy config rows work) nothing_known count known text → known.finished ≤ batches_in (take count work)
 work_lines config rows work known zero text is = let same = ap (λ (k : Known). k.finished) is.0 in omega (arith, same)
 work_lines config rows work known (suc count) text (between, earlier, part, turns, turn, whole) =
@@ -298,7 +298,7 @@ a_record_is_one_message = record {
   a_lost_request = λ goes. let size : 1 ≡ 2 = (taken_of_one (a_request ∷ the_end ∷ []) (the_end ∷ []) goes).0 in absurd (omega (arith, size));
   a_lost_end = λ goes. let size : 1 ≡ 2 = (taken_of_one (a_request ∷ the_end ∷ []) (a_request ∷ []) goes).0 in absurd (omega (arith, size));
   a_close_more = λ goes.
-      let all = close_tag 0 ∷ a_request ∷ the_end ∷ [] in
+      let all = close_view 0 ∷ a_request ∷ the_end ∷ [] in
       let size : 3 ≡ 2 = (taken_of_one all all goes).0 in
       absurd (omega (arith, size));
   without_an_end = λ goes. no_end_last (taken_of_one (a_request ∷ a_request ∷ []) (a_request ∷ a_request ∷ []) goes).1;

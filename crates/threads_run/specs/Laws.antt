@@ -2,7 +2,7 @@
 use Rattle.std.specs.Prelude.{◌≡◌, ◌+◌, ◌<◌, ◌≤◌, ℕ, List, [], ◌∷◌, ◌++◌, length}
 use Rattle.std.specs.Prelude.{IsOk, Some, Ok, Err, false, slice_get}
 use Rattle.std.specs.List.{sum_by}
-use Rattle.scripts.specs.Answers.{Answer, done, refused_answer}
+use Rattle.scripts.specs.Outputs.{OutputView, done, refused_output}
 use Rattle.scripts.specs.declared.script_fault.ScriptFault.{ScriptFault}
 use Rattle.scripts.specs.declared.script_fault.ScriptFault.TheVariants.{NotJson, BadShape}
 use Rattle.scripts.specs.declared.status.RunStatus.TheVariants.{Done, ScriptRefused}
@@ -10,13 +10,13 @@ use Rattle.scripts.specs.declared.status.RunStatus.TheVariants.{DeviceFailed, Ou
 use Rattle.model.specs.Configs.{Config}
 use Rattle.model.specs.Numbers.{ProxyNumber, ResolverNumber}
 use Rattle.model.specs.Records.{Record}
-use Rattle.model.specs.Stamps.{Given}
+use Rattle.model.specs.Stamps.{AdmittedTransaction}
 use Rattle.agreed_ledger.specs.declared.refusal.Refusal.TheVariants as refusals
-use Rattle.inboxes.specs.declared.tag.Tag.{Tag}
+use Rattle.inboxes.specs.declared.views.Tag.{Tag}
 use Rattle.inboxes.specs.Delivers.{of_proxy}
 use Rattle.inboxes.specs.Ends.{ProxyView}
 use Rattle.inboxes.specs.Sending.{HasEndLast}
-use Rattle.inboxes.specs.Tags.{close_tag, end_tag, request_tag}
+use Rattle.inboxes.specs.MessageViews.{close_view, end_view, request_view}
 use Rattle.locked_cluster.specs.Proxies.{IsNewLockedProxy, LockedProxyView}
 use Rattle.locked_resolvers.specs.Resolvers.{IsNewLockedResolver, LockedResolverView}
 use Rattle.threads_lines.specs.Guards.{AreLockedProxies, AreLockedResolvers}
@@ -25,7 +25,7 @@ use Rattle.threads_lines.specs.Lines.{closing_line}
 use Rattle.threads_lines.specs.Meetings.{IsAuditLine, audit_line}
 use Rattle.threads_lines.specs.Parts.{IsInParts}
 use Rattle.threads_run.specs.Delivered.{GoesByInboxes, messages_of}
-use Rattle.threads_run.specs.Runs.{Answers, IsAnswerTo, WritesAnswer}
+use Rattle.threads_run.specs.Runs.{IsOutputOf, IsOutputFor, WritesOutput}
 use Rattle.threads_run.specs.Text.{IsThreadsText, proxy_text}
 use Rattle.threads_scripts.specs.Scripts.{script_of}
 use Rattle.threads_scripts.specs.declared.script.ThreadsScript.{ThreadsScript}
@@ -43,8 +43,8 @@ EachAuditIsOk =
     × AreAuditsOk script.config.proxies audits
 
 -- how many lines of batches these lists of work have
-abbrev pub batches_in : List (List (List Given)) → ℕ
-batches_in work = sum_by (λ (batches : List (List Given)). length batches) work
+abbrev pub batches_in : List (List (List AdmittedTransaction)) → ℕ
+batches_in work = sum_by (λ (batches : List (List AdmittedTransaction)). length batches) work
 
 -- a record of the history has a line of its own: there are no more records than batches and closings
 abbrev pub EachRecordHasALine : Type 0
@@ -149,10 +149,10 @@ GoesByOne history sent taken =
 
 -- a request of proxy 0 to resolver 0, and its last message
 abbrev pub a_request : Tag
-a_request = request_tag 0 0 0
+a_request = request_view 0 0 0
 
 abbrev pub the_end : Tag
-the_end = end_tag 0
+the_end = end_view 0
 
 -- A run of one record sent a request and the End. It did not go by its inbox if the proxy asked the resolver
 -- in another way, nor if a message was lost, came twice or was a Close, or if the last is no End.
@@ -162,8 +162,8 @@ pub record ARecordIsOneMessage : Type 0 where
   pub a_lost_request : GoesByOne (one_of 10) (a_request ∷ the_end ∷ []) (the_end ∷ []) → ⊥
   pub a_lost_end : GoesByOne (one_of 10) (a_request ∷ the_end ∷ []) (a_request ∷ []) → ⊥
   pub a_close_more :
-      GoesByOne (one_of 10) (close_tag 0 ∷ a_request ∷ the_end ∷ [])
-      (close_tag 0 ∷ a_request ∷ the_end ∷ []) → ⊥
+      GoesByOne (one_of 10) (close_view 0 ∷ a_request ∷ the_end ∷ [])
+      (close_view 0 ∷ a_request ∷ the_end ∷ []) → ⊥
   pub without_an_end :
       GoesByOne (one_of 10) (a_request ∷ a_request ∷ []) (a_request ∷ a_request ∷ []) → ⊥
 
@@ -172,53 +172,54 @@ pub record ARecordIsOneMessage : Type 0 where
 -- the answer to bytes that are not JSON, and answers that are wrong by their fault, their status or their
 -- text
 pub record AFaultHasOneAnswer : Type 0 where
-  pub answer : Answers (Err NotJson) (refused_answer NotJson)
-  pub another_fault : Answers (Err NotJson) (refused_answer BadShape) → ⊥
-  pub another_status : Answers (Err NotJson) (done (refused_answer NotJson).text) → ⊥
+  pub answer : IsOutputOf (Err NotJson) (refused_output NotJson)
+  pub another_fault : IsOutputOf (Err NotJson) (refused_output BadShape) → ⊥
+  pub another_status : IsOutputOf (Err NotJson) (done (refused_output NotJson).text) → ⊥
   pub a_line_more :
-      Answers (Err NotJson) (record (refused_answer NotJson) {
-        text = (refused_answer NotJson).text ++ 10 ∷ [];
+      IsOutputOf (Err NotJson) (record (refused_output NotJson) {
+        text = (refused_output NotJson).text ++ 10 ∷ [];
       }) → ⊥
 
 -- a script without a fault is answered by none
 abbrev pub AScriptWithoutFaultIsNotRefused : Type 0
 AScriptWithoutFaultIsNotRefused =
-    (script : ThreadsScript) (fault : ScriptFault) → Answers (Ok script) (refused_answer fault) → ⊥
+    (script : ThreadsScript) (fault : ScriptFault) → IsOutputOf (Ok script) (refused_output fault)
+    → ⊥
 
 -- ---- what a run writes; `old` and `new` are what the sink had and has, which is not the same
 
 -- a run that is done wrote a text of its script
 abbrev pub ADoneRunWroteATextOfItsScript : Type 0
 ADoneRunWroteATextOfItsScript =
-    (answer : Answer) (bytes old new : List ℕ)
-    → WritesAnswer answer ⊥ (Some bytes) (Some old) (Some new) Done
+    (answer : OutputView) (bytes old new : List ℕ)
+    → WritesOutput answer ⊥ (Some bytes) (Some old) (Some new) Done
     → (script : ThreadsScript) × (script_of bytes ≡ Ok script)
     × IsThreadsText script answer.text × (new ≡ old ++ answer.text)
 
 -- one that is refused wrote the line of its script's fault
 abbrev pub ARefusedRunWroteTheFault : Type 0
 ARefusedRunWroteTheFault =
-    (answer : Answer) (bytes old new : List ℕ)
-    → WritesAnswer answer ⊥ (Some bytes) (Some old) (Some new) ScriptRefused
+    (answer : OutputView) (bytes old new : List ℕ)
+    → WritesOutput answer ⊥ (Some bytes) (Some old) (Some new) ScriptRefused
     → (fault : ScriptFault) × (script_of bytes ≡ Err fault)
-    × (new ≡ old ++ (refused_answer fault).text)
+    × (new ≡ old ++ (refused_output fault).text)
 
 -- one whose device failed wrote a beginning of an answer to its input
 abbrev pub AFailedRunWroteABeginning : Type 0
 AFailedRunWroteABeginning =
-    (answer : Answer) (bytes old new : List ℕ)
-    → WritesAnswer answer ⊥ (Some bytes) (Some old) (Some new) DeviceFailed
-    → IsAnswerTo bytes answer × ((rest : List ℕ) × (old ++ answer.text ≡ new ++ rest))
+    (answer : OutputView) (bytes old new : List ℕ)
+    → WritesOutput answer ⊥ (Some bytes) (Some old) (Some new) DeviceFailed
+    → IsOutputFor bytes answer × ((rest : List ℕ) × (old ++ answer.text ≡ new ++ rest))
 
 -- any other wrote nothing; a cluster refuses only a script without a fault
 pub record OtherRunsWriteNothing : Type 0 where
   pub out_of_memory :
-      (answer : Answer) (bytes old new : List ℕ)
-      → WritesAnswer answer ⊥ (Some bytes) (Some old) (Some new) OutOfMemory → ⊥
+      (answer : OutputView) (bytes old new : List ℕ)
+      → WritesOutput answer ⊥ (Some bytes) (Some old) (Some new) OutOfMemory → ⊥
   pub cluster_refused :
-      (answer : Answer) (bytes old new : List ℕ)
-      → WritesAnswer answer ⊥ (Some bytes) (Some old) (Some new) ClusterRefused → ⊥
+      (answer : OutputView) (bytes old new : List ℕ)
+      → WritesOutput answer ⊥ (Some bytes) (Some old) (Some new) ClusterRefused → ⊥
   pub without_fault :
-      (answer : Answer) (bytes old : List ℕ)
-      → WritesAnswer answer (Unit {0}) (Some bytes) (Some old) (Some old) ClusterRefused
+      (answer : OutputView) (bytes old : List ℕ)
+      → WritesOutput answer (Unit {0}) (Some bytes) (Some old) (Some old) ClusterRefused
       → IsOk (script_of bytes)

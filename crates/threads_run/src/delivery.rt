@@ -18,7 +18,7 @@ use std::marker::Model;
 use std::sync::Wait;
 use system_keys::OutOfMemory;
 use threads_lines::{RunFault, RunHistory, records_of};
-use workers::{AskedRequest, EndedWorker, Open, ProxyInboxes};
+use workers::{PendingRequest, EndedWorker, Open, ProxyInboxes};
 
 /// What is left of the worker of an inbox.
 pub(crate) type Ended<N, M> = EndedWorker<N, M, Open>;
@@ -28,7 +28,7 @@ pub(crate) type Ended<N, M> = EndedWorker<N, M, Open>;
 #[derive(Drop)]
 pub(crate) struct EndedSide<N: Naming, M: Channels> {
     proxy: ProxyNumber,
-    ends: Vec<EndedSender<N, AskedRequest<N>, M>>,
+    ends: Vec<EndedSender<N, PendingRequest<N>, M>>,
 }
 
 impl<N: Naming, M: Channels> Model for EndedSide<N, M> {
@@ -195,7 +195,7 @@ fn check_delivered<N: Naming, M: Channels>(
 /// exactly if not so many messages were delivered through each of them, with `Refused`.
 fn check_senders<N: Naming, M: Channels>(
     messages: u64,
-    senders: Vec<EndedSender<N, AskedRequest<N>, M>>,
+    senders: Vec<EndedSender<N, PendingRequest<N>, M>>,
     workers: &mut Vec<Ended<N, M>>,
 ) -> Result<(), RunFault>
     requires messages { messages < 2 ^ 64 - 1 }
@@ -215,7 +215,7 @@ fn check_senders<N: Naming, M: Channels>(
 /// so many messages were delivered, with `Refused`.
 fn check_sender<N: Naming, M: Channels>(
     messages: u64,
-    sender: EndedSender<N, AskedRequest<N>, M>,
+    sender: EndedSender<N, PendingRequest<N>, M>,
     workers: &mut Vec<Ended<N, M>>,
 ) -> Result<(), RunFault>
     requires messages { messages < 2 ^ 64 - 1 }
@@ -238,7 +238,7 @@ fn check_sender<N: Naming, M: Channels>(
 /// exactly if not so many messages were delivered to it, with `Refused`.
 fn check_worker<N: Naming, M: Channels>(
     messages: u64,
-    sender: EndedSender<N, AskedRequest<N>, M>,
+    sender: EndedSender<N, PendingRequest<N>, M>,
     worker: &mut Ended<N, M>,
 ) -> Result<(), RunFault>
     requires messages { messages < 2 ^ 64 - 1 }

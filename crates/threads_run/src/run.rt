@@ -1,13 +1,13 @@
 //! A run of a threads script, over any source and sink.
 
 ghost use Rattle.std.specs.Prelude.{◌≡◌, ◌-◌, ◌^◌, ◌<◌, IfOk, IsOk, IsErrOf};
-ghost use Rattle.scripts.specs.Statuses.{IsAnswered};
-ghost use Rattle.threads_run.specs.Runs.{IsAnswerTo, RunsThreads, answer_in};
+ghost use Rattle.scripts.specs.Statuses.{IsWholeText};
+ghost use Rattle.threads_run.specs.Runs.{IsOutputFor, RunsThreads, view_of_output};
 ghost use Rattle.threads_scripts.specs.Scripts.{script_of};
 ghost use Rattle.threads_lines.specs.declared.faults.RunFault.TheVariants as faults;
 
 use crate::text::threads_text;
-use scripts::{Failed, Output, ReadFault, RunStatus, Sink, Source, read_all, refused, write_all};
+use scripts::{Failed, Output, ReadFault, RunStatus, Sink, Source, read_all, output_of_fault, write_all};
 use std::alloc::Global;
 use std::sync::Wait;
 use std::thread::Threads;
@@ -15,7 +15,7 @@ use threads_lines::RunFault;
 use threads_scripts::read_threads;
 
 /// Reads a threads script from the source to its end, commits its batches in a thread for each
-/// proxy, and writes the text that it comes to. Nothing is written before all threads have ended,
+/// proxy, and writes its text. Nothing is written before all threads have ended,
 /// nor if a read fails, the limit on read calls is passed, or the threads come to no text.
 pub fn run_threads<R: Threads + Wait + Sync, S: Source, T: Sink>(
     rt: &R,
@@ -33,7 +33,7 @@ pub fn run_threads<R: Threads + Wait + Sync, S: Source, T: Sink>(
         Err(ReadFault::Device) => return RunStatus::DeviceFailed,
         Err(ReadFault::Limit) => return RunStatus::DeviceFailed,
     };
-    let output = match threads_answer(rt, alloc, &bytes) {
+    let output = match threads_output(rt, alloc, &bytes) {
         Ok(output) => output,
         Err(fault) => return fault.status(),
     };
@@ -43,14 +43,14 @@ pub fn run_threads<R: Threads + Wait + Sync, S: Source, T: Sink>(
     }
 }
 
-/// The output for a threads script: what it comes to, or its first fault (this project's profile).
-fn threads_answer<R: Threads + Wait + Sync>(
+/// The output for a threads script: its text, or its first fault (this project's profile).
+fn threads_output<R: Threads + Wait + Sync>(
     rt: &R,
     alloc: Global,
     bytes: &[u8],
 ) -> Result<Output, RunFault>
-    ensures answer { IfOk result (λ output. IsAnswerTo bytes.now (answer_in output)) }
-    ensures answered { IfOk result (λ output. IsAnswered output.status) }
+    ensures answer { IfOk result (λ output. IsOutputFor bytes.now (view_of_output output)) }
+    ensures answered { IfOk result (λ output. IsWholeText output.status) }
     ensures refused { IsErrOf result faults.Refused → IsOk (script_of bytes.now) }
 {
     match read_threads(alloc, bytes) {
@@ -58,6 +58,6 @@ fn threads_answer<R: Threads + Wait + Sync>(
             text: threads_text(rt, alloc, &script)?,
             status: RunStatus::Done,
         }),
-        Err(fault) => Ok(refused(alloc, fault)?),
+        Err(fault) => Ok(output_of_fault(alloc, fault)?),
     }
 }

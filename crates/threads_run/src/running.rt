@@ -19,7 +19,7 @@ use threads_lines::{
     AnsweredLines, Cluster, CommitsBatches, Committer, EndsProxies, RunFault, RunHistory,
     ServesInbox,
 };
-use workers::{AskedRequest, Open, ProxyInboxes, ResolverWorker};
+use workers::{PendingRequest, Open, ProxyInboxes, ResolverWorker};
 
 /// The resolvers of the cluster, which workers ask for the proxies.
 #[derive(Drop)]
@@ -38,7 +38,7 @@ impl<'a, 'l, N: Naming> Serving<'a, 'l, N> {
     }
 }
 
-impl<'a, 'l, N: Naming, M: Channels> ServesInbox<FreshEnd<N, AskedRequest<N>, M>, Ended<N, M>>
+impl<'a, 'l, N: Naming, M: Channels> ServesInbox<FreshEnd<N, PendingRequest<N>, M>, Ended<N, M>>
     for Serving<'a, 'l, N> {
     ghost can_serve = { λ serving end. end < length serving.resolvers.now };
 
@@ -46,7 +46,7 @@ impl<'a, 'l, N: Naming, M: Channels> ServesInbox<FreshEnd<N, AskedRequest<N>, M>
         &self,
         rt: &R,
         alloc: Global,
-        end: FreshEnd<N, AskedRequest<N>, M>,
+        end: FreshEnd<N, PendingRequest<N>, M>,
     ) -> Ended<N, M> {
         let resolver = self.resolver(end.resolver());
         let Ok(worker) = ResolverWorker::new(alloc, resolver, end, Open) else {
@@ -60,7 +60,7 @@ impl<'a, 'l, N: Naming, M: Channels> ServesInbox<FreshEnd<N, AskedRequest<N>, M>
 /// only as a resolver that is closed, so the workers are asked too. If each proxy was answered, the
 /// lines are right whatever the workers were refused; but a run in which a worker was cut off fails,
 /// since some proxy did not send its last message to it.
-pub(crate) fn lines_of<N: Naming, M: Channels>(
+pub(crate) fn lines_beside<N: Naming, M: Channels>(
     lines: Result<AnsweredLines<N>, RunFault>,
     workers: &[Ended<N, M>],
 ) -> Result<AnsweredLines<N>, RunFault>
@@ -70,9 +70,9 @@ pub(crate) fn lines_of<N: Naming, M: Channels>(
     let refused_memory = were_refused_memory(workers);
     let cut_off = were_cut_off(workers);
     match lines {
-        Ok(_lines) if cut_off => Err(RunFault::Refused.beside(refused_memory)),
+        Ok(_lines) if cut_off => Err(RunFault::Refused.fault_beside(refused_memory)),
         Ok(answered) => Ok(answered),
-        Err(fault) => Err(fault.beside(refused_memory)),
+        Err(fault) => Err(fault.fault_beside(refused_memory)),
     }
 }
 
@@ -137,7 +137,7 @@ impl<'a, 'l, N: Naming, M: Channels> CommitsBatches<N> for Running<'a, 'l, N, M>
         lines
     }
 
-    fn print_closings<R: Wait>(
+    fn commit_and_print_closings<R: Wait>(
         &self,
         rt: &R,
         alloc: Global,
@@ -147,7 +147,7 @@ impl<'a, 'l, N: Naming, M: Channels> CommitsBatches<N> for Running<'a, 'l, N, M>
         let empty = empty_batch(alloc);
         for number in 0..self.cluster.proxies.len() {
             self.committer(number)
-                .print_closing(rt, text, history, &empty)?;
+                .commit_and_print_closing(rt, text, history, &empty)?;
         }
         Ok(())
     }

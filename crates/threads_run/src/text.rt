@@ -1,4 +1,4 @@
-//! What a threads script comes to.
+//! The text of a threads script.
 
 ghost use Rattle.std.specs.Prelude.{◌≡◌, ◌++◌, length, map, IfOk, OnOk, string_bytes};
 ghost use Rattle.inboxes.specs.Blanks.{AreSides};
@@ -9,7 +9,7 @@ ghost use Rattle.threads_run.specs.Delivered.{proxy_of};
 ghost use Rattle.threads_run.specs.Text.{AreProxyTexts, IsThreadsText, IsThreadsTextOf, proxy_text};
 
 use crate::delivery::{DeliveredRun, Ended, EndedSide};
-use crate::running::{Running, Serving, lines_of};
+use crate::running::{Running, Serving, lines_beside};
 use agreed_ledger::{BlankLedger, Ledger, Naming, Refusal};
 use cluster_lines::print_proxy_metadata;
 use inboxes::{BlankInboxes, Channels, InboxRoom, ProxySenders};
@@ -26,9 +26,9 @@ use threads_lines::{
     check_resolvers, commit_over_workers, print_audits, print_meetings,
 };
 use threads_scripts::ThreadsScript;
-use workers::{AskedRequest, ProxyInboxes};
+use workers::{PendingRequest, ProxyInboxes};
 
-/// Returns what a threads script comes to (this project's profile): the lines of its batches, which
+/// Returns the text of a threads script (this project's profile): the lines of its batches, which
 /// each proxy's own thread commits, of the closings, of each proxy, of each two proxies that meet, and
 /// of the audits. Returns only when all threads have ended.
 ///
@@ -62,7 +62,7 @@ fn blank_ledger(alloc: Global, script: &ThreadsScript) -> Result<BlankLedger, Ou
     }
 }
 
-/// What the script comes to in a cluster about this ledger.
+/// The text of the script, by a cluster about this ledger.
 fn threads_text_in<N: Naming + Send + Sync, R: Threads + Wait + Sync>(
     rt: &R,
     alloc: Global,
@@ -89,7 +89,7 @@ fn text_over<N: Naming + Send + Sync, M: Channels + Send + Sync, R: Threads + Wa
     alloc: Global,
     ledger: &Ledger<N>,
     cluster: &Cluster<'_, N>,
-    blank: BlankInboxes<N, AskedRequest<N>>,
+    blank: BlankInboxes<N, PendingRequest<N>>,
     script: &ThreadsScript,
 ) -> Result<DeliveredRun<N>, RunFault>
     requires places { blank ≡ M.places }
@@ -143,7 +143,7 @@ fn answers_over<N: Naming + Send + Sync, M: Channels + Send + Sync, R: Threads +
     alloc: Global,
     ledger: &Ledger<N>,
     cluster: &Cluster<'_, N>,
-    blank: BlankInboxes<N, AskedRequest<N>>,
+    blank: BlankInboxes<N, PendingRequest<N>>,
     work: &[Items<Batch>],
 ) -> Result<AnsweredRun<N, M>, RunFault>
     requires places { blank ≡ M.places }
@@ -158,7 +158,7 @@ fn answers_over<N: Naming + Send + Sync, M: Channels + Send + Sync, R: Threads +
     ensures workers { IfOk result (λ run.
         length run.workers.items ≡ N.cells.config.resolvers) }
 {
-    let room = InboxRoom::<N, AskedRequest<N>, M>::new(alloc, ledger)?;
+    let room = InboxRoom::<N, PendingRequest<N>, M>::new(alloc, ledger)?;
     let (senders, ends) = blank.named::<M>(room);
     let serving = Serving {
         resolvers: cluster.resolvers.as_slice(),
@@ -176,7 +176,7 @@ fn answers_over<N: Naming + Send + Sync, M: Channels + Send + Sync, R: Threads +
     } = commit_over_workers(rt, alloc, &serving, ends, running, work)?;
     let sides = ended?;
     Ok(AnsweredRun {
-        lines: lines_of(lines, workers.as_slice())?,
+        lines: lines_beside(lines, workers.as_slice())?,
         sides,
         workers,
     })
@@ -186,7 +186,7 @@ fn answers_over<N: Naming + Send + Sync, M: Channels + Send + Sync, R: Threads +
 fn inboxes_of<N: Naming, M: Channels>(
     alloc: Global,
     ledger: &Ledger<N>,
-    senders: Vec<ProxySenders<N, AskedRequest<N>, M>>,
+    senders: Vec<ProxySenders<N, PendingRequest<N>, M>>,
 ) -> Result<Vec<ProxyInboxes<N, M>>, OutOfMemory>
     ensures count { IfOk result (λ inboxes. length inboxes.items ≡ length senders.items) }
     ensures in_place { IfOk result (λ inboxes.

@@ -5,7 +5,7 @@ use Rattle.std.specs.List.{list_all}
 use Rattle.std.proofs.lemmas.Bool.{leb-true, eqb-true}
 use Rattle.serde_json.specs.Data.{Data}
 use Rattle.model.specs.Configs.{is_from_one}
-use Rattle.model.specs.Stamps.{Given}
+use Rattle.model.specs.Stamps.{AdmittedTransaction}
 use Rattle.agreed_ledger.specs.Cells.{ledger_limit}
 use Rattle.scripts.specs.BatchChecks.{checked_transactions}
 use Rattle.scripts.specs.Checks.{◌>>=◌, each_checked, with_first}
@@ -40,14 +40,14 @@ length-checked check (x ∷ xs) ys is = one_more (check x) (each_checked check x
 
 -- ---- checks
 
-abbrev script_from : RawThreads → List UndatedMove → List (List (List Given)) → ThreadsScript
+abbrev script_from : RawThreads → List UndatedMove → List (List (List AdmittedTransaction)) → ThreadsScript
 script_from raw moves work = record { config = raw.config; rows = raw.rows; moves = moves; work = work; ask = raw.ask }
 
 both_of : (a b : Bool) → (a && b) ≡ true → (a ≡ true) × (b ≡ true)
 both_of true b is = (refl, is)
 both_of false b is = let none : false ≡ true = is in cc
 
-with_these : (raw : RawThreads) (script : ThreadsScript) (moves : List UndatedMove) (work : List (List (List Given))) (b : Bool)
+with_these : (raw : RawThreads) (script : ThreadsScript) (moves : List UndatedMove) (work : List (List (List AdmittedTransaction))) (b : Bool)
     → is_within_limits raw ≡ true → length work ≡ length raw.work → list_all (has_resolver raw.config.resolvers) moves ≡ b
     → with_resolvers (script_from raw moves work) ≡ Ok script → IsRunnable script
 with_these raw script moves work false within long some is =
@@ -64,7 +64,7 @@ with_these raw script moves work true within long all is =
       moves = all;
     })
 
-with_checked : (raw : RawThreads) (script : ThreadsScript) (moves : Result (List UndatedMove) ScriptFault) (work : Result (List (List (List Given))) ScriptFault)
+with_checked : (raw : RawThreads) (script : ThreadsScript) (moves : Result (List UndatedMove) ScriptFault) (work : Result (List (List (List AdmittedTransaction))) ScriptFault)
     → is_within_limits raw ≡ true → checked_work raw.work ≡ work
     → (moves >>= (λ ms. work >>= (λ w. with_resolvers (script_from raw ms w)))) ≡ Ok script → IsRunnable script
 with_checked raw script (Err fault) work within worked is = absurd (cc)

@@ -1,8 +1,8 @@
--- The checks of a threads script: the first fault of its moves, then that of its batches, and then
+-- The checks of a threads script: the first fault of its moves, then the first of its batches, and then
 -- that a move goes to a resolver that is not there (this project's profile).
 use Rattle.std.specs.Prelude.{ℕ, List, Bool, nat_lt, if◌then◌else◌, Result, Ok, Err}
 use Rattle.std.specs.List.{list_all}
-use Rattle.model.specs.Stamps.{Given}
+use Rattle.model.specs.Stamps.{AdmittedTransaction}
 use Rattle.mutation.specs.declared.transaction.Transaction.{Transaction}
 use Rattle.scripts.specs.BatchChecks.{checked_transactions}
 use Rattle.scripts.specs.Checks.{◌>>=◌, checked_range, each_checked}
@@ -21,7 +21,7 @@ checked_move moved = do
 
 -- the batches of each proxy, or the first fault of one
 abbrev pub checked_work : List (List (List Transaction))
-    → Result (List (List (List Given))) ScriptFault
+    → Result (List (List (List AdmittedTransaction))) ScriptFault
 checked_work work = each_checked (each_checked checked_transactions) work
 
 -- the move goes to one of this many resolvers

@@ -5,7 +5,7 @@ use Rattle.agreed_ledger.specs.Cells.{ledger_limit}
 use Rattle.threads_scripts.specs.Checks.{has_resolver}
 use Rattle.threads_scripts.specs.declared.script.ThreadsScript.{ThreadsScript}
 
--- a ledger can have so many rows, each proxy has its work, and each move goes to a resolver that is
+-- a ledger can have this number of rows, each proxy has its work, and each move goes to a resolver that is
 -- there
 pub record IsRunnable (script : ThreadsScript) : Type 0 where
   pub rows : (1 ≤ script.rows) × (script.rows ≤ ledger_limit)

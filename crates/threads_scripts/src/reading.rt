@@ -15,7 +15,7 @@ use std::alloc::Global;
 /// does not have the form of a threads script, a text of it is not the text of any bytes, a number
 /// of it is outside its limits, or there are not as many lists of work as proxies), the first fault
 /// of the range of a move, the first fault of a batch, in the order of the proxies and of their
-/// batches (that of the first transaction at fault, and then that there are more than 1,024), and
+/// batches (the fault of the first transaction that has one, and then that there are more than 1,024), and
 /// `NoSuchResolver` (a move goes to a resolver that the cluster does not have). May fail with
 /// `OutOfMemory` at any point.
 #[tactic(auto, unfolding(crate::specs::Scripts::script_of), using(crate::proofs::LimitLemmas::read_runnable))]

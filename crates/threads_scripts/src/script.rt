@@ -4,8 +4,9 @@
 ghost use Rattle.std.specs.Prelude.{◌≡◌, IfOk};
 
 use cluster_scripts::GivenMove;
-use model::Config;
+use model::{Config, ResolverNumber};
 use mutation::{Batch, Transaction};
+use scripts::copy_keys;
 use std::alloc::Global;
 use system_keys::{Bytes, Items, KeyRange, OutOfMemory};
 
@@ -49,7 +50,7 @@ pub struct UndatedMove {
     /// The range.
     pub range: KeyRange,
     /// The number of the resolver that it moves to.
-    pub dest: usize,
+    pub dest: ResolverNumber,
 }
 
 impl UndatedMove {
@@ -107,12 +108,4 @@ fn copy_batches(alloc: Global, batches: &[Batch]) -> Result<Items<Batch>, OutOfM
         copies.push(batch.copy()?)?;
     }
     Ok(Items::from(copies))
-}
-
-/// A deep copy of the keys.
-fn copy_keys(keys: &Items<Bytes>) -> Result<Vec<Bytes>, OutOfMemory>
-    ensures { IfOk result (λ copy. copy.items ≡ keys.now) }
-{
-    let copy = keys.clone()?;
-    Ok(Vec::from(copy))
 }

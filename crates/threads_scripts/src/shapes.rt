@@ -17,7 +17,7 @@ use std::alloc::Global;
 impl Shaped for RawThreads {
     ghost shape = { script_shape };
 
-    fn shaped(alloc: Global, value: &Value) -> Result<RawThreads, ScriptFault> {
+    fn from_value(alloc: Global, value: &Value) -> Result<RawThreads, ScriptFault> {
         let script = threads_fields(alloc, value)?;
         if is_within_limits(&script) {
             Ok(script)

@@ -10,7 +10,7 @@ use Rattle.model.specs.Turns.{TurnCluster, success_or_refusal, answer_to_event, 
 use Rattle.model.proofs.Worlds.Offers.{refused_unchanged}
 use Rattle.model.proofs.Resolvers.Requests.{take_suc}
 use Rattle.model.proofs.Worlds.Runs.{answers_append, world_after_append}
-use Rattle.turn_world.specs.Events.{event_of, answer_of, fault_of}
+use Rattle.turn_world.specs.Events.{event_of, event_answer_of, fault_of}
 use Rattle.turn_world.specs.Steps.{AnswersEvent, HasCarriedOut, HasStopped, told_by, told_refusal}
 use Rattle.turn_world.specs.declared.answer.Answer.{Answer}
 use Rattle.turn_world.specs.declared.event.Event.{Event}
@@ -26,7 +26,7 @@ succeeded (world.Sequenced row version) told is = cc
 succeeded (world.Moved date) told is = cc
 succeeded (world.Judged reply) told is = cc
 succeeded (world.Again reply) told is = cc
-succeeded (world.Completed finished) told is = cc
+succeeded (world.FinishedBatch finished) told is = cc
 succeeded (world.Refused why) told is = absurd (cc)
 
 refused : (answer : world.Answer) (why : world.Refusal) → success_or_refusal answer ≡ Err why → answer ≡ world.Refused why
@@ -34,14 +34,14 @@ refused (world.Sequenced row version) why is = absurd (cc)
 refused (world.Moved date) why is = absurd (cc)
 refused (world.Judged reply) why is = absurd (cc)
 refused (world.Again reply) why is = absurd (cc)
-refused (world.Completed finished) why is = absurd (cc)
+refused (world.FinishedBatch finished) why is = absurd (cc)
 refused (world.Refused other) why is = cc
 
 pub answered_one : (before after : TurnCluster) (event : world.Event) (answer : Answer) → AnswersEvent before event (Ok answer) → after ≡ after_event before event → HasCarriedOut before after (event ∷ []) (Ok answer ∷ [])
 unfolding answers world_after
 answered_one before after event answer is after_is =
     record {
-      results_are = ap (λ (told : world.Answer). Some told ∷ []) (sym (succeeded (handle_event before.config before.world event).answer (answer_of answer) is));
+      results_are = ap (λ (told : world.Answer). Some told ∷ []) (sym (succeeded (handle_event before.config before.world event).answer (event_answer_of answer) is));
       after_is = after_is;
     }
 

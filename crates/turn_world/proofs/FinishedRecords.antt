@@ -13,7 +13,7 @@ use Rattle.model.specs.Requests.{Request}
 use Rattle.model.specs.Offers.{reply_at}
 use Rattle.model.specs.ResolverMemory.{ResolverView, ProxyMemory}
 use Rattle.model.specs.Finishing.{ProxyView, Replies, HasFinished, reply_from}
-use Rattle.model.specs.World.{World, Answer, Finish, Handled, NoSuchProxy, OutOfTurn, MissingReply, Completed, handle_event, missing_replies, reply_of}
+use Rattle.model.specs.World.{World, Answer, Finish, Handled, NoSuchProxy, OutOfTurn, MissingReply, FinishedBatch, handle_event, missing_replies, reply_of}
 use Rattle.model.specs.Turns.{TurnCluster, IsResolverOf, success_or_refusal, answer_to_event, after_event, AreInStep}
 use Rattle.model.specs.Laws.Worlds.{IsAwaited, AreOfTheWorld}
 use Rattle.model.proofs.History.Chain.{element_at, version_before}
@@ -156,12 +156,12 @@ has_finished : (p : ℕ) (v : ProxyView) (proxies after : List ProxyView) (repli
 has_finished p v proxies after replies finished at done = subst (λ (u : ProxyView). HasFinished u done.new replies finished) (same_follower proxies p v done.v at done.at) done.has
 
 handled_is : (config : Config) (w : World) (p : ℕ) (rec : Record) (rest : List Record) (v : ProxyView) (resolvers : List ResolverView) (proxies after : List ProxyView) (requests : List (List Request)) (replies : Replies) (finished : Finished) → IsAwaited config w p rec rest v resolvers proxies requests → AreOfTheWorld config w rec replies → IsFinishedAt proxies p replies finished after
-    → handle_event config w (Finish p) ≡ record { world = record w { finished = slice_set w.finished p (suc (slice_index w.finished p)) }; answer = Completed finished }
+    → handle_event config w (Finish p) ≡ record { world = record w { finished = slice_set w.finished p (suc (slice_index w.finished p)) }; answer = FinishedBatch finished }
 handled_is config w p rec rest v resolvers proxies after requests replies finished is of_world done =
     finishes_as_world config w p rec rest v done.new resolvers proxies requests replies finished is of_world (has_finished p v proxies after replies finished is.proxy_is done)
 
 pub answered : (config : Config) (w : World) (now : TurnCluster) (p : ℕ) (rec : Record) (rest : List Record) (v : ProxyView) (resolvers : List ResolverView) (proxies after : List ProxyView) (requests : List (List Request)) (replies : Replies) (finished : Finished) → (record { config = config; world = w }) ≡ now → IsAwaited config w p rec rest v resolvers proxies requests → AreOfTheWorld config w rec replies → IsFinishedAt proxies p replies finished after
-    → answer_to_event now (Finish p) ≡ Ok (Completed finished)
+    → answer_to_event now (Finish p) ≡ Ok (FinishedBatch finished)
 answered config w now p rec rest v resolvers proxies after requests replies finished view is of_world done =
     event_answer config w now p _ view (ap (λ (handled : Handled). handled.answer) (handled_is config w p rec rest v resolvers proxies after requests replies finished is of_world done))
 

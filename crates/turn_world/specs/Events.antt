@@ -18,12 +18,12 @@ event_of (events.Offer row resolver) = world.Offer row resolver
 event_of (events.Finish proxy) = world.Finish proxy
 
 -- the answer, in the model's words
-abbrev pub answer_of : Answer → world.Answer
-answer_of (answers.Sequenced row version) = world.Sequenced row version
-answer_of (answers.Moved date) = world.Moved date
-answer_of (answers.Offered (offered.Judged reply)) = world.Judged reply
-answer_of (answers.Offered (offered.Again reply)) = world.Again reply
-answer_of (answers.Finished finished) = world.Completed finished
+abbrev pub event_answer_of : Answer → world.Answer
+event_answer_of (answers.Sequenced row version) = world.Sequenced row version
+event_answer_of (answers.Moved date) = world.Moved date
+event_answer_of (answers.Offered (offered.Judged reply)) = world.Judged reply
+event_answer_of (answers.Offered (offered.Again reply)) = world.Again reply
+event_answer_of (answers.Finished finished) = world.FinishedBatch finished
 
 -- which refusal of the model it is; `OutOfMemory` is none
 abbrev pub fault_of : Refusal → Option world.Refusal

@@ -90,13 +90,13 @@ pub record IsFinishedAt
 
 -- ---- new parts
 
--- these are the first so many resolvers of the cluster, before their first request
+-- these are the first `count` resolvers of the cluster, before their first request
 pub record AreNewResolvers (config : Config) (count : ℕ) (made : List ResolverView) : Type 0 where
   pub count_is : length made ≡ count
   pub each :
       (r : ResolverNumber) (v : ResolverView) → slice_get made r ≡ Some v → IsNewResolver config r v
 
--- these are the first so many proxies of the cluster, before their first record
+-- these are the first `count` proxies of the cluster, before their first record
 pub record AreNewProxies (config : Config) (count : ℕ) (made : List ProxyView) : Type 0 where
   pub count_is : length made ≡ count
   pub each : (p : ProxyNumber) (v : ProxyView) → slice_get made p ≡ Some v → IsNewProxy config p v

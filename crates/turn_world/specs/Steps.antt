@@ -15,13 +15,13 @@ use Rattle.turn_world.specs.declared.refusal.Refusal.TheVariants as refusals
 use Rattle.turn_world.specs.declared.stopped.Stopped.{Stopped}
 use Rattle.state_memory.specs.declared.refusal.Refusal.{Refusal as Offered}
 use Rattle.state_memory.specs.declared.refusal.Refusal.TheVariants as offered
-use Rattle.turn_world.specs.Events.{answer_of, fault_of}
+use Rattle.turn_world.specs.Events.{event_answer_of, fault_of}
 
 -- the result is the answer of the definition or its refusal; or it is out of memory, and then the
 -- definition does not refuse the event
 abbrev pub AnswersEvent : TurnCluster → world.Event → Result Answer Refusal → Type 0
 AnswersEvent before event result =
-    IsAsSpecified fault_of answer_of result (answer_to_event before event)
+    IsAsSpecified fault_of event_answer_of result (answer_to_event before event)
 
 -- a batch of the proxy may get a record: the proxy is there, and a version is left
 pub record MaySequence (now : TurnCluster) (p : ProxyNumber) : Type 0 where
@@ -36,7 +36,7 @@ told_refusal None = None
 told_refusal (Some refusal) = Some (world.Refused refusal)
 
 abbrev pub told_by : Result Answer Refusal → Option world.Answer
-told_by (Ok answer) = Some (answer_of answer)
+told_by (Ok answer) = Some (event_answer_of answer)
 told_by (Err refusal) = told_refusal (fault_of refusal)
 
 -- the cluster carried out all these events: each result is the definition's answer, and the world is

@@ -24,7 +24,7 @@ pub(crate) fn first_missing(judged_counts: &[usize], row: RowNumber) -> Option<u
 
 /// Copies of the replies that the resolvers keep for the proxy at the version, each in the place of
 /// its resolver. Each resolver must keep one that names it.
-pub(crate) fn kept_replies(
+pub(crate) fn kept_replies_at(
     alloc: Global,
     config: &Config,
     resolvers: &[Resolver],

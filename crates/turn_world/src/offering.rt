@@ -23,7 +23,7 @@ pub(crate) fn offer_at(
 
 /// The refusal of the cluster that a refusal of a resolver becomes. No request of a cluster is
 /// outside the chain.
-pub(crate) fn passed_on(refusal: state_memory::Refusal) -> Refusal
+pub(crate) fn cluster_refusal(refusal: state_memory::Refusal) -> Refusal
     requires { IsOfTheWorld refusal }
     ensures { IsPassedOn refusal result }
 {

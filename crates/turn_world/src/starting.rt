@@ -31,7 +31,7 @@ pub(crate) fn new_proxies(alloc: Global, config: &Config) -> Result<Vec<Proxy>, 
     Ok(made)
 }
 
-/// So many counts of nothing.
+/// `count` zeros.
 #[tactic(auto, using(std::proofs::lemmas::List::replicate_more))]
 pub(crate) fn zeros(alloc: Global, count: usize) -> Result<Vec<usize>, OutOfMemory>
     ensures { IfOk result (λ made. made.items ≡ replicate count 0) }

@@ -7,7 +7,7 @@ ghost use Rattle.std.specs.Prelude.{length, slice_get};
 ghost use Rattle.std.specs.Prelude.{MatchOption, MatchResult};
 ghost use Rattle.model.specs.Configs.{IsConfig};
 ghost use Rattle.model.specs.Records.{Record as TheRecord};
-ghost use Rattle.model.specs.Stamps.{Given};
+ghost use Rattle.model.specs.Stamps.{AdmittedTransaction};
 ghost use Rattle.model.specs.World.{Sequence, MoveRange, Offer as OfferOf, Finish};
 ghost use Rattle.model.specs.World.{initial_world};
 ghost use Rattle.model.specs.World.{IsSound, next_record};
@@ -23,9 +23,9 @@ ghost use Rattle.turn_world.specs.declared.refusal.Refusal.{Refusal as TheRefusa
 use crate::answer::Answer;
 use crate::ending::push_offers;
 use crate::event::Event;
-use crate::finishing::{finish_at, first_missing, kept_replies};
+use crate::finishing::{finish_at, first_missing, kept_replies_at};
 use crate::kept_record::{KeptRecord, drop_parts_at};
-use crate::offering::{offer_at, passed_on};
+use crate::offering::{offer_at, cluster_refusal};
 use crate::past_record::PastRecord;
 use crate::refusal::Refusal;
 use crate::sent_requests::{PastRequests, SentRequests};
@@ -129,6 +129,7 @@ impl TurnWorld {
         ensures serial { IsSerial self.new.config self.new.world.history }
     {
         let result = self.carry_out(event);
+        // (reading a field shows what the type keeps: the rule of commit)
         let _ = &self.config;
         result
     }
@@ -142,6 +143,7 @@ impl TurnWorld {
         ensures serial { IsSerial self.new.config self.new.world.history }
     {
         let result = self.carry_out_owned(event);
+        // (reading a field shows what the type keeps: the rule of commit)
         let _ = &self.config;
         result
     }
@@ -151,7 +153,7 @@ impl TurnWorld {
     /// first event, or before one that is not refused. Then the cluster is as the events before left
     /// it.
     ///
-    /// Read a proxy by [`TurnWorld::proxy`]: its journal is that of the history up to its version,
+    /// Read a proxy by [`TurnWorld::proxy`]: its journal is the history's up to its version,
     /// and its metadata is the fold of this journal. The records of the cluster obey the rule of
     /// commit, also after a run that stopped.
     pub fn run(
@@ -165,6 +167,7 @@ impl TurnWorld {
         ensures serial { IsSerial self.new.config self.new.world.history }
     {
         let result = self.carry_out_all(alloc, events);
+        // (reading a field shows what the type keeps: the rule of commit)
         let _ = &self.config;
         result
     }
@@ -348,7 +351,7 @@ impl TurnWorld {
     fn check_sequence(&self, proxy: ProxyNumber) -> Result<(), Refusal>
         ensures { MatchResult result
             (λ _. MaySequence self.now proxy)
-            (λ refusal. (batch : List Given)
+            (λ refusal. (batch : List AdmittedTransaction)
             → AnswersEvent self.now (Sequence proxy batch) (Err refusal)) }
     {
         if self.config.proxies() <= proxy {
@@ -401,12 +404,12 @@ impl TurnWorld {
     /// The proxy begins the next record.
     fn begin_next(&mut self, proxy: ProxyNumber, rec: &Record) -> Result<Answer, Refusal>
         requires may { MaySequence self.old proxy }
-        requires next { (batch : List Given)
+        requires next { (batch : List AdmittedTransaction)
             × (rec.now ≡ next_record self.old.config self.old.world proxy batch) }
-        ensures answer { (batch : List Given)
+        ensures answer { (batch : List AdmittedTransaction)
             → rec.now ≡ next_record self.old.config self.old.world proxy batch
             → AnswersEvent self.old (Sequence proxy batch) result }
-        ensures ok { OnOk result ((batch : List Given)
+        ensures ok { OnOk result ((batch : List AdmittedTransaction)
             → rec.now ≡ next_record self.old.config self.old.world proxy batch
             → self.new ≡ after_event self.old (Sequence proxy batch)) }
         ensures err { OnErr result (self.new ≡ self.old) }
@@ -465,7 +468,7 @@ impl TurnWorld {
                 Ok(Answer::Offered(OfferAnswer::Judged(reply)))
             }
             Ok(OfferAnswer::Again(reply)) => Ok(Answer::Offered(OfferAnswer::Again(reply))),
-            Err(refusal) => Err(passed_on(refusal)),
+            Err(refusal) => Err(cluster_refusal(refusal)),
         }
     }
 
@@ -478,7 +481,7 @@ impl TurnWorld {
         if self.config.proxies() <= proxy {
             return Err(Refusal::NoSuchProxy);
         }
-        let Some(rec) = self.proxies[proxy].awaited() else {
+        let Some(rec) = self.proxies[proxy].next_to_finish() else {
             return Err(Refusal::OutOfTurn { expected: None });
         };
         let row = rec.row();
@@ -488,7 +491,7 @@ impl TurnWorld {
         }
         let alloc: Global = *self.rows.allocator();
         let resolvers = self.resolvers.as_slice();
-        let replies = kept_replies(alloc, &self.config, resolvers, proxy, version)?;
+        let replies = kept_replies_at(alloc, &self.config, resolvers, proxy, version)?;
         let count = self.finished[proxy] + 1;
         let finished = finish_at(&mut self.proxies, proxy, replies)?;
         self.finished[proxy] = count;

@@ -4,7 +4,7 @@ use Rattle.std.specs.Prelude.{Some, None, IsSome, Ok, Err}
 use Rattle.model.specs.Turns.{TurnCluster, after_event}
 use Rattle.model.specs.World as world
 use Rattle.model.specs.World.{World, answers, handle_event, world_after}
-use Rattle.turn_world.specs.Events.{answer_of, event_of, fault_of, refusal_number}
+use Rattle.turn_world.specs.Events.{event_answer_of, event_of, fault_of, refusal_number}
 use Rattle.turn_world.specs.Steps.{AnswersEvent, told_refusal}
 use Rattle.turn_world.specs.declared.answer.Answer.{Answer}
 use Rattle.turn_world.specs.declared.event.Event.{Event}
@@ -28,11 +28,11 @@ refusal_is refusals.OutOfMemory numbered = let none : IsSome {T = ℕ} None = nu
 
 -- the definition's answer to an event that was answered
 pub answered : (before : TurnCluster) (event : world.Event) (answer : Answer) → AnswersEvent before event (Ok answer)
-    → (handle_event before.config before.world event).answer ≡ answer_of answer
+    → (handle_event before.config before.world event).answer ≡ event_answer_of answer
 unfolding answers
 answered before event answer is =
     let run = answered_one before (after_event before event) event answer is refl in
-    let told : Some (answer_of answer) ∷ [] ≡ Some (handle_event before.config before.world event).answer ∷ [] = run.results_are in
+    let told : Some (event_answer_of answer) ∷ [] ≡ Some (handle_event before.config before.world event).answer ∷ [] = run.results_are in
     cc
 
 -- the lines of an event that was refused, which changes nothing

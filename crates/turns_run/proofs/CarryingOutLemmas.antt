@@ -7,7 +7,7 @@ use Rattle.model.specs.Configs.{Config}
 use Rattle.model.specs.World.{answers, handle_event, initial_world, world_after}
 use Rattle.serde_json.specs.Data.{Data}
 use Rattle.system_keys.specs.Keys.{Key}
-use Rattle.scripts.specs.Answers.{done}
+use Rattle.scripts.specs.Outputs.{done}
 use Rattle.scripts.specs.Scripts.{checked_raw}
 use Rattle.scripts.specs.Values.{value_of}
 use Rattle.scripts.specs.Checks.{each_checked}
@@ -69,7 +69,7 @@ carried_out_from_start raws events old config before new after empty first check
     let as_of = λ (k : Config). let c : TurnCluster = record { config = k; world = world_after k (initial_world k) given } in c in
     (events, checked, printed ∙ sym (ap (λ (k : Config). events_text given (answers k (initial_world k) given)) same), left ∙ sym (ap as_of same))
 
--- what a script comes to whose events were carried out by a new cluster
+-- the text of a script whose events were carried out by a new cluster
 pub text_of_script : (d : Data) (config : Config) (raws : List RawEvent) (ask : List Key) (old text : List ℕ) (after : TurnCluster)
     → script_shape d ≡ Some (record { config = config; events = raws; ask = ask }) → AreCarriedOut raws old after → after.config ≡ config → text ≡ old ++ proxies_text config after.world ask
     → (script : TurnsScript) × (checked_raw checked_script (script_shape d) ≡ Ok script) × (text ≡ printed_text script)

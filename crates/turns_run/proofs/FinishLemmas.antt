@@ -10,8 +10,8 @@ use Rattle.model.specs.Metadata.{Entries}
 use Rattle.model.specs.Outcomes.{outcome, outcome_by, joined_verdict, is_refused, outcomes_from, outcomes_after}
 use Rattle.model.specs.Records.{Record, last_version, records_of_proxy}
 use Rattle.model.specs.Shares.{each_below}
-use Rattle.model.specs.Stamps.{Given}
-use Rattle.model.specs.Transactions.{Transaction}
+use Rattle.model.specs.Stamps.{AdmittedTransaction}
+use Rattle.model.specs.Transactions.{StampedTransaction}
 use Rattle.model.specs.World.{World, Event, Sequence, MoveRange, Offer, Finish, Handled, Sequenced, Moved, Judged, Again}
 use Rattle.model.specs.World.{NoSuchProxy, NoSuchResolver, WrongResolver, VersionsEnd, GivenUp, Early}
 use Rattle.model.specs.World.{refuse, handle_event, handle_repeat, handle_offer_at, handle_offer, handle_finish, finish_record, reply_of}
@@ -41,7 +41,7 @@ one_in_order entries least n place (change ∷ changes) later below ordered =
     and_from (nat_le least n) (are_in_order n (tagged_from entries n (suc place) changes ++ later)) (le-leb least n below)
     (let reached : n ≤ n = omega arith in one_in_order entries n n (suc place) changes later reached ordered)
 
-all_in_order : (config : Config) (verdict_by : VerdictSource) (locked : Bool) (rec : Record) (entries : Entries) (least n : ℕ) (ts : List Transaction) → least ≤ n → are_in_order least (tagged_all entries ts (outcomes_from config verdict_by locked rec n ts)) ≡ true
+all_in_order : (config : Config) (verdict_by : VerdictSource) (locked : Bool) (rec : Record) (entries : Entries) (least n : ℕ) (ts : List StampedTransaction) → least ≤ n → are_in_order least (tagged_all entries ts (outcomes_from config verdict_by locked rec n ts)) ≡ true
 unfolding outcome
 all_in_order config verdict_by locked rec entries least n [] below = refl
 all_in_order config verdict_by locked rec entries least n (t ∷ ts) below =
@@ -95,7 +95,7 @@ next_fits : (config : Config) (w : World) (p : ℕ) (next : Option Record) → F
 next_fits config w p None = tt
 next_fits config w p (Some rec) = finish_fits config w p rec (missing_replies w rec.row (each_below config.resolvers))
 
-abbrev sequenced : (config : Config) (w : World) (p : ℕ) (batch : List Given) → Handled
+abbrev sequenced : (config : Config) (w : World) (p : ℕ) (batch : List AdmittedTransaction) → Handled
 sequenced config w p batch =
     let rec : Record = next_record config w p batch in
     record {
@@ -103,12 +103,12 @@ sequenced config w p batch =
       answer = Sequenced rec.row rec.version;
     }
 
-abbrev in_space : (config : Config) (w : World) (p : ℕ) (batch : List Given) → Handled
+abbrev in_space : (config : Config) (w : World) (p : ℕ) (batch : List AdmittedTransaction) → Handled
 in_space config w p batch = if nat_le version_limit (next_record config w p batch).version then refuse w VersionsEnd else sequenced config w p batch
 
-abbrev moved : (w : World) (range : Range) (destination : ℕ) → Handled
-moved w range destination =
-    let move : Move = record { range = range; date = last_version w.history + 1; dest = destination } in
+abbrev moved : (w : World) (range : Range) (dest : ℕ) → Handled
+moved w range dest =
+    let move : Move = record { range = range; date = last_version w.history + 1; dest = dest } in
     record { world = record w { moves = w.moves ++ move ∷ [] }; answer = Moved (last_version w.history + 1) }
 
 pub fits_finish : (config : Config) (w : World) (event : Event) → FitsFinish (finishing_proxy event) (handle_event config w event).answer
@@ -116,7 +116,7 @@ unfolding handle_event
 fits_finish config w (Sequence p batch) =
     fits_both None (nat_le config.proxies p) (refuse w NoSuchProxy) (in_space config w p batch) tt
     (fits_both None (nat_le version_limit (next_record config w p batch).version) (refuse w VersionsEnd) (sequenced config w p batch) tt tt)
-fits_finish config w (MoveRange range destination) = fits_both None (nat_le config.resolvers destination) (refuse w NoSuchResolver) (moved w range destination) tt tt
+fits_finish config w (MoveRange range dest) = fits_both None (nat_le config.resolvers dest) (refuse w NoSuchResolver) (moved w range dest) tt tt
 fits_finish config w (Offer row r) = offer_fits config w row r (slice_get w.history row)
 fits_finish config w (Finish p) =
     let next : Option Record = slice_get (records_of_proxy p w.history) (slice_index w.finished p) in

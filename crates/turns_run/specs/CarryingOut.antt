@@ -40,7 +40,7 @@ AreCarriedOut raws text after =
     × (text ≡ events_text (map event_of events) (answers config w (map event_of events)))
     × (after ≡ record { config = config; world = world_after config w (map event_of events) })
 
--- the value is a script without a fault, and this is what it comes to
+-- the value is a script without a fault, and this is its text
 abbrev pub IsTextOf : Data → TurnsText → Type 0
 IsTextOf d made = (script : TurnsScript) × (checked_raw checked_script (script_shape d) ≡ Ok script)
     × (string_bytes made.text ≡ printed_text script)

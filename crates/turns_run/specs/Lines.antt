@@ -13,7 +13,7 @@ use Rattle.model.specs.declared.outcome.Tagged.{Tagged}
 use Rattle.model.specs.declared.reply.Reply.{Reply}
 use Rattle.model.specs.declared.unseen.UnseenRow.{UnseenRow}
 use Rattle.model.specs.World.{Event, Sequence, MoveRange, Offer, Finish, Answer}
-use Rattle.model.specs.World.{Sequenced, Moved, Judged, Again, Completed, Refused}
+use Rattle.model.specs.World.{Sequenced, Moved, Judged, Again, FinishedBatch, Refused}
 use Rattle.model.specs.World as world
 use Rattle.scripts.specs.Lines.{line, quoted, spaced, list_text, tag_text, tags_text}
 use Rattle.cluster_lines.specs.Names.{outcome_name, verdict_name}
@@ -60,7 +60,7 @@ finish_text p version =
 abbrev pub finish_line : ProxyNumber → Version → List ℕ
 finish_line p version = line (finish_text p version)
 
--- the numbers of an outcome: of a commit its version and its place, and otherwise that of the error
+-- the numbers of an outcome: of a commit its version and its place, and otherwise the number of the error
 -- in release 7.1 (`error_definitions.h`)
 abbrev pub outcome_numbers : Outcome → List ℕ
 outcome_numbers (outcomes.Committed version number) =
@@ -156,13 +156,13 @@ refusal_of world.VersionsEnd = refusals.VersionsEnd
 abbrev pub finishing_proxy : Event → Option ProxyNumber
 finishing_proxy (Finish p) = Some p
 finishing_proxy (Sequence p batch) = None
-finishing_proxy (MoveRange range destination) = None
+finishing_proxy (MoveRange range dest) = None
 finishing_proxy (Offer row r) = None
 
 -- the lines of a finished record; a record is finished by a finish alone
-abbrev pub completed_text : Option ProxyNumber → Finished → List ℕ
-completed_text (Some p) finished = finished_text p finished
-completed_text None finished = []
+abbrev pub finished_batch_text : Option ProxyNumber → Finished → List ℕ
+finished_batch_text (Some p) finished = finished_text p finished
+finished_batch_text None finished = []
 
 -- the lines of an answer; of a finish, this is the proxy
 abbrev pub answer_text : Option ProxyNumber → Answer → List ℕ
@@ -170,7 +170,7 @@ answer_text finishing (Sequenced row version) = sequence_line row version
 answer_text finishing (Moved date) = move_line date
 answer_text finishing (Judged reply) = offer_line (codes "judged") reply
 answer_text finishing (Again reply) = offer_line (codes "again") reply
-answer_text finishing (Completed finished) = completed_text finishing finished
+answer_text finishing (FinishedBatch finished) = finished_batch_text finishing finished
 answer_text finishing (Refused refusal) = refusal_line (refusal_of refusal)
 
 -- the lines of an event with this answer

@@ -3,7 +3,7 @@ use Rattle.std.specs.Prelude.{◌≡◌, ◌<◌, suc, List, [], ◌∷◌, Bool
 use Rattle.std.specs.Prelude.{Option, IsSome}
 use Rattle.model.specs.Numbers.{ProxyNumber, TransactionNumber}
 use Rattle.model.specs.declared.outcome.Tagged.{Tagged}
-use Rattle.model.specs.World.{Answer, Sequenced, Moved, Judged, Again, Completed, Refused}
+use Rattle.model.specs.World.{Answer, Sequenced, Moved, Judged, Again, FinishedBatch, Refused}
 use Rattle.turns_run.specs.Lines.{mutations_of}
 
 -- the numbers of the transactions never decrease, from this one on
@@ -24,6 +24,6 @@ FitsFinish finishing (Sequenced row version) = Unit {0}
 FitsFinish finishing (Moved date) = Unit {0}
 FitsFinish finishing (Judged reply) = Unit {0}
 FitsFinish finishing (Again reply) = Unit {0}
-FitsFinish finishing (Completed finished) =
+FitsFinish finishing (FinishedBatch finished) =
     IsSome finishing × (are_in_order 0 finished.tagged ≡ true)
 FitsFinish finishing (Refused refusal) = Unit {0}

@@ -7,7 +7,7 @@ use Rattle.model.specs.World.{World, answers, initial_world, world_after}
 use Rattle.model.specs.World.{finished_version, proxy_metadata}
 use Rattle.model.specs.World as world
 use Rattle.system_keys.specs.Keys.{Key}
-use Rattle.scripts.specs.Answers.{Answer, answer_of}
+use Rattle.scripts.specs.Outputs.{OutputView, output_for}
 use Rattle.scripts.specs.Runs.{WritesTextOf}
 use Rattle.scripts.specs.declared.status.RunStatus.{RunStatus}
 use Rattle.cluster_lines.specs.MetadataLines.{metadata_text, proxy_line}
@@ -38,8 +38,8 @@ printed_text script =
     ++ proxies_text script.config (world_after script.config before events) script.ask
 
 -- the text and the status of the script that the bytes are, or of its first fault
-unfoldable pub turns_text : List ℕ → Answer
-turns_text bytes = answer_of printed_text (script_of bytes)
+unfoldable pub turns_text : List ℕ → OutputView
+turns_text bytes = output_for printed_text (script_of bytes)
 
 -- the run writes the text that `turns_text` gives the input, or a beginning of it
 abbrev pub TakesTurns : Option (List ℕ) → Option (List ℕ) → Option (List ℕ) → RunStatus → Type 0

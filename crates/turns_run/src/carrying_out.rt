@@ -9,7 +9,7 @@ ghost use Rattle.turns_run.specs.CarryingOut.{AreCarriedOut, IsNextCarriedOut, A
 ghost use Rattle.turns_run.specs.Shapes.{event_shape};
 ghost use Rattle.turns_run.specs.declared.script.RawEvent.{RawEvent as TheRawEvent};
 
-use crate::events::print_event;
+use crate::event_lines::carry_out_event;
 use crate::script::RawEvent;
 use crate::streams::FromEvents;
 use json::Reader as TokenReader;
@@ -83,7 +83,7 @@ fn carry_out_next(
         world.new) }
 {
     let event = take_event(alloc, reader, depth)?;
-    match print_event(text, event, world) {
+    match carry_out_event(text, event, world) {
         Ok(()) => Some(()),
         Err(_) => None,
     }

@@ -7,7 +7,7 @@
 mod carrying_out;
 mod checks;
 mod event_streams;
-mod events;
+mod event_lines;
 mod lines;
 mod numbers;
 mod proxies;

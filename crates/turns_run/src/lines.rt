@@ -8,11 +8,11 @@ ghost use Rattle.turns_run.specs.Lines.{sequence_text, unseen_version};
 
 use crate::numbers::push_numbered;
 use cluster_lines::verdict_name;
-use model::{Reply, UnseenRow, Verdict};
+use model::{Reply, ResolverNumber, RowNumber, UnseenRow, Verdict, Version};
 use system_keys::OutOfMemory;
 
 /// Prints that a batch has the record at a row, and its version. Fails only with `OutOfMemory`.
-pub fn print_sequence(text: &mut String, row: usize, version: u64) -> Result<(), OutOfMemory>
+pub fn print_sequence(text: &mut String, row: RowNumber, version: Version) -> Result<(), OutOfMemory>
     ensures { OnOk result (string_bytes text.new
         ≡ string_bytes text.old ++ sequence_line row version) }
 {
@@ -22,7 +22,7 @@ pub fn print_sequence(text: &mut String, row: usize, version: u64) -> Result<(),
 }
 
 /// Appends the line of a sequenced row.
-fn push_sequence(text: &mut String, row: usize, version: u64) -> Result<(), OutOfMemory>
+fn push_sequence(text: &mut String, row: RowNumber, version: Version) -> Result<(), OutOfMemory>
     ensures { OnOk result (string_bytes text.new
         ≡ string_bytes text.old ++ sequence_text row version) }
 {
@@ -32,7 +32,7 @@ fn push_sequence(text: &mut String, row: usize, version: u64) -> Result<(), OutO
 }
 
 /// Prints that a range moved. Fails only with `OutOfMemory`.
-pub fn print_move(text: &mut String, date: u64) -> Result<(), OutOfMemory>
+pub fn print_move(text: &mut String, date: Version) -> Result<(), OutOfMemory>
     ensures { OnOk result (string_bytes text.new ≡ string_bytes text.old ++ move_line date) }
 {
     push_numbered(text, "move date ", date)?;
@@ -56,7 +56,7 @@ pub fn print_offer(text: &mut String, word: &str, reply: &Reply) -> Result<(), O
 }
 
 /// Appends how the line of an offer begins, up to its verdicts.
-fn push_offered(text: &mut String, row: usize, resolver: usize) -> Result<(), OutOfMemory>
+fn push_offered(text: &mut String, row: RowNumber, resolver: ResolverNumber) -> Result<(), OutOfMemory>
     ensures { OnOk result (string_bytes text.new
         ≡ string_bytes text.old ++ offered_text row resolver) }
 {

@@ -13,8 +13,8 @@ use std::alloc::Global;
 /// Otherwise returns the first of: `NotJson` (`serde_json` reads no value), `BadShape` (the value
 /// does not have the form of a turns script, a text of it is not the text of any bytes, or a number
 /// of it is outside its limits), and the first fault of an event, in the order of the script: of a
-/// batch, that of the first transaction at fault, and then that there are more than 1,024; of a
-/// move, that of its range. May fail with `OutOfMemory` at any point.
+/// batch, the fault of the first transaction that has one, and then that there are more than 1,024; of a
+/// move, the fault of its range. May fail with `OutOfMemory` at any point.
 #[tactic(auto, unfolding(crate::specs::Scripts::script_of))]
 pub fn read_turns(alloc: Global, bytes: &[u8]) -> Result<TurnsScript, ScriptFault>
     ensures { IsReadAs (λ found. found) result (script_of bytes.now) }

@@ -20,7 +20,7 @@ impl ScriptKind for TurnsKind {
 
     ghost printed = { printed_text };
 
-    ghost answer_to = { turns_text };
+    ghost output_to = { turns_text };
 
     fn stream(alloc: Global, bytes: &[u8]) -> Option<String> {
         let made: TurnsText = make_of_tokens(alloc, bytes)?;
@@ -34,7 +34,7 @@ impl ScriptKind for TurnsKind {
     ghost answers = { λ bytes. unfold turns_text in unfold script_of in refl };
 }
 
-/// Reads a turns script from the source to its end, and writes the text that it comes to. If a read
+/// Reads a turns script from the source to its end, and writes its text. If a read
 /// fails, or the limit on read calls is passed, nothing is written.
 pub fn run_turns<S: Source, T: Sink>(alloc: Global, source: &mut S, sink: &mut T) -> RunStatus
     requires read_count { S.failed source.old < 2 ^ 64 - 1 }

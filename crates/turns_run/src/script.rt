@@ -3,8 +3,9 @@
 ghost use Rattle.std.specs.Prelude.{◌≡◌, IfOk};
 
 use cluster_scripts::GivenMove;
-use model::Config;
+use model::{Config, ProxyNumber, ResolverNumber, RowNumber};
 use mutation::Transaction;
+use scripts::copy_keys;
 use std::alloc::Global;
 use system_keys::{Bytes, Items, OutOfMemory};
 use turn_world::Event;
@@ -53,7 +54,7 @@ pub(crate) enum RawEvent {
     /// A batch gets its record.
     Sequence {
         /// The number of the proxy.
-        proxy: usize,
+        proxy: ProxyNumber,
         /// The transactions of the batch.
         batch: Items<Transaction>,
     },
@@ -62,14 +63,14 @@ pub(crate) enum RawEvent {
     /// A resolver gets a request.
     Offer {
         /// The row of the record.
-        row: usize,
+        row: RowNumber,
         /// The number of the resolver.
-        resolver: usize,
+        resolver: ResolverNumber,
     },
     /// A proxy finishes a record.
     Finish {
         /// The number of the proxy.
-        proxy: usize,
+        proxy: ProxyNumber,
     },
 }
 
@@ -82,12 +83,4 @@ fn copy_events(alloc: Global, events: &[Event]) -> Result<Items<Event>, OutOfMem
         copies.push(event.copy()?)?;
     }
     Ok(Items::from(copies))
-}
-
-/// A deep copy of the keys.
-fn copy_keys(keys: &Items<Bytes>) -> Result<Vec<Bytes>, OutOfMemory>
-    ensures { IfOk result (λ copy. copy.items ≡ keys.now) }
-{
-    let copy = keys.clone()?;
-    Ok(Vec::from(copy))
 }

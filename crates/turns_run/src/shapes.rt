@@ -16,7 +16,7 @@ use std::alloc::Global;
 impl Shaped for RawTurns {
     ghost shape = { script_shape };
 
-    fn shaped(alloc: Global, value: &Value) -> Result<RawTurns, ScriptFault> {
+    fn from_value(alloc: Global, value: &Value) -> Result<RawTurns, ScriptFault> {
         if !has_fields(value, 6) {
             return Err(ScriptFault::BadShape);
         }
@@ -31,7 +31,7 @@ impl Shaped for RawTurns {
 impl Shaped for RawEvent {
     ghost shape = { event_shape };
 
-    fn shaped(alloc: Global, value: &Value) -> Result<RawEvent, ScriptFault> {
+    fn from_value(alloc: Global, value: &Value) -> Result<RawEvent, ScriptFault> {
         if has_fields(value, 1) {
             named_event(alloc, value)
         } else {
@@ -45,20 +45,20 @@ fn named_event(alloc: Global, value: &Value) -> Result<RawEvent, ScriptFault>
     ensures { IsReadAs (λ found. found) result (or_bad_shape (named_event (view value.now))) }
 {
     if let Some(event) = value.get("sequence") {
-        sequence(alloc, event)
+        sequence_shape(alloc, event)
     } else if let Some(event) = value.get("move") {
-        move_range(alloc, event)
+        move_event_shape(alloc, event)
     } else if let Some(event) = value.get("offer") {
-        offer(alloc, event)
+        offer_shape(alloc, event)
     } else if let Some(event) = value.get("finish") {
-        finish(alloc, event)
+        finish_shape(alloc, event)
     } else {
         Err(ScriptFault::BadShape)
     }
 }
 
 /// What is read of the value of a sequence event.
-fn sequence(alloc: Global, value: &Value) -> Result<RawEvent, ScriptFault>
+fn sequence_shape(alloc: Global, value: &Value) -> Result<RawEvent, ScriptFault>
     ensures { IsReadAs (λ found. found) result (or_bad_shape (sequence_shape (view value.now))) }
 {
     if !has_fields(value, 2) {
@@ -71,14 +71,14 @@ fn sequence(alloc: Global, value: &Value) -> Result<RawEvent, ScriptFault>
 }
 
 /// What is read of the value of a move event.
-fn move_range(alloc: Global, value: &Value) -> Result<RawEvent, ScriptFault>
+fn move_event_shape(alloc: Global, value: &Value) -> Result<RawEvent, ScriptFault>
     ensures { IsReadAs (λ found. found) result (or_bad_shape (move_event_shape (view value.now))) }
 {
-    Ok(RawEvent::Move(GivenMove::shaped(alloc, value)?))
+    Ok(RawEvent::Move(GivenMove::from_value(alloc, value)?))
 }
 
 /// What is read of the value of an offer event.
-fn offer(alloc: Global, value: &Value) -> Result<RawEvent, ScriptFault>
+fn offer_shape(alloc: Global, value: &Value) -> Result<RawEvent, ScriptFault>
     ensures { IsReadAs (λ found. found) result (or_bad_shape (offer_shape (view value.now))) }
 {
     if !has_fields(value, 2) {
@@ -91,7 +91,7 @@ fn offer(alloc: Global, value: &Value) -> Result<RawEvent, ScriptFault>
 }
 
 /// What is read of the value of a finish event.
-fn finish(alloc: Global, value: &Value) -> Result<RawEvent, ScriptFault>
+fn finish_shape(alloc: Global, value: &Value) -> Result<RawEvent, ScriptFault>
     ensures { IsReadAs (λ found. found) result (or_bad_shape (finish_shape (view value.now))) }
 {
     if !has_fields(value, 1) {

@@ -5,7 +5,7 @@ ghost use Rattle.turns_run.specs.CarryingOut.{IsTextOf};
 ghost use Rattle.turns_run.specs.Text.{printed_text, proxies_text};
 
 use crate::carrying_out::CarriedOut;
-use crate::events::print_events;
+use crate::event_lines::carry_out_events;
 use crate::proxies::print_proxies;
 use crate::script::TurnsScript;
 use crate::streams::TurnsFields;
@@ -16,7 +16,7 @@ use std::alloc::Global;
 use system_keys::{Bytes, OutOfMemory};
 use turn_world::TurnWorld;
 
-/// Prints what a turns script comes to (this project's profile): the lines of its events, carried
+/// Prints the text of a turns script (this project's profile): the lines of its events, carried
 /// out one after another, and then those of each proxy. Fails only with `OutOfMemory`.
 pub(crate) fn print_turns(
     alloc: Global,
@@ -27,11 +27,11 @@ pub(crate) fn print_turns(
         ≡ string_bytes text.old ++ printed_text script) }
 {
     let mut world = TurnWorld::new(alloc, &script.config)?;
-    print_events(text, script.events, &mut world)?;
+    carry_out_events(text, script.events, &mut world)?;
     print_proxies(alloc, text, &script.config, &world, script.ask.as_slice())
 }
 
-/// What a turns script comes to, printed as its tokens come.
+/// The text of a turns script, printed while its tokens are read.
 #[derive(Drop)]
 pub(crate) struct TurnsText {
     /// The lines of its events, and then those of its proxies.

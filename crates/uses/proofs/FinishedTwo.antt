@@ -2,7 +2,7 @@
 use Rattle.std.proofs.Common.{◌≡◌, sym, ap, ◌∙◌, subst, ℕ, ◌+◌, ◌<◌, ◌≤◌, List, ◌∷◌, slice_get, Some, arith}
 use Rattle.model.specs.Configs.{Config}
 use Rattle.model.specs.Records.{Record}
-use Rattle.model.specs.Stamps.{Given}
+use Rattle.model.specs.Stamps.{AdmittedTransaction}
 use Rattle.model.specs.Finishing.{ProxyView}
 use Rattle.model.specs.Laws.History.{OwnVersionsAreNoLater}
 use Rattle.model.proofs.Verdicts.Places.{slice_get-take_back}
@@ -82,7 +82,7 @@ finishes_both config before between after first second answer next_answer own_la
 -- ---- batches
 
 -- the record of the same row among the same records
-pub holds_still : (p row at : ℕ) (records known : List Record) (batch : List Given) → at ≡ row → known ≡ records → HoldsBatch p row records batch → HoldsBatch p at known batch
+pub holds_still : (p row at : ℕ) (records known : List Record) (batch : List AdmittedTransaction) → at ≡ row → known ≡ records → HoldsBatch p row records batch → HoldsBatch p at known batch
 holds_still p row at records known batch same are holds =
     record {
       rec = holds.rec;
@@ -91,7 +91,7 @@ holds_still p row at records known batch same are holds =
       batch_is = holds.batch_is;
     }
 
-pub in_order : (p : ℕ) (before after : LockedProxyView) (batch next_batch : List Given) (begun next_begun : BegunView) (first second : ReadyView) (answer next_answer : NotedFinishedView)
+pub in_order : (p : ℕ) (before after : LockedProxyView) (batch next_batch : List AdmittedTransaction) (begun next_begun : BegunView) (first second : ReadyView) (answer next_answer : NotedFinishedView)
     → HoldsBatch p begun.row begun.records batch → HoldsBatch p next_begun.row next_begun.records next_batch
     → first.row ≡ begun.row → first.records ≡ begun.records → second.row ≡ next_begun.row → second.records ≡ next_begun.records
     → FinishesBoth before first second after answer next_answer → AnswerInOrder p batch next_batch answer next_answer

@@ -9,7 +9,7 @@ use Rattle.model.specs.Offers.{OfferResult, answer_again, answer_in_order, answe
 use Rattle.model.specs.Offers.{Early, GivenUp, Judged, NoSuchProxy, OutsideChain, WrongResolver}
 use Rattle.model.specs.Records.{Record, last_version}
 use Rattle.model.specs.Requests.{Request, last_request_version, request_reply}
-use Rattle.model.specs.Stamps.{Given}
+use Rattle.model.specs.Stamps.{AdmittedTransaction}
 use Rattle.model.specs.declared.reply.Reply.{Reply}
 use Rattle.agreed_ledger.specs.Cells.{Cells, ledger_limit}
 use Rattle.agreed_ledger.specs.declared.refusal.Refusal.TheVariants as ledgers
@@ -25,7 +25,7 @@ use Rattle.uses.proofs.AskedAll.{proxy_at}
 
 -- ---- counts of rows
 
--- a ledger can have so many rows, or cannot
+-- a ledger can have this number of rows, or cannot
 pub count_cases : (rows : ℕ) → IsBadCount rows ⊎ IsGoodCount rows
 count_cases rows = by (cases_order rows 0) (cases_order rows ledger_limit)
   where
@@ -120,7 +120,7 @@ missing_proxy number proxies window judged q answered = own (nat_eq q.resolver n
     own true is = known (nat_le proxies q.proxy) refl is
     own false is = absurd (cc)
 
-never_asked : (cells : Cells) (whose : Option ℕ) (p : ℕ) (begun : BegunView) (batch : List Given) → p < cells.config.proxies → IsBegun cells.config begun → HoldsBatch p begun.row begun.records batch → IsAskAllRefusal cells.config whose begun.requests refusals.NoSuchProxy → ⊥
+never_asked : (cells : Cells) (whose : Option ℕ) (p : ℕ) (begun : BegunView) (batch : List AdmittedTransaction) → p < cells.config.proxies → IsBegun cells.config begun → HoldsBatch p begun.row begun.records batch → IsAskAllRefusal cells.config whose begun.requests refusals.NoSuchProxy → ⊥
 never_asked cells whose p begun batch there kept holds (inl (same, foreign)) = absurd (cc)
 never_asked cells whose p begun batch there kept holds (inr (taken, inl same)) = cc
 never_asked cells whose p begun batch there kept holds (inr (taken, inr asked)) =
@@ -137,7 +137,7 @@ never_asked cells whose p begun batch there kept holds (inr (taken, inr asked)) 
     absurd (omega (arith, missing, of, own, count, there))
 
 -- no batch of a proxy that is there is refused so
-commit_never : (cells : Cells) (p : ℕ) (batch : List Given) → p < cells.config.proxies → WasNotCommitted cells p batch (ByCluster refusals.NoSuchProxy) → ⊥
+commit_never : (cells : Cells) (p : ℕ) (batch : List AdmittedTransaction) → p < cells.config.proxies → WasNotCommitted cells p batch (ByCluster refusals.NoSuchProxy) → ⊥
 commit_never cells p batch there (inl begins) = begins.3.3.2
 commit_never cells p batch there (inr (inl resolves)) = never_asked cells resolves.1 p resolves.0 batch there resolves.2 resolves.3 resolves.4
 commit_never cells p batch there (inr (inr finishes)) = finishes.3.3
@@ -152,18 +152,18 @@ not_alone : (refused : Refused) → refused ≡ ByCluster refusals.NoSuchProxy �
 not_alone refused is (inl same) = cc
 not_alone refused is (inr same) = cc
 
-two_never_bad : (cells : Cells) (batch next_batch : List Given) (refused : Refused) → refused ≡ ByLedger ledgers.BadConfig → WasNotShownByTwo cells batch next_batch refused → ⊥
+two_never_bad : (cells : Cells) (batch next_batch : List AdmittedTransaction) (refused : Refused) → refused ≡ ByLedger ledgers.BadConfig → WasNotShownByTwo cells batch next_batch refused → ⊥
 two_never_bad cells batch next_batch refused is (inl memory) = not_bad refused is memory
 two_never_bad cells batch next_batch refused is (inr (inl first)) = sequencer_never cells 0 (subst (WasNotCommitted cells 0 batch) is first)
 two_never_bad cells batch next_batch refused is (inr (inr second)) = sequencer_never cells 1 (subst (WasNotCommitted cells 1 next_batch) is second)
 
-two_never_alone : (cells : Cells) (batch next_batch : List Given) (refused : Refused) → 1 < cells.config.proxies → refused ≡ ByCluster refusals.NoSuchProxy → WasNotShownByTwo cells batch next_batch refused → ⊥
+two_never_alone : (cells : Cells) (batch next_batch : List AdmittedTransaction) (refused : Refused) → 1 < cells.config.proxies → refused ≡ ByCluster refusals.NoSuchProxy → WasNotShownByTwo cells batch next_batch refused → ⊥
 two_never_alone cells batch next_batch refused there is (inl memory) = not_alone refused is memory
 two_never_alone cells batch next_batch refused there is (inr (inl first)) = commit_never cells 0 batch (omega (arith, there)) (subst (WasNotCommitted cells 0 batch) is first)
 two_never_alone cells batch next_batch refused there is (inr (inr second)) = commit_never cells 1 next_batch there (subst (WasNotCommitted cells 1 next_batch) is second)
 
 -- `BadConfig` is told of a bad count alone
-pub only_bad : (rows : ℕ) (config : Config) (batch next_batch : List Given) (refused : Refused) → WasNotShown rows config batch next_batch refused → refused ≡ ByLedger ledgers.BadConfig → IsBadCount rows
+pub only_bad : (rows : ℕ) (config : Config) (batch next_batch : List AdmittedTransaction) (refused : Refused) → WasNotShown rows config batch next_batch refused → refused ≡ ByLedger ledgers.BadConfig → IsBadCount rows
 only_bad rows config batch next_batch refused shown is = by (count_cases rows)
   where
     by_cells : (cells : Cells) → WasNotShownBy cells batch next_batch refused → ⊥
@@ -187,7 +187,7 @@ only_bad rows config batch next_batch refused shown is = by (count_cases rows)
         shown_good (inr nothing) = by_cells nothing.0 nothing.3
 
 -- `NoSuchProxy` is told of a cluster without a second proxy alone
-pub only_alone : (rows : ℕ) (config : Config) (batch next_batch : List Given) (refused : Refused) → WasNotShown rows config batch next_batch refused → refused ≡ ByCluster refusals.NoSuchProxy → config.proxies ≤ 1
+pub only_alone : (rows : ℕ) (config : Config) (batch next_batch : List AdmittedTransaction) (refused : Refused) → WasNotShown rows config batch next_batch refused → refused ≡ ByCluster refusals.NoSuchProxy → config.proxies ≤ 1
 only_alone rows config batch next_batch refused shown is = by (count_cases rows)
   where
     by_cells : (cells : Cells) → cells.config ≡ config → WasNotShownBy cells batch next_batch refused → config.proxies ≤ 1

@@ -2,7 +2,7 @@
 use Rattle.std.specs.Prelude.{◌≡◌, ◌⊎◌, ⊤, List, Option, None, Some}
 use Rattle.model.specs.Numbers.{ProxyNumber, RowNumber}
 use Rattle.model.specs.Configs.{Config}
-use Rattle.model.specs.Stamps.{Given}
+use Rattle.model.specs.Stamps.{AdmittedTransaction}
 use Rattle.agreed_ledger.specs.Cells.{Cells}
 use Rattle.agreed_ledger.specs.Sequencing.{IsTicket, TicketView}
 use Rattle.locked_resolvers.specs.Asking.{IsAskAllRefusal}
@@ -25,7 +25,8 @@ cause_of (faults.Finishing refusal ready) = ByCluster refusal
 
 -- There is some record of p with the batch, and p, in some state that its type allows, refuses to
 -- begin it so.
-abbrev pub CouldNotBegin : Cells → ProxyNumber → (batch : List Given) → Refusal → Type 0
+abbrev pub CouldNotBegin : Cells → ProxyNumber → (batch : List AdmittedTransaction) → Refusal
+    → Type 0
 CouldNotBegin cells p batch refusal =
     (ticket : TicketView) × IsTicket cells.config ticket
     × HoldsBatch p ticket.row ticket.records batch
@@ -34,7 +35,8 @@ CouldNotBegin cells p batch refusal =
 -- There are requests as p sends them for some record of p with the batch, and a way to ask: it takes
 -- those of another proxy alone, or a resolver that one of them names, in some state that its type
 -- allows, refuses this one so, or an allocation failed.
-abbrev pub CouldNotResolve : Cells → ProxyNumber → (batch : List Given) → Refusal → Type 0
+abbrev pub CouldNotResolve : Cells → ProxyNumber → (batch : List AdmittedTransaction) → Refusal
+    → Type 0
 CouldNotResolve cells p batch refusal =
     (begun : BegunView) × (whose : Option ProxyNumber) × IsBegun cells.config begun
     × HoldsBatch p begun.row begun.records batch
@@ -42,7 +44,8 @@ CouldNotResolve cells p batch refusal =
 
 -- There are replies as all resolvers give them to some record of p with the batch, and p, in some state
 -- that its type allows, refuses to finish this record so.
-abbrev pub CouldNotFinish : Cells → ProxyNumber → (batch : List Given) → Refusal → Type 0
+abbrev pub CouldNotFinish : Cells → ProxyNumber → (batch : List AdmittedTransaction) → Refusal
+    → Type 0
 CouldNotFinish cells p batch refusal =
     (ready : ReadyView) × IsReady cells.config ready
     × HoldsBatch p ready.row ready.records batch
@@ -52,7 +55,8 @@ CouldNotFinish cells p batch refusal =
 -- Why a batch of proxy p was not committed. Either the sequencer, with some history, refuses a batch of
 -- p so. Or there is some record of p with the batch, and p refuses so to begin or to finish it, or a
 -- resolver refuses so to judge it, each in some state that its type allows; or an allocation failed.
-abbrev pub WasNotCommitted : Cells → ProxyNumber → (batch : List Given) → Refused → Type 0
+abbrev pub WasNotCommitted : Cells → ProxyNumber → (batch : List AdmittedTransaction) → Refused
+    → Type 0
 WasNotCommitted cells p batch (ByLedger refusal) = WasSequenceRefused cells p refusal
 WasNotCommitted cells p batch (ByCluster refusal) =
     CouldNotBegin cells p batch refusal
@@ -74,6 +78,6 @@ row_in (faults.Finishing refusal ready) = Some ready.row
 
 -- one of two batches of proxy p was not committed, for this reason
 abbrev pub OneWasNotCommitted :
-    Cells → ProxyNumber → (batch next_batch : List Given) → Refused → Type 0
+    Cells → ProxyNumber → (batch next_batch : List AdmittedTransaction) → Refused → Type 0
 OneWasNotCommitted cells p batch next_batch refused =
     WasNotCommitted cells p batch refused ⊎ WasNotCommitted cells p next_batch refused

@@ -3,7 +3,7 @@ use Rattle.std.specs.Prelude.{◌≡◌, ◌<◌, ◌⊎◌, List, ◌∷◌, sl
 use Rattle.model.specs.Numbers.{ProxyNumber}
 use Rattle.model.specs.Configs.{Config}
 use Rattle.model.specs.Records.{Record}
-use Rattle.model.specs.Stamps.{Given}
+use Rattle.model.specs.Stamps.{AdmittedTransaction}
 use Rattle.locked_cluster.specs.Ready.{ReadyView}
 use Rattle.locked_cluster.specs.Answers.{NotedFinishedView}
 use Rattle.locked_cluster.specs.Commits.{HoldsBatch}
@@ -62,7 +62,8 @@ RefusesOneFinish config before first second after refused =
 -- Two answers of proxy p, in the order of their versions. In the row of each stands a record of the
 -- proxy with its batch.
 pub record AnswerInOrder
-    (p : ProxyNumber) (batch next_batch : List Given) (answer next_answer : NotedFinishedView) :
+    (p : ProxyNumber) (batch next_batch : List AdmittedTransaction)
+    (answer next_answer : NotedFinishedView) :
     Type 0 where
   pub increase : answer.finished.version < next_answer.finished.version
   pub holds : HoldsBatch p answer.finished.row answer.records batch

@@ -1,7 +1,7 @@
 -- What two proxies of a cluster show, each right after it has committed a batch.
 use Rattle.std.specs.Prelude.{◌≡◌, ◌⊎◌, ℕ, ◌<◌, ◌≤◌, List, length}
 use Rattle.model.specs.Configs.{Config}
-use Rattle.model.specs.Stamps.{Given}
+use Rattle.model.specs.Stamps.{AdmittedTransaction}
 use Rattle.model.specs.Metadata.{Entries}
 use Rattle.model.specs.declared.outcome.Finished.{Finished}
 use Rattle.agreed_ledger.specs.Cells.{Cells, ledger_limit}
@@ -28,7 +28,7 @@ pub record ShowsPromise
 -- The first two proxies, 0 and 1, have each just committed one of the batches, and show this metadata.
 -- What they finished are these, and the promise holds.
 pub record KeepsPromise
-    (config : Config) (batch next_batch : List Given)
+    (config : Config) (batch next_batch : List AdmittedTransaction)
     (mine theirs : Entries) (finished next_finished : Finished) : Type 0 where
   pub one : LockedProxyView
   pub other : LockedProxyView
@@ -46,37 +46,39 @@ abbrev pub IsOutOfMemory : Refused → Type 0
 IsOutOfMemory refused =
     (refused ≡ ByLedger ledgers.OutOfMemory) ⊎ (refused ≡ ByCluster clusters.OutOfMemory)
 
--- the batch of proxy 0, or that of proxy 1, was not committed
-abbrev pub OneOfTwoWasNotCommitted : Cells → (batch next_batch : List Given) → Refused → Type 0
+-- the batch of proxy 0, or the one of proxy 1, was not committed
+abbrev pub OneOfTwoWasNotCommitted : Cells → (batch next_batch : List AdmittedTransaction) → Refused
+    → Type 0
 OneOfTwoWasNotCommitted cells batch next_batch refused =
     WasNotCommitted cells 0 batch refused ⊎ WasNotCommitted cells 1 next_batch refused
 
 -- why the first two proxies, which are there, showed nothing: an allocation failed, or one of the
 -- batches was not committed
-abbrev pub WasNotShownByTwo : Cells → (batch next_batch : List Given) → Refused → Type 0
+abbrev pub WasNotShownByTwo : Cells → (batch next_batch : List AdmittedTransaction) → Refused
+    → Type 0
 WasNotShownByTwo cells batch next_batch refused =
     IsOutOfMemory refused ⊎ OneOfTwoWasNotCommitted cells batch next_batch refused
 
 -- Why a cluster that has its ledger showed nothing. If it has no second proxy: `NoSuchProxy`, or an
 -- allocation failed. Otherwise: what kept its first two proxies from showing anything.
-abbrev pub WasNotShownBy : Cells → (batch next_batch : List Given) → Refused → Type 0
+abbrev pub WasNotShownBy : Cells → (batch next_batch : List AdmittedTransaction) → Refused → Type 0
 WasNotShownBy cells batch next_batch refused =
     (cells.config.proxies ≤ 1
     → IsOutOfMemory refused ⊎ (refused ≡ ByCluster clusters.NoSuchProxy))
     × (1 < cells.config.proxies → WasNotShownByTwo cells batch next_batch refused)
 
--- a ledger cannot have so many rows
+-- a ledger cannot have this number of rows
 abbrev pub IsBadCount : (rows : ℕ) → Type 0
 IsBadCount rows = (rows ≡ 0) ⊎ (ledger_limit < rows)
 
--- a ledger can have so many rows
+-- a ledger can have this number of rows
 abbrev pub IsGoodCount : (rows : ℕ) → Type 0
 IsGoodCount rows = (1 ≤ rows) × (rows ≤ ledger_limit)
 
--- Why nothing was shown. If a ledger cannot have so many rows: `BadConfig`. Otherwise: an allocation
--- failed, or what kept a cluster of these numbers, with so many rows, from showing anything.
+-- Why nothing was shown. If a ledger cannot have this number of rows: `BadConfig`. Otherwise: an allocation
+-- failed, or what kept a cluster of these numbers, with this number of rows, from showing anything.
 abbrev pub WasNotShown :
-    (rows : ℕ) → Config → (batch next_batch : List Given) → Refused → Type 0
+    (rows : ℕ) → Config → (batch next_batch : List AdmittedTransaction) → Refused → Type 0
 WasNotShown rows config batch next_batch refused =
     (IsBadCount rows → refused ≡ ByLedger ledgers.BadConfig)
     × (IsGoodCount rows

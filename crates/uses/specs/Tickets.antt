@@ -5,7 +5,7 @@ use Rattle.model.specs.Numbers.{ProxyNumber, ResolverNumber, Version}
 use Rattle.model.specs.Configs.{Config}
 use Rattle.model.specs.declared.moves.Move.{Move}
 use Rattle.model.specs.Records.{Record, last_version}
-use Rattle.model.specs.Stamps.{Given, stamped_from}
+use Rattle.model.specs.Stamps.{AdmittedTransaction, stamped_from}
 use Rattle.agreed_ledger.specs.Cells.{Cells}
 use Rattle.agreed_ledger.specs.Refusals.{refusal_fault}
 use Rattle.agreed_ledger.specs.Sequencing.{SequencedView, TicketView, HasMoved, HasSequenced}
@@ -15,7 +15,8 @@ use Rattle.agreed_ledger.specs.declared.refusal.Refusal.TheVariants as refusals
 
 -- the record of the ticket's row is of this proxy, has these moves, and holds the batch with the
 -- stamps of its own version
-pub record IsTicketFor (p : ProxyNumber) (batch : List Given) (moves : List Move) (t : TicketView) :
+pub record IsTicketFor (p : ProxyNumber) (batch : List AdmittedTransaction) (moves : List Move)
+    (t : TicketView) :
     Type 0 where
   pub rec : Record
   pub there : slice_get t.records t.row ≡ Some rec
@@ -36,9 +37,9 @@ pub record ComesNext (first second : TicketView) : Type 0 where
   pub records : second.records ≡ first.records ++ rec ∷ []
 
 -- the move that is made after the ticket: dated one above the version of the ticket's last record
-abbrev pub move_after : TicketView → Range → (destination : ResolverNumber) → Move
-move_after t range destination =
-    record { range = range; date = last_version t.records + 1; dest = destination }
+abbrev pub move_after : TicketView → Range → (dest : ResolverNumber) → Move
+move_after t range dest =
+    record { range = range; date = last_version t.records + 1; dest = dest }
 
 -- ---- refusals
 
@@ -51,16 +52,16 @@ RefusesBatch cells before p after refusal =
 
 -- the sequencer is unchanged, and refused a move: there is no such resolver, or an allocation failed
 abbrev pub RefusesMove :
-    Config → (before : SequencedView) → (destination : ResolverNumber) → (after : SequencedView)
+    Config → (before : SequencedView) → (dest : ResolverNumber) → (after : SequencedView)
     → Refusal → Type 0
-RefusesMove config before destination after refusal =
+RefusesMove config before dest after refusal =
     (after ≡ before)
-    × (config.resolvers ≤ destination → refusal ≡ refusals.NoSuchResolver)
-    × (destination < config.resolvers → refusal ≡ refusals.OutOfMemory)
+    × (config.resolvers ≤ dest → refusal ≡ refusals.NoSuchResolver)
+    × (dest < config.resolvers → refusal ≡ refusals.OutOfMemory)
 
 -- one of two batches was refused: the first, or else the second, after the first got its record
 abbrev pub RefusesOneOfTwo :
-    Cells → (before : SequencedView) → (p : ProxyNumber) (batch : List Given)
+    Cells → (before : SequencedView) → (p : ProxyNumber) (batch : List AdmittedTransaction)
     → (next_proxy : ProxyNumber) → (after : SequencedView) → Refusal → Type 0
 RefusesOneOfTwo cells before p batch next_proxy after refusal =
     RefusesBatch cells before p after refusal
@@ -71,12 +72,12 @@ RefusesOneOfTwo cells before p batch next_proxy after refusal =
 -- one of three calls was refused, after those before it were done: the first batch, the move, or the
 -- second batch
 abbrev pub RefusesAroundMove :
-    Cells → (before : SequencedView) → (p : ProxyNumber) (batch : List Given)
-    → Range → (destination : ResolverNumber) → (after : SequencedView) → Refusal → Type 0
-RefusesAroundMove cells before p batch range destination after refusal =
+    Cells → (before : SequencedView) → (p : ProxyNumber) (batch : List AdmittedTransaction)
+    → Range → (dest : ResolverNumber) → (after : SequencedView) → Refusal → Type 0
+RefusesAroundMove cells before p batch range dest after refusal =
     RefusesBatch cells before p after refusal
     ⊎ ((between : SequencedView) × (t : TicketView)
     × HasSequenced cells.config before p batch between t
-    × (RefusesMove cells.config between destination after refusal
+    × (RefusesMove cells.config between dest after refusal
     ⊎ ((moved : SequencedView) × (date : Version)
-    × HasMoved between range destination moved date × RefusesBatch cells moved p after refusal)))
+    × HasMoved between range dest moved date × RefusesBatch cells moved p after refusal)))

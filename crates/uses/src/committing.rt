@@ -2,7 +2,7 @@
 //! finished.
 
 ghost use Rattle.std.specs.Prelude.{◌≡◌, List, IfErr, IfOk};
-ghost use Rattle.model.specs.Stamps.{Given};
+ghost use Rattle.model.specs.Stamps.{AdmittedTransaction};
 ghost use Rattle.locked_cluster.specs.Commits.{HoldsBatch};
 ghost use Rattle.uses.specs.Causes.{WasNotCommitted};
 
@@ -65,22 +65,24 @@ fn begin<N: Naming, R: Wait, A: Asking<N>>(
 ) -> Result<NotedFinished<N>, Refused>
     ensures answer { IfOk result (λ noted.
         (noted.finished.row ≡ ticket.row) × (noted.records ≡ ticket.records)) }
-    ensures refused { (batch : List Given) → HoldsBatch proxy.now ticket.row ticket.records batch
+    ensures refused { (batch : List AdmittedTransaction)
+        → HoldsBatch proxy.now ticket.row ticket.records batch
         → IfErr result (WasNotCommitted N.cells proxy.now batch) }
 {
-    let begun = begun(rt, proxy, ticket)?;
+    let begun = begin_record(rt, proxy, ticket)?;
     resolve(rt, proxy, asking, begun)
 }
 
 /// Begins the record of the ticket, and lets the proxy go.
-fn begun<N: Naming, R: Wait>(
+fn begin_record<N: Naming, R: Wait>(
     rt: &R,
     proxy: &SharedProxy<'_, N>,
     ticket: Ticket<N>,
 ) -> Result<Begun<N>, Refused>
     ensures row { IfOk result (λ begun. begun.row ≡ ticket.row) }
     ensures records { IfOk result (λ begun. begun.records ≡ ticket.records) }
-    ensures refused { (batch : List Given) → HoldsBatch proxy.now ticket.row ticket.records batch
+    ensures refused { (batch : List AdmittedTransaction)
+        → HoldsBatch proxy.now ticket.row ticket.records batch
         → IfErr result (WasNotCommitted N.cells proxy.now batch) }
 {
     // (its contract says what the type keeps of the ticket)
@@ -100,7 +102,8 @@ fn resolve<N: Naming, R: Wait, A: Asking<N>>(
 ) -> Result<NotedFinished<N>, Refused>
     ensures answer { IfOk result (λ noted.
         (noted.finished.row ≡ begun.row) × (noted.records ≡ begun.records)) }
-    ensures refused { (batch : List Given) → HoldsBatch proxy.now begun.row begun.records batch
+    ensures refused { (batch : List AdmittedTransaction)
+        → HoldsBatch proxy.now begun.row begun.records batch
         → IfErr result (WasNotCommitted N.cells proxy.now batch) }
 {
     // (its contract says what the type keeps of the requests)
@@ -119,7 +122,8 @@ fn finish<N: Naming, R: Wait>(
 ) -> Result<NotedFinished<N>, Refused>
     ensures answer { IfOk result (λ noted.
         (noted.finished.row ≡ ready.row) × (noted.records ≡ ready.records)) }
-    ensures refused { (batch : List Given) → HoldsBatch proxy.now ready.row ready.records batch
+    ensures refused { (batch : List AdmittedTransaction)
+        → HoldsBatch proxy.now ready.row ready.records batch
         → IfErr result (WasNotCommitted N.cells proxy.now batch) }
 {
     // (its contract says what the type keeps of the replies)

@@ -1,7 +1,7 @@
 //! A proxy commits two batches: it begins both records, and finishes one after the other.
 
 ghost use Rattle.std.specs.Prelude.{◌≡◌, List, IfErr, IfOk};
-ghost use Rattle.model.specs.Stamps.{Given};
+ghost use Rattle.model.specs.Stamps.{AdmittedTransaction};
 ghost use Rattle.locked_cluster.specs.Commits.{HoldsBatch};
 ghost use Rattle.locked_cluster.specs.Proxies.{FinishesReady};
 ghost use Rattle.uses.specs.Causes.{OneWasNotCommitted, WasNotCommitted};
@@ -32,9 +32,9 @@ pub fn commit_two<N: Naming, R: Wait, A: Asking<N>>(
         AnswerInOrder proxy.now batch next_batch both.0 both.1) }
     ensures refused { IfErr result (OneWasNotCommitted N.cells proxy.now batch next_batch) }
 {
-    let (begun, next_begun) = begun_both(rt, proxy, sequencer, batch, next_batch)?;
-    let first = ready(rt, proxy, asking, begun)?;
-    let second = ready(rt, proxy, asking, next_begun)?;
+    let (begun, next_begun) = begin_both(rt, proxy, sequencer, batch, next_batch)?;
+    let first = resolve_record(rt, proxy, asking, begun)?;
+    let second = resolve_record(rt, proxy, asking, next_begun)?;
     // (their contracts say what the type keeps of the replies)
     let (_row, _next_row) = (first.row(), second.row());
     let mut guard = proxy.lock(rt);
@@ -60,15 +60,15 @@ pub fn finish_two<N: Naming>(
     chain_law();
     // (its contract says what the type keeps of the proxy)
     let _number = guard.number();
-    let answer = finished(guard, first)?;
+    let answer = finish_record(guard, first)?;
     // (and here, after a record more)
     let _version = guard.version();
-    let next_answer = finished(guard, second)?;
+    let next_answer = finish_record(guard, second)?;
     Ok((answer, next_answer))
 }
 
 /// Gives both batches their records, and begins them, under the proxy's lock.
-fn begun_both<N: Naming, R: Wait>(
+fn begin_both<N: Naming, R: Wait>(
     rt: &R,
     proxy: &SharedProxy<'_, N>,
     sequencer: &Sequencer<'_, N>,
@@ -82,13 +82,13 @@ fn begun_both<N: Naming, R: Wait>(
     ensures refused { IfErr result (OneWasNotCommitted N.cells proxy.now batch next_batch) }
 {
     let mut guard = proxy.lock(rt);
-    let first = begun(rt, &mut guard, sequencer, batch)?;
-    let second = begun(rt, &mut guard, sequencer, next_batch)?;
+    let first = begin_batch(rt, &mut guard, sequencer, batch)?;
+    let second = begin_batch(rt, &mut guard, sequencer, next_batch)?;
     Ok((first, second))
 }
 
 /// Gives the batch its record, and begins it. A refused batch is dropped.
-fn begun<N: Naming, R: Wait>(
+fn begin_batch<N: Naming, R: Wait>(
     rt: &R,
     guard: &mut ProxyGuard<'_, N>,
     sequencer: &Sequencer<'_, N>,
@@ -99,7 +99,7 @@ fn begun<N: Naming, R: Wait>(
     ensures number { guard.new.proxy.number ≡ guard.old.proxy.number }
     ensures refused { IfErr result (WasNotCommitted N.cells guard.old.proxy.number batch) }
 {
-    let ticket = sequenced(rt, sequencer, guard.number(), batch)?;
+    let ticket = sequence_batch(rt, sequencer, guard.number(), batch)?;
     // (its contract says what the type keeps of the ticket)
     let _row = ticket.row();
     match guard.begin(ticket) {
@@ -109,7 +109,7 @@ fn begun<N: Naming, R: Wait>(
 }
 
 /// Gives the batch its record, under the sequencer's lock. A refused batch is dropped.
-fn sequenced<N: Naming, R: Wait>(
+fn sequence_batch<N: Naming, R: Wait>(
     rt: &R,
     sequencer: &Sequencer<'_, N>,
     proxy: ProxyNumber,
@@ -126,7 +126,7 @@ fn sequenced<N: Naming, R: Wait>(
 }
 
 /// Asks all resolvers for a record that was begun. Refused requests are dropped.
-fn ready<N: Naming, R: Wait, A: Asking<N>>(
+fn resolve_record<N: Naming, R: Wait, A: Asking<N>>(
     rt: &R,
     proxy: &SharedProxy<'_, N>,
     asking: &A,
@@ -134,7 +134,8 @@ fn ready<N: Naming, R: Wait, A: Asking<N>>(
 ) -> Result<Ready<N>, Refused>
     ensures row { IfOk result (λ ready. ready.row ≡ begun.row) }
     ensures records { IfOk result (λ ready. ready.records ≡ begun.records) }
-    ensures refused { (batch : List Given) → HoldsBatch proxy.now begun.row begun.records batch
+    ensures refused { (batch : List AdmittedTransaction)
+        → HoldsBatch proxy.now begun.row begun.records batch
         → IfErr result (WasNotCommitted N.cells proxy.now batch) }
 {
     // (its contract says what the type keeps of the requests)
@@ -146,7 +147,7 @@ fn ready<N: Naming, R: Wait, A: Asking<N>>(
 }
 
 /// Finishes a record. Refused replies are dropped.
-fn finished<N: Naming>(
+fn finish_record<N: Naming>(
     guard: &mut ProxyGuard<'_, N>,
     ready: Ready<N>,
 ) -> Result<NotedFinished<N>, Refused>

@@ -67,13 +67,13 @@ pub fn offer_twice<N: Naming>(
     ensures refused { IfErr result (RefusesOneOfTwo guard.old request guard.new) }
 {
     let copy = request.copy()?;
-    let noted = offered(guard, request)?;
-    let again = offered(guard, copy)?;
+    let noted = offer_request(guard, request)?;
+    let again = offer_request(guard, copy)?;
     Ok((noted, again))
 }
 
 /// Offers the request. A refused one is dropped.
-fn offered<N: Naming>(
+fn offer_request<N: Naming>(
     guard: &mut ResolverGuard<'_, N>,
     request: Request<N>,
 ) -> Result<NotedReply<N>, Refusal>

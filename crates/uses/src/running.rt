@@ -12,7 +12,7 @@ ghost use Rattle.turn_world.specs.Events.{event_of};
 ghost use Rattle.turn_world.specs.Steps.{HasCarriedOut, HasStopped};
 ghost use Rattle.uses.specs.Running.{AreAtOneVersion, AreNotAtOneVersion};
 
-use model::Config;
+use model::{Config, ProxyNumber};
 use model::laws::{chain_law, events_law};
 use proxy_state::Metadata;
 use shared_cluster::{Answer, Event, Stopped, TurnRefusal, TurnWorld};
@@ -25,7 +25,7 @@ pub fn metadata_after(
     alloc: Global,
     config: &Config,
     events: &[Event],
-    proxy: usize,
+    proxy: ProxyNumber,
 ) -> Result<Option<Metadata>, OutOfMemory>
     ensures { let given = map event_of events.now in
         let world = world_after config.now (initial_world config.now) given in
@@ -49,7 +49,7 @@ pub fn metadata_at_end(
     alloc: Global,
     config: &Config,
     events: &[Event],
-    proxy: usize,
+    proxy: ProxyNumber,
 ) -> Result<Option<Metadata>, OutOfMemory>
     ensures { let given = map event_of events.now in
         let world = world_after config.now (initial_world config.now) given in
@@ -141,16 +141,16 @@ pub fn run_on(
         });
     };
     match cluster.run(alloc, rest) {
-        Ok(more) => Ok(joined(answers, more)),
+        Ok(more) => Ok(append_answers(answers, more)),
         Err(stopped) => Err(Stopped {
             carried_out: carried_out + stopped.carried_out,
-            answers: joined(answers, stopped.answers),
+            answers: append_answers(answers, stopped.answers),
         }),
     }
 }
 
 /// The answers and then the further ones, for which there must be room.
-fn joined(
+fn append_answers(
     mut answers: Vec<Result<Answer, TurnRefusal>>,
     mut more: Vec<Result<Answer, TurnRefusal>>,
 ) -> Vec<Result<Answer, TurnRefusal>>

@@ -7,6 +7,7 @@ ghost use Rattle.agreed_ledger.specs.Sequencing.{HasSequenced};
 ghost use Rattle.uses.specs.Tickets.{ComesAfter, ComesNext, IsTicketFor, move_after};
 ghost use Rattle.uses.specs.Tickets.{RefusesAroundMove, RefusesBatch, RefusesOneOfTwo};
 
+use model::{ProxyNumber, ResolverNumber};
 use agreed_ledger::{Ledger, Naming, Refusal, SequencerGuard, Ticket};
 use mutation::Batch;
 use request_builder::Record;
@@ -20,9 +21,9 @@ use system_keys::KeyRange;
 /// record all the same.
 pub fn sequence_two<N: Naming>(
     guard: &mut SequencerGuard<'_, N>,
-    proxy: usize,
+    proxy: ProxyNumber,
     batch: Batch,
-    next_proxy: usize,
+    next_proxy: ProxyNumber,
     next_batch: Batch,
 ) -> Result<(Ticket<N>, Ticket<N>), Refusal>
     ensures first { IfOk result (λ both. IsTicketFor proxy batch guard.old.moves both.0) }
@@ -34,8 +35,8 @@ pub fn sequence_two<N: Naming>(
     ensures refused { IfErr result
         (RefusesOneOfTwo N.cells guard.old proxy batch next_proxy guard.new) }
 {
-    let first = sequenced(guard, proxy, batch)?;
-    let second = sequenced(guard, next_proxy, next_batch)?;
+    let first = sequence_batch(guard, proxy, batch)?;
+    let second = sequence_batch(guard, next_proxy, next_batch)?;
     Ok((first, second))
 }
 
@@ -47,10 +48,10 @@ pub fn sequence_two<N: Naming>(
 /// done before.
 pub fn sequence_around_move<N: Naming>(
     guard: &mut SequencerGuard<'_, N>,
-    proxy: usize,
+    proxy: ProxyNumber,
     batch: Batch,
     range: &KeyRange,
-    dest: usize,
+    dest: ResolverNumber,
     next_batch: Batch,
 ) -> Result<(Ticket<N>, Ticket<N>), Refusal>
     ensures first { IfOk result (λ both. IsTicketFor proxy batch guard.old.moves both.0) }
@@ -64,9 +65,9 @@ pub fn sequence_around_move<N: Naming>(
     ensures refused { IfErr result
         (RefusesAroundMove N.cells guard.old proxy batch range.now dest guard.new) }
 {
-    let first = sequenced(guard, proxy, batch)?;
+    let first = sequence_batch(guard, proxy, batch)?;
     guard.move_range(range, dest)?;
-    let second = sequenced(guard, proxy, next_batch)?;
+    let second = sequence_batch(guard, proxy, next_batch)?;
     Ok((first, second))
 }
 
@@ -82,9 +83,9 @@ pub fn record_of<'a, N: Naming>(ledger: &'a Ledger<N>, ticket: &Ticket<N>) -> &'
 }
 
 /// Gives the batch its record. A refused batch is dropped.
-fn sequenced<N: Naming>(
+fn sequence_batch<N: Naming>(
     guard: &mut SequencerGuard<'_, N>,
-    proxy: usize,
+    proxy: ProxyNumber,
     batch: Batch,
 ) -> Result<Ticket<N>, Refusal>
     ensures sequenced { IfOk result

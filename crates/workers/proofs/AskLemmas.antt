@@ -12,14 +12,14 @@ use Rattle.locked_resolvers.specs.NotedReplies.{NotedReplyView, IsReplyToRequest
 use Rattle.locked_resolvers.specs.Asking.{AreRepliesInOrder}
 use Rattle.locked_resolvers.specs.declared.refusal.Refusal.{Refusal}
 use Rattle.locked_resolvers.proofs.Lists.{first_same, take_all}
-use Rattle.inboxes.specs.declared.tag.Tag.{Tag}
+use Rattle.inboxes.specs.declared.views.MessageView.{MessageView}
 use Rattle.inboxes.specs.Ends.{AreSenders, ProxyView, SenderView}
 use Rattle.inboxes.specs.Sending.{AreSent, ChangesEnd, IsSent, IsSentTo, with_gone, with_sent}
-use Rattle.inboxes.specs.Tags.{close_tag, request_tag}
+use Rattle.inboxes.specs.MessageViews.{close_view, request_view}
 use Rattle.inboxes.proofs.Sent.{to_proxy}
 use Rattle.workers.specs.Asking.{AreAllSent, AreRequestsSent, Gives, HasBeenSent, HasClosed, IsRequestSent}
-use Rattle.workers.specs.declared.answer.Answer.{Answer}
-use Rattle.workers.specs.declared.answer.Answer.TheVariants as answers
+use Rattle.workers.specs.declared.answer.WorkerAnswer.{WorkerAnswer}
+use Rattle.workers.specs.declared.answer.WorkerAnswer.TheVariants as answers
 
 pub take_next : {X : Type 0} (xs : List X) (k : ℕ) (x : X) → slice_get xs k ≡ Some x → take (k + 1) xs ≡ take k xs ++ x ∷ []
 take_next [] k x at = absurd (cc)
@@ -56,7 +56,7 @@ sent_more (p ∷ sent) q first before after (between, one, others) more = (betwe
 -- ---- what was sent is among what was sent through an end
 
 -- the message was sent to the resolver, or its worker's end is gone
-Sent : (to : ℕ) (message : Tag) (v : ProxyView) → Type 0
+Sent : (to : ℕ) (message : MessageView) (v : ProxyView) → Type 0
 Sent to message v = (e : SenderView) × (slice_get v.ends to ≡ Some e) × HasBeenSent message e
 
 set_here : {X : Type 0} (xs : List X) (i : ℕ) (a x : X) → slice_get xs i ≡ Some x → slice_get (set xs i a) i ≡ Some a
@@ -71,16 +71,16 @@ set_other (x ∷ xs) zero (suc k) a apart = refl
 set_other (x ∷ xs) (suc i) zero a apart = refl
 set_other (x ∷ xs) (suc i) (suc k) a apart = set_other xs i k a (λ same. apart (ap (λ (n : ℕ). suc n) same))
 
-one_more : (message other : Tag) (e : SenderView) → HasBeenSent message e → HasBeenSent message (with_sent other e)
+one_more : (message other : MessageView) (e : SenderView) → HasBeenSent message e → HasBeenSent message (with_sent other e)
 one_more message other e (inl (before, after, is)) =
-    inl (before, after ++ other ∷ [], ap (λ (ms : List Tag). ms ++ other ∷ []) is ∙ append_assoc before (message ∷ after) (other ∷ []))
+    inl (before, after ++ other ∷ [], ap (λ (ms : List MessageView). ms ++ other ∷ []) is ∙ append_assoc before (message ∷ after) (other ∷ []))
 one_more message other e (inr gone) = inr gone
 
-still_gone : (message : Tag) (e : SenderView) → HasBeenSent message e → HasBeenSent message (with_gone e)
+still_gone : (message : MessageView) (e : SenderView) → HasBeenSent message e → HasBeenSent message (with_gone e)
 still_gone message e sent = inr refl
 
 -- what was sent was sent still, whatever is sent then to whatever resolver
-changed_still : (to r : ℕ) (message : Tag) (change : SenderView → SenderView) (before after : ProxyView) → ((e : SenderView) → HasBeenSent message e → HasBeenSent message (change e))
+changed_still : (to r : ℕ) (message : MessageView) (change : SenderView → SenderView) (before after : ProxyView) → ((e : SenderView) → HasBeenSent message e → HasBeenSent message (change e))
     → ChangesEnd r change before after → Sent to message before → Sent to message after
 unfolding Sent
 changed_still to r message change before after keeps changes (e, at, sent) = by (cases_eq to r)
@@ -99,11 +99,11 @@ changed_still to r message change before after keeps changes (e, at, sent) = by 
     by (inl same) = here same
     by (inr apart) = (e, ap (λ (es : List SenderView). slice_get es to) changes.ends ∙ set_other before.ends r to (change changes.sender) apart ∙ at, sent)
 
-sent_still : (to r : ℕ) (message other : Tag) (before after : ProxyView) → IsSentTo r other before after → Sent to message before → Sent to message after
+sent_still : (to r : ℕ) (message other : MessageView) (before after : ProxyView) → IsSentTo r other before after → Sent to message before → Sent to message after
 sent_still to r message other before after (inl sent) was = changed_still to r message (with_sent other) before after (one_more message other) sent was
 sent_still to r message other before after (inr gone) was = changed_still to r message with_gone before after (still_gone message) gone was
 
-sent_now : (r : ℕ) (message : Tag) (before after : ProxyView) → IsSentTo r message before after → Sent r message after
+sent_now : (r : ℕ) (message : MessageView) (before after : ProxyView) → IsSentTo r message before after → Sent r message after
 unfolding Sent
 sent_now r message before after (inl sent) = (
   with_sent message sent.sender,
@@ -116,14 +116,14 @@ sent_now r message before after (inr gone) = (
   inr refl,
 )
 
-all_still : (to : ℕ) (message : Tag) (requests : List RequestView) (before after : ProxyView) → AreRequestsSent requests before after → Sent to message before → Sent to message after
+all_still : (to : ℕ) (message : MessageView) (requests : List RequestView) (before after : ProxyView) → AreRequestsSent requests before after → Sent to message before → Sent to message after
 all_still to message [] before after none was = subst (Sent to message) (sym none) was
 all_still to message (q ∷ requests) before after (between, one, others) was =
-    all_still to message requests between after others (sent_still to q.plain.resolver message (request_tag before.proxy q.plain.resolver q.plain.row) before between one was)
+    all_still to message requests between after others (sent_still to q.plain.resolver message (request_view before.proxy q.plain.resolver q.plain.row) before between one was)
 
 same_proxy : (requests : List RequestView) (before after : ProxyView) → AreRequestsSent requests before after → after.proxy ≡ before.proxy
 same_proxy [] before after none = ap (λ (v : ProxyView). v.proxy) none
-same_proxy (q ∷ requests) before after (between, one, others) = same_proxy requests between after others ∙ to_proxy q.plain.resolver (request_tag before.proxy q.plain.resolver q.plain.row) before between one
+same_proxy (q ∷ requests) before after (between, one, others) = same_proxy requests between after others ∙ to_proxy q.plain.resolver (request_view before.proxy q.plain.resolver q.plain.row) before between one
 
 pub all_sent : (requests : List RequestView) (before after : ProxyView) → AreRequestsSent requests before after → AreAllSent requests after
 unfolding Sent
@@ -131,22 +131,22 @@ all_sent [] before after none place q at = absurd (cc)
 all_sent (p ∷ requests) before after (between, one, others) zero q at =
     let same : p ≡ q = same_Some p q at in
     let of : after.proxy ≡ before.proxy = same_proxy (p ∷ requests) before after (between, one, others) in
-    subst (λ (r : RequestView). Sent r.plain.resolver (request_tag after.proxy r.plain.resolver r.plain.row) after) same
-    (subst (λ (proxy : ℕ). Sent p.plain.resolver (request_tag proxy p.plain.resolver p.plain.row) after) (sym of)
-    (all_still p.plain.resolver (request_tag before.proxy p.plain.resolver p.plain.row) requests between after others (sent_now p.plain.resolver (request_tag before.proxy p.plain.resolver p.plain.row) before between one)))
+    subst (λ (r : RequestView). Sent r.plain.resolver (request_view after.proxy r.plain.resolver r.plain.row) after) same
+    (subst (λ (proxy : ℕ). Sent p.plain.resolver (request_view proxy p.plain.resolver p.plain.row) after) (sym of)
+    (all_still p.plain.resolver (request_view before.proxy p.plain.resolver p.plain.row) requests between after others (sent_now p.plain.resolver (request_view before.proxy p.plain.resolver p.plain.row) before between one)))
 all_sent (p ∷ requests) before after (between, one, others) (suc place) q at = all_sent requests between after others place q at
 
 -- ---- a Close through each end
 
-pub has_closed : (resolvers : ℕ) (before after : ProxyView) → after.proxy ≡ before.proxy → AreSent (close_tag before.proxy) before.ends after.ends → AreSenders after.proxy resolvers after.ends → HasClosed resolvers after
+pub has_closed : (resolvers : ℕ) (before after : ProxyView) → after.proxy ≡ before.proxy → AreSent (close_view before.proxy) before.ends after.ends → AreSenders after.proxy resolvers after.ends → HasClosed resolvers after
 has_closed resolvers before after same sent senders =
     record {
       senders = senders;
       each = λ k e at. let own = sent.each k e at in by own.0 e own.2;
     }
   where
-    by : (old e : SenderView) → IsSent (close_tag before.proxy) old e → ((ms : List Tag) × (e.put ≡ ms ++ close_tag after.proxy ∷ [])) ⊎ IsTrue e.gone
-    by old e (inl is) = inl (old.put, ap (λ (s : SenderView). s.put) is ∙ ap (λ (p : ℕ). old.put ++ close_tag p ∷ []) (sym same))
+    by : (old e : SenderView) → IsSent (close_view before.proxy) old e → ((ms : List MessageView) × (e.put ≡ ms ++ close_view after.proxy ∷ [])) ⊎ IsTrue e.gone
+    by old e (inl is) = inl (old.put, ap (λ (s : SenderView). s.put) is ∙ ap (λ (p : ℕ). old.put ++ close_view p ∷ []) (sym same))
     by old e (inr is) = inr (ap (λ (s : SenderView). s.gone) is)
 
 -- ---- a request that came back
@@ -174,7 +174,7 @@ one_request config v w is_v is_w agree row resolver received =
 -- ---- what an answer gives
 
 -- the reply that an answer gives to a request is to that request
-pub reply_given : {N : Type 0} (q : Request) (answer : Answer N) (given : Result NotedReplyView Refusal) → Gives q answer (Some given) → IfOk given (λ (noted : NotedReplyView). IsReplyToRequest q noted.reply)
+pub reply_given : {N : Type 0} (q : Request) (answer : WorkerAnswer N) (given : Result NotedReplyView Refusal) → Gives q answer (Some given) → IfOk given (λ (noted : NotedReplyView). IsReplyToRequest q noted.reply)
 reply_given q (answers.Replied noted) (Ok reply) (inl (to, is)) = let same : noted ≡ reply = cc in subst (λ (n : NotedReplyView). IsReplyToRequest q n.reply) same to
 reply_given q (answers.Replied noted) (Ok reply) (inr (other, none)) = absurd (cc)
 reply_given q (answers.Replied noted) (Err refusal) gives = tt

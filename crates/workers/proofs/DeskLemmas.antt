@@ -11,8 +11,8 @@ use Rattle.locked_resolvers.specs.NotedReplies.{NotedReplyView}
 use Rattle.locked_resolvers.specs.Resolvers.{HasOffered, HasJudged, HasRepeated, IsLockedResolver, IsNotEarly, IsOfferRefusal, LockedResolverView, after_refusal}
 use Rattle.locked_resolvers.specs.declared.refusal.Refusal.{Refusal}
 use Rattle.locked_resolvers.specs.declared.refusal.Refusal.TheVariants as refusals
-use Rattle.workers.specs.declared.answer.Answer.{Answer}
-use Rattle.workers.specs.declared.answer.Answer.TheVariants as answers
+use Rattle.workers.specs.declared.answer.WorkerAnswer.{WorkerAnswer}
+use Rattle.workers.specs.declared.answer.WorkerAnswer.TheVariants as answers
 use Rattle.workers.specs.Desks.{ClosesByCause, DeskView, HasLetGo, HasRow, IsClosing, IsNoneDue, IsSettled, KeepsServing, OnlyFails, Serves, has_failed, next_row}
 use Rattle.workers.specs.Refusing.{IsAnswerOf, IsClosedWith, IsSameOrClosed, IsToldOf, IsToldRefusal, told_by}
 
@@ -242,7 +242,7 @@ refused_closed asked q refusal refused is =
     subst (λ (r : Refusal). IsTrue (after_refusal asked r).closed) (sym is) (subst (IsOfferRefusal asked q) is refused)
 
 -- what an answer tells is what was told of the offer
-pub told_of : {N : Type 0} (asked : LockedResolverView) (request : RequestView) (left : LockedResolverView) (answer : Answer N) → IsAnswerOf asked request left answer → IsToldOf asked request left (told_by answer)
+pub told_of : {N : Type 0} (asked : LockedResolverView) (request : RequestView) (left : LockedResolverView) (answer : WorkerAnswer N) → IsAnswerOf asked request left answer → IsToldOf asked request left (told_by answer)
 told_of asked request left (answers.Replied noted) is = (noted, is)
 told_of asked request left (answers.Refused refused) is = (is.1, is.2)
 

@@ -11,7 +11,7 @@ use Rattle.locked_resolvers.specs.Asking.{IsAskRefusal}
 use Rattle.locked_resolvers.specs.declared.refusal.Refusal.{Refusal}
 use Rattle.locked_resolvers.specs.declared.refusal.Refusal.TheVariants as refusals
 
--- what is kept of so many proxies without requests
+-- what is kept of this number of proxies without requests
 no_requests : ℕ → List ProxyMemory
 no_requests zero = []
 no_requests (suc n) = record { last = 0; acknowledged = 0; replies = [] } ∷ no_requests n

@@ -42,7 +42,7 @@ abbrev pub Serves : DeskView → RowNumber → Type 0
 Serves v row = (row < end_of v.column.rows) ⊎ HasRow v.held row
 
 -- Whatever row was served is served afterwards, unless the worker has failed. A worker that is closed
--- or was refused memory stays so. The column stays that of its resolver, from its first row.
+-- or was refused memory stays so. The column stays its resolver's, from its first row.
 pub record KeepsServing (before after : DeskView) : Type 0 where
   pub resolver : after.column.resolver ≡ before.column.resolver
   pub first : after.column.rows.first ≡ before.column.rows.first
@@ -122,7 +122,7 @@ pub record HasLetGo (before after : DeskView) : Type 0 where
   pub failed : IsFalse (has_failed after) → IsFalse (has_failed before)
   pub same : before.held ≡ [] → after ≡ before
 
--- The refusal closes the worker: it is neither want of memory nor that of a repeat that was given up.
+-- The refusal closes the worker: it is neither `OutOfMemory` nor the refusal of a repeat that was given up.
 -- (Of a request to its resolver whose turn has come it is then Closed or CellTaken.)
 abbrev pub IsClosing : Refusal → Type 0
 IsClosing (refusals.GivenUp acknowledged) = ⊥

@@ -8,11 +8,11 @@ use Rattle.locked_resolvers.specs.Resolvers.{IsOfferRefusal, closed_resolver}
 use Rattle.locked_resolvers.specs.NotedReplies.{NotedReplyView}
 use Rattle.locked_resolvers.specs.declared.refusal.Refusal.{Refusal}
 use Rattle.locked_resolvers.specs.declared.refusal.Refusal.TheVariants as refusals
-use Rattle.workers.specs.declared.answer.Answer.{Answer}
-use Rattle.workers.specs.declared.answer.Answer.TheVariants as answers
+use Rattle.workers.specs.declared.answer.WorkerAnswer.{WorkerAnswer}
+use Rattle.workers.specs.declared.answer.WorkerAnswer.TheVariants as answers
 
 -- what an answer tells: the refusal, or None, that there is a reply
-abbrev pub told_by : {N : Type 0} → Answer N → Option Refusal
+abbrev pub told_by : {N : Type 0} → WorkerAnswer N → Option Refusal
 told_by (answers.Replied noted) = None
 told_by (answers.Refused refused) = Some refused.refusal
 
@@ -37,7 +37,7 @@ IsToldRefusal asked q refusal =
 -- the resolver is closed afterwards, the answer tells that it is.
 abbrev pub IsAnswerOf :
     {N : Type 0} → (asked : LockedResolverView) → RequestView → (left : LockedResolverView)
-    → Answer N → Type 0
+    → WorkerAnswer N → Type 0
 IsAnswerOf asked request left (answers.Replied noted) = HasOffered asked request left noted
 IsAnswerOf asked request left (answers.Refused refused) =
     (refused.request ≡ request) × IsToldRefusal asked request.plain refused.refusal

@@ -12,21 +12,21 @@ use std::marker::Model;
 /// What a worker answers to a request, through a plain channel: the reply of its resolver, or why
 /// there is none.
 #[derive(Drop)]
-pub(crate) enum Answer<N: Naming> {
+pub(crate) enum WorkerAnswer<N: Naming> {
     /// The reply.
     Replied(NotedReply<N>),
     /// Why there is none.
     Refused(RefusedRequest<N>),
 }
 
-impl<N: Naming> Answer<N> {
+impl<N: Naming> WorkerAnswer<N> {
     /// The refusal, or `None` if it is a reply.
     pub(crate) fn refusal(&self) -> Option<Refusal>
         ensures { result ≡ told_by self.now }
     {
         match self {
-            Answer::Replied(_noted) => None,
-            Answer::Refused(refused) => Some(refused.refusal()),
+            WorkerAnswer::Replied(_noted) => None,
+            WorkerAnswer::Refused(refused) => Some(refused.refusal()),
         }
     }
 }

@@ -15,11 +15,11 @@ ghost use Rattle.locked_resolvers.specs.Resolvers.{closed_resolver};
 ghost use Rattle.locked_resolvers.specs.declared.refusal.Refusal.TheVariants as refusals;
 ghost use Rattle.crossbeam_channel.specs.declared.err.SendError.TheVariants as sends;
 
-use crate::answer::{Answer, RefusedRequest};
-use crate::asked_request::AskedRequest;
+use crate::answer::{WorkerAnswer, RefusedRequest};
+use crate::pending_request::PendingRequest;
 use crate::gate::{Gate, Place};
 use crate::refusing::{refused_as_closed, refused_by_offer};
-use crate::telling::{Told, tell};
+use crate::told::{Told, tell};
 use agreed_ledger::{Column, Naming};
 use crossbeam_channel::{SendError, Sender};
 use locked_resolvers::{Refusal, Request, ResolverGuard};
@@ -34,7 +34,7 @@ use std::sync::Wait;
 #[derive(Drop)]
 pub(crate) struct Desk<N: Naming> {
     column: Column<N>,
-    held: Vec<AskedRequest<N>>,
+    held: Vec<PendingRequest<N>>,
     closed: bool,
     wanted: bool,
 }
@@ -74,7 +74,7 @@ impl<N: Naming> Desk<N> {
         rt: &R,
         guard: &mut ResolverGuard<'_, N>,
         gate: &G,
-        held: AskedRequest<N>,
+        pending: PendingRequest<N>,
     )
         requires own { self.old.column.resolver ≡ guard.old.memory.number }
         requires settled { IsSettled self.old }
@@ -82,22 +82,23 @@ impl<N: Naming> Desk<N> {
         ensures keeps { KeepsServing self.old self.new }
         ensures settled { IsSettled self.new }
         ensures emptied { IsEmptyIfClosed self.new }
-        ensures served { held.plain.resolver ≡ self.old.column.resolver → IsFalse (has_failed self.new)
-            → Serves self.new held.plain.row }
-        ensures other { held.plain.resolver ≢ self.old.column.resolver → self.new ≡ self.old }
+        ensures served { pending.plain.resolver ≡ self.old.column.resolver
+            → IsFalse (has_failed self.new)
+            → Serves self.new pending.plain.row }
+        ensures other { pending.plain.resolver ≢ self.old.column.resolver → self.new ≡ self.old }
         ensures late { IsTrue self.old.closed → OnlyWantsMemory self.old self.new }
-        ensures closed { held.plain.resolver ≡ self.old.column.resolver → IsTrue self.new.closed
+        ensures closed { pending.plain.resolver ≡ self.old.column.resolver → IsTrue self.new.closed
             → IsTrue guard.new.closed }
     {
-        if held.request.resolver() != self.column.resolver() {
+        if pending.request.resolver() != self.column.resolver() {
             return;
         }
         if self.closed {
             guard.close();
-            let _told = self.refuse(rt, guard, held);
+            let _told = self.refuse(rt, guard, pending);
             return;
         }
-        let _told = self.hold(rt, held);
+        let _told = self.hold(rt, pending);
         self.offer_due(rt, guard, gate);
     }
 
@@ -155,19 +156,19 @@ impl<N: Naming> Desk<N> {
     }
 
     /// Sends the answer. If whoever asked has gone, the answer is dropped.
-    fn tell<R: Wait>(&mut self, rt: &R, reply: Sender<Answer<N>>, answer: Answer<N>) -> Told
+    fn tell<R: Wait>(&mut self, rt: &R, reply: Sender<WorkerAnswer<N>>, answer: WorkerAnswer<N>) -> Told
         ensures told { result ≡ told_by answer }
         ensures fails { OnlyFails self.old self.new }
         ensures closed { self.new.closed ≡ self.old.closed }
         ensures wants { OnlyWantsMemory self.old self.new }
     {
         let (told, sent) = tell(rt, reply, answer);
-        self.note(sent);
+        self.mark_if_unsent(sent);
         told
     }
 
     /// Takes up how the sending of an answer ended: nothing changes unless memory was refused.
-    fn note(&mut self, sent: Result<(), SendError<Answer<N>>>)
+    fn mark_if_unsent(&mut self, sent: Result<(), SendError<WorkerAnswer<N>>>)
         ensures fails { OnlyFails self.old self.new }
         ensures closed { self.new.closed ≡ self.old.closed }
         ensures memory { (answer : _) → sent ≡ Err (sends.OutOfMemory answer)
@@ -187,7 +188,7 @@ impl<N: Naming> Desk<N> {
         &mut self,
         rt: &R,
         guard: &ResolverGuard<'_, N>,
-        held: AskedRequest<N>,
+        pending: PendingRequest<N>,
     ) -> Told
         requires { IsTrue guard.now.closed }
         ensures told { result ≡ Some refusals.Closed }
@@ -195,23 +196,23 @@ impl<N: Naming> Desk<N> {
         ensures closed { self.new.closed ≡ self.old.closed }
         ensures wants { OnlyWantsMemory self.old self.new }
     {
-        let (request, reply) = held.into_parts();
+        let (request, reply) = pending.into_parts();
         self.tell(
             rt,
             reply,
-            Answer::Refused(refused_as_closed(guard, request)),
+            WorkerAnswer::Refused(refused_as_closed(guard, request)),
         )
     }
 
     /// Appends the request to those that are held back. If the allocation fails, answers it with
     /// `OutOfMemory`, and returns what was told.
-    fn hold<R: Wait>(&mut self, rt: &R, held: AskedRequest<N>) -> Option<Told>
+    fn hold<R: Wait>(&mut self, rt: &R, pending: PendingRequest<N>) -> Option<Told>
         ensures keeps { KeepsServing self.old self.new }
         ensures closed { self.new.closed ≡ self.old.closed }
-        ensures held { IsFalse (has_failed self.new) → HasRow self.new.held held.plain.row }
-        ensures told { IsHeldOrTold held self.old self.new result }
+        ensures held { IsFalse (has_failed self.new) → HasRow self.new.held pending.plain.row }
+        ensures told { IsHeldOrTold pending self.old self.new result }
     {
-        let Err(failed) = self.held.push(held) else {
+        let Err(failed) = self.held.push(pending) else {
             return None;
         };
         self.wanted = true;
@@ -219,7 +220,7 @@ impl<N: Naming> Desk<N> {
         let told = self.tell(
             rt,
             reply,
-            Answer::Refused(RefusedRequest::out_of_memory(request)),
+            WorkerAnswer::Refused(RefusedRequest::out_of_memory(request)),
         );
         Some(told)
     }
@@ -299,7 +300,7 @@ impl<N: Naming> Desk<N> {
         rt: &R,
         guard: &mut ResolverGuard<'_, N>,
         request: Request<N>,
-        reply: Sender<Answer<N>>,
+        reply: Sender<WorkerAnswer<N>>,
     ) -> Told
         requires { self.old.column.resolver ≡ guard.old.memory.number }
         ensures keeps { KeepsServing self.old self.new }
@@ -311,13 +312,13 @@ impl<N: Naming> Desk<N> {
         ensures closed { ClosesByCause self.old self.new request.plain guard.old guard.new }
         ensures told { IsToldOf guard.old request guard.new result }
     {
-        let answer = self.offered(guard, request);
+        let answer = self.offer_to_resolver(guard, request);
         self.tell(rt, reply, answer)
     }
 
     /// Offers the request to the resolver. Returns the answer: the reply, or why there is none. If that
     /// closes the worker, so it does the resolver.
-    fn offered(&mut self, guard: &mut ResolverGuard<'_, N>, request: Request<N>) -> Answer<N>
+    fn offer_to_resolver(&mut self, guard: &mut ResolverGuard<'_, N>, request: Request<N>) -> WorkerAnswer<N>
         requires { self.old.column.resolver ≡ guard.old.memory.number }
         ensures keeps { KeepsServing self.old self.new }
         ensures held { self.new.held ≡ self.old.held }
@@ -334,7 +335,7 @@ impl<N: Naming> Desk<N> {
         match guard.offer(request) {
             Ok(noted) => {
                 self.catch_up(guard.column());
-                Answer::Replied(noted)
+                WorkerAnswer::Replied(noted)
             }
             Err(refused) => {
                 // (by their types the resolver's records and the request's are of one ledger)
@@ -342,7 +343,7 @@ impl<N: Naming> Desk<N> {
                 self.catch_up(guard.column());
                 self.fail(refused.refusal, refused.request.row());
                 self.close_with(guard);
-                Answer::Refused(refused_by_offer(guard, refused))
+                WorkerAnswer::Refused(refused_by_offer(guard, refused))
             }
         }
     }

@@ -7,10 +7,10 @@ ghost use Rattle.inboxes.specs.Ends.{IsBeginning};
 ghost use Rattle.inboxes.specs.declared.refusal.Refusal.TheVariants as refusals;
 ghost use Rattle.workers.specs.Workers.{IsEnded};
 
-use crate::asked_request::AskedRequest;
+use crate::pending_request::PendingRequest;
 use crate::gate::Gate;
 use agreed_ledger::{Column, Naming};
-use inboxes::{Channels, Counts, EndedSender, Refusal, Taker};
+use inboxes::{Channels, Counts, EndedSender, Refusal, WorkerPass};
 use std::marker::Model;
 
 /// A worker that has ended.
@@ -21,7 +21,7 @@ use std::marker::Model;
 /// if it took such a request. It took as many Ends as there are proxies, unless it was cut off.
 #[derive(Drop)]
 pub struct EndedWorker<N: Naming, M: Channels, G: Gate + Drop> {
-    taker: Taker<N, AskedRequest<N>, M>,
+    pass: WorkerPass<N, PendingRequest<N>, M>,
     column: Column<N>,
     closed: bool,
     wanted: bool,
@@ -35,7 +35,7 @@ impl<N: Naming, M: Channels, G: Gate + Drop> Model for EndedWorker<N, M, G> {
     ghost Value = { EndedView };
 
     ghost view = { λ w. record {
-      taken = w.taker;
+      taken = w.pass;
       column = w.column;
       closed = w.closed;
       wanted = w.wanted;
@@ -43,7 +43,7 @@ impl<N: Naming, M: Channels, G: Gate + Drop> Model for EndedWorker<N, M, G> {
     } };
 
     ghost invariant = { λ w. IsEnded N.cells.config.proxies (record {
-      taken = w.taker;
+      taken = w.pass;
       column = w.column;
       closed = w.closed;
       wanted = w.wanted;
@@ -54,7 +54,7 @@ impl<N: Naming, M: Channels, G: Gate + Drop> Model for EndedWorker<N, M, G> {
 impl<N: Naming, M: Channels, G: Gate + Drop> EndedWorker<N, M, G> {
     /// The worker that has ended, of these parts.
     pub(crate) fn of(
-        taker: Taker<N, AskedRequest<N>, M>,
+        pass: WorkerPass<N, PendingRequest<N>, M>,
         column: Column<N>,
         closed: bool,
         wanted: bool,
@@ -62,14 +62,14 @@ impl<N: Naming, M: Channels, G: Gate + Drop> EndedWorker<N, M, G> {
         gate: G,
     ) -> EndedWorker<N, M, G>
         requires { IsEnded N.cells.config.proxies (record {
-          taken = taker;
+          taken = pass;
           column = column;
           closed = closed;
           wanted = wanted;
           cut_off = cut_off;
         }) }
         ensures { result ≡ record {
-          taken = taker;
+          taken = pass;
           column = column;
           closed = closed;
           wanted = wanted;
@@ -77,7 +77,7 @@ impl<N: Naming, M: Channels, G: Gate + Drop> EndedWorker<N, M, G> {
         } }
     {
         EndedWorker {
-            taker,
+            pass,
             column,
             closed,
             wanted,
@@ -126,8 +126,8 @@ impl<N: Naming, M: Channels, G: Gate + Drop> EndedWorker<N, M, G> {
     /// Fails with `NotSender` if the sender is to another resolver, and returns the sender.
     pub fn compare(
         &mut self,
-        ended: EndedSender<N, AskedRequest<N>, M>,
-    ) -> Result<Counts, (Refusal, EndedSender<N, AskedRequest<N>, M>)>
+        ended: EndedSender<N, PendingRequest<N>, M>,
+    ) -> Result<Counts, (Refusal, EndedSender<N, PendingRequest<N>, M>)>
         ensures kept { self.new ≡ self.old }
         ensures resolver { IfOk result (λ counts. ended.resolver ≡ self.old.taken.resolver) }
         ensures begins { IfOk result (λ counts. IsBeginning self.old.taken ended) }
@@ -138,7 +138,7 @@ impl<N: Naming, M: Channels, G: Gate + Drop> EndedWorker<N, M, G> {
             (ended.resolver ≢ self.old.taken.resolver) × (refused.0 ≡ refusals.NotSender)
             × (refused.1 ≡ ended)) }
     {
-        self.taker.compare(ended)
+        self.pass.compare(ended)
     }
 
     /// Returns the gate that was given to [`new`](crate::ResolverWorker::new).

@@ -7,18 +7,18 @@
 #![tactic(auto)]
 
 mod answer;
-mod asked_request;
+mod pending_request;
 mod desk;
 mod edges;
 mod ended;
 mod gate;
 mod proxy_inboxes;
 mod refusing;
-mod telling;
+mod told;
 mod waiting;
 mod worker;
 
-pub use asked_request::AskedRequest;
+pub use pending_request::PendingRequest;
 pub use edges::ended_worker_edges;
 pub use ended::EndedWorker;
 pub use gate::{Gate, Open, Place};

@@ -4,12 +4,12 @@ ghost use Rattle.std.specs.Prelude.{◌≡◌, ◌<◌, ◌≤◌, [], length, I
 ghost use Rattle.model.specs.Configs.{IsConfig};
 ghost use Rattle.inboxes.specs.Ends.{AreSenders};
 ghost use Rattle.inboxes.specs.Sending.{AreEndedSenders, AreSent, IsSentTo};
-ghost use Rattle.inboxes.specs.Tags.{close_tag, request_tag};
+ghost use Rattle.inboxes.specs.MessageViews.{close_view, request_view};
 ghost use Rattle.locked_resolvers.specs.Asking.{AreOfOneRecord, AreRepliesInOrder, AreTaken};
 ghost use Rattle.locked_resolvers.specs.Asking.{IsAskAllRefusal, IsAskedRefusal};
 ghost use Rattle.workers.specs.Asking.{AreAllSent, AreRequestsSent, HasClosed};
 
-use crate::asked_request::AskedRequest;
+use crate::pending_request::PendingRequest;
 use crate::waiting::{Prepared, collect, other_at, prepare};
 use agreed_ledger::{Ledger, Naming};
 use inboxes::{Channels, EndedSender, Message, ProxySenders};
@@ -24,7 +24,7 @@ use std::sync::{Mutex, MutexGuard, Wait};
 #[derive(Drop)]
 pub struct ProxyInboxes<N: Naming, M: Channels> {
     proxy: ProxyNumber,
-    lock: Mutex<ProxySenders<N, AskedRequest<N>, M>>,
+    lock: Mutex<ProxySenders<N, PendingRequest<N>, M>>,
 }
 
 impl<N: Naming, M: Channels> Model for ProxyInboxes<N, M> {
@@ -42,7 +42,7 @@ impl<N: Naming, M: Channels> ProxyInboxes<N, M> {
     /// The proxy that has these sending ends, in the cluster that the ledger is of.
     pub fn new(
         ledger: &Ledger<N>,
-        senders: ProxySenders<N, AskedRequest<N>, M>,
+        senders: ProxySenders<N, PendingRequest<N>, M>,
     ) -> ProxyInboxes<N, M>
         ensures { result ≡ senders.proxy }
     {
@@ -87,7 +87,7 @@ impl<N: Naming, M: Channels> ProxyInboxes<N, M> {
 
     /// Sends the last message of the proxy to each resolver's inbox. Returns the sending ends, in the
     /// order of the resolvers, through which nothing more can be sent. Allocates nothing.
-    pub fn end<R: Wait>(self, rt: &R) -> Vec<EndedSender<N, AskedRequest<N>, M>>
+    pub fn end<R: Wait>(self, rt: &R) -> Vec<EndedSender<N, PendingRequest<N>, M>>
         ensures senders { AreSenders self N.cells.config.resolvers result.items }
         ensures ended { AreEndedSenders self result.items }
     {
@@ -136,7 +136,7 @@ impl<N: Naming, M: Channels> ProxyInboxes<N, M> {
 
     /// Sends the requests, which are of this proxy. Returns the sending ends, still locked, which show
     /// what was sent through them.
-    fn send_all<R: Wait>(&self, rt: &R, messages: Vec<AskedRequest<N>>) -> SendersGuard<'_, N, M>
+    fn send_all<R: Wait>(&self, rt: &R, messages: Vec<PendingRequest<N>>) -> SendersGuard<'_, N, M>
         requires { AreTaken (Some self.now) messages.items }
         ensures { AreAllSent messages.items result }
     {
@@ -164,7 +164,7 @@ impl<N: Naming, M: Channels> Asking<N> for ProxyInboxes<N, M> {
 /// A proxy's sending ends of all inboxes, locked. Contracts see what was sent through them.
 #[derive(Drop)]
 pub struct SendersGuard<'a, N: Naming, M: Channels> {
-    guard: MutexGuard<'a, ProxySenders<N, AskedRequest<N>, M>>,
+    guard: MutexGuard<'a, ProxySenders<N, PendingRequest<N>, M>>,
 }
 
 impl<'a, N: Naming, M: Channels> Model for SendersGuard<'a, N, M> {
@@ -180,7 +180,7 @@ impl<'a, N: Naming, M: Channels> Model for SendersGuard<'a, N, M> {
 fn await_own<N: Naming, M: Channels, R: Wait>(
     rt: &R,
     proxy: ProxyNumber,
-    senders: &ProxySenders<N, AskedRequest<N>, M>,
+    senders: &ProxySenders<N, PendingRequest<N>, M>,
 )
     ensures { senders.now.proxy ≡ proxy }
 {
@@ -196,41 +196,41 @@ fn await_own<N: Naming, M: Channels, R: Wait>(
 /// and nobody answers it.
 fn send_requests<N: Naming, M: Channels, R: Wait>(
     rt: &R,
-    senders: &mut ProxySenders<N, AskedRequest<N>, M>,
-    messages: Vec<AskedRequest<N>>,
+    senders: &mut ProxySenders<N, PendingRequest<N>, M>,
+    messages: Vec<PendingRequest<N>>,
 )
     ensures { AreRequestsSent messages.items senders.old senders.new }
 {
-    for held in messages {
-        send_request(rt, senders, held);
+    for pending in messages {
+        send_request(rt, senders, pending);
     }
 }
 
 /// Sends a request to the inbox of its resolver.
 fn send_request<N: Naming, M: Channels, R: Wait>(
     rt: &R,
-    senders: &mut ProxySenders<N, AskedRequest<N>, M>,
-    held: AskedRequest<N>,
+    senders: &mut ProxySenders<N, PendingRequest<N>, M>,
+    pending: PendingRequest<N>,
 )
-    ensures { IsSentTo held.plain.resolver
-        (request_tag senders.old.proxy held.plain.resolver held.plain.row)
+    ensures { IsSentTo pending.plain.resolver
+        (request_view senders.old.proxy pending.plain.resolver pending.plain.row)
         senders.old senders.new }
 {
     // (their contracts say that there is an end to the resolver)
-    let _plain = held.request.plain();
+    let _plain = pending.request.plain();
     let _ends = senders.ends();
-    let resolver = held.request.resolver();
-    let message = Message::request(senders.proxy(), held);
+    let resolver = pending.request.resolver();
+    let message = Message::request(senders.proxy(), pending);
     let _sent = senders.send(rt, resolver, message);
 }
 
 /// Tells each worker to close its resolver.
 fn send_closes<N: Naming, M: Channels, R: Wait>(
     rt: &R,
-    senders: &mut ProxySenders<N, AskedRequest<N>, M>,
+    senders: &mut ProxySenders<N, PendingRequest<N>, M>,
 )
     ensures proxy { senders.new.proxy ≡ senders.old.proxy }
-    ensures sent { AreSent (close_tag senders.old.proxy) senders.old.ends senders.new.ends }
+    ensures sent { AreSent (close_view senders.old.proxy) senders.old.ends senders.new.ends }
 {
     for resolver in 0..senders.ends() {
         let message = Message::close(senders.proxy());

@@ -8,8 +8,8 @@ ghost use Rattle.locked_resolvers.specs.Asking.{IsAskedRefusal, IsForeignAt};
 ghost use Rattle.locked_resolvers.specs.NotedReplies.{IsReplyToRequest};
 ghost use Rattle.workers.specs.Asking.{Gives};
 
-use crate::answer::{Answer, RefusedRequest};
-use crate::asked_request::AskedRequest;
+use crate::answer::{WorkerAnswer, RefusedRequest};
+use crate::pending_request::PendingRequest;
 use agreed_ledger::Naming;
 use crossbeam_channel::{Receiver, bounded};
 use locked_resolvers::{NotedReply, Refusal, Request};
@@ -35,8 +35,8 @@ pub(crate) fn other_at<N: Naming>(proxy: ProxyNumber, requests: &[Request<N>]) -
 /// room for the replies.
 #[derive(Drop)]
 pub(crate) struct Prepared<N: Naming> {
-    pub(crate) messages: Vec<AskedRequest<N>>,
-    pub(crate) waiting: Vec<Receiver<Answer<N>>>,
+    pub(crate) messages: Vec<PendingRequest<N>>,
+    pub(crate) waiting: Vec<Receiver<WorkerAnswer<N>>>,
     pub(crate) replies: Vec<NotedReply<N>>,
 }
 
@@ -56,7 +56,7 @@ pub(crate) fn prepare<N: Naming>(
     let mut waiting = Vec::with_capacity(alloc, requests.len())?;
     for request in requests {
         let (answers, answered) = bounded(alloc, 1)?;
-        messages.push(AskedRequest::new(request.copy()?, answers))?;
+        messages.push(PendingRequest::new(request.copy()?, answers))?;
         waiting.push(answered)?;
     }
     Ok(Prepared {
@@ -71,7 +71,7 @@ pub(crate) fn prepare<N: Naming>(
 pub(crate) fn collect<N: Naming, R: Wait>(
     rt: &R,
     requests: &[Request<N>],
-    waiting: &Vec<Receiver<Answer<N>>>,
+    waiting: &Vec<Receiver<WorkerAnswer<N>>>,
     replies: Vec<NotedReply<N>>,
 ) -> Result<Vec<NotedReply<N>>, Refusal>
     requires limits { IsConfig N.cells.config }
@@ -92,7 +92,7 @@ pub(crate) fn collect<N: Naming, R: Wait>(
 /// worker that had the request has ended, fails with `Closed`.
 fn await_reply<N: Naming, R: Wait>(
     rt: &R,
-    answers: &Receiver<Answer<N>>,
+    answers: &Receiver<WorkerAnswer<N>>,
     request: &Request<N>,
 ) -> Result<NotedReply<N>, Refusal>
     requires limits { IsConfig N.cells.config }
@@ -105,7 +105,7 @@ fn await_reply<N: Naming, R: Wait>(
         let Ok(answer) = answers.recv(rt) else {
             return Err(Refusal::Closed);
         };
-        if let Some(given) = given_by(answer, request) {
+        if let Some(given) = result_for(answer, request) {
             return given;
         }
     }
@@ -114,22 +114,22 @@ fn await_reply<N: Naming, R: Wait>(
 
 /// Returns what the answer gives to the request: the reply, or why the request was refused. Nothing
 /// if it is the answer to another request.
-fn given_by<N: Naming>(
-    answer: Answer<N>,
+fn result_for<N: Naming>(
+    answer: WorkerAnswer<N>,
     request: &Request<N>,
 ) -> Option<Result<NotedReply<N>, Refusal>>
     ensures given { Gives request.now.plain answer result }
     ensures kept { IfSome result (λ given. IfErr given (IsAskRefusal N.cells.config request.now)) }
 {
     match answer {
-        Answer::Replied(noted) => {
+        WorkerAnswer::Replied(noted) => {
             if is_reply_to(&noted, request) {
                 Some(Ok(noted))
             } else {
                 None
             }
         }
-        Answer::Refused(refused) => {
+        WorkerAnswer::Refused(refused) => {
             let refusal = refusal_of(&refused, request)?;
             Some(Err(refusal))
         }

@@ -6,7 +6,7 @@ ghost use Rattle.inboxes.specs.Sending.{ends_in};
 ghost use Rattle.workers.specs.Workers.{HasTakenMore, IsWorkerOf, StaysFailed, TakesOne, new_worker};
 ghost use Rattle.locked_resolvers.specs.declared.refusal.Refusal.TheVariants as refusals;
 
-use crate::asked_request::AskedRequest;
+use crate::pending_request::PendingRequest;
 use crate::desk::Desk;
 use crate::ended::EndedWorker;
 use crate::gate::Gate;
@@ -21,7 +21,7 @@ use std::sync::Wait;
 #[derive(Drop)]
 pub struct ResolverWorker<'a, 'l, N: Naming, M: Channels, G: Gate + Drop> {
     shared: &'a SharedResolver<'l, N>,
-    end: InboxEnd<N, AskedRequest<N>, M>,
+    end: InboxEnd<N, PendingRequest<N>, M>,
     desk: Desk<N>,
     gate: G,
     proxies_left: usize,
@@ -54,9 +54,9 @@ impl<'a, 'l, N: Naming, M: Channels, G: Gate + Drop> ResolverWorker<'a, 'l, N, M
     pub fn new(
         alloc: Global,
         shared: &'a SharedResolver<'l, N>,
-        end: FreshEnd<N, AskedRequest<N>, M>,
+        end: FreshEnd<N, PendingRequest<N>, M>,
         gate: G,
-    ) -> Result<ResolverWorker<'a, 'l, N, M, G>, (Refusal, FreshEnd<N, AskedRequest<N>, M>, G)>
+    ) -> Result<ResolverWorker<'a, 'l, N, M, G>, (Refusal, FreshEnd<N, PendingRequest<N>, M>, G)>
         ensures { MatchResult result
             (λ worker. (end ≡ shared.now)
             × (worker ≡ new_worker shared.now N.cells.config.proxies))
@@ -95,9 +95,9 @@ impl<'a, 'l, N: Naming, M: Channels, G: Gate + Drop> ResolverWorker<'a, 'l, N, M
             if worker.has_ended() {
                 break;
             }
-            worker.step(rt);
+            worker.serve_next_message(rt);
         }
-        worker.ended(rt)
+        worker.into_ended(rt)
     }
 
     /// Whether it took the last message of each proxy, or nobody is left who could send one.
@@ -112,7 +112,7 @@ impl<'a, 'l, N: Naming, M: Channels, G: Gate + Drop> ResolverWorker<'a, 'l, N, M
     }
 
     /// Takes a message and serves it.
-    fn step<R: Wait>(&mut self, rt: &R)
+    fn serve_next_message<R: Wait>(&mut self, rt: &R)
         requires { 0 < self.old.proxies_left }
         ensures taken { TakesOne self.old self.new }
         ensures stays { StaysFailed self.old self.new }
@@ -122,9 +122,9 @@ impl<'a, 'l, N: Naming, M: Channels, G: Gate + Drop> ResolverWorker<'a, 'l, N, M
             return;
         };
         match message.into_body() {
-            Body::Request(held) => {
+            Body::Request(pending) => {
                 self.desk
-                    .take(rt, &mut self.shared.lock(rt), &self.gate, held)
+                    .take(rt, &mut self.shared.lock(rt), &self.gate, pending)
             }
             Body::Close => self.desk.close(rt, &mut self.shared.lock(rt)),
             Body::End => self.proxies_left -= 1,
@@ -133,7 +133,7 @@ impl<'a, 'l, N: Naming, M: Channels, G: Gate + Drop> ResolverWorker<'a, 'l, N, M
 
     /// Ends the worker, which takes no more. If requests are still held back, closes the resolver, and
     /// answers each so; if memory is refused for that, it ends as one that was refused memory.
-    fn ended<R: Wait>(self, rt: &R) -> EndedWorker<N, M, G>
+    fn into_ended<R: Wait>(self, rt: &R) -> EndedWorker<N, M, G>
         requires { (self.proxies_left ≡ 0) ⊎ IsTrue self.cut_off }
         ensures taken { result.taken ≡ self.entry.taken }
         ensures column { result.column ≡ self.entry.desk.column }
@@ -154,6 +154,6 @@ impl<'a, 'l, N: Naming, M: Channels, G: Gate + Drop> ResolverWorker<'a, 'l, N, M
         let mut desk = desk;
         desk.end(rt, &mut shared.lock(rt));
         let (column, closed, wanted) = desk.into_parts();
-        EndedWorker::of(end.into_taker(), column, closed, wanted, cut_off, gate)
+        EndedWorker::of(end.into_pass(), column, closed, wanted, cut_off, gate)
     }
 }

@@ -11,7 +11,7 @@ ghost use Rattle.endings.specs.Distances.{OnceFinishedItLacksOnlyOthers, TheyMay
 ghost use Rattle.endings.specs.Distances.{RememberedRowsFollowTheSlowest};
 ghost use Rattle.endings.specs.Distances.{FinishedRowsWereReached, TheSlowestBoundsWhatIsRemembered};
 
-/// A proxy knows every row up to that of the last record that it finished, and no further one. Of
+/// A proxy knows every row up to the row of the last record it finished, and no further one. Of
 /// two proxies the one at the later version knows at least as many rows.
 pub fn known_law()
     ensures none { NothingFinishedNothingKnown }

@@ -34,6 +34,6 @@ pub fn once_law()
 {}
 
 /// Any two lists of offers and finishes can be continued to the same world.
-pub fn meet_law()
+pub fn common_end_law()
     ensures { AnyTwoOrdersMeet }
 {}

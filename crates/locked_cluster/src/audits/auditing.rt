@@ -11,7 +11,7 @@ use agreed_ledger::Naming;
 use locked_resolvers::ResolverGuard;
 
 /// Compares two proxies of one cluster by their versions. At one version both have the same journal,
-/// and so the same metadata; otherwise the journal of one begins that of the other.
+/// and so the same metadata; otherwise one journal is a beginning of the other.
 ///
 /// Does not allocate, and does not wait. Both are of one ledger by their types.
 pub fn meet<N: Naming>(one: &ProxyGuard<'_, N>, other: &ProxyGuard<'_, N>) -> Meeting

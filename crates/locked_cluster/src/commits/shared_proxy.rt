@@ -181,7 +181,7 @@ impl<'l, N: Naming> SharedProxy<'l, N> {
             → HandsBack N.cells whose self.now batch fault) }
     {
         let mut guard = self.lock(rt);
-        let ticket = match sequenced(rt, sequencer, self.number, batch) {
+        let ticket = match sequence_batch(rt, sequencer, self.number, batch) {
             Ok(ticket) => ticket,
             Err((refusal, batch)) => return Err(CommitFault::Sequencing { refusal, batch }),
         };
@@ -225,7 +225,7 @@ impl<'l, N: Naming> SharedProxy<'l, N> {
 }
 
 /// Gives the batch of the proxy its record, under the sequencer's lock.
-fn sequenced<R: Wait, N: Naming>(
+fn sequence_batch<R: Wait, N: Naming>(
     rt: &R,
     sequencer: &Sequencer<'_, N>,
     proxy: ProxyNumber,

@@ -110,33 +110,38 @@ impl<N: Naming> Begun<N> {
 /// begun it: copies of the records up to the record's row, and room for the requests.
 #[derive(Drop)]
 pub(crate) struct Room<N: Naming> {
-    pub(crate) kept: Records<N>,
-    pub(crate) told: Records<N>,
-    pub(crate) copies: Vec<Records<N>>,
+    /// The proxy keeps these.
+    pub(crate) proxy_records: Records<N>,
+    /// These are returned with the requests.
+    pub(crate) begun_records: Records<N>,
+    /// Each request gets one of these.
+    pub(crate) request_records: Vec<Records<N>>,
+    /// No requests, with room for them.
     pub(crate) requests: Vec<Request<N>>,
 }
 
-/// The room for requests to so many resolvers. Fails only with `OutOfMemory`.
+/// The room for requests to `resolvers` resolvers. Fails only with `OutOfMemory`.
 pub(crate) fn room_for<N: Naming>(
     alloc: Global,
     records: &Records<N>,
     resolvers: usize,
 ) -> Result<Room<N>, OutOfMemory>
-    ensures kept { IfOk result (λ room. room.kept ≡ records.now) }
-    ensures told { IfOk result (λ room. room.told ≡ records.now) }
-    ensures copies { IfOk result (λ room. room.copies.items ≡ replicate resolvers records.now) }
+    ensures proxy { IfOk result (λ room. room.proxy_records ≡ records.now) }
+    ensures begun { IfOk result (λ room. room.begun_records ≡ records.now) }
+    ensures copies { IfOk result (λ room. room.request_records.items
+        ≡ replicate resolvers records.now) }
     ensures empty { IfOk result (λ room. room.requests.items ≡ []) }
     ensures room { IfOk result (λ room. resolvers ≤ vec_capacity room.requests) }
 {
     Ok(Room {
-        kept: records.copy()?,
-        told: records.copy()?,
-        copies: copies_of(alloc, records, resolvers)?,
+        proxy_records: records.copy()?,
+        begun_records: records.copy()?,
+        request_records: copies_of(alloc, records, resolvers)?,
         requests: Vec::with_capacity(alloc, resolvers)?,
     })
 }
 
-/// So many copies of the records. Fails only with `OutOfMemory`.
+/// `count` copies of the records. Fails only with `OutOfMemory`.
 #[tactic(auto, using(std::proofs::lemmas::List::replicate_more))]
 fn copies_of<N: Naming>(
     alloc: Global,
@@ -153,7 +158,7 @@ fn copies_of<N: Naming>(
 }
 
 /// The requests, each with one of the copies of the records. Does not allocate, since there is room.
-pub(crate) fn joined_with<N: Naming>(
+pub(crate) fn requests_with_records<N: Naming>(
     records: &Records<N>,
     plain: Vec<PlainRequest>,
     mut copies: Vec<Records<N>>,

@@ -27,7 +27,7 @@ impl<N: Naming> Model for Columns<N> {
 }
 
 impl<N: Naming> Columns<N> {
-    /// Returns empty columns of so many resolvers. Fails only with `OutOfMemory`.
+    /// Returns an empty column for each of `resolvers` resolvers. Fails only with `OutOfMemory`.
     #[tactic(auto, using(std::proofs::lemmas::List::replicate_more))]
     pub fn new(alloc: Global, resolvers: usize) -> Result<Columns<N>, OutOfMemory>
         ensures { IfOk result (λ made. made ≡ replicate resolvers []) }

@@ -13,7 +13,7 @@ ghost use Rattle.locked_cluster.specs.Proxies.{IsLockedProxy, IsNewLockedProxy, 
 ghost use Rattle.locked_cluster.specs.Proxies.{awaits_before};
 ghost use Rattle.locked_resolvers.specs.declared.refusal.Refusal.TheVariants as refusals;
 
-use crate::proxies::begun::{Begun, Room, joined_with, room_for};
+use crate::proxies::begun::{Begun, Room, requests_with_records, room_for};
 use crate::proxies::columns::Columns;
 use crate::proxies::meeting::Meeting;
 use crate::proxies::noted_finished::NotedFinished;
@@ -141,7 +141,7 @@ impl<N: Naming> LockedProxy<N> {
     pub fn awaits_before(&self, row: RowNumber) -> bool
         ensures { result ≡ awaits_before self.now.proxy.begun row }
     {
-        match self.proxy.awaited() {
+        match self.proxy.next_to_finish() {
             Some(rec) => rec.row() < row,
             None => false,
         }
@@ -201,9 +201,9 @@ impl<N: Naming> LockedProxy<N> {
         self.records.agree(records);
         let alloc = self.columns.alloc();
         let Room {
-            kept,
-            told,
-            copies,
+            proxy_records,
+            begun_records,
+            request_records,
             requests,
         } = room_for(alloc, records, config.resolvers())?;
         let built = match self.proxy.begin(rec) {
@@ -219,9 +219,9 @@ impl<N: Naming> LockedProxy<N> {
             requests: plain,
             asked: _,
         } = built;
-        let requests = joined_with(records, Vec::from(plain), copies, requests);
-        self.records = kept;
-        Ok(Begun::of(row, told, requests))
+        let requests = requests_with_records(records, Vec::from(plain), request_records, requests);
+        self.records = proxy_records;
+        Ok(Begun::of(row, begun_records, requests))
     }
 
     /// Finishes the first of the records that are begun and not finished, by the replies to it, and
@@ -236,7 +236,7 @@ impl<N: Naming> LockedProxy<N> {
         ensures back { IfErr result (λ refused. refused.1 ≡ ready) }
         ensures err { OnErr result (self.new ≡ self.old) }
     {
-        let Some(rec) = self.proxy.awaited() else {
+        let Some(rec) = self.proxy.next_to_finish() else {
             return Err((Refusal::OutOfTurn { expected: None }, ready));
         };
         let row = rec.row();
@@ -299,7 +299,7 @@ impl<N: Naming> LockedProxy<N> {
     }
 
     /// Compares the proxy with another one of the cluster. At one version both have the same journal,
-    /// and so the same metadata; else the journal of one begins that of the other. Needs no memory.
+    /// and so the same metadata; else one journal is a beginning of the other. Does not allocate.
     pub fn meet(&self, other: &LockedProxy<N>) -> Meeting
         ensures { Met result self.now.proxy other.now.proxy }
     {

@@ -2,7 +2,7 @@
 use Rattle.std.proofs.Common.{◌≡◌, refl, ℕ, suc, ◌+◌, List, [], ◌∷◌, ◌++◌, Bool, true, false, if◌then◌else◌, slice_get, Some, arith}
 use Rattle.model.specs.Configs.{Config}
 use Rattle.model.specs.declared.journal.JournalRow.{JournalRow}
-use Rattle.model.specs.Transactions.{Transaction, is_state_transaction}
+use Rattle.model.specs.Transactions.{StampedTransaction, is_state_transaction}
 use Rattle.model.specs.Records.{Record}
 use Rattle.model.specs.Shares.{asks}
 use Rattle.model.specs.Metadata.{is_locked, metadata}
@@ -13,16 +13,16 @@ use Rattle.model.proofs.Shares.Askers.{journal_row_alike}
 use Rattle.model.proofs.Agreement.Sources.{outcomes_from_alike, map_passing}
 
 -- the transactions of a list stand in a batch from number n on
-abbrev From : List Transaction → ℕ → List Transaction → Type 0
-From batch n ts = (k : ℕ) (t : Transaction) → slice_get ts k ≡ Some t → slice_get batch (n + k) ≡ Some t
+abbrev From : List StampedTransaction → ℕ → List StampedTransaction → Type 0
+From batch n ts = (k : ℕ) (t : StampedTransaction) → slice_get ts k ≡ Some t → slice_get batch (n + k) ≡ Some t
 
-from_here : (batch : List Transaction) (n : ℕ) (t : Transaction) (ts : List Transaction) → From batch n (t ∷ ts) → slice_get batch n ≡ Some t
+from_here : (batch : List StampedTransaction) (n : ℕ) (t : StampedTransaction) (ts : List StampedTransaction) → From batch n (t ∷ ts) → slice_get batch n ≡ Some t
 from_here batch n t ts at = let same : n + 0 ≡ n = omega arith in rw same at (at 0 t refl)
 
-from_next : (batch : List Transaction) (n : ℕ) (t : Transaction) (ts : List Transaction) → From batch n (t ∷ ts) → From batch (suc n) ts
+from_next : (batch : List StampedTransaction) (n : ℕ) (t : StampedTransaction) (ts : List StampedTransaction) → From batch n (t ∷ ts) → From batch (suc n) ts
 from_next batch n t ts at k u there = let same : suc n + k ≡ n + suc k = omega arith in rw same (at (suc k) u there)
 
-from_whole : (batch : List Transaction) → From batch 0 batch
+from_whole : (batch : List StampedTransaction) → From batch 0 batch
 from_whole batch k t there = let same : 0 + k ≡ k = omega arith in rw same there
 
 -- ---- outcomes
@@ -42,9 +42,9 @@ finished_after_alike config verdict_by other journal_before rec alike =
 
 -- of the transactions of the record that ask the resolver, it says the same
 abbrev OneSaysAlike : Config → VerdictSource → VerdictSource → ℕ → Record → Type 0
-OneSaysAlike config verdict_by other r rec = (n : ℕ) (t : Transaction) → slice_get rec.batch n ≡ Some t → asks config rec r t ≡ true → verdict_by r rec.row n ≡ other r rec.row n
+OneSaysAlike config verdict_by other r rec = (n : ℕ) (t : StampedTransaction) → slice_get rec.batch n ≡ Some t → asks config rec r t ≡ true → verdict_by r rec.row n ≡ other r rec.row n
 
-told_some : (config : Config) (verdict_by other : VerdictSource) (r : ℕ) (rec : Record) (n : ℕ) (ts : List Transaction) → OneSaysAlike config verdict_by other r rec → From rec.batch n ts → reply_states_from verdict_by r rec n ts ≡ reply_states_from other r rec n ts
+told_some : (config : Config) (verdict_by other : VerdictSource) (r : ℕ) (rec : Record) (n : ℕ) (ts : List StampedTransaction) → OneSaysAlike config verdict_by other r rec → From rec.batch n ts → reply_states_from verdict_by r rec n ts ≡ reply_states_from other r rec n ts
 told_some config verdict_by other r rec n [] alike at = refl
 told_some config verdict_by other r rec n (t ∷ ts) alike at = by (is_state_transaction t) refl (told_some config verdict_by other r rec (suc n) ts alike (from_next rec.batch n t ts at))
   where

@@ -5,7 +5,7 @@ use Rattle.std.specs.Prelude.{unwrap_or}
 use Rattle.model.specs.Configs.{Config}
 use Rattle.model.specs.declared.verdict.Verdict.{Verdict}
 use Rattle.model.specs.declared.reply.Reply.{Reply}
-use Rattle.model.specs.Transactions.{Transaction}
+use Rattle.model.specs.Transactions.{StampedTransaction}
 use Rattle.model.specs.Records.{Record, IsHistory}
 use Rattle.model.specs.Shares.{share, share_back_to, asks, each_below}
 use Rattle.model.specs.Verdicts.{share_verdicts}
@@ -26,7 +26,7 @@ pub cells_by_column : (config : Config) (h : List Record) (columns : Columns) (r
 unfolding cell_verdicts column_verdicts
 cells_by_column config h columns r i n = refl
 
-pub column_says : (config : Config) (h : List Record) (column : Column) (r i n : ℕ) (rec : Record) (t : Transaction) → slice_get h i ≡ Some rec → slice_get rec.batch n ≡ Some t → asks config rec r t ≡ true
+pub column_says : (config : Config) (h : List Record) (column : Column) (r i n : ℕ) (rec : Record) (t : StampedTransaction) → slice_get h i ≡ Some rec → slice_get rec.batch n ≡ Some t → asks config rec r t ≡ true
     → list_at column i ≡ share_verdicts config r (take i h) rec → column_verdicts config h column r i n ≡ history_verdicts config h r i n
 unfolding column_verdicts history_verdicts share_back_to
 column_says config h column r i n rec t at there asking cell =
@@ -75,7 +75,7 @@ reply_to_the_record config h column r rec history at cells =
     reply_alike r rec (take rec.row h) (list_at column rec.row) (share_verdicts config r (take rec.row h) rec) (column_verdicts config h column) (history_verdicts config h) (cells rec.row rec at)
     (unseen_of_one config (column_verdicts config h column) (history_verdicts config h) r (take rec.row h) rec earlier)
   where
-    earlier : (k : ℕ) (s : Record) → slice_get (take rec.row h) k ≡ Some s → (n : ℕ) (t : Transaction) → slice_get s.batch n ≡ Some t → asks config s r t ≡ true → column_verdicts config h column r s.row n ≡ history_verdicts config h r s.row n
+    earlier : (k : ℕ) (s : Record) → slice_get (take rec.row h) k ≡ Some s → (n : ℕ) (t : StampedTransaction) → slice_get s.batch n ≡ Some t → asks config s r t ≡ true → column_verdicts config h column r s.row n ≡ history_verdicts config h r s.row n
     earlier k s there n t is asking =
         let found : slice_get h k ≡ Some s = (slice_get-take h rec.row k s there).1 in
         let row : s.row ≡ k = row_at config h k s history found in

@@ -8,7 +8,7 @@ use Rattle.model.specs.declared.journal.JournalRow.{JournalRow}
 use Rattle.model.specs.declared.outcome.Outcome.{Outcome}
 use Rattle.model.specs.declared.outcome.Outcome.TheVariants.{Committed, Conflict, TooOld, Locked}
 use Rattle.model.specs.declared.outcome.Tagged.{Tagged}
-use Rattle.model.specs.Transactions.{Transaction}
+use Rattle.model.specs.Transactions.{StampedTransaction}
 use Rattle.model.specs.Records.{Record, IsHistory}
 use Rattle.model.specs.Verdicts.{share_verdicts}
 use Rattle.model.specs.Metadata.{Entries, metadata}
@@ -83,13 +83,13 @@ from_changes rows number n [] x has = absurd has
 from_changes rows number n (change ∷ changes) x (inl same) = subst (IsTaggedBy rows) same (record { tags = refl; private = refl })
 from_changes rows number n (change ∷ changes) x (inr later) = from_changes rows number (suc n) changes x later
 
-from_one : (rows : Entries) (t : Transaction) (outcome : Outcome) (x : Tagged) → Has (tagged_one rows t outcome) x → IsTaggedBy rows x
+from_one : (rows : Entries) (t : StampedTransaction) (outcome : Outcome) (x : Tagged) → Has (tagged_one rows t outcome) x → IsTaggedBy rows x
 from_one rows t (Committed version number) x has = from_changes rows number 0 t.changes x has
 from_one rows t Conflict x has = absurd has
 from_one rows t TooOld x has = absurd has
 from_one rows t Locked x has = absurd has
 
-from_all : (rows : Entries) (ts : List Transaction) (outcomes : List Outcome) (x : Tagged) → Has (tagged_all rows ts outcomes) x → IsTaggedBy rows x
+from_all : (rows : Entries) (ts : List StampedTransaction) (outcomes : List Outcome) (x : Tagged) → Has (tagged_all rows ts outcomes) x → IsTaggedBy rows x
 from_all rows [] outcomes x has = absurd has
 from_all rows (t ∷ ts) [] x has = absurd has
 from_all rows (t ∷ ts) (outcome ∷ outcomes) x has = by (Has-append_cases (tagged_one rows t outcome) (tagged_all rows ts outcomes) x has) (from_all rows ts outcomes x)

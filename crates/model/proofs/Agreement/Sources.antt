@@ -13,7 +13,7 @@ use Rattle.model.specs.declared.verdict.Verdict.TheVariants.{Committed}
 use Rattle.model.specs.declared.journal.JournalRow.{JournalRow}
 use Rattle.model.specs.declared.unseen.UnseenRow.{UnseenRow}
 use Rattle.model.specs.declared.reply.Reply.{Reply}
-use Rattle.model.specs.Transactions.{Transaction, is_state_transaction}
+use Rattle.model.specs.Transactions.{StampedTransaction, is_state_transaction}
 use Rattle.model.specs.Records.{Record, Follows, IsHistory}
 use Rattle.model.specs.Shares.{share, asks, each_below}
 use Rattle.model.specs.Verdicts.{joined, share_verdicts}
@@ -63,13 +63,13 @@ map_asked f g test (suc n) same =
     go true passes = ap (λ v. v ∷ []) (same n (omega arith) passes)
     go false fails = refl
 
-outcome_alike : (config : Config) (verdict_by told : VerdictSource) (locked : Bool) (rec : Record) (n : ℕ) (t : Transaction) → AgreeOn config verdict_by told rec → slice_get rec.batch n ≡ Some t → outcome config verdict_by locked rec n t ≡ outcome config told locked rec n t
+outcome_alike : (config : Config) (verdict_by told : VerdictSource) (locked : Bool) (rec : Record) (n : ℕ) (t : StampedTransaction) → AgreeOn config verdict_by told rec → slice_get rec.batch n ≡ Some t → outcome config verdict_by locked rec n t ≡ outcome config told locked rec n t
 unfolding outcome joined_verdict
 outcome_alike config verdict_by told locked rec n t alike at =
     ap (λ (vs : List Verdict). outcome_by (joined vs) (not t.lock_aware && locked) rec.version n)
     (map_asked (λ (r : ℕ). verdict_by r rec.row n) (λ (r : ℕ). told r rec.row n) (λ r. asks config rec r t) config.resolvers (λ r within asking. alike.same r n t within at asking))
 
-pub outcomes_from_alike : (config : Config) (verdict_by told : VerdictSource) (locked : Bool) (rec : Record) (n : ℕ) (ts : List Transaction) → AgreeOn config verdict_by told rec → ((k : ℕ) (t : Transaction) → slice_get ts k ≡ Some t → slice_get rec.batch (n + k) ≡ Some t) → outcomes_from config verdict_by locked rec n ts ≡ outcomes_from config told locked rec n ts
+pub outcomes_from_alike : (config : Config) (verdict_by told : VerdictSource) (locked : Bool) (rec : Record) (n : ℕ) (ts : List StampedTransaction) → AgreeOn config verdict_by told rec → ((k : ℕ) (t : StampedTransaction) → slice_get ts k ≡ Some t → slice_get rec.batch (n + k) ≡ Some t) → outcomes_from config verdict_by locked rec n ts ≡ outcomes_from config told locked rec n ts
 outcomes_from_alike config verdict_by told locked rec n [] alike at = refl
 outcomes_from_alike config verdict_by told locked rec n (t ∷ ts) alike at =
     rw (outcome_alike config verdict_by told locked rec n t alike here, outcomes_from_alike config verdict_by told locked rec (suc n) ts alike later)
@@ -77,7 +77,7 @@ outcomes_from_alike config verdict_by told locked rec n (t ∷ ts) alike at =
     here : slice_get rec.batch n ≡ Some t
     here = let same : n + 0 ≡ n = omega arith in rw same at (at 0 t refl)
 
-    later : (k : ℕ) (u : Transaction) → slice_get ts k ≡ Some u → slice_get rec.batch (suc n + k) ≡ Some u
+    later : (k : ℕ) (u : StampedTransaction) → slice_get ts k ≡ Some u → slice_get rec.batch (suc n + k) ≡ Some u
     later k u there = let same : suc n + k ≡ n + suc k = omega arith in rw same (at (suc k) u there)
 
 pub outcomes_alike : (config : Config) (verdict_by told : VerdictSource) (before : List Record) (rec : Record) → AllAlike config verdict_by told before → AgreeOn config verdict_by told rec → outcomes config verdict_by before rec ≡ outcomes config told before rec
@@ -86,7 +86,7 @@ outcomes_alike config verdict_by told before rec all alike =
     rw (journal_alike config verdict_by told before all) (outcomes_from_alike config verdict_by told (is_locked (metadata (journal config told before))) rec 0 rec.batch alike (λ k t there. let same : 0 + k ≡ k = omega arith in rw same there))
 
 -- each transaction of a batch has its outcome at its number
-outcomes_from_at : (config : Config) (verdict_by : VerdictSource) (locked : Bool) (rec : Record) (m : ℕ) (ts : List Transaction) (k n : ℕ) (t : Transaction) → n ≡ m + k → slice_get ts k ≡ Some t → slice_get (outcomes_from config verdict_by locked rec m ts) k ≡ Some (outcome config verdict_by locked rec n t)
+outcomes_from_at : (config : Config) (verdict_by : VerdictSource) (locked : Bool) (rec : Record) (m : ℕ) (ts : List StampedTransaction) (k n : ℕ) (t : StampedTransaction) → n ≡ m + k → slice_get ts k ≡ Some t → slice_get (outcomes_from config verdict_by locked rec m ts) k ≡ Some (outcome config verdict_by locked rec n t)
 outcomes_from_at config verdict_by locked rec m [] k n t number at = absurd (cc)
 outcomes_from_at config verdict_by locked rec m (u ∷ ts) zero n t number at =
     let same : u ≡ t = cc in
@@ -94,11 +94,11 @@ outcomes_from_at config verdict_by locked rec m (u ∷ ts) zero n t number at =
     rw (same, here)
 outcomes_from_at config verdict_by locked rec m (u ∷ ts) (suc k) n t number at = outcomes_from_at config verdict_by locked rec (suc m) ts k n t (omega arith) at
 
-pub outcomes_after_at : (config : Config) (verdict_by : VerdictSource) (journal_before : List JournalRow) (rec : Record) (n : ℕ) (t : Transaction) → slice_get rec.batch n ≡ Some t → slice_get (outcomes_after config verdict_by journal_before rec) n ≡ Some (outcome config verdict_by (is_locked (metadata journal_before)) rec n t)
+pub outcomes_after_at : (config : Config) (verdict_by : VerdictSource) (journal_before : List JournalRow) (rec : Record) (n : ℕ) (t : StampedTransaction) → slice_get rec.batch n ≡ Some t → slice_get (outcomes_after config verdict_by journal_before rec) n ≡ Some (outcome config verdict_by (is_locked (metadata journal_before)) rec n t)
 unfolding outcomes_after
 outcomes_after_at config verdict_by journal_before rec n t at = outcomes_from_at config verdict_by (is_locked (metadata journal_before)) rec 0 rec.batch n n t (omega arith) at
 
-pub outcomes_at : (config : Config) (verdict_by : VerdictSource) (before : List Record) (rec : Record) (n : ℕ) (t : Transaction) → slice_get rec.batch n ≡ Some t → slice_get (outcomes config verdict_by before rec) n ≡ Some (outcome config verdict_by (is_locked (metadata (journal config verdict_by before))) rec n t)
+pub outcomes_at : (config : Config) (verdict_by : VerdictSource) (before : List Record) (rec : Record) (n : ℕ) (t : StampedTransaction) → slice_get rec.batch n ≡ Some t → slice_get (outcomes config verdict_by before rec) n ≡ Some (outcome config verdict_by (is_locked (metadata (journal config verdict_by before))) rec n t)
 outcomes_at config verdict_by before rec n t at = outcomes_after_at config verdict_by (journal config verdict_by before) rec n t at
 
 -- a finished batch is the same by sayings that are alike
@@ -226,15 +226,15 @@ said_by_cell config h columns r i n said = by (slice_get h i) refl said
         )
 
 -- what a history says is Committed only where the transaction is there
-pub said_of_one : (config : Config) (h : List Record) (r i n : ℕ) → history_verdicts config h r i n ≡ Committed → (rec : Record) × (t : Transaction) × (slice_get h i ≡ Some rec) × (slice_get rec.batch n ≡ Some t)
+pub said_of_one : (config : Config) (h : List Record) (r i n : ℕ) → history_verdicts config h r i n ≡ Committed → (rec : Record) × (t : StampedTransaction) × (slice_get h i ≡ Some rec) × (slice_get rec.batch n ≡ Some t)
 unfolding history_verdicts
 said_of_one config h r i n said = by (slice_get h i) refl said
   where
-    among : (rec : Record) → slice_get h i ≡ Some rec → (found : Option Transaction) → slice_get rec.batch n ≡ found → history_verdict_in_record config r (take i h) rec n found ≡ Committed → (rec : Record) × (t : Transaction) × (slice_get h i ≡ Some rec) × (slice_get rec.batch n ≡ Some t)
+    among : (rec : Record) → slice_get h i ≡ Some rec → (found : Option StampedTransaction) → slice_get rec.batch n ≡ found → history_verdict_in_record config r (take i h) rec n found ≡ Committed → (rec : Record) × (t : StampedTransaction) × (slice_get h i ≡ Some rec) × (slice_get rec.batch n ≡ Some t)
     among rec at None none said = absurd (cc)
     among rec at (Some t) there said = (rec, t, at, there)
 
-    by : (found : Option Record) → slice_get h i ≡ found → history_verdict_in_row config h r i n found ≡ Committed → (rec : Record) × (t : Transaction) × (slice_get h i ≡ Some rec) × (slice_get rec.batch n ≡ Some t)
+    by : (found : Option Record) → slice_get h i ≡ found → history_verdict_in_row config h r i n found ≡ Committed → (rec : Record) × (t : StampedTransaction) × (slice_get h i ≡ Some rec) × (slice_get rec.batch n ≡ Some t)
     by None none said = absurd (cc)
     by (Some rec) at said = among rec at (slice_get rec.batch n) refl said
 
@@ -265,7 +265,7 @@ journals_meet config h g mine theirs m n history fewer same cells =
 
 -- ---- replies
 
-told_from_alike : (verdict_by other : VerdictSource) (r : ℕ) (rec : Record) (n : ℕ) (ts : List Transaction) → ((k : ℕ) → verdict_by r rec.row k ≡ other r rec.row k) → reply_states_from verdict_by r rec n ts ≡ reply_states_from other r rec n ts
+told_from_alike : (verdict_by other : VerdictSource) (r : ℕ) (rec : Record) (n : ℕ) (ts : List StampedTransaction) → ((k : ℕ) → verdict_by r rec.row k ≡ other r rec.row k) → reply_states_from verdict_by r rec n ts ≡ reply_states_from other r rec n ts
 told_from_alike verdict_by other r rec n [] same = refl
 told_from_alike verdict_by other r rec n (t ∷ ts) same = by (is_state_transaction t) (told_from_alike verdict_by other r rec (suc n) ts same)
   where

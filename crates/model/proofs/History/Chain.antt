@@ -7,7 +7,7 @@ use Rattle.std.proofs.lemmas.List.Elements.{filter-append}
 use Rattle.std.proofs.lemmas.Option.{slice_get_within}
 use Rattle.model.specs.Configs.{Config, version_limit}
 use Rattle.model.specs.declared.moves.Move.{Move}
-use Rattle.model.specs.Transactions.{Transaction}
+use Rattle.model.specs.Transactions.{StampedTransaction}
 use Rattle.model.specs.Records.{Record, IsHistory, Follows, MovesFollow, last_version, records_of_proxy, oldest}
 use Rattle.model.specs.World.{up_to_version, rows_up_to}
 use Rattle.model.proofs.History.Growth.{up_to_last, own_version_up_to}
@@ -93,7 +93,7 @@ own_up_to_previous config h i rec history at =
 
 -- ---- the next record
 
-pub next_follows_moves : (config : Config) (h : List Record) (moves : List Move) (p : ℕ) (batch : List Transaction) → MovesFollow config h moves → p < config.proxies → last_version h + config.step < version_limit →
+pub next_follows_moves : (config : Config) (h : List Record) (moves : List Move) (p : ℕ) (batch : List StampedTransaction) → MovesFollow config h moves → p < config.proxies → last_version h + config.step < version_limit →
     Follows config h (record { row = length h; previous = last_version h; version = last_version h + config.step; own_previous = last_version (records_of_proxy p h); proxy = p; moves = moves; batch = batch })
 next_follows_moves config h moves p batch kept there below =
     record {

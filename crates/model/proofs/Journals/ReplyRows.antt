@@ -13,7 +13,7 @@ use Rattle.model.specs.declared.journal.JournalRow.{JournalRow}
 use Rattle.model.specs.declared.unseen.Carried.{Carried}
 use Rattle.model.specs.declared.unseen.UnseenState.{UnseenState}
 use Rattle.model.specs.declared.unseen.UnseenRow.{UnseenRow}
-use Rattle.model.specs.Transactions.{Transaction, is_state_transaction}
+use Rattle.model.specs.Transactions.{StampedTransaction, is_state_transaction}
 use Rattle.model.specs.Records.{Record, IsHistory, Follows, last_version}
 use Rattle.model.specs.Shares.{each_below}
 use Rattle.model.specs.Journal.{VerdictSource, state_of, states_from, journal_row, journal, carried_by, reply_states_from, reply_row, reply_state_of, reply_row_of, HaveVerdictCount, is_after, unseen}
@@ -37,12 +37,12 @@ slice_get-each_below (suc n) r h = by (cases_order r n) (slice_get-each_below n 
     by (inr (inl below)) rest = slice_get-append_left (each_below n) (n ∷ []) r (omega (arith, length-each_below n)) ∙ rest below
     by (inr (inr above)) rest = absurd (omega arith)
 
-said_by : (config : Config) (verdict_by : VerdictSource) (rec : Record) (n : ℕ) (t : Transaction) (r : ℕ) → r < config.resolvers → unwrap_or (slice_get (state_of config verdict_by rec n t).verdicts r) Conflict ≡ verdict_by r rec.row n
+said_by : (config : Config) (verdict_by : VerdictSource) (rec : Record) (n : ℕ) (t : StampedTransaction) (r : ℕ) → r < config.resolvers → unwrap_or (slice_get (state_of config verdict_by rec n t).verdicts r) Conflict ≡ verdict_by r rec.row n
 said_by config verdict_by rec n t r below =
     ap (λ (found : Option Verdict). unwrap_or found Conflict)
     (slice_get-map (λ (s : ℕ). verdict_by s rec.row n) (each_below config.resolvers) r ∙ ap (option_map (λ (s : ℕ). verdict_by s rec.row n)) (slice_get-each_below config.resolvers r below))
 
-told_states : (config : Config) (verdict_by : VerdictSource) (rec : Record) (r : ℕ) → r < config.resolvers → (n : ℕ) (ts : List Transaction) → reply_states_from verdict_by r rec n ts ≡ map (reply_state_of r) (states_from config verdict_by rec n ts)
+told_states : (config : Config) (verdict_by : VerdictSource) (rec : Record) (r : ℕ) → r < config.resolvers → (n : ℕ) (ts : List StampedTransaction) → reply_states_from verdict_by r rec n ts ≡ map (reply_state_of r) (states_from config verdict_by rec n ts)
 told_states config verdict_by rec r below n [] = refl
 told_states config verdict_by rec r below n (t ∷ ts) = by (is_state_transaction t) (told_states config verdict_by rec r below (suc n) ts)
   where
@@ -66,7 +66,7 @@ unseen_is_told config verdict_by r before rec below = told_rows config verdict_b
 
 -- ---- what all resolvers tell leaves no other row
 
-states_verdicts : (config : Config) (verdict_by : VerdictSource) (rec : Record) (n : ℕ) (ts : List Transaction) (t : StateTxn) → Has (states_from config verdict_by rec n ts) t → length t.verdicts ≡ config.resolvers
+states_verdicts : (config : Config) (verdict_by : VerdictSource) (rec : Record) (n : ℕ) (ts : List StampedTransaction) (t : StateTxn) → Has (states_from config verdict_by rec n ts) t → length t.verdicts ≡ config.resolvers
 states_verdicts config verdict_by rec n [] t has = absurd has
 states_verdicts config verdict_by rec n (u ∷ ts) t has = by (is_state_transaction u) has (states_verdicts config verdict_by rec (suc n) ts t)
   where

@@ -16,7 +16,7 @@ use Rattle.model.specs.declared.outcome.Outcome.{Outcome}
 use Rattle.model.specs.declared.outcome.Outcome.TheVariants.{Committed, Locked}
 use Rattle.model.specs.declared.verdict.Verdict.{Verdict}
 use Rattle.model.specs.declared.verdict.Verdict.TheVariants as verdicts
-use Rattle.model.specs.Transactions.{Transaction, is_state_transaction, locked_key}
+use Rattle.model.specs.Transactions.{StampedTransaction, is_state_transaction, locked_key}
 use Rattle.model.specs.Records.{Record, oldest}
 use Rattle.model.specs.Shares.{each_below, asks_back_to, asked}
 use Rattle.model.specs.Verdicts.{is_committed, joined}
@@ -75,7 +75,7 @@ state_mutations_lock changes locks =
       kept = λ change there. locks.kept change (Contains-from_Has locks.after change (Has-from_filter is_state locks.after change (Has-from_Contains (filter is_state locks.after) change there)).0);
     }
 
-locking_is_state : (t : Transaction) → LockTheDatabase t.changes → is_state_transaction t ≡ true
+locking_is_state : (t : StampedTransaction) → LockTheDatabase t.changes → is_state_transaction t ≡ true
 locking_is_state t locks =
     list_any-from_Has is_state t.changes (Set locked_key locks.value)
     (subst (λ (changes : List Change). Has changes (Set locked_key locks.value)) (sym locks.changes_are) (Has-split locks.before locks.after (Set locked_key locks.value)))
@@ -112,14 +112,14 @@ parts_of_committed verdicts.Committed true version number is = absurd (cc)
 parts_of_committed verdicts.Committed false version number is = (refl, refl)
 
 -- a state transaction asks every resolver
-asked_are_all : (config : Config) (rec : Record) (t : Transaction) → is_state_transaction t ≡ true → asked config rec t ≡ each_below config.resolvers
+asked_are_all : (config : Config) (rec : Record) (t : StampedTransaction) → is_state_transaction t ≡ true → asked config rec t ≡ each_below config.resolvers
 asked_are_all config rec t state = filter_every (λ (r : ℕ). asks_back_to (oldest config rec) rec r t) (each_below config.resolvers) (λ k r at. state_asks (oldest config rec) rec r t state)
 
 -- the verdicts of some resolvers on transaction n of the record
 abbrev said : VerdictSource → Record → (n : ℕ) → List ℕ → List Verdict
 said verdict_by rec n rs = map (λ (r : ℕ). verdict_by r rec.row n) rs
 
-committed_if_applied : (config : Config) (verdict_by : VerdictSource) (locked : Bool) (rec : Record) (n : ℕ) (t : Transaction) → is_state_transaction t ≡ true → is_applied locked (state_of config verdict_by rec n t) ≡ true → outcome config verdict_by locked rec n t ≡ Committed rec.version n
+committed_if_applied : (config : Config) (verdict_by : VerdictSource) (locked : Bool) (rec : Record) (n : ℕ) (t : StampedTransaction) → is_state_transaction t ≡ true → is_applied locked (state_of config verdict_by rec n t) ≡ true → outcome config verdict_by locked rec n t ≡ Committed rec.version n
 unfolding outcome joined_verdict
 committed_if_applied config verdict_by locked rec n t state applied =
     let both = and_parts (list_all is_committed (said verdict_by rec n (each_below config.resolvers))) (t.lock_aware || not locked) applied in
@@ -128,7 +128,7 @@ committed_if_applied config verdict_by locked rec n t state applied =
     let free : (not t.lock_aware && locked) ≡ false = not_refused t.lock_aware locked both.1 in
     λ i. outcome_by (all i) (free i) rec.version n
 
-applied_if_committed : (config : Config) (verdict_by : VerdictSource) (locked : Bool) (rec : Record) (n : ℕ) (t : Transaction) → is_state_transaction t ≡ true → outcome config verdict_by locked rec n t ≡ Committed rec.version n → is_applied locked (state_of config verdict_by rec n t) ≡ true
+applied_if_committed : (config : Config) (verdict_by : VerdictSource) (locked : Bool) (rec : Record) (n : ℕ) (t : StampedTransaction) → is_state_transaction t ≡ true → outcome config verdict_by locked rec n t ≡ Committed rec.version n → is_applied locked (state_of config verdict_by rec n t) ≡ true
 unfolding outcome joined_verdict
 applied_if_committed config verdict_by locked rec n t state committed =
     let parts = parts_of_committed (joined (said verdict_by rec n (asked config rec t))) (not t.lock_aware && locked) rec.version n committed in
@@ -140,12 +140,12 @@ applied_if_committed config verdict_by locked rec n t state committed =
 -- ---- the state transactions of one record
 
 -- each committed one of these transactions, numbered from n, leaves the lock row as it is
-abbrev LeaveLockRow : Config → VerdictSource → (locked : Bool) → Record → (n : ℕ) → List Transaction → Type 0
+abbrev LeaveLockRow : Config → VerdictSource → (locked : Bool) → Record → (n : ℕ) → List StampedTransaction → Type 0
 LeaveLockRow config verdict_by locked rec n ts =
-    (k : ℕ) (t : Transaction) (number : ℕ) (change : Change) → slice_get ts k ≡ Some t → number ≡ n + k
+    (k : ℕ) (t : StampedTransaction) (number : ℕ) (change : Change) → slice_get ts k ≡ Some t → number ≡ n + k
     → outcome config verdict_by locked rec number t ≡ Committed rec.version number → Contains t.changes change → LeavesLockRow change
 
-after_one_left : (config : Config) (verdict_by : VerdictSource) (locked : Bool) (rec : Record) (n : ℕ) (t : Transaction) (entries : Entries) → is_state_transaction t ≡ true
+after_one_left : (config : Config) (verdict_by : VerdictSource) (locked : Bool) (rec : Record) (n : ℕ) (t : StampedTransaction) (entries : Entries) → is_state_transaction t ≡ true
     → (outcome config verdict_by locked rec n t ≡ Committed rec.version n → (change : Change) → Contains t.changes change → LeavesLockRow change)
     → is_locked entries ≡ true → is_locked (after_state locked entries (state_of config verdict_by rec n t)) ≡ true
 after_one_left config verdict_by locked rec n t entries state leaves held = by (is_applied locked (state_of config verdict_by rec n t)) refl
@@ -157,7 +157,7 @@ after_one_left config verdict_by locked rec n t entries state leaves held = by (
         ∙ held
     by false refused = held
 
-after_states_left : (config : Config) (verdict_by : VerdictSource) (locked : Bool) (rec : Record) (n : ℕ) (ts : List Transaction) (entries : Entries) → LeaveLockRow config verdict_by locked rec n ts → is_locked entries ≡ true
+after_states_left : (config : Config) (verdict_by : VerdictSource) (locked : Bool) (rec : Record) (n : ℕ) (ts : List StampedTransaction) (entries : Entries) → LeaveLockRow config verdict_by locked rec n ts → is_locked entries ≡ true
     → is_locked (fold (after_state locked) entries (states_from config verdict_by rec n ts)) ≡ true
 after_states_left config verdict_by locked rec n [] entries leave held = held
 after_states_left config verdict_by locked rec n (t ∷ ts) entries leave held =
@@ -170,16 +170,16 @@ after_states_left config verdict_by locked rec n (t ∷ ts) entries leave held =
         (after_one_left config verdict_by locked rec n t entries state (λ committed change there. leave 0 t n change refl (omega arith) committed there) held)
     by false plain rest = rest entries held
 
-after_one_locked : (config : Config) (verdict_by : VerdictSource) (locked : Bool) (rec : Record) (n : ℕ) (t : Transaction) (entries : Entries) → outcome config verdict_by locked rec n t ≡ Committed rec.version n → LockTheDatabase t.changes
+after_one_locked : (config : Config) (verdict_by : VerdictSource) (locked : Bool) (rec : Record) (n : ℕ) (t : StampedTransaction) (entries : Entries) → outcome config verdict_by locked rec n t ≡ Committed rec.version n → LockTheDatabase t.changes
     → is_locked (after_state locked entries (state_of config verdict_by rec n t)) ≡ true
 after_one_locked config verdict_by locked rec n t entries committed locks =
     ap (λ (b : Bool). is_locked (if b then after_changes entries (filter is_state t.changes) else entries)) (applied_if_committed config verdict_by locked rec n t (locking_is_state t locks) committed)
     ∙ locked_after entries (filter is_state t.changes) (state_mutations_lock t.changes locks)
 
 -- one of the transactions locks the database, and the committed ones after it leave the lock row
-after_states_locked : (config : Config) (verdict_by : VerdictSource) (locked : Bool) (rec : Record) (n : ℕ) (ts : List Transaction) (k : ℕ) (t : Transaction) (number : ℕ) (entries : Entries)
+after_states_locked : (config : Config) (verdict_by : VerdictSource) (locked : Bool) (rec : Record) (n : ℕ) (ts : List StampedTransaction) (k : ℕ) (t : StampedTransaction) (number : ℕ) (entries : Entries)
     → slice_get ts k ≡ Some t → number ≡ n + k → outcome config verdict_by locked rec number t ≡ Committed rec.version number → LockTheDatabase t.changes
-    → ((m : ℕ) (s : Transaction) (other : ℕ) (change : Change) → k < m → slice_get ts m ≡ Some s → other ≡ n + m → outcome config verdict_by locked rec other s ≡ Committed rec.version other → Contains s.changes change → LeavesLockRow change)
+    → ((m : ℕ) (s : StampedTransaction) (other : ℕ) (change : Change) → k < m → slice_get ts m ≡ Some s → other ≡ n + m → outcome config verdict_by locked rec other s ≡ Committed rec.version other → Contains s.changes change → LeavesLockRow change)
     → is_locked (fold (after_state locked) entries (states_from config verdict_by rec n ts)) ≡ true
 after_states_locked config verdict_by locked rec n [] k t number entries at sum committed locks later = absurd (cc)
 after_states_locked config verdict_by locked rec n (u ∷ ts) zero t number entries at sum committed locks later = by (is_state_transaction u) refl
@@ -191,10 +191,10 @@ after_states_locked config verdict_by locked rec n (u ∷ ts) zero t number entr
     number_is = omega (arith, sum)
 
     own : LockTheDatabase u.changes
-    own = subst (λ (s : Transaction). LockTheDatabase s.changes) same locks
+    own = subst (λ (s : StampedTransaction). LockTheDatabase s.changes) same locks
 
     own_committed : outcome config verdict_by locked rec n u ≡ Committed rec.version n
-    own_committed = subst (λ (m : ℕ). outcome config verdict_by locked rec m u ≡ Committed rec.version m) number_is (subst (λ (s : Transaction). outcome config verdict_by locked rec number s ≡ Committed rec.version number) same committed)
+    own_committed = subst (λ (m : ℕ). outcome config verdict_by locked rec m u ≡ Committed rec.version m) number_is (subst (λ (s : StampedTransaction). outcome config verdict_by locked rec number s ≡ Committed rec.version number) same committed)
 
     by : (b : Bool) → is_state_transaction u ≡ b
         → is_locked (fold (after_state locked) entries (if b then state_of config verdict_by rec n u ∷ states_from config verdict_by rec (suc n) ts else states_from config verdict_by rec (suc n) ts)) ≡ true
@@ -243,7 +243,7 @@ held_before config h k held earlier =
       held = λ c change after below. held.held c change after (omega (arith, below));
     }
 
-abbrev place_at : (h : List Record) (k n : ℕ) (rec : Record) (t : Transaction) → slice_get h k ≡ Some rec → slice_get rec.batch n ≡ Some t → Place h
+abbrev place_at : (h : List Record) (k n : ℕ) (rec : Record) (t : StampedTransaction) → slice_get h k ≡ Some rec → slice_get rec.batch n ≡ Some t → Place h
 place_at h k n rec t at there = record { i = k; n = n; rec = rec; transaction = t; record_is = at; transaction_is = there }
 
 -- the record sets the lock, or one before it did
@@ -291,7 +291,7 @@ a_held_lock_is_in_the_metadata config h (suc k) held = by (cases_order k (length
 
 -- ---- whom it refuses
 
-refused_by_lock : (config : Config) (verdict_by : VerdictSource) (locked : Bool) (rec : Record) (n : ℕ) (t : Transaction) → locked ≡ true → t.lock_aware ≡ false → joined_verdict config verdict_by rec n t ≡ verdicts.Committed → outcome config verdict_by locked rec n t ≡ Locked
+refused_by_lock : (config : Config) (verdict_by : VerdictSource) (locked : Bool) (rec : Record) (n : ℕ) (t : StampedTransaction) → locked ≡ true → t.lock_aware ≡ false → joined_verdict config verdict_by rec n t ≡ verdicts.Committed → outcome config verdict_by locked rec n t ≡ Locked
 unfolding outcome
 refused_by_lock config verdict_by locked rec n t held plain all = λ i. outcome_by (all i) (not (plain i) && held i) rec.version n
 

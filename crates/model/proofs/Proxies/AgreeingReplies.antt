@@ -17,7 +17,7 @@ use Rattle.model.specs.declared.reply.Reply.{Reply}
 use Rattle.model.specs.Records.{Record}
 use Rattle.model.specs.Shares.{share, each_below}
 use Rattle.model.specs.Journal.{reply_state_of, reply_row_of, HaveVerdictCount}
-use Rattle.model.specs.Finishing.{Replies, reply_from, unseen_of_reply, IsReplyTo, LeadTo, AgreeOnRows, content_of, verdict_in_row, row_from, told_state, told_states_from, told_row, told_rows_from, told_rows, is_reply_to, carries_as, row_fits, version_at, place_fits_by, place_fits, misfits, are_replies_to, disagreements}
+use Rattle.model.specs.Finishing.{Replies, reply_from, unseen_of_reply, IsReplyTo, LeadTo, AgreeOnRows, content_of, verdict_in_row, row_from, state_by_replies, states_by_replies_from, row_by_replies, rows_by_replies_from, rows_by_replies, is_reply_to, carries_as, row_fits, version_at, place_fits_by, place_fits, misfits, are_replies_to, disagreements}
 use Rattle.model.proofs.Members.{Has, Has-from_Contains}
 use Rattle.model.proofs.Journals.ReplyRows.{length-each_below, slice_get-each_below}
 use Rattle.model.proofs.History.Chain.{filter_no}
@@ -209,8 +209,8 @@ carried_is false r of_0 state other same carries = by state.carried carries
 verdict_of_state : UnseenState → Verdict
 verdict_of_state state = state.verdict
 
-told_state_is : (resolvers : ℕ) (replies : Replies) (k j r : ℕ) (of_r : UnseenRow) (of_0 state : UnseenState) → r < resolvers → row_from replies k r ≡ Some of_r → verdict_in_row (Some of_r) j ≡ state.verdict → (r ≡ 0 → of_0 ≡ state) → carries_as r state ≡ true → reply_state_of r (told_state resolvers replies k j of_0) ≡ state
-told_state_is resolvers replies k j r of_r of_0 state below there is same carries =
+state_by_replies_is : (resolvers : ℕ) (replies : Replies) (k j r : ℕ) (of_r : UnseenRow) (of_0 state : UnseenState) → r < resolvers → row_from replies k r ≡ Some of_r → verdict_in_row (Some of_r) j ≡ state.verdict → (r ≡ 0 → of_0 ≡ state) → carries_as r state ≡ true → reply_state_of r (state_by_replies resolvers replies k j of_0) ≡ state
+state_by_replies_is resolvers replies k j r of_r of_0 state below there is same carries =
     λ i. record { verdict = verdict i; carried = carried_is (nat_eq r 0) r of_0 state refl same carries i }
   where
     verdict : unwrap_or (slice_get (map (λ (s : ℕ). verdict_in_row (row_from replies k s) j) (each_below resolvers)) r) Conflict ≡ state.verdict
@@ -219,15 +219,15 @@ told_state_is resolvers replies k j r of_r of_0 state below there is same carrie
         (slice_get-map (λ (s : ℕ). verdict_in_row (row_from replies k s) j) (each_below resolvers) r ∙ ap (option_map (λ (s : ℕ). verdict_in_row (row_from replies k s) j)) (slice_get-each_below resolvers r below))
         ∙ ap (λ (found : Option UnseenRow). verdict_in_row found j) there ∙ is
 
-told_states_are : (resolvers : ℕ) (replies : Replies) (k j r : ℕ) (of_r : UnseenRow) (of_0 states : List UnseenState) → r < resolvers → row_from replies k r ≡ Some of_r → length of_0 ≡ length states → ((i : ℕ) (state : UnseenState) → slice_get states i ≡ Some state → verdict_in_row (Some of_r) (j + i) ≡ state.verdict) → (r ≡ 0 → of_0 ≡ states) → list_all (carries_as r) states ≡ true → map (reply_state_of r) (told_states_from resolvers replies k j of_0) ≡ states
-told_states_are resolvers replies k j r of_r [] [] below there size is same carry = refl
-told_states_are resolvers replies k j r of_r [] (state ∷ states) below there size is same carry = absurd (omega arith)
-told_states_are resolvers replies k j r of_r (first ∷ of_0) [] below there size is same carry = absurd (omega arith)
-told_states_are resolvers replies k j r of_r (first ∷ of_0) (state ∷ states) below there size is same carry =
+states_by_replies_are : (resolvers : ℕ) (replies : Replies) (k j r : ℕ) (of_r : UnseenRow) (of_0 states : List UnseenState) → r < resolvers → row_from replies k r ≡ Some of_r → length of_0 ≡ length states → ((i : ℕ) (state : UnseenState) → slice_get states i ≡ Some state → verdict_in_row (Some of_r) (j + i) ≡ state.verdict) → (r ≡ 0 → of_0 ≡ states) → list_all (carries_as r) states ≡ true → map (reply_state_of r) (states_by_replies_from resolvers replies k j of_0) ≡ states
+states_by_replies_are resolvers replies k j r of_r [] [] below there size is same carry = refl
+states_by_replies_are resolvers replies k j r of_r [] (state ∷ states) below there size is same carry = absurd (omega arith)
+states_by_replies_are resolvers replies k j r of_r (first ∷ of_0) [] below there size is same carry = absurd (omega arith)
+states_by_replies_are resolvers replies k j r of_r (first ∷ of_0) (state ∷ states) below there size is same carry =
     let parts = and_parts (carries_as r state) (list_all (carries_as r) states) carry in
     let here : j + 0 ≡ j = omega arith in
-    let one = told_state_is resolvers replies k j r of_r first state below there (ap (verdict_in_row (Some of_r)) (sym here) ∙ is 0 state refl) (λ zero_is. let both = same zero_is in cc) parts.0 in
-    let rest = told_states_are resolvers replies k (suc j) r of_r of_0 states below there (omega arith) (λ i s at. let next : suc j + i ≡ j + suc i = omega arith in ap (verdict_in_row (Some of_r)) next ∙ is (suc i) s at) (λ zero_is. let both = same zero_is in cc) parts.1 in
+    let one = state_by_replies_is resolvers replies k j r of_r first state below there (ap (verdict_in_row (Some of_r)) (sym here) ∙ is 0 state refl) (λ zero_is. let both = same zero_is in cc) parts.0 in
+    let rest = states_by_replies_are resolvers replies k (suc j) r of_r of_0 states below there (omega arith) (λ i s at. let next : suc j + i ≡ j + suc i = omega arith in ap (verdict_in_row (Some of_r)) next ∙ is (suc i) s at) (λ zero_is. let both = same zero_is in cc) parts.1 in
     λ i. one i ∷ rest i
 
 verdicts_stand : (of_r : UnseenRow) (i : ℕ) (state : UnseenState) → slice_get of_r.states i ≡ Some state → verdict_in_row (Some of_r) i ≡ state.verdict
@@ -235,24 +235,24 @@ verdicts_stand of_r i state at =
     ap (λ (found : Option Verdict). unwrap_or found Conflict)
     (slice_get-map (λ (s : UnseenState). s.verdict) of_r.states i ∙ ap (option_map (λ (s : UnseenState). s.verdict)) at)
 
-told_row_fits : (resolvers : ℕ) (replies : Replies) (k r version : ℕ) (of_0 of_r : UnseenRow) → r < resolvers → row_from replies k r ≡ Some of_r → of_0.version ≡ version → (r ≡ 0 → of_0 ≡ of_r) → row_fits version (length of_0.states) r (Some of_r) ≡ true → reply_row_of r (told_row resolvers replies k of_0) ≡ of_r
-told_row_fits resolvers replies k r version of_0 of_r below there first same fits =
+row_by_replies_fits : (resolvers : ℕ) (replies : Replies) (k r version : ℕ) (of_0 of_r : UnseenRow) → r < resolvers → row_from replies k r ≡ Some of_r → of_0.version ≡ version → (r ≡ 0 → of_0 ≡ of_r) → row_fits version (length of_0.states) r (Some of_r) ≡ true → reply_row_of r (row_by_replies resolvers replies k of_0) ≡ of_r
+row_by_replies_fits resolvers replies k r version of_0 of_r below there first same fits =
     let parts = and_parts (nat_eq of_r.version version && nat_eq (length of_r.states) (length of_0.states)) (list_all (carries_as r) of_r.states) fits in
     let numbers = and_parts (nat_eq of_r.version version) (nat_eq (length of_r.states) (length of_0.states)) parts.0 in
     let version_is : of_0.version ≡ of_r.version = first ∙ sym (eqb-true of_r.version version numbers.0) in
-    let states = told_states_are resolvers replies k 0 r of_r of_0.states of_r.states below there (sym (eqb-true (length of_r.states) (length of_0.states) numbers.1))
+    let states = states_by_replies_are resolvers replies k 0 r of_r of_0.states of_r.states below there (sym (eqb-true (length of_r.states) (length of_0.states) numbers.1))
     (λ i state at. let plain : 0 + i ≡ i = omega arith in ap (verdict_in_row (Some of_r)) plain ∙ verdicts_stand of_r i state at)
     (λ zero_is. ap (λ (row : UnseenRow). row.states) (same zero_is)) parts.1 in
     λ i. record { version = version_is i; states = states i }
 
-told_rows_at : (resolvers : ℕ) (replies : Replies) (m k n : ℕ) (rows : List UnseenRow) → n ≡ m + k → slice_get (told_rows_from resolvers replies m rows) k ≡ option_map (told_row resolvers replies n) (slice_get rows k)
-told_rows_at resolvers replies m k n [] number = refl
-told_rows_at resolvers replies m zero n (row ∷ rows) number = let same : m ≡ n = omega arith in ap (λ (place : ℕ). Some (told_row resolvers replies place row)) same
-told_rows_at resolvers replies m (suc k) n (row ∷ rows) number = told_rows_at resolvers replies (suc m) k n rows (omega (arith, number))
+rows_by_replies_at : (resolvers : ℕ) (replies : Replies) (m k n : ℕ) (rows : List UnseenRow) → n ≡ m + k → slice_get (rows_by_replies_from resolvers replies m rows) k ≡ option_map (row_by_replies resolvers replies n) (slice_get rows k)
+rows_by_replies_at resolvers replies m k n [] number = refl
+rows_by_replies_at resolvers replies m zero n (row ∷ rows) number = let same : m ≡ n = omega arith in ap (λ (place : ℕ). Some (row_by_replies resolvers replies place row)) same
+rows_by_replies_at resolvers replies m (suc k) n (row ∷ rows) number = rows_by_replies_at resolvers replies (suc m) k n rows (omega (arith, number))
 
-told_rows_length : (resolvers : ℕ) (replies : Replies) (m : ℕ) (rows : List UnseenRow) → length (told_rows_from resolvers replies m rows) ≡ length rows
-told_rows_length resolvers replies m [] = refl
-told_rows_length resolvers replies m (row ∷ rows) = ap (λ (n : ℕ). suc n) (told_rows_length resolvers replies (suc m) rows)
+rows_by_replies_length : (resolvers : ℕ) (replies : Replies) (m : ℕ) (rows : List UnseenRow) → length (rows_by_replies_from resolvers replies m rows) ≡ length rows
+rows_by_replies_length resolvers replies m [] = refl
+rows_by_replies_length resolvers replies m (row ∷ rows) = ap (λ (n : ℕ). suc n) (rows_by_replies_length resolvers replies (suc m) rows)
 
 -- two lists with the same at each place up to the end of the second are the same
 same_up_to_end : {X : Type 0} (xs ys : List X) (n : ℕ) → length ys ≡ n → ((k : ℕ) → k < suc n → slice_get xs k ≡ slice_get ys k) → xs ≡ ys
@@ -266,7 +266,7 @@ same_up_to_end (x ∷ xs) (y ∷ ys) (suc n) size each =
     λ i. first i ∷ same_up_to_end xs ys n (omega (arith, size)) (λ k below. each (suc k) (omega (arith, below))) i
 
 -- what a place that fits says of the row of resolver r there
-there_fits : (config : Config) (version end : ℕ) (replies : Replies) (k r : ℕ) (of_0 : Option UnseenRow) → row_from replies k 0 ≡ of_0 → r < config.resolvers → place_fits_by config version end replies k of_0 ≡ true → row_from replies k r ≡ option_map (reply_row_of r) (option_map (told_row config.resolvers replies k) of_0)
+there_fits : (config : Config) (version end : ℕ) (replies : Replies) (k r : ℕ) (of_0 : Option UnseenRow) → row_from replies k 0 ≡ of_0 → r < config.resolvers → place_fits_by config version end replies k of_0 ≡ true → row_from replies k r ≡ option_map (reply_row_of r) (option_map (row_by_replies config.resolvers replies k) of_0)
 there_fits config version end replies k r None first below fits =
     let parts = and_parts (nat_eq (version + k * config.step) end) (list_all (λ s. not (is_some (row_from replies k s))) (each_below config.resolvers)) fits in
     by (row_from replies k r) (below_all (λ s. not (is_some (row_from replies k s))) config.resolvers r parts.1 below)
@@ -286,11 +286,11 @@ there_fits config version end replies k r (Some of_0) first below fits =
     version_is : of_0.version ≡ version_at config.step version k
     version_is = eqb-true of_0.version (version_at config.step version k) (and_parts (nat_eq of_0.version (version_at config.step version k)) (nat_eq (length of_0.states) (length of_0.states)) (and_parts (nat_eq of_0.version (version_at config.step version k) && nat_eq (length of_0.states) (length of_0.states)) (list_all (carries_as 0) of_0.states) own).0).0
 
-    by : (found : Option UnseenRow) → row_from replies k r ≡ found → row_fits (version_at config.step version k) (length of_0.states) r found ≡ true → found ≡ Some (reply_row_of r (told_row config.resolvers replies k of_0))
+    by : (found : Option UnseenRow) → row_from replies k r ≡ found → row_fits (version_at config.step version k) (length of_0.states) r found ≡ true → found ≡ Some (reply_row_of r (row_by_replies config.resolvers replies k of_0))
     by None at fit = absurd (cc)
     by (Some of_r) at fit =
         let same : r ≡ 0 → of_0 ≡ of_r = (λ zero_is. let there : row_from replies k 0 ≡ Some of_r = ap (row_from replies k) (sym zero_is) ∙ at in cc) in
-        ap (λ (row : UnseenRow). Some row) (sym (told_row_fits config.resolvers replies k r (version_at config.step version k) of_0 of_r below at version_is same fit))
+        ap (λ (row : UnseenRow). Some row) (sym (row_by_replies_fits config.resolvers replies k r (version_at config.step version k) of_0 of_r below at version_is same fit))
 
 replied_to : (config : Config) (rec : Record) (r : ℕ) (found : Option Reply) → is_reply_to config rec r found ≡ true → (reply : Reply) × (found ≡ Some reply) × IsReplyTo config rec r reply
 replied_to config rec r None is = absurd (cc)
@@ -310,17 +310,17 @@ replied_to config rec r (Some reply) is =
       },
     )
 
-told_verdicts : (resolvers : ℕ) (replies : Replies) (k j : ℕ) (states : List UnseenState) (t : StateTxn) → Has (told_states_from resolvers replies k j states) t → length t.verdicts ≡ resolvers
-told_verdicts resolvers replies k j [] t has = absurd has
-told_verdicts resolvers replies k j (state ∷ states) t (inl same) =
+verdicts_by_replies : (resolvers : ℕ) (replies : Replies) (k j : ℕ) (states : List UnseenState) (t : StateTxn) → Has (states_by_replies_from resolvers replies k j states) t → length t.verdicts ≡ resolvers
+verdicts_by_replies resolvers replies k j [] t has = absurd has
+verdicts_by_replies resolvers replies k j (state ∷ states) t (inl same) =
     ap (λ (s : StateTxn). length s.verdicts) (sym same) ∙ length-map (each_below resolvers) (λ (r : ℕ). verdict_in_row (row_from replies k r) j) ∙ length-each_below resolvers
-told_verdicts resolvers replies k j (state ∷ states) t (inr later) = told_verdicts resolvers replies k (suc j) states t later
+verdicts_by_replies resolvers replies k j (state ∷ states) t (inr later) = verdicts_by_replies resolvers replies k (suc j) states t later
 
-told_rows_verdicts : (resolvers : ℕ) (replies : Replies) (m : ℕ) (rows : List UnseenRow) (row : JournalRow) → Has (told_rows_from resolvers replies m rows) row → HaveVerdictCount resolvers row
-told_rows_verdicts resolvers replies m [] row has = absurd has
-told_rows_verdicts resolvers replies m (first ∷ rows) row (inl same) =
-    subst (HaveVerdictCount resolvers) same (λ t there. told_verdicts resolvers replies m 0 first.states t (Has-from_Contains (told_states_from resolvers replies m 0 first.states) t there))
-told_rows_verdicts resolvers replies m (first ∷ rows) row (inr later) = told_rows_verdicts resolvers replies (suc m) rows row later
+rows_by_replies_verdicts : (resolvers : ℕ) (replies : Replies) (m : ℕ) (rows : List UnseenRow) (row : JournalRow) → Has (rows_by_replies_from resolvers replies m rows) row → HaveVerdictCount resolvers row
+rows_by_replies_verdicts resolvers replies m [] row has = absurd has
+rows_by_replies_verdicts resolvers replies m (first ∷ rows) row (inl same) =
+    subst (HaveVerdictCount resolvers) same (λ t there. verdicts_by_replies resolvers replies m 0 first.states t (Has-from_Contains (states_by_replies_from resolvers replies m 0 first.states) t there))
+rows_by_replies_verdicts resolvers replies m (first ∷ rows) row (inr later) = rows_by_replies_verdicts resolvers replies (suc m) rows row later
 
 map_none : {X Y : Type 0} (f : X → Y) (xs : List X) → map f xs ≡ [] → xs ≡ []
 map_none f [] none = refl
@@ -335,14 +335,14 @@ no_disagreement config version rec replies none = by (are_replies_to config rec 
     by true is rest = (is, map_none (version_at config.step version) (misfits config version rec.previous replies) rest)
     by false is rest = absurd (cc)
 
-pub agree_on_told : (config : Config) (version : ℕ) (rec : Record) (replies : Replies) → 1 ≤ config.resolvers → disagreements config version rec replies ≡ [] → AgreeOnRows config version rec replies (told_rows config.resolvers replies)
+pub agree_on_told : (config : Config) (version : ℕ) (rec : Record) (replies : Replies) → 1 ≤ config.resolvers → disagreements config version rec replies ≡ [] → AgreeOnRows config version rec replies (rows_by_replies config.resolvers replies)
 agree_on_told config version rec replies some none =
     record {
       replied = λ r below.
           let found = replied_to config rec r (reply_from replies r) (below_all (λ s. is_reply_to config rec s (reply_from replies s)) config.resolvers r tests.0 below) in
           (found.0, found.1, found.2, ap (λ (reply : Option Reply). unseen_of_reply reply) (sym found.1) ∙ unseen_is r below);
-      verdicts = λ row there. told_rows_verdicts config.resolvers replies 0 of_0 row (Has-from_Contains (told_rows config.resolvers replies) row there);
-      lead = lead_from config.step version rec.previous (told_rows config.resolvers replies) version_is last_is;
+      verdicts = λ row there. rows_by_replies_verdicts config.resolvers replies 0 of_0 row (Has-from_Contains (rows_by_replies config.resolvers replies) row there);
+      lead = lead_from config.step version rec.previous (rows_by_replies config.resolvers replies) version_is last_is;
     }
   where
     tests : (are_replies_to config rec replies ≡ true) × (misfits config version rec.previous replies ≡ [])
@@ -354,19 +354,19 @@ agree_on_told config version rec replies some none =
     fits : (k : ℕ) → k < suc (length of_0) → place_fits config version rec.previous replies k ≡ true
     fits k below = each_fits (place_fits config version rec.previous replies) (suc (length of_0)) k tests.1 below
 
-    size : length (told_rows config.resolvers replies) ≡ length of_0
-    size = told_rows_length config.resolvers replies 0 of_0
+    size : length (rows_by_replies config.resolvers replies) ≡ length of_0
+    size = rows_by_replies_length config.resolvers replies 0 of_0
 
-    row_is : (r k : ℕ) → r < config.resolvers → k < suc (length of_0) → row_from replies k r ≡ slice_get (map (reply_row_of r) (told_rows config.resolvers replies)) k
+    row_is : (r k : ℕ) → r < config.resolvers → k < suc (length of_0) → row_from replies k r ≡ slice_get (map (reply_row_of r) (rows_by_replies config.resolvers replies)) k
     row_is r k below within =
         there_fits config version rec.previous replies k r (row_from replies k 0) refl below (fits k within)
-        ∙ sym (slice_get-map (reply_row_of r) (told_rows config.resolvers replies) k ∙ ap (option_map (reply_row_of r)) (told_rows_at config.resolvers replies 0 k k of_0 (omega arith)))
+        ∙ sym (slice_get-map (reply_row_of r) (rows_by_replies config.resolvers replies) k ∙ ap (option_map (reply_row_of r)) (rows_by_replies_at config.resolvers replies 0 k k of_0 (omega arith)))
 
-    unseen_is : (r : ℕ) → r < config.resolvers → unseen_of_reply (reply_from replies r) ≡ map (reply_row_of r) (told_rows config.resolvers replies)
+    unseen_is : (r : ℕ) → r < config.resolvers → unseen_of_reply (reply_from replies r) ≡ map (reply_row_of r) (rows_by_replies config.resolvers replies)
     unseen_is r below =
-        same_up_to_end (unseen_of_reply (reply_from replies r)) (map (reply_row_of r) (told_rows config.resolvers replies)) (length of_0) (length-map (told_rows config.resolvers replies) (reply_row_of r) ∙ size) (λ k within. row_is r k below within)
+        same_up_to_end (unseen_of_reply (reply_from replies r)) (map (reply_row_of r) (rows_by_replies config.resolvers replies)) (length of_0) (length-map (rows_by_replies config.resolvers replies) (reply_row_of r) ∙ size) (λ k within. row_is r k below within)
 
-    last_is : version + length (told_rows config.resolvers replies) * config.step ≡ rec.previous
+    last_is : version + length (rows_by_replies config.resolvers replies) * config.step ≡ rec.previous
     last_is =
         ap (λ (n : ℕ). version + n * config.step) size
         ∙ end_of (row_from replies (length of_0) 0) (none_past of_0) (fits (length of_0) (omega arith))
@@ -379,14 +379,14 @@ agree_on_told config version rec replies some none =
         end_of None is fit = eqb-true (version + length of_0 * config.step) rec.previous (and_parts (nat_eq (version + length of_0 * config.step) rec.previous) (list_all (λ r. not (is_some (row_from replies (length of_0) r))) (each_below config.resolvers)) fit).0
         end_of (Some row) is fit = absurd (cc)
 
-    version_is : (k : ℕ) (row : JournalRow) → slice_get (told_rows config.resolvers replies) k ≡ Some row → row.version ≡ version_at config.step version k
+    version_is : (k : ℕ) (row : JournalRow) → slice_get (rows_by_replies config.resolvers replies) k ≡ Some row → row.version ≡ version_at config.step version k
     version_is k row at =
-        by (row_from replies k 0) refl (told_rows_at config.resolvers replies 0 k k of_0 (omega arith)) (fits k (omega (arith, slice_get_within (told_rows config.resolvers replies) k row at, size)))
+        by (row_from replies k 0) refl (rows_by_replies_at config.resolvers replies 0 k k of_0 (omega arith)) (fits k (omega (arith, slice_get_within (rows_by_replies config.resolvers replies) k row at, size)))
       where
-        by : (found : Option UnseenRow) → row_from replies k 0 ≡ found → slice_get (told_rows config.resolvers replies) k ≡ option_map (told_row config.resolvers replies k) found → place_fits_by config version rec.previous replies k found ≡ true → row.version ≡ version_at config.step version k
+        by : (found : Option UnseenRow) → row_from replies k 0 ≡ found → slice_get (rows_by_replies config.resolvers replies) k ≡ option_map (row_by_replies config.resolvers replies k) found → place_fits_by config version rec.previous replies k found ≡ true → row.version ≡ version_at config.step version k
         by None is told fit = absurd (cc)
         by (Some first) is told fit =
-            let same : row ≡ told_row config.resolvers replies k first = cc in
+            let same : row ≡ row_by_replies config.resolvers replies k first = cc in
             let all = (and_parts (nat_le (version_at config.step version k) rec.previous) (list_all (λ r. row_fits (version_at config.step version k) (length first.states) r (row_from replies k r)) (each_below config.resolvers)) fit).1 in
             let own = ap (row_fits (version_at config.step version k) (length first.states) 0) (sym is) ∙ below_all (λ r. row_fits (version_at config.step version k) (length first.states) r (row_from replies k r)) config.resolvers 0 all some in
             let numbers = (and_parts (nat_eq first.version (version_at config.step version k) && nat_eq (length first.states) (length first.states)) (list_all (carries_as 0) first.states) own).0 in

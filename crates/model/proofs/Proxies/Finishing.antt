@@ -7,12 +7,12 @@ use Rattle.std.proofs.lemmas.Option.{slice_get_within}
 use Rattle.model.specs.Configs.{Config, IsConfig}
 use Rattle.model.specs.declared.journal.JournalRow.{JournalRow}
 use Rattle.model.specs.declared.outcome.Finished.{Finished}
-use Rattle.model.specs.Transactions.{Transaction}
+use Rattle.model.specs.Transactions.{StampedTransaction}
 use Rattle.model.specs.Records.{Record, IsHistory, last_version, records_of_proxy}
 use Rattle.model.specs.Shares.{share, share_back_to, asks}
 use Rattle.model.specs.Verdicts.{share_verdicts}
 use Rattle.model.specs.Journal.{VerdictSource, history_verdicts, verdict_at, journal_row, journal, is_after}
-use Rattle.model.specs.World.{World, Finish, Completed, Handled, up_to_version, rows_up_to, reply_of, reply_with, finished_after, finished_batch, handle_event, finished_version, proxy_journal}
+use Rattle.model.specs.World.{World, Finish, FinishedBatch, Handled, up_to_version, rows_up_to, reply_of, reply_with, finished_after, finished_batch, handle_event, finished_version, proxy_journal}
 use Rattle.model.specs.Finishing.{Replies, reply_from, replied_verdicts, AgreeOnRows, AreRepliesBy, LeadTo, version_at, ProxyView, HasFinished}
 use Rattle.model.specs.Laws.Proxies.{unseen_rows, journal_up_to, MayFinish, IsBefore, IsAfter}
 use Rattle.model.proofs.Shares.Askers.{share_verdicts_are, verdict_at_asker, journal_row_alike}
@@ -194,7 +194,7 @@ true_in_step verdict_by h v new rec rest replies finished before begun replied h
 
 -- ---- in a world
 
-said_of_share : (config : Config) (h : List Record) (r i n : ℕ) (rec : Record) (t : Transaction) → slice_get h i ≡ Some rec → slice_get rec.batch n ≡ Some t → asks config rec r t ≡ true → verdict_at (share config rec r) (share_verdicts config r (take i h) rec) n ≡ history_verdicts config h r i n
+said_of_share : (config : Config) (h : List Record) (r i n : ℕ) (rec : Record) (t : StampedTransaction) → slice_get h i ≡ Some rec → slice_get rec.batch n ≡ Some t → asks config rec r t ≡ true → verdict_at (share config rec r) (share_verdicts config r (take i h) rec) n ≡ history_verdicts config h r i n
 unfolding history_verdicts share_back_to
 said_of_share config h r i n rec t at there asking =
     rw (at, there, share_verdicts_are config r (take i h) rec) (verdict_at_asker config r (take i h) rec [] rec.batch 0 n n t refl (omega arith) there asking)
@@ -224,13 +224,13 @@ unfolding proxy_journal
 journal_since config w p rec same = ap (λ (version : ℕ). journal_up_to config (history_verdicts config w.history) w.history version) same
 
 pub world_finish : (config : Config) (w : World) (p : ℕ) (rec : Record) (replies : Replies) (rows : List JournalRow) → IsConfig config → MayFinish config w p rec replies → AgreeOnRows config (finished_version w p) rec replies rows
-    → handle_event config w (Finish p) ≡ record { world = record w { finished = slice_set w.finished p (suc (slice_index w.finished p)) }; answer = Completed (finished_after config (replied_verdicts config rec replies) (proxy_journal config w p ++ rows) rec) }
+    → handle_event config w (Finish p) ≡ record { world = record w { finished = slice_set w.finished p (suc (slice_index w.finished p)) }; answer = FinishedBatch (finished_after config (replied_verdicts config rec replies) (proxy_journal config w p ++ rows) rec) }
 world_finish config w p rec replies rows limits may agree =
     finish_is config w p rec may.there may.turn may.judged
     ∙ ap answered (sym finished ∙ ap (λ (before : List JournalRow). finished_after config (replied_verdicts config rec replies) (before ++ rows) rec) (sym (journal_since config w p rec (turn_is config w p rec may.sound may.turn))))
   where
     answered : Finished → Handled
-    answered batch = record { world = record w { finished = slice_set w.finished p (suc (slice_index w.finished p)) }; answer = Completed batch }
+    answered batch = record { world = record w { finished = slice_set w.finished p (suc (slice_index w.finished p)) }; answer = FinishedBatch batch }
 
     finished : finished_after config (replied_verdicts config rec replies) (journal_up_to config (history_verdicts config w.history) w.history rec.own_previous ++ rows) rec ≡ finished_batch config (history_verdicts config w.history) (take rec.row w.history) rec
     finished = true_finish config (history_verdicts config w.history) w.history rec replies rows limits may.sound.sequencer.history (in_history config w p rec replies may) may.replied (agree_since config w p rec replies rows may agree)

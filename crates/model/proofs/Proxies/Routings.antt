@@ -3,7 +3,7 @@ use Rattle.std.proofs.Common.{◌≡◌, refl, sym, ap, ◌∙◌, ℕ, suc, Lis
 use Rattle.std.proofs.lemmas.List.{take-append-le}
 use Rattle.system_keys.specs.Keys.{Range}
 use Rattle.model.specs.Configs.{Config, version_limit}
-use Rattle.model.specs.Stamps.{Given}
+use Rattle.model.specs.Stamps.{AdmittedTransaction}
 use Rattle.model.specs.Records.{Record, last_version, records_of_proxy}
 use Rattle.model.specs.Shares.{each_below}
 use Rattle.model.specs.Metadata.{metadata, routing}
@@ -29,13 +29,13 @@ kept_by_record config w p rec received sound =
     ap (λ (rs : List Record). last_version (take (slice_index w.finished p) rs)) (records_of_proxy-append p w.history (rec ∷ []))
     ∙ ap last_version (take-append-le (slice_index w.finished p) (records_of_proxy p w.history) (records_of_proxy p (rec ∷ [])) (finished_within config w p sound))
 
-kept_by_sequence : (config : Config) (w : World) (p q : ℕ) (batch : List Given) → IsSound config w → finished_version (handle_sequence config w q batch).world p ≡ finished_version w p
+kept_by_sequence : (config : Config) (w : World) (p q : ℕ) (batch : List AdmittedTransaction) → IsSound config w → finished_version (handle_sequence config w q batch).world p ≡ finished_version w p
 kept_by_sequence config w p q batch sound =
     either_kept w p (nat_le config.proxies q) _ _ refl
     (either_kept w p (nat_le version_limit (next_record config w q batch).version) _ _ refl (kept_by_record config w p (next_record config w q batch) (w.received ++ finished_version w q ∷ []) sound))
 
-kept_by_move : (config : Config) (w : World) (p : ℕ) (range : Range) (destination : ℕ) → finished_version (handle_move config w range destination).world p ≡ finished_version w p
-kept_by_move config w p range destination = either_kept w p (nat_le config.resolvers destination) _ _ refl refl
+kept_by_move : (config : Config) (w : World) (p : ℕ) (range : Range) (dest : ℕ) → finished_version (handle_move config w range dest).world p ≡ finished_version w p
+kept_by_move config w p range dest = either_kept w p (nat_le config.resolvers dest) _ _ refl refl
 
 kept_by_offer : (config : Config) (w : World) (p row r : ℕ) (found : Option Record) → finished_version (handle_offer config w row r found).world p ≡ finished_version w p
 kept_by_offer config w p row r None = refl
@@ -55,7 +55,7 @@ kept_by_finish config w p q (Some rec) apart = by (missing_replies w rec.row (ea
 version_kept : (config : Config) (w : World) (event : Event) (p : ℕ) → IsSound config w → ¬ (event ≡ Finish p) → finished_version (handle_event config w event).world p ≡ finished_version w p
 unfolding handle_event
 version_kept config w (Sequence q batch) p sound other = kept_by_sequence config w p q batch sound
-version_kept config w (MoveRange range destination) p sound other = kept_by_move config w p range destination
+version_kept config w (MoveRange range dest) p sound other = kept_by_move config w p range dest
 version_kept config w (Offer row r) p sound other = kept_by_offer config w p row r (slice_get w.history row)
 version_kept config w (Finish q) p sound other =
     either_kept w p (nat_le config.proxies q) _ _ refl (kept_by_finish config w p q (slice_get (records_of_proxy q w.history) (slice_index w.finished q)) (λ same. other (ap (λ (o : ℕ). Finish o) same)))

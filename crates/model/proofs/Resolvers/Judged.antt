@@ -62,7 +62,7 @@ others_leave config w (Sequence p batch) r sound there other =
     either_judged config w r (nat_le config.proxies p) _ _ refl
     (either_judged config w r (nat_le version_limit (next_record config w p batch).version) _ _ refl
     (kept_by_record config w (next_record config w p batch) (finished_version w p) r sound there))
-others_leave config w (MoveRange range destination) r sound there other = either_judged config w r (nat_le config.resolvers destination) _ _ refl (same_judged config w _ r refl refl refl)
+others_leave config w (MoveRange range dest) r sound there other = either_judged config w r (nat_le config.resolvers dest) _ _ refl (same_judged config w _ r refl refl refl)
 others_leave config w (Offer row s) r sound there other = kept_by_offer config w row s r (slice_get w.history row) (λ same. other row (ap (Offer row) (sym same)))
 others_leave config w (Finish p) r sound there other = either_judged config w r (nat_le config.proxies p) _ _ refl (by (slice_get (records_of_proxy p w.history) (slice_index w.finished p)))
   where

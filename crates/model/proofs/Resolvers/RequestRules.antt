@@ -7,7 +7,7 @@ use Rattle.system_keys.specs.Changes.{is_state}
 use Rattle.model.specs.declared.part.Part.{Part}
 use Rattle.model.specs.declared.unseen.Carried.{Carried}
 use Rattle.model.specs.declared.unseen.StateMark.{StateMark}
-use Rattle.model.specs.Transactions.{Transaction, is_state_transaction, all_reads}
+use Rattle.model.specs.Transactions.{StampedTransaction, is_state_transaction, all_reads}
 use Rattle.model.specs.Owners.{asks_read, asks_write}
 use Rattle.model.specs.Records.{Record}
 use Rattle.model.specs.Shares.{read_bound, part_back_to, asks_back_to, parts_back_to, share_back_to}
@@ -24,7 +24,7 @@ rise_from_less less least (part ∷ parts) h rise =
     let first : least ≤ part.number = rise.0 in
     (omega arith, rise.1)
 
-pub parts_rise : (oldest : ℕ) (rec : Record) (r n : ℕ) (ts : List Transaction) → NumbersRise n (parts_back_to oldest rec r n ts)
+pub parts_rise : (oldest : ℕ) (rec : Record) (r n : ℕ) (ts : List StampedTransaction) → NumbersRise n (parts_back_to oldest rec r n ts)
 parts_rise oldest rec r n [] = tt
 parts_rise oldest rec r n (t ∷ ts) = by (asks_back_to oldest rec r t) (parts_rise oldest rec r (suc n) ts)
   where
@@ -64,10 +64,10 @@ named_behind : (part : Part) (parts : List Part) (mark : StateMark) → IsNamed 
 named_behind part parts mark (k, within, at) = (suc k, omega arith, at)
 
 -- a state transaction asks every resolver
-pub state_asks : (oldest : ℕ) (rec : Record) (r : ℕ) (t : Transaction) → is_state_transaction t ≡ true → asks_back_to oldest rec r t ≡ true
+pub state_asks : (oldest : ℕ) (rec : Record) (r : ℕ) (t : StampedTransaction) → is_state_transaction t ≡ true → asks_back_to oldest rec r t ≡ true
 state_asks oldest rec r t is = ap (λ (b : Bool). b || list_any (asks_read rec.moves (read_bound oldest t) r) (all_reads t) || list_any (asks_write rec.moves r) t.writes) is
 
-marks_named : (oldest : ℕ) (rec : Record) (r n : ℕ) (ts : List Transaction) → All (IsNamed (parts_back_to oldest rec r n ts)) (marks_from r n ts)
+marks_named : (oldest : ℕ) (rec : Record) (r n : ℕ) (ts : List StampedTransaction) → All (IsNamed (parts_back_to oldest rec r n ts)) (marks_from r n ts)
 marks_named oldest rec r n [] = All-nil (IsNamed [])
 marks_named oldest rec r n (t ∷ ts) = by (asks_back_to oldest rec r t) refl (is_state_transaction t) refl (marks_named oldest rec r (suc n) ts)
   where
@@ -102,7 +102,7 @@ some_if : (b : Bool) (content : Carried) → is_some (if b then Some content els
 some_if true content = refl
 some_if false content = refl
 
-marks_have_content : (r n : ℕ) (ts : List Transaction) → All (HasContent r) (marks_from r n ts)
+marks_have_content : (r n : ℕ) (ts : List StampedTransaction) → All (HasContent r) (marks_from r n ts)
 marks_have_content r n [] = All-nil (HasContent r)
 marks_have_content r n (t ∷ ts) = by (is_state_transaction t) (marks_have_content r (suc n) ts)
   where

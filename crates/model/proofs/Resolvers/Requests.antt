@@ -5,7 +5,7 @@ use Rattle.std.proofs.lemmas.List.{length-take-le, map-append}
 use Rattle.std.proofs.lemmas.Option.{slice_get_within}
 use Rattle.model.specs.Configs.{Config}
 use Rattle.model.specs.declared.unseen.UnseenRow.{UnseenRow}
-use Rattle.model.specs.Transactions.{Transaction, is_state_transaction, all_reads}
+use Rattle.model.specs.Transactions.{StampedTransaction, is_state_transaction, all_reads}
 use Rattle.model.specs.Owners.{asks_read, asks_write}
 use Rattle.model.specs.Records.{Record, oldest, IsHistory, Follows, last_version, records_of_proxy}
 use Rattle.model.specs.Shares.{share, share_back_to, asks, read_bound}
@@ -32,10 +32,10 @@ request_verdicts_are config received r before rec =
     ap (λ (judged : List JudgedPart). verdicts_after config.window judged (judged_at rec.version (share config rec r)))
     (judged_of_requests config received r before ∙ sym (append-nil (flat_map (λ (s : Record). judged_at s.version (share config s r)) before)))
 
-state_asks : (config : Config) (rec : Record) (r : ℕ) (t : Transaction) → is_state_transaction t ≡ true → asks config rec r t ≡ true
+state_asks : (config : Config) (rec : Record) (r : ℕ) (t : StampedTransaction) → is_state_transaction t ≡ true → asks config rec r t ≡ true
 state_asks config rec r t is = ap (λ (b : Bool). b || list_any (asks_read rec.moves (read_bound (oldest config rec) t) r) (all_reads t) || list_any (asks_write rec.moves r) t.writes) is
 
-verdict_here : (config : Config) (h : List Record) (r i n : ℕ) (rec : Record) (t : Transaction) → slice_get h i ≡ Some rec → slice_get rec.batch n ≡ Some t → asks config rec r t ≡ true →
+verdict_here : (config : Config) (h : List Record) (r i n : ℕ) (rec : Record) (t : StampedTransaction) → slice_get h i ≡ Some rec → slice_get rec.batch n ≡ Some t → asks config rec r t ≡ true →
     verdict_at (share config rec r) (share_verdicts config r (take i h) rec) n ≡ history_verdicts config h r i n
 unfolding history_verdicts share_back_to
 verdict_here config h r i n rec t at there asking =
@@ -47,12 +47,12 @@ place config h i rec chain at =
     let follows : Follows config (take i h) rec = chain i rec at in
     follows.row ∙ length-take-le i h (omega arith)
 
-marks_told : (config : Config) (h : List Record) (r i : ℕ) (rec : Record) → slice_get h i ≡ Some rec → rec.row ≡ i → (n : ℕ) (ts : List Transaction) → ((k : ℕ) (t : Transaction) → slice_get ts k ≡ Some t → slice_get rec.batch (n + k) ≡ Some t) →
+marks_told : (config : Config) (h : List Record) (r i : ℕ) (rec : Record) → slice_get h i ≡ Some rec → rec.row ≡ i → (n : ℕ) (ts : List StampedTransaction) → ((k : ℕ) (t : StampedTransaction) → slice_get ts k ≡ Some t → slice_get rec.batch (n + k) ≡ Some t) →
     map (reply_state_of_mark (share config rec r) (share_verdicts config r (take i h) rec)) (marks_from r n ts) ≡ reply_states_from (history_verdicts config h) r rec n ts
 marks_told config h r i rec at row n [] here = refl
 marks_told config h r i rec at row n (t ∷ ts) here = by (is_state_transaction t) refl (marks_told config h r i rec at row (suc n) ts later)
   where
-    later : (k : ℕ) (u : Transaction) → slice_get ts k ≡ Some u → slice_get rec.batch (suc n + k) ≡ Some u
+    later : (k : ℕ) (u : StampedTransaction) → slice_get ts k ≡ Some u → slice_get rec.batch (suc n + k) ≡ Some u
     later k u there = let same : suc n + k ≡ n + suc k = omega arith in rw same (here (suc k) u there)
 
     first : slice_get rec.batch n ≡ Some t

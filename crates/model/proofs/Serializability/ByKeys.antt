@@ -12,7 +12,7 @@ use Rattle.model.specs.declared.verdict.Verdict.{Verdict}
 use Rattle.model.specs.declared.verdict.Verdict.TheVariants as verdicts
 use Rattle.model.specs.declared.outcome.Outcome.{Outcome}
 use Rattle.model.specs.declared.outcome.Outcome.TheVariants.{Committed}
-use Rattle.model.specs.Transactions.{Transaction, is_state_transaction, lock_read, all_reads, locked_key}
+use Rattle.model.specs.Transactions.{StampedTransaction, is_state_transaction, lock_read, all_reads, locked_key}
 use Rattle.model.specs.Records.{Record}
 use Rattle.model.specs.Metadata.{is_locked, metadata}
 use Rattle.model.specs.Journal.{history_verdicts, journal}
@@ -91,7 +91,7 @@ writing_the_lock_row_is_overlap t = (to, from)
         record { write = write; write_in = there; over = subst (λ (key : Key). holds write key ≡ true) (only_holds_its_key locked_key overlap.key both.1) both.0 }
 
 -- a state transaction that is not lock aware reads the lock row
-reads_lock_row : (t : Transaction) → is_state_transaction t ≡ true → t.lock_aware ≡ false → Contains (all_reads t) (only locked_key)
+reads_lock_row : (t : StampedTransaction) → is_state_transaction t ≡ true → t.lock_aware ≡ false → Contains (all_reads t) (only locked_key)
 reads_lock_row t state plain =
     Contains-from_Has (all_reads t) (only locked_key)
     (Has-append_right t.reads (lock_read (is_state_transaction t && not t.lock_aware)) (only locked_key) (rw (state, plain) (inl refl)))

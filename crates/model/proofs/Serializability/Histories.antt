@@ -9,7 +9,7 @@ use Rattle.model.specs.Configs.{Config, IsConfig}
 use Rattle.model.specs.declared.verdict.Verdict.{Verdict}
 use Rattle.model.specs.declared.verdict.Verdict.TheVariants as verdicts
 use Rattle.model.specs.declared.outcome.Outcome.TheVariants.{Committed}
-use Rattle.model.specs.Transactions.{Transaction, is_state_transaction, all_reads}
+use Rattle.model.specs.Transactions.{StampedTransaction, is_state_transaction, all_reads}
 use Rattle.model.specs.Owners.{asks_write, asks_read, is_last, walk_visits, owners}
 use Rattle.model.specs.Records.{Record, IsHistory, oldest}
 use Rattle.model.specs.Shares.{asks, asked, each_below, read_bound}
@@ -61,13 +61,13 @@ committed_in_time config r h a committed =
 
 -- ---- who is asked
 
-asked_by_write : (config : Config) (r : ℕ) (rec : Record) (t : Transaction) (write : Range) (key : Key) → Contains t.writes write → holds write key ≡ true → is_last r (owners rec.moves key) ≡ true → (asks_write rec.moves r write ≡ true) × (asks config rec r t ≡ true)
+asked_by_write : (config : Config) (r : ℕ) (rec : Record) (t : StampedTransaction) (write : Range) (key : Key) → Contains t.writes write → holds write key ≡ true → is_last r (owners rec.moves key) ≡ true → (asks_write rec.moves r write ≡ true) × (asks config rec r t ≡ true)
 asked_by_write config r rec t write key there inside owns =
     let test = (asks_write_iff rec.moves r write).1 (record { key = key; inside = inside; owns = owns }) in
     let some = list_any-from_Has (asks_write rec.moves r) t.writes write (Has-from_Contains t.writes write there) test in
     (test, or_right (is_state_transaction t || list_any (asks_read rec.moves (read_bound (oldest config rec) t) r) (all_reads t)) (list_any (asks_write rec.moves r) t.writes) some)
 
-asked_by_read : (config : Config) (r : ℕ) (rec : Record) (t : Transaction) (read : Range) (key : Key) → Contains (all_reads t) read → holds read key ≡ true → walk_visits (read_bound (oldest config rec) t) r (owners rec.moves key) ≡ true → (asks_read rec.moves (read_bound (oldest config rec) t) r read ≡ true) × (asks config rec r t ≡ true)
+asked_by_read : (config : Config) (r : ℕ) (rec : Record) (t : StampedTransaction) (read : Range) (key : Key) → Contains (all_reads t) read → holds read key ≡ true → walk_visits (read_bound (oldest config rec) t) r (owners rec.moves key) ≡ true → (asks_read rec.moves (read_bound (oldest config rec) t) r read ≡ true) × (asks config rec r t ≡ true)
 asked_by_read config r rec t read key there inside met =
     let test = (asks_read_iff rec.moves (read_bound (oldest config rec) t) r read).1 (record { key = key; inside = inside; met = met }) in
     let some = list_any-from_Has (asks_read rec.moves (read_bound (oldest config rec) t) r) (all_reads t) read (Has-from_Contains (all_reads t) read there) test in

@@ -6,7 +6,7 @@ use Rattle.std.proofs.lemmas.Bool.{eq-eqb, ne_eqb}
 use Rattle.model.specs.Configs.{Config}
 use Rattle.model.specs.declared.part.Part.{Part}
 use Rattle.model.specs.declared.verdict.Verdict.{Verdict}
-use Rattle.model.specs.Transactions.{Transaction, is_state_transaction}
+use Rattle.model.specs.Transactions.{StampedTransaction, is_state_transaction}
 use Rattle.model.specs.Records.{Record}
 use Rattle.model.specs.Shares.{share_back_to, share, part_of, parts_from, asks, each_below}
 use Rattle.model.specs.Verdicts.{JudgedPart, judged_at, judged_before, verdict_of, verdicts_after, share_verdicts, verdicts_of_askers}
@@ -15,7 +15,7 @@ use Rattle.model.specs.Journal.{VerdictSource, history_verdicts, history_verdict
 -- ---- parts
 
 -- the parts of transactions in a row
-pub parts_from-append : (config : Config) (rec : Record) (r n m : ℕ) (xs ys : List Transaction) → m ≡ n + length xs → parts_from config rec r n (xs ++ ys) ≡ parts_from config rec r n xs ++ parts_from config rec r m ys
+pub parts_from-append : (config : Config) (rec : Record) (r n m : ℕ) (xs ys : List StampedTransaction) → m ≡ n + length xs → parts_from config rec r n (xs ++ ys) ≡ parts_from config rec r n xs ++ parts_from config rec r m ys
 parts_from-append config rec r n m [] ys e = ap (λ (k : ℕ). parts_from config rec r k ys) (let same : n ≡ m = omega arith in same)
 parts_from-append config rec r n m (x ∷ xs) ys e = go (asks config rec r x) (parts_from-append config rec r (suc n) m xs ys (omega arith))
   where
@@ -24,31 +24,31 @@ parts_from-append config rec r n m (x ∷ xs) ys e = go (asks config rec r x) (p
     go false later = later
 
 -- a part in the order of judging
-abbrev pub seen : Config → ℕ → Record → ℕ → Transaction → JudgedPart
+abbrev pub seen : Config → ℕ → Record → ℕ → StampedTransaction → JudgedPart
 seen config r rec n t = record { version = rec.version; part = part_of config rec r n t }
 
 -- what was judged, with one transaction more that asks the resolver
-pub judged_before_asker : (config : Config) (r : ℕ) (before : List Record) (rec : Record) (earlier : List Transaction) (n : ℕ) (t : Transaction) → n ≡ length earlier → asks config rec r t ≡ true → judged_before config r before rec (earlier ++ t ∷ []) ≡ judged_before config r before rec earlier ++ seen config r rec n t ∷ []
+pub judged_before_asker : (config : Config) (r : ℕ) (before : List Record) (rec : Record) (earlier : List StampedTransaction) (n : ℕ) (t : StampedTransaction) → n ≡ length earlier → asks config rec r t ≡ true → judged_before config r before rec (earlier ++ t ∷ []) ≡ judged_before config r before rec earlier ++ seen config r rec n t ∷ []
 unfolding judged_before
 judged_before_asker config r before rec earlier n t e asking =
     rw (parts_from-append config rec r 0 n earlier (t ∷ []) (omega arith), asking, map-append, ← append_assoc)
 
 -- what was judged, with one transaction more that does not
-pub judged_before_other : (config : Config) (r : ℕ) (before : List Record) (rec : Record) (earlier : List Transaction) (t : Transaction) → asks config rec r t ≡ false → judged_before config r before rec (earlier ++ t ∷ []) ≡ judged_before config r before rec earlier
+pub judged_before_other : (config : Config) (r : ℕ) (before : List Record) (rec : Record) (earlier : List StampedTransaction) (t : StampedTransaction) → asks config rec r t ≡ false → judged_before config r before rec (earlier ++ t ∷ []) ≡ judged_before config r before rec earlier
 unfolding judged_before
 judged_before_other config r before rec earlier t other =
     rw (parts_from-append config rec r 0 (length earlier) earlier (t ∷ []) (omega arith), other, append-nil)
 
 -- ---- the share
 
-pub verdicts_after_share : (config : Config) (r : ℕ) (before : List Record) (rec : Record) (earlier ts : List Transaction) (n : ℕ) → n ≡ length earlier →
+pub verdicts_after_share : (config : Config) (r : ℕ) (before : List Record) (rec : Record) (earlier ts : List StampedTransaction) (n : ℕ) → n ≡ length earlier →
     verdicts_after config.window (judged_before config r before rec earlier) (judged_at rec.version (parts_from config rec r n ts)) ≡ verdicts_of_askers config r before rec earlier ts
 unfolding verdict_of
 verdicts_after_share config r before rec earlier [] n e = refl
 verdicts_after_share config r before rec earlier (t ∷ ts) n e =
     go (asks config rec r t) refl (verdicts_after_share config r before rec (earlier ++ t ∷ []) ts (suc n) (omega (arith, length-append earlier (t ∷ []))))
   where
-    after : List Transaction → List Verdict
+    after : List StampedTransaction → List Verdict
     after passed = verdicts_after config.window (judged_before config r before rec passed) (judged_at rec.version (parts_from config rec r (suc n) ts))
 
     go : (b : Bool) → asks config rec r t ≡ b → after (earlier ++ t ∷ []) ≡ verdicts_of_askers config r before rec (earlier ++ t ∷ []) ts →
@@ -63,10 +63,10 @@ unfolding share_verdicts share_back_to
 share_verdicts_are config r before rec = verdicts_after_share config r before rec [] rec.batch 0 refl
 
 -- a part of a list of transactions stands for one that asks the resolver, by its number
-abbrev StandsIn : Config → Record → ℕ → ℕ → List Transaction → Part → Type 0
-StandsIn config rec r n ts part = (k : ℕ) × (t : Transaction) × (slice_get ts k ≡ Some t) × (asks config rec r t ≡ true) × (part ≡ part_of config rec r (n + k) t)
+abbrev StandsIn : Config → Record → ℕ → ℕ → List StampedTransaction → Part → Type 0
+StandsIn config rec r n ts part = (k : ℕ) × (t : StampedTransaction) × (slice_get ts k ≡ Some t) × (asks config rec r t ≡ true) × (part ≡ part_of config rec r (n + k) t)
 
-part_stands : (config : Config) (rec : Record) (r n : ℕ) (ts : List Transaction) (place : ℕ) (part : Part) → slice_get (parts_from config rec r n ts) place ≡ Some part → StandsIn config rec r n ts part
+part_stands : (config : Config) (rec : Record) (r n : ℕ) (ts : List StampedTransaction) (place : ℕ) (part : Part) → slice_get (parts_from config rec r n ts) place ≡ Some part → StandsIn config rec r n ts part
 part_stands config rec r n [] place part at = absurd (cc)
 part_stands config rec r n (x ∷ ts) place part at = go (asks config rec r x) refl place at (λ p there. later (part_stands config rec r (suc n) ts p part there))
   where
@@ -85,7 +85,7 @@ part_stands config rec r n (x ∷ ts) place part at = go (asks config rec r x) r
     go false other place at rest = rest place at
 
 -- each part of a share stands for a transaction that asks the resolver, by its number
-pub share_part : (config : Config) (rec : Record) (r place : ℕ) (part : Part) → slice_get (share config rec r) place ≡ Some part → (t : Transaction) × (slice_get rec.batch part.number ≡ Some t) × (asks config rec r t ≡ true) × (part ≡ part_of config rec r part.number t)
+pub share_part : (config : Config) (rec : Record) (r place : ℕ) (part : Part) → slice_get (share config rec r) place ≡ Some part → (t : StampedTransaction) × (slice_get rec.batch part.number ≡ Some t) × (asks config rec r t ≡ true) × (part ≡ part_of config rec r part.number t)
 unfolding share_back_to
 share_part config rec r place part at =
     let (k, t, there, asking, is) = part_stands config rec r 0 rec.batch place part at in
@@ -96,7 +96,7 @@ share_part config rec r place part at =
 -- ---- verdict cells
 
 -- the verdict that stands at the number of a transaction that asks the resolver
-pub verdict_at_asker : (config : Config) (r : ℕ) (before : List Record) (rec : Record) (earlier ts : List Transaction) (m k n : ℕ) (t : Transaction) → m ≡ length earlier → n ≡ m + k → slice_get ts k ≡ Some t → asks config rec r t ≡ true →
+pub verdict_at_asker : (config : Config) (r : ℕ) (before : List Record) (rec : Record) (earlier ts : List StampedTransaction) (m k n : ℕ) (t : StampedTransaction) → m ≡ length earlier → n ≡ m + k → slice_get ts k ≡ Some t → asks config rec r t ≡ true →
     verdict_at (parts_from config rec r m ts) (verdicts_of_askers config r before rec earlier ts) n ≡ verdict_of config r before rec (earlier ++ take k ts) t
 verdict_at_asker config r before rec earlier [] m k n t e number at asking = absurd (cc)
 verdict_at_asker config r before rec earlier (x ∷ ts) m zero n t e number at asking =
@@ -112,7 +112,7 @@ verdict_at_asker config r before rec earlier (x ∷ ts) m (suc k) n t e number a
     go true later = rw (ne_eqb m n (λ (h : m ≡ n). omega arith), later, append_assoc)
     go false later = rw (later, append_assoc)
 
-pub known_in_is : (config : Config) (h : List Record) (columns : List (List (List Verdict))) (r i n : ℕ) (rec : Record) (t : Transaction) → slice_get h i ≡ Some rec → slice_get rec.batch n ≡ Some t → asks config rec r t ≡ true →
+pub known_in_is : (config : Config) (h : List Record) (columns : List (List (List Verdict))) (r i n : ℕ) (rec : Record) (t : StampedTransaction) → slice_get h i ≡ Some rec → slice_get rec.batch n ≡ Some t → asks config rec r t ≡ true →
     list_at (list_at columns r) i ≡ share_verdicts config r (take i h) rec → cell_verdicts config h columns r i n ≡ history_verdicts config h r i n
 unfolding cell_verdicts history_verdicts share_back_to
 known_in_is config h columns r i n rec t at there asking cell =
@@ -141,7 +141,7 @@ pub map-each_below : {X : Type 0} (f g : ℕ → X) (n : ℕ) → ((r : ℕ) →
 map-each_below f g zero same = refl
 map-each_below f g (suc n) same = rw (map-append, map-append, map-each_below f g n (λ r within. same r (omega arith)), same n (omega arith))
 
-states_from_alike : (config : Config) (verdict_by told : VerdictSource) (rec : Record) (ts : List Transaction) (n : ℕ) → AgreeOn config verdict_by told rec → ((k : ℕ) (t : Transaction) → slice_get ts k ≡ Some t → slice_get rec.batch (n + k) ≡ Some t) → states_from config verdict_by rec n ts ≡ states_from config told rec n ts
+states_from_alike : (config : Config) (verdict_by told : VerdictSource) (rec : Record) (ts : List StampedTransaction) (n : ℕ) → AgreeOn config verdict_by told rec → ((k : ℕ) (t : StampedTransaction) → slice_get ts k ≡ Some t → slice_get rec.batch (n + k) ≡ Some t) → states_from config verdict_by rec n ts ≡ states_from config told rec n ts
 states_from_alike config verdict_by told rec [] n alike at = refl
 states_from_alike config verdict_by told rec (t ∷ ts) n alike at =
     go (is_state_transaction t) refl (states_from_alike config verdict_by told rec ts (suc n) alike (λ k u there. let same : suc n + k ≡ n + suc k = omega arith in rw same (at (suc k) u there)))

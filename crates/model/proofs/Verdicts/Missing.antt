@@ -5,7 +5,7 @@ use Rattle.std.specs.Prelude.{Bool, true, false, if◌then◌else◌, nat_eq, Op
 use Rattle.model.specs.declared.part.Part.{Part}
 use Rattle.model.specs.declared.verdict.Verdict.{Verdict}
 use Rattle.model.specs.declared.verdict.Verdict.TheVariants.{Conflict}
-use Rattle.model.specs.Transactions.{Transaction}
+use Rattle.model.specs.Transactions.{StampedTransaction}
 use Rattle.model.specs.Records.{Record}
 use Rattle.model.specs.Shares.{share}
 use Rattle.model.specs.Journal.{history_verdicts, history_verdict_in_row, history_verdict_in_record, verdict_at, list_at, cell_verdicts, cell_verdict_in_row}
@@ -21,7 +21,7 @@ pub no_transaction_is_conflict : NoTransactionIsConflict
 unfolding history_verdicts
 no_transaction_is_conflict config h r row number rec at none =
     ap (λ (found : Option Record). history_verdict_in_row config h r row number found) at
-    ∙ ap (λ (found : Option Transaction). history_verdict_in_record config r (take row h) rec number found) none
+    ∙ ap (λ (found : Option StampedTransaction). history_verdict_in_record config r (take row h) rec number found) none
 
 -- ---- by verdict cells
 

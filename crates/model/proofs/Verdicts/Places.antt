@@ -6,7 +6,7 @@ use Rattle.std.proofs.lemmas.Option.{slice_get_within}
 use Rattle.std.specs.Prelude.{Bool, true, false, if◌then◌else◌, slice_get, Some, flat_map, ◌⊎◌}
 use mathlib.Core.Logic.{inl, inr}
 use Rattle.model.specs.Configs.{Config}
-use Rattle.model.specs.Transactions.{Transaction}
+use Rattle.model.specs.Transactions.{StampedTransaction}
 use Rattle.model.specs.Records.{Record, IsHistory}
 use Rattle.model.specs.Shares.{share, share_back_to, part_of, parts_from, asks}
 use Rattle.model.specs.Verdicts.{JudgedPart, judged_at, judged_before, verdict, verdict_of}
@@ -96,15 +96,15 @@ flat_map_split {X} {Y} f (y ∷ ys) front u back e = go (append_split (f y) (fla
 -- ---- parts of a record
 
 -- a part of these transactions, numbered from m: the transaction that it is of
-pub record OfTransaction (config : Config) (r : ℕ) (rec : Record) (m : ℕ) (ts : List Transaction) (front : List JudgedPart) (u : JudgedPart) : Type 0 where
+pub record OfTransaction (config : Config) (r : ℕ) (rec : Record) (m : ℕ) (ts : List StampedTransaction) (front : List JudgedPart) (u : JudgedPart) : Type 0 where
   pub k : ℕ
-  pub t : Transaction
+  pub t : StampedTransaction
   pub at : slice_get ts k ≡ Some t
   pub asking : asks config rec r t ≡ true
   pub u_is : u ≡ seen config r rec (m + k) t
   pub front_is : front ≡ judged_at rec.version (parts_from config rec r m (take k ts))
 
-pub parts_from_split : (config : Config) (r : ℕ) (rec : Record) (m : ℕ) (ts : List Transaction) (front : List JudgedPart) (u : JudgedPart) (back : List JudgedPart) → judged_at rec.version (parts_from config rec r m ts) ≡ front ++ u ∷ back → OfTransaction config r rec m ts front u
+pub parts_from_split : (config : Config) (r : ℕ) (rec : Record) (m : ℕ) (ts : List StampedTransaction) (front : List JudgedPart) (u : JudgedPart) (back : List JudgedPart) → judged_at rec.version (parts_from config rec r m ts) ≡ front ++ u ∷ back → OfTransaction config r rec m ts front u
 parts_from_split config r rec m [] [] u back e = absurd (cc)
 parts_from_split config r rec m [] (x ∷ front) u back e = absurd (cc)
 parts_from_split config r rec m (t ∷ ts) front u back e = go (asks config rec r t) refl front e (λ (front' : List JudgedPart). parts_from_split config r rec (suc m) ts front' u back)
@@ -159,7 +159,7 @@ unfolding verdict_of
 verdict_at_place_is config r h a = ap (λ (n : ℕ). verdict config.window (judged_before_place config r h a) (seen config r a.rec n a.transaction)) (length_earlier a)
 
 -- the parts of a record with one of its transactions that asks
-pub parts_from_around : (config : Config) (r : ℕ) (rec : Record) (n : ℕ) (earlier rest : List Transaction) (t : Transaction) → length earlier ≡ n → asks config rec r t ≡ true →
+pub parts_from_around : (config : Config) (r : ℕ) (rec : Record) (n : ℕ) (earlier rest : List StampedTransaction) (t : StampedTransaction) → length earlier ≡ n → asks config rec r t ≡ true →
     (back : List JudgedPart) × (judged_at rec.version (parts_from config rec r 0 (earlier ++ t ∷ rest)) ≡ judged_at rec.version (parts_from config rec r 0 earlier) ++ seen config r rec n t ∷ back)
 parts_from_around config r rec n earlier rest t e asking =
     (judged_at rec.version (parts_from config rec r (suc n) rest), rw (parts_from-append config rec r 0 n earlier (t ∷ rest) (omega arith), asking, map-append))
@@ -184,7 +184,7 @@ judged_around config r h a b (inr earlier) asking =
     let near = around h a.i b.i a.rec a.record_is earlier in
     let all = around_all a.rec.batch a.n a.transaction a.transaction_is in
     let parts = parts_from_around config r a.rec a.n (take a.n a.rec.batch) all.0 a.transaction (length_earlier a) asking in
-    let shared : judged_at a.rec.version (share config a.rec r) ≡ judged_at a.rec.version (parts_from config a.rec r 0 (take a.n a.rec.batch)) ++ seen_at config r a ∷ parts.0 = ap (λ (ts : List Transaction). judged_at a.rec.version (parts_from config a.rec r 0 ts)) all.1 ∙ parts.1 in
+    let shared : judged_at a.rec.version (share config a.rec r) ≡ judged_at a.rec.version (parts_from config a.rec r 0 (take a.n a.rec.batch)) ++ seen_at config r a ∷ parts.0 = ap (λ (ts : List StampedTransaction). judged_at a.rec.version (parts_from config a.rec r 0 ts)) all.1 ∙ parts.1 in
     record {
       back = (parts.0 ++ flat_map (shares config r) near.rest) ++ judged_at b.rec.version (parts_from config b.rec r 0 (take b.n b.rec.batch));
       whole = rw (near.whole, flat_map-append, shared) (simp append_assoc);
@@ -227,5 +227,5 @@ judged_place config r h b front u back e = go (append_split (flat_map (shares co
           before = inl (refl, there.0);
           asking = part.asking;
           u_is = part.u_is ∙ ap (λ (n : ℕ). seen config r b.rec n part.t) number;
-          front_is = s.front_is ∙ ap (λ (vs : List JudgedPart). flat_map (shares config r) (take b.i h) ++ vs) (part.front_is ∙ ap (λ (ts : List Transaction). judged_at b.rec.version (parts_from config b.rec r 0 ts)) (take-take_le b.rec.batch part.k b.n (omega (arith, there.0))));
+          front_is = s.front_is ∙ ap (λ (vs : List JudgedPart). flat_map (shares config r) (take b.i h) ++ vs) (part.front_is ∙ ap (λ (ts : List StampedTransaction). judged_at b.rec.version (parts_from config b.rec r 0 ts)) (take-take_le b.rec.batch part.k b.n (omega (arith, there.0))));
         }

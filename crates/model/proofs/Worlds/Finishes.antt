@@ -16,7 +16,7 @@ use Rattle.model.specs.Acknowledged.{acknowledged_requests}
 use Rattle.model.specs.OwnerMaps.{StandsForMoves}
 use Rattle.model.specs.ResolverMemory.{ResolverView}
 use Rattle.model.specs.Finishing.{ProxyView, Replies, HasFinished, AgreeOnRows, reply_from, unreplied, disagreements, replied_verdicts}
-use Rattle.model.specs.World.{World, Finish, Handled, Completed, Refused, OutOfTurn, MissingReply, IsSound, greatest, received_of, acknowledged, handle_event, finished_batch, finished_after, missing_replies, reply_of, finished_version, proxy_journal}
+use Rattle.model.specs.World.{World, Finish, Handled, FinishedBatch, Refused, OutOfTurn, MissingReply, IsSound, greatest, received_of, acknowledged, handle_event, finished_batch, finished_after, missing_replies, reply_of, finished_version, proxy_journal}
 use Rattle.model.specs.Turns.{IsProxyOf, IsResolverOf, AreInStep}
 use Rattle.model.specs.Laws.Proxies.{MayFinish}
 use Rattle.model.specs.Laws.Worlds.{IsAwaited, AreOfTheWorld}
@@ -165,7 +165,7 @@ replies_have_no_fault config w p rec rest v resolvers proxies requests replies i
     place = awaited config w p rec rest v resolvers proxies requests is
 
 pub may_be_finished : (config : Config) (w : World) (p : ℕ) (rec : Record) (rest : List Record) (v : ProxyView) (resolvers : List ResolverView) (proxies : List ProxyView) (requests : List (List Request)) → IsAwaited config w p rec rest v resolvers proxies requests → missing_replies w rec.row (each_below config.resolvers) ≡ []
-    → (finished : Finished) × ((handle_event config w (Finish p)).answer ≡ Completed finished)
+    → (finished : Finished) × ((handle_event config w (Finish p)).answer ≡ FinishedBatch finished)
 may_be_finished config w p rec rest v resolvers proxies requests is none =
     (finished_batch config (history_verdicts config w.history) (take rec.row w.history) rec, ap (λ (handled : Handled). handled.answer) (finish_is config w p rec is.there (awaited config w p rec rest v resolvers proxies requests is).turn none))
 
@@ -214,11 +214,11 @@ of_the_world config w p rec rest v new resolvers proxies requests replies finish
     same = parts.0
 
 pub finishes_as_world : (config : Config) (w : World) (p : ℕ) (rec : Record) (rest : List Record) (v new : ProxyView) (resolvers : List ResolverView) (proxies : List ProxyView) (requests : List (List Request)) (replies : Replies) (finished : Finished) → IsAwaited config w p rec rest v resolvers proxies requests → AreOfTheWorld config w rec replies → HasFinished v new replies finished
-    → handle_event config w (Finish p) ≡ record { world = record w { finished = slice_set w.finished p (suc (slice_index w.finished p)) }; answer = Completed finished }
+    → handle_event config w (Finish p) ≡ record { world = record w { finished = slice_set w.finished p (suc (slice_index w.finished p)) }; answer = FinishedBatch finished }
 finishes_as_world config w p rec rest v new resolvers proxies requests replies finished is of_world has =
     let done = of_the_world config w p rec rest v new resolvers proxies requests replies finished is has in
     world_finish config w p rec replies done.rows is.parts.limits (may_finish config w p rec rest v resolvers proxies requests replies is of_world) done.agree
-    ∙ ap (λ (batch : Finished). record { world = record w { finished = slice_set w.finished p (suc (slice_index w.finished p)) }; answer = Completed batch }) (sym done.finished_is)
+    ∙ ap (λ (batch : Finished). record { world = record w { finished = slice_set w.finished p (suc (slice_index w.finished p)) }; answer = FinishedBatch batch }) (sym done.finished_is)
 
 pub finished_in_step : (config : Config) (w : World) (p : ℕ) (rec : Record) (rest : List Record) (v new : ProxyView) (resolvers : List ResolverView) (proxies : List ProxyView) (requests : List (List Request)) (replies : Replies) (finished : Finished) → IsAwaited config w p rec rest v resolvers proxies requests → AreOfTheWorld config w rec replies → HasFinished v new replies finished
     → AreInStep config (handle_event config w (Finish p)).world resolvers (slice_set proxies p new) requests

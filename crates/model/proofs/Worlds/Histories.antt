@@ -7,7 +7,7 @@ use Rattle.system_keys.specs.Keys.{Range}
 use Rattle.model.specs.Configs.{Config, version_limit}
 use Rattle.model.specs.declared.moves.Move.{Move}
 use Rattle.model.specs.declared.reply.Reply.{Reply}
-use Rattle.model.specs.Stamps.{Given}
+use Rattle.model.specs.Stamps.{AdmittedTransaction}
 use Rattle.model.specs.Records.{Record, Follows, IsMadeAfter, last_version, records_of_proxy}
 use Rattle.model.specs.Shares.{each_below}
 use Rattle.model.specs.Journal.{history_verdicts}
@@ -22,7 +22,7 @@ use Rattle.model.proofs.Shares.Askers.{slice_get-append_left}
 within_limit : (n limit : ℕ) → nat_le limit n ≡ false → n < limit
 within_limit n limit h = leb-false limit n h
 
-next_follows : (config : Config) (w : World) (p : ℕ) (batch : List Given) → IsSound config w → nat_le config.proxies p ≡ false → nat_le version_limit (next_record config w p batch).version ≡ false → Follows config w.history (next_record config w p batch)
+next_follows : (config : Config) (w : World) (p : ℕ) (batch : List AdmittedTransaction) → IsSound config w → nat_le config.proxies p ≡ false → nat_le version_limit (next_record config w p batch).version ≡ false → Follows config w.history (next_record config w p batch)
 next_follows config w p batch sound there below =
     record {
       row = refl;
@@ -62,7 +62,7 @@ with_record config w rec received sound follows all below =
     before i n s (inr there) (inl told) = absurd (omega (arith, there.0, told.0, sound.received))
     before i n s (inr there) (inr told) = sound.received_before i n s there.1 told.1
 
-sequenced_sound : (config : Config) (w : World) (p : ℕ) (batch : List Given) → IsSound config w → IsSound config (handle_sequence config w p batch).world
+sequenced_sound : (config : Config) (w : World) (p : ℕ) (batch : List AdmittedTransaction) → IsSound config w → IsSound config (handle_sequence config w p batch).world
 sequenced_sound config w p batch sound = by (nat_le config.proxies p) refl (nat_le version_limit (next_record config w p batch).version) refl
   where
     by : (s : Bool) → nat_le config.proxies p ≡ s → (t : Bool) → nat_le version_limit (next_record config w p batch).version ≡ t →
@@ -74,15 +74,15 @@ sequenced_sound config w p batch sound = by (nat_le config.proxies p) refl (nat_
 
 -- ---- a range moves
 
-moved_sound : (config : Config) (w : World) (range : Range) (destination : ℕ) → IsSound config w → IsSound config (handle_move config w range destination).world
-moved_sound config w range destination sound = by (nat_le config.resolvers destination) refl
+moved_sound : (config : Config) (w : World) (range : Range) (dest : ℕ) → IsSound config w → IsSound config (handle_move config w range dest).world
+moved_sound config w range dest sound = by (nat_le config.resolvers dest) refl
   where
-    by : (t : Bool) → nat_le config.resolvers destination ≡ t →
-        IsSound config (if t then refuse w NoSuchResolver else record { world = record w { moves = w.moves ++ (record { range = range; date = last_version w.history + 1; dest = destination }) ∷ [] }; answer = Moved (last_version w.history + 1) }).world
+    by : (t : Bool) → nat_le config.resolvers dest ≡ t →
+        IsSound config (if t then refuse w NoSuchResolver else record { world = record w { moves = w.moves ++ (record { range = range; date = last_version w.history + 1; dest = dest }) ∷ [] }; answer = Moved (last_version w.history + 1) }).world
     by true unknown = sound
     by false known =
-        let m : Move = record { range = range; date = last_version w.history + 1; dest = destination } in
-        let made : IsMadeAfter config (last_version w.history) m = record { date = refl; destination = within_limit destination config.resolvers known } in
+        let m : Move = record { range = range; date = last_version w.history + 1; dest = dest } in
+        let made : IsMadeAfter config (last_version w.history) m = record { date = refl; dest = within_limit dest config.resolvers known } in
         record {
           sequencer = moves_follow_move config w.history w.moves m sound.sequencer made;
           received = sound.received;
@@ -214,7 +214,7 @@ finished_sound config w p (Some rec) at there sound = finishing_sound config w p
 pub happens_sound : (config : Config) (w : World) (event : Event) → IsSound config w → IsSound config (handle_event config w event).world
 unfolding handle_event
 happens_sound config w (Sequence p batch) sound = sequenced_sound config w p batch sound
-happens_sound config w (MoveRange range destination) sound = moved_sound config w range destination sound
+happens_sound config w (MoveRange range dest) sound = moved_sound config w range dest sound
 happens_sound config w (Offer row r) sound = offered_sound config w row r (slice_get w.history row) refl sound
 happens_sound config w (Finish p) sound = either_sound config (nat_le config.proxies p) _ _ (λ unknown. sound) (λ known. finished_sound config w p (slice_get (records_of_proxy p w.history) (slice_index w.finished p)) refl (within_limit p config.proxies known) sound)
 

@@ -6,7 +6,7 @@ use Rattle.std.proofs.lemmas.Option.{slice_get_within}
 use Rattle.system_keys.specs.Keys.{Range}
 use Rattle.model.specs.Configs.{Config, IsConfig, version_limit}
 use Rattle.model.specs.declared.moves.Move.{Move}
-use Rattle.model.specs.Stamps.{Given, stamped_from}
+use Rattle.model.specs.Stamps.{AdmittedTransaction, stamped_from}
 use Rattle.model.specs.Records.{Record, Follows, IsHistory, last_version, last_moves, records_of_proxy}
 use Rattle.model.specs.Shares.{each_below}
 use Rattle.model.specs.Journal.{journal}
@@ -130,13 +130,13 @@ with_moves config w moves resolvers proxies requests sound parts =
       received = parts.received;
     }
 
-pub moved_in_step : (config : Config) (w : World) (range : Range) (destination : ℕ) (resolvers : List ResolverView) (proxies : List ProxyView) (requests : List (List Request)) → AreInStep config w resolvers proxies requests
-    → AreInStep config (handle_event config w (MoveRange range destination)).world resolvers proxies requests
+pub moved_in_step : (config : Config) (w : World) (range : Range) (dest : ℕ) (resolvers : List ResolverView) (proxies : List ProxyView) (requests : List (List Request)) → AreInStep config w resolvers proxies requests
+    → AreInStep config (handle_event config w (MoveRange range dest)).world resolvers proxies requests
 unfolding handle_event
-moved_in_step config w range destination resolvers proxies requests parts = by (nat_le config.resolvers destination) (happens_sound config w (MoveRange range destination) parts.sound)
+moved_in_step config w range dest resolvers proxies requests parts = by (nat_le config.resolvers dest) (happens_sound config w (MoveRange range dest) parts.sound)
   where
     moves : List Move
-    moves = w.moves ++ (record { range = range; date = last_version w.history + 1; dest = destination }) ∷ []
+    moves = w.moves ++ (record { range = range; date = last_version w.history + 1; dest = dest }) ∷ []
 
     by : (t : Bool) → let handled : Handled = if t then refuse w NoSuchResolver else record { world = record w { moves = moves }; answer = Moved (last_version w.history + 1) } in IsSound config handled.world → AreInStep config handled.world resolvers proxies requests
     by true sound = parts
@@ -144,7 +144,7 @@ moved_in_step config w range destination resolvers proxies requests parts = by (
 
 -- ---- a batch gets its record
 
-pub sequence_is : (config : Config) (w : World) (p : ℕ) (batch : List Given) → p < config.proxies → last_version w.history + config.step < version_limit →
+pub sequence_is : (config : Config) (w : World) (p : ℕ) (batch : List AdmittedTransaction) → p < config.proxies → last_version w.history + config.step < version_limit →
     handle_event config w (Sequence p batch) ≡ record { world = record w { history = w.history ++ next_record config w p batch ∷ []; received = w.received ++ finished_version w p ∷ [] }; answer = Sequenced (length w.history) (last_version w.history + config.step) }
 unfolding handle_event
 sequence_is config w p batch there below =
@@ -169,7 +169,7 @@ record IsNext (config : Config) (w : World) (rec : Record) : Type 0 where
   longer : IsHistory config (w.history ++ rec ∷ [])
   at : slice_get (w.history ++ rec ∷ []) (length w.history) ≡ Some rec
 
-next_is : (config : Config) (w : World) (p : ℕ) (batch : List Given) → IsSound config w → p < config.proxies → last_version w.history + config.step < version_limit → IsNext config w (next_record config w p batch)
+next_is : (config : Config) (w : World) (p : ℕ) (batch : List AdmittedTransaction) → IsSound config w → p < config.proxies → last_version w.history + config.step < version_limit → IsNext config w (next_record config w p batch)
 next_is config w p batch sound there below =
     let follows = next_follows_moves config w.history w.moves p (stamped_from (last_version w.history + config.step) 0 batch) sound.sequencer there below in
     record { follows = follows; longer = history_push config w.history (next_record config w p batch) sound.sequencer.history follows; at = slice_get-push w.history (next_record config w p batch) }
@@ -193,7 +193,7 @@ moves_of_own w p rec = by (records_of_proxy p w.history) refl
         let moves : last_moves (x ∷ rs) ≡ last.0.moves = ap last_moves (sym (take_all (suc (length rs)) (x ∷ rs) (omega arith))) ∙ last_moves_at (x ∷ rs) (length rs) last.0 last.1 in
         record { begun = suc place.i; within = omega (arith, within); moves_are = last_moves_at (w.history ++ rec ∷ []) place.i last.0 here ∙ sym moves }
 
-pub may_begin : (config : Config) (w : World) (p : ℕ) (v : ProxyView) (resolvers : List ResolverView) (proxies : List ProxyView) (requests : List (List Request)) (batch : List Given) → MaySequence config w p v resolvers proxies requests → MayBegin v (next_record config w p batch)
+pub may_begin : (config : Config) (w : World) (p : ℕ) (v : ProxyView) (resolvers : List ResolverView) (proxies : List ProxyView) (requests : List (List Request)) (batch : List AdmittedTransaction) → MaySequence config w p v resolvers proxies requests → MayBegin v (next_record config w p batch)
 may_begin config w p v resolvers proxies requests batch may =
     a_later_record_may_begin config (w.history ++ rec ∷ []) (length w.history) own.begun rec v next.longer next.at own.within is.config_is (subst (HoldsMoves v) (sym own.moves_are) is.holds)
   where
@@ -209,7 +209,7 @@ may_begin config w p v resolvers proxies requests batch may =
     own : HasMovesOf (w.history ++ rec ∷ []) (length w.history) (last_moves (records_of_proxy p w.history))
     own = moves_of_own w p rec
 
-pub begun_in_step : (config : Config) (w : World) (p : ℕ) (v new : ProxyView) (resolvers : List ResolverView) (proxies : List ProxyView) (requests : List (List Request)) (batch : List Given) → MaySequence config w p v resolvers proxies requests → HasBegun v new (next_record config w p batch)
+pub begun_in_step : (config : Config) (w : World) (p : ℕ) (v new : ProxyView) (resolvers : List ResolverView) (proxies : List ProxyView) (requests : List (List Request)) (batch : List AdmittedTransaction) → MaySequence config w p v resolvers proxies requests → HasBegun v new (next_record config w p batch)
     → AreInStep config (handle_event config w (Sequence p batch)).world resolvers (slice_set proxies p new) (requests ++ map (request config (next_record config w p batch) v.version) (each_below config.resolvers) ∷ [])
 begun_in_step config w p v new resolvers proxies requests batch may begun =
     subst (λ (handled : Handled). AreInStep config handled.world resolvers (slice_set proxies p new) (requests ++ map (request config rec v.version) (each_below config.resolvers) ∷ [])) (sym handled_is)

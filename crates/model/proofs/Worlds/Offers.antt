@@ -32,7 +32,7 @@ pub refused_unchanged : (config : Config) (w : World) (event : Event) (why : Ref
 unfolding handle_event
 refused_unchanged config w (Sequence p batch) why =
     either_unchanged w why (nat_le config.proxies p) _ _ (λ told. refl) (either_unchanged w why (nat_le version_limit (next_record config w p batch).version) _ _ (λ told. refl) (λ told. absurd (cc)))
-refused_unchanged config w (MoveRange range destination) why = either_unchanged w why (nat_le config.resolvers destination) _ _ (λ told. refl) (λ told. absurd (cc))
+refused_unchanged config w (MoveRange range dest) why = either_unchanged w why (nat_le config.resolvers dest) _ _ (λ told. refl) (λ told. absurd (cc))
 refused_unchanged config w (Offer row r) why = by (slice_get w.history row)
   where
     by : (found : Option Record) → (handle_offer config w row r found).answer ≡ Refused why → (handle_offer config w row r found).world ≡ w

@@ -9,11 +9,11 @@ use Rattle.model.specs.Configs.{Config, IsConfig, version_limit}
 use Rattle.model.specs.declared.journal.JournalRow.{JournalRow}
 use Rattle.model.specs.declared.reply.Reply.{Reply}
 use Rattle.model.specs.declared.outcome.Finished.{Finished}
-use Rattle.model.specs.Stamps.{Given}
+use Rattle.model.specs.Stamps.{AdmittedTransaction}
 use Rattle.model.specs.Records.{Record, IsHistory, last_version, records_of_proxy}
 use Rattle.model.specs.Shares.{each_below}
 use Rattle.model.specs.Journal.{VerdictSource, history_verdicts, journal_row, journal, is_after}
-use Rattle.model.specs.World.{World, Event, Sequence, MoveRange, Offer, Finish, Handled, Answer, Sequenced, Moved, Judged, Again, Completed, Refused, IsSound, initial_world, next_record, handle_sequence, handle_move, reply_of, acknowledged, handle_offer, finished_batch, finished_after, missing_replies, finish_record, handle_finish, handle_event, answers, world_after, refuse, finished_version, up_to_version, proxy_journal, NoSuchProxy}
+use Rattle.model.specs.World.{World, Event, Sequence, MoveRange, Offer, Finish, Handled, Answer, Sequenced, Moved, Judged, Again, FinishedBatch, Refused, IsSound, initial_world, next_record, handle_sequence, handle_move, reply_of, acknowledged, handle_offer, finished_batch, finished_after, missing_replies, finish_record, handle_finish, handle_event, answers, world_after, refuse, finished_version, up_to_version, proxy_journal, NoSuchProxy}
 use Rattle.model.proofs.Members.{Has, Has-from_Contains}
 use Rattle.model.proofs.Verdicts.Places.{row_at}
 use Rattle.model.proofs.Shares.Askers.{slice_get-append_left, verdict_in_later}
@@ -136,7 +136,7 @@ either_kept : (config : Config) (w : World) (p : ℕ) (t : Bool) (first second :
 either_kept config w p true first second one other = one refl
 either_kept config w p false first second one other = other refl
 
-kept_by_sequence : (config : Config) (w : World) (p q : ℕ) (batch : List Given) → IsConfig config → IsSound config w → proxy_journal config (handle_sequence config w q batch).world p ≡ proxy_journal config w p
+kept_by_sequence : (config : Config) (w : World) (p q : ℕ) (batch : List AdmittedTransaction) → IsConfig config → IsSound config w → proxy_journal config (handle_sequence config w q batch).world p ≡ proxy_journal config w p
 kept_by_sequence config w p q batch limits sound =
     either_kept config w p (nat_le config.proxies q) _ _ (λ unknown. refl)
     (λ known. either_kept config w p (nat_le version_limit (next_record config w q batch).version) _ _ (λ past. refl)
@@ -146,8 +146,8 @@ kept_same : (config : Config) (w v : World) (p : ℕ) → v.history ≡ w.histor
 unfolding proxy_journal
 kept_same config w v p history finished = λ i. journal config (history_verdicts config (history i)) (up_to_version (last_version (take (finished i) (records_of_proxy p (history i)))) (history i))
 
-kept_by_move : (config : Config) (w : World) (p : ℕ) (range : Range) (destination : ℕ) → proxy_journal config (handle_move config w range destination).world p ≡ proxy_journal config w p
-kept_by_move config w p range destination = either_kept config w p (nat_le config.resolvers destination) _ _ (λ unknown. refl) (λ known. kept_same config w (record w { moves = w.moves ++ (record { range = range; date = last_version w.history + 1; dest = destination }) ∷ [] }) p refl refl)
+kept_by_move : (config : Config) (w : World) (p : ℕ) (range : Range) (dest : ℕ) → proxy_journal config (handle_move config w range dest).world p ≡ proxy_journal config w p
+kept_by_move config w p range dest = either_kept config w p (nat_le config.resolvers dest) _ _ (λ unknown. refl) (λ known. kept_same config w (record w { moves = w.moves ++ (record { range = range; date = last_version w.history + 1; dest = dest }) ∷ [] }) p refl refl)
 
 kept_by_offer : (config : Config) (w : World) (p row r : ℕ) (found : Option Record) → proxy_journal config (handle_offer config w row r found).world p ≡ proxy_journal config w p
 kept_by_offer config w p row r None = refl
@@ -169,7 +169,7 @@ kept_by_finish config w p q (Some rec) apart = by (missing_replies w rec.row (ea
 pub journal_kept : (config : Config) (w : World) (event : Event) (p : ℕ) → IsConfig config → IsSound config w → ¬ (event ≡ Finish p) → proxy_journal config (handle_event config w event).world p ≡ proxy_journal config w p
 unfolding handle_event
 journal_kept config w (Sequence q batch) p limits sound other = kept_by_sequence config w p q batch limits sound
-journal_kept config w (MoveRange range destination) p limits sound other = kept_by_move config w p range destination
+journal_kept config w (MoveRange range dest) p limits sound other = kept_by_move config w p range dest
 journal_kept config w (Offer row r) p limits sound other = kept_by_offer config w p row r (slice_get w.history row)
 journal_kept config w (Finish q) p limits sound other =
     either_kept config w p (nat_le config.proxies q) _ _ (λ unknown. refl)
@@ -259,8 +259,8 @@ event_goes_on : (config : Config) (w : World) (event : Event) → GoesOn w (hand
 unfolding handle_event
 event_goes_on config w (Sequence p batch) =
     either_goes_on w (nat_le config.proxies p) _ _ (stays w w refl) (either_goes_on w (nat_le version_limit (next_record config w p batch).version) _ _ (stays w w refl) (record { later = next_record config w p batch ∷ []; is = refl }))
-event_goes_on config w (MoveRange range destination) =
-    either_goes_on w (nat_le config.resolvers destination) _ _ (stays w w refl) (stays w (record w { moves = w.moves ++ (record { range = range; date = last_version w.history + 1; dest = destination }) ∷ [] }) refl)
+event_goes_on config w (MoveRange range dest) =
+    either_goes_on w (nat_le config.resolvers dest) _ _ (stays w w refl) (stays w (record w { moves = w.moves ++ (record { range = range; date = last_version w.history + 1; dest = dest }) ∷ [] }) refl)
 event_goes_on config w (Offer row r) = by (slice_get w.history row)
   where
     by : (found : Option Record) → GoesOn w (handle_offer config w row r found).world
@@ -302,7 +302,7 @@ IsToldBy config h (Sequenced row version) = Unit {0}
 IsToldBy config h (Moved date) = Unit {0}
 IsToldBy config h (Judged reply) = IsReplyBy config h reply
 IsToldBy config h (Again reply) = IsReplyBy config h reply
-IsToldBy config h (Completed f) = IsFinishedBy config h f
+IsToldBy config h (FinishedBatch f) = IsFinishedBy config h f
 IsToldBy config h (Refused why) = Unit {0}
 
 reply_longer : (config : Config) (h later : List Record) (reply : Reply) → IsHistory config h → IsReplyBy config h reply → IsReplyBy config (h ++ later) reply
@@ -320,7 +320,7 @@ told_longer config h later (Sequenced row version) history told = tt
 told_longer config h later (Moved date) history told = tt
 told_longer config h later (Judged reply) history told = reply_longer config h later reply history told
 told_longer config h later (Again reply) history told = reply_longer config h later reply history told
-told_longer config h later (Completed f) history told = finished_longer config h later f history told
+told_longer config h later (FinishedBatch f) history told = finished_longer config h later f history told
 told_longer config h later (Refused why) history told = tt
 
 either_told : (config : Config) (h : List Record) (t : Bool) (first second : Handled) → IsToldBy config h first.answer → IsToldBy config h second.answer → IsToldBy config h (if t then first else second).answer
@@ -342,7 +342,7 @@ batch_told config w p rec history at =
 event_told : (config : Config) (w : World) (event : Event) → IsSound config w → IsToldBy config w.history (handle_event config w event).answer
 unfolding handle_event
 event_told config w (Sequence p batch) sound = either_told config w.history (nat_le config.proxies p) _ _ tt (either_told config w.history (nat_le version_limit (next_record config w p batch).version) _ _ tt tt)
-event_told config w (MoveRange range destination) sound = either_told config w.history (nat_le config.resolvers destination) _ _ tt tt
+event_told config w (MoveRange range dest) sound = either_told config w.history (nat_le config.resolvers dest) _ _ tt tt
 event_told config w (Offer row r) sound = by (slice_get w.history row) refl
   where
     by : (found : Option Record) → slice_get w.history row ≡ found → IsToldBy config w.history (handle_offer config w row r found).answer
@@ -373,8 +373,8 @@ run_told config w (event ∷ events) answer sound (inl same) =
     subst (λ (h : List Record). IsToldBy config h answer) (sym on.is) (told_longer config w.history on.later answer sound.sequencer.history here)
 run_told config w (event ∷ events) answer sound (inr later) = run_told config (handle_event config w event).world events answer (happens_sound config w event sound) later
 
-pub completed_told : (config : Config) (events : List Event) (f : Finished) → Contains (answers config (initial_world config) events) (Completed f) → IsFinishedBy config (world_after config (initial_world config) events).history f
-completed_told config events f there = run_told config (initial_world config) events (Completed f) (start_sound config) (Has-from_Contains (answers config (initial_world config) events) (Completed f) there)
+pub completed_told : (config : Config) (events : List Event) (f : Finished) → Contains (answers config (initial_world config) events) (FinishedBatch f) → IsFinishedBy config (world_after config (initial_world config) events).history f
+completed_told config events f there = run_told config (initial_world config) events (FinishedBatch f) (start_sound config) (Has-from_Contains (answers config (initial_world config) events) (FinishedBatch f) there)
 
 pub judged_told : (config : Config) (events : List Event) (reply : Reply) → Contains (answers config (initial_world config) events) (Judged reply) → IsReplyBy config (world_after config (initial_world config) events).history reply
 judged_told config events reply there = run_told config (initial_world config) events (Judged reply) (start_sound config) (Has-from_Contains (answers config (initial_world config) events) (Judged reply) there)

@@ -14,7 +14,7 @@ use Rattle.model.specs.World.{finished_batch, finished_after, reply_of}
 use Rattle.model.specs.Agreed.{Column, Columns, IsAgreed, IsVerdictColumn, IsKnownJournal}
 use Rattle.model.specs.Agreed.{AreVerdicts}
 use Rattle.model.specs.declared.verdict.Verdict.TheVariants.{Committed}
-use Rattle.model.specs.Transactions.{Transaction}
+use Rattle.model.specs.Transactions.{StampedTransaction}
 use Rattle.model.specs.Shares.{asks, share}
 use Rattle.model.specs.Finishing.{Replies, AreRepliesBy, replied_verdicts}
 use Rattle.model.specs.ColumnVerdicts.{column_verdicts, reply_by_column, replies_by_columns}
@@ -111,7 +111,7 @@ FinishedBatchesOfTwoHoldersMeet =
 abbrev pub CellsSayTheHistorysVerdicts : Type 0
 CellsSayTheHistorysVerdicts =
     (config : Config) (history : List Record) (columns : Columns) (resolver row number : ℕ)
-    (rec : Record) (transaction : Transaction)
+    (rec : Record) (transaction : StampedTransaction)
     → slice_get history row ≡ Some rec → slice_get rec.batch number ≡ Some transaction
     → IsTrue (asks config rec resolver transaction)
     → list_at (list_at columns resolver) row
@@ -149,7 +149,7 @@ abbrev pub CommittedByAHistoryIsInIt : Type 0
 CommittedByAHistoryIsInIt =
     (config : Config) (history : List Record) (resolver row number : ℕ)
     → history_verdicts config history resolver row number ≡ Committed
-    → (rec : Record) × (transaction : Transaction)
+    → (rec : Record) × (transaction : StampedTransaction)
     × (slice_get history row ≡ Some rec) × (slice_get rec.batch number ≡ Some transaction)
 
 -- they give it the same outcomes, after any journal before
@@ -173,7 +173,7 @@ AgreeingSourcesGiveOneFinishedBatch =
 -- the resolver has the same verdict on each transaction of the record that asks it
 abbrev pub AgreeOnAskers : Config → VerdictSource → VerdictSource → ℕ → Record → Type 0
 AgreeOnAskers config verdict_by other resolver rec =
-    (number : ℕ) (transaction : Transaction) → slice_get rec.batch number ≡ Some transaction
+    (number : ℕ) (transaction : StampedTransaction) → slice_get rec.batch number ≡ Some transaction
     → IsTrue (asks config rec resolver transaction)
     → verdict_by resolver rec.row number ≡ other resolver rec.row number
 
@@ -244,7 +244,7 @@ CellsSayWhatTheirColumnSays =
 abbrev pub ColumnsSayTheHistorysVerdicts : Type 0
 ColumnsSayTheHistorysVerdicts =
     (config : Config) (history : List Record) (column : Column) (resolver row number : ℕ)
-    (rec : Record) (transaction : Transaction)
+    (rec : Record) (transaction : StampedTransaction)
     → slice_get history row ≡ Some rec → slice_get rec.batch number ≡ Some transaction
     → IsTrue (asks config rec resolver transaction)
     → list_at column row ≡ share_verdicts config resolver (take row history) rec

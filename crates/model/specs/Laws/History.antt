@@ -6,7 +6,7 @@ use Rattle.model.specs.declared.moves.Move.{Move}
 use Rattle.model.specs.Records.{Record, IsHistory, Follows, IsMadeAfter, MovesFollow, last_version}
 use Rattle.model.specs.Records.{records_of_proxy, oldest}
 use Rattle.model.specs.World.{up_to_version, rows_up_to}
-use Rattle.model.specs.Transactions.{Transaction}
+use Rattle.model.specs.Transactions.{StampedTransaction}
 use Rattle.model.specs.Journal.{is_after}
 
 -- the empty list of records is a history
@@ -112,7 +112,7 @@ OwnVersionsAreNoLater =
 abbrev pub NextNumbersFollow : Type 0
 NextNumbersFollow =
     (config : Config) (history : List Record) (moves : List Move) (proxy : ℕ)
-    (batch : List Transaction)
+    (batch : List StampedTransaction)
     → MovesFollow config history moves → proxy < config.proxies
     → last_version history + config.step < version_limit
     → Follows config history (record {

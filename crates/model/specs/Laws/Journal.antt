@@ -8,7 +8,7 @@ use Rattle.model.specs.Journal.{VerdictSource, journal_row, journal, reply_row, 
 use Rattle.model.specs.Journal.{HaveVerdictCount, is_after, unseen}
 use Rattle.model.specs.World.{up_to_version}
 
--- the journal of more records begins with that of the first ones
+-- the journal of more records begins with the journal of the first ones
 abbrev pub JournalsContinue : Type 0
 JournalsContinue =
     (config : Config) (verdict_by : VerdictSource) (records later : List Record)
@@ -43,7 +43,7 @@ RecordsHaveTheirJournalRows =
     → slice_get records place ≡ Some rec
     → slice_get (journal config verdict_by records) place ≡ Some (journal_row config verdict_by rec)
 
--- each row of a journal is that of the record at its place, and has the record's version
+-- each row of a journal belongs to the record at its place, and has the record's version
 abbrev pub JournalRowsAreOfTheirRecords : Type 0
 JournalRowsAreOfTheirRecords =
     (config : Config) (verdict_by : VerdictSource) (records : List Record) (place : ℕ)

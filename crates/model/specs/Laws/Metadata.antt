@@ -29,7 +29,7 @@ MetadataIsInOrder = (journal : List JournalRow) → IsInOrder (metadata journal)
 abbrev pub MetadataKeysAreKept : Type 0
 MetadataKeysAreKept = (journal : List JournalRow) → AreKept (metadata journal)
 
--- the metadata of a longer journal continues from that of its first rows
+-- the metadata of a longer journal continues from the metadata of its first rows
 abbrev pub MetadataContinues : Type 0
 MetadataContinues =
     (journal later : List JournalRow)

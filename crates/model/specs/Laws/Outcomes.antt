@@ -4,7 +4,7 @@ use Rattle.std.specs.Prelude.{Some, Contains}
 use Rattle.model.specs.Configs.{Config}
 use Rattle.model.specs.declared.journal.JournalRow.{JournalRow}
 use Rattle.model.specs.declared.outcome.Tagged.{Tagged}
-use Rattle.model.specs.Transactions.{Transaction}
+use Rattle.model.specs.Transactions.{StampedTransaction}
 use Rattle.model.specs.Records.{Record}
 use Rattle.model.specs.Metadata.{is_locked, metadata}
 use Rattle.model.specs.Journal.{VerdictSource, journal_row, journal}
@@ -15,7 +15,7 @@ use Rattle.model.specs.World.{IsTaggedBy, finished_after}
 abbrev pub OutcomesStandAtTheirNumbers : Type 0
 OutcomesStandAtTheirNumbers =
     (config : Config) (verdict_by : VerdictSource) (journal_before : List JournalRow)
-    (rec : Record) (number : ℕ) (transaction : Transaction)
+    (rec : Record) (number : ℕ) (transaction : StampedTransaction)
     → slice_get rec.batch number ≡ Some transaction
     → slice_get (outcomes_after config verdict_by journal_before rec) number
     ≡ Some (outcome config verdict_by (is_locked (metadata journal_before)) rec number transaction)
@@ -24,7 +24,7 @@ OutcomesStandAtTheirNumbers =
 abbrev pub OutcomesAfterRecords : Type 0
 OutcomesAfterRecords =
     (config : Config) (verdict_by : VerdictSource) (before : List Record) (rec : Record)
-    (number : ℕ) (transaction : Transaction)
+    (number : ℕ) (transaction : StampedTransaction)
     → slice_get rec.batch number ≡ Some transaction
     → slice_get (outcomes config verdict_by before rec) number
     ≡ Some (outcome config verdict_by (is_locked (metadata (journal config verdict_by before))) rec
@@ -33,7 +33,7 @@ OutcomesAfterRecords =
 -- the lock refuses exactly the transactions that are not lock aware, while the database is locked
 abbrev pub TheLockRefusesThePlain : Type 0
 TheLockRefusesThePlain =
-    (locked : Bool) (transaction : Transaction)
+    (locked : Bool) (transaction : StampedTransaction)
     → IsTrue (is_refused locked transaction)
     ↔ (IsTrue locked × IsFalse transaction.lock_aware)
 

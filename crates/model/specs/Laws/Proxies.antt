@@ -7,11 +7,11 @@ use Rattle.model.specs.declared.outcome.Finished.{Finished}
 use Rattle.model.specs.Records.{Record, IsHistory, records_of_proxy, last_moves}
 use Rattle.model.specs.Shares.{each_below}
 use Rattle.model.specs.Journal.{VerdictSource, history_verdicts, journal_row, journal, is_after}
-use Rattle.model.specs.World.{World, Finish, Completed, IsSound, reply_of, finished_after}
+use Rattle.model.specs.World.{World, Finish, FinishedBatch, IsSound, reply_of, finished_after}
 use Rattle.model.specs.World.{finished_batch, missing_replies, handle_event, up_to_version}
 use Rattle.model.specs.World.{finished_version, proxy_journal, Event}
 use Rattle.model.specs.Finishing.{Replies, reply_from, replied_verdicts, AgreeOnRows, AreRepliesBy}
-use Rattle.model.specs.Finishing.{told_rows, disagreements, ProxyView, HasFinished, HoldsMoves}
+use Rattle.model.specs.Finishing.{rows_by_replies, disagreements, ProxyView, HasFinished, HoldsMoves}
 use Rattle.model.specs.Finishing.{MayBegin}
 
 -- the replies of at least one resolver agree on at most one list of rows
@@ -37,7 +37,7 @@ RepliesAgreeOnTheRowsTheyTell =
     (config : Config) (version : ℕ) (rec : Record) (replies : Replies)
     → 1 ≤ config.resolvers
     → disagreements config version rec replies ≡ []
-    → AgreeOnRows config version rec replies (told_rows config.resolvers replies)
+    → AgreeOnRows config version rec replies (rows_by_replies config.resolvers replies)
 
 -- the rows that the proxy of a record has not seen, after the records before it
 abbrev pub unseen_rows : Config → VerdictSource → List Record → Record → List JournalRow
@@ -157,7 +157,7 @@ WorldsFinishByReplies =
         finished = slice_set world.finished proxy (suc (slice_index world.finished proxy));
       };
       answer =
-          Completed (finished_after config (replied_verdicts config rec replies)
+          FinishedBatch (finished_after config (replied_verdicts config rec replies)
           (proxy_journal config world proxy ++ rows) rec);
     }
 

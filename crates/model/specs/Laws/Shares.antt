@@ -5,7 +5,7 @@ use Rattle.system_keys.specs.Keys.{Key}
 use Rattle.model.specs.Configs.{Config}
 use Rattle.model.specs.declared.part.Part.{Part}
 use Rattle.model.specs.declared.verdict.Verdict.TheVariants.{Conflict}
-use Rattle.model.specs.Transactions.{Transaction}
+use Rattle.model.specs.Transactions.{StampedTransaction}
 use Rattle.model.specs.Records.{Record}
 use Rattle.model.specs.Shares.{share, part_of, asks}
 use Rattle.model.specs.Verdicts.{JudgedPart, verdict, verdict_against, with_committed}
@@ -24,7 +24,7 @@ abbrev pub PartsAreOfAskers : Type 0
 PartsAreOfAskers =
     (config : Config) (rec : Record) (resolver place : ℕ) (part : Part)
     → slice_get (share config rec resolver) place ≡ Some part
-    → (transaction : Transaction) × (slice_get rec.batch part.number ≡ Some transaction)
+    → (transaction : StampedTransaction) × (slice_get rec.batch part.number ≡ Some transaction)
     × IsTrue (asks config rec resolver transaction)
     × (part ≡ part_of config rec resolver part.number transaction)
 

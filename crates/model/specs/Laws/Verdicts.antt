@@ -54,7 +54,7 @@ LaterRecordsKeepVerdicts =
     → history_verdicts config (history ++ later) resolver row number
     ≡ history_verdicts config history resolver row number
 
--- the journal of a longer history begins with that of the shorter one
+-- the journal of a longer history begins with the journal of the shorter one
 abbrev pub LaterRecordsKeepTheJournal : Type 0
 LaterRecordsKeepTheJournal =
     (config : Config) (history later : List Record) → IsHistory config history
@@ -62,7 +62,7 @@ LaterRecordsKeepTheJournal =
     ≡ journal config (history_verdicts config history) history
     ++ journal config (history_verdicts config (history ++ later)) later
 
--- the metadata of a longer history is that of the shorter one after the later rows
+-- the metadata of a longer history is the metadata of the shorter one after the later rows
 abbrev pub LaterRecordsContinueTheMetadata : Type 0
 LaterRecordsContinueTheMetadata =
     (config : Config) (history later : List Record) → IsHistory config history

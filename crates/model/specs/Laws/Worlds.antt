@@ -9,12 +9,12 @@ use Rattle.model.specs.Records.{Record, IsHistory, last_version}
 use Rattle.model.specs.Shares.{each_below}
 use Rattle.model.specs.Journal.{history_verdicts, reply_row}
 use Rattle.model.specs.Serial.{IsSerial}
-use Rattle.model.specs.World.{World, Event, Finish, Judged, Again, Completed, IsSound}
+use Rattle.model.specs.World.{World, Event, Finish, Judged, Again, FinishedBatch, IsSound}
 use Rattle.model.specs.World.{initial_world, reply_of, finished_batch, missing_replies}
 use Rattle.model.specs.World.{handle_event, answers, world_after, finished_version, Sequence}
 use Rattle.model.specs.World.{MoveRange, Offer, Sequenced, Refused, Refusal, OutOfTurn}
 use Rattle.model.specs.World.{MissingReply, next_record, remembered_by}
-use Rattle.model.specs.Stamps.{Given}
+use Rattle.model.specs.Stamps.{AdmittedTransaction}
 use Rattle.model.specs.Requests.{Request, request}
 use Rattle.model.specs.Offers.{answer_to, kept_replies, reply_at, sent_request, judged_requests}
 use Rattle.model.specs.Offers.{world_answer}
@@ -64,21 +64,21 @@ WorldsContinue =
     → world_after config world (events ++ later)
     ≡ world_after config (world_after config world events) later
 
--- a finished batch is that of its row of the history
+-- a finished batch belongs to its row of the history
 abbrev pub IsFinishedIn : Config → List Record → Finished → Type 0
 IsFinishedIn config history finished =
     (rec : Record) × (slice_get history finished.row ≡ Some rec)
     × (finished ≡ finished_batch config (history_verdicts config history)
     (take finished.row history) rec)
 
--- each finished batch of a run is that of its row of the final history
+-- each finished batch of a run belongs to its row of the final history
 abbrev pub CompletedBatchesAreOfTheHistory : Type 0
 CompletedBatchesAreOfTheHistory =
     (config : Config) (events : List Event) (finished : Finished)
-    → Contains (answers config (initial_world config) events) (Completed finished)
+    → Contains (answers config (initial_world config) events) (FinishedBatch finished)
     → IsFinishedIn config (final_history config events) finished
 
--- a reply is that of its row of the history
+-- a reply belongs to its row of the history
 abbrev pub IsReplyIn : Config → List Record → Reply → Type 0
 IsReplyIn config history reply =
     (rec : Record) × (slice_get history reply.row ≡ Some rec)
@@ -119,16 +119,16 @@ NewPartsAreInStep =
 -- a move changes no part
 abbrev pub AMoveKeepsThePartsInStep : Type 0
 AMoveKeepsThePartsInStep =
-    (config : Config) (w : World) (range : Range) (destination : ℕ) (resolvers : List ResolverView)
+    (config : Config) (w : World) (range : Range) (dest : ℕ) (resolvers : List ResolverView)
     (proxies : List ProxyView) (requests : List (List Request))
     → AreInStep config w resolvers proxies requests
-    → AreInStep config (handle_event config w (MoveRange range destination)).world resolvers
+    → AreInStep config (handle_event config w (MoveRange range dest)).world resolvers
     proxies requests
 
 -- the batch is not refused
 abbrev pub TheBatchGetsItsRecord : Type 0
 TheBatchGetsItsRecord =
-    (config : Config) (w : World) (p : ℕ) (batch : List Given)
+    (config : Config) (w : World) (p : ℕ) (batch : List AdmittedTransaction)
     → p < config.proxies → last_version w.history + config.step < version_limit
     → handle_event config w (Sequence p batch)
     ≡ record {
@@ -152,7 +152,7 @@ pub record MaySequence
 abbrev pub TheNextRecordMayBegin : Type 0
 TheNextRecordMayBegin =
     (config : Config) (w : World) (p : ℕ) (v : ProxyView) (resolvers : List ResolverView)
-    (proxies : List ProxyView) (requests : List (List Request)) (batch : List Given)
+    (proxies : List ProxyView) (requests : List (List Request)) (batch : List AdmittedTransaction)
     → MaySequence config w p v resolvers proxies requests
     → MayBegin v (next_record config w p batch)
 
@@ -160,7 +160,7 @@ TheNextRecordMayBegin =
 abbrev pub ABegunRecordKeepsThePartsInStep : Type 0
 ABegunRecordKeepsThePartsInStep =
     (config : Config) (w : World) (p : ℕ) (v new : ProxyView) (resolvers : List ResolverView)
-    (proxies : List ProxyView) (requests : List (List Request)) (batch : List Given)
+    (proxies : List ProxyView) (requests : List (List Request)) (batch : List AdmittedTransaction)
     → MaySequence config w p v resolvers proxies requests
     → HasBegun v new (next_record config w p batch)
     → AreInStep config (handle_event config w (Sequence p batch)).world resolvers
@@ -269,7 +269,7 @@ AnAwaitedRecordMayBeFinished =
     → IsAwaited config w p rec rest v resolvers proxies requests
     → missing_replies w rec.row (each_below config.resolvers) ≡ []
     → (finished : Finished)
-    × ((handle_event config w (Finish p)).answer ≡ Completed finished)
+    × ((handle_event config w (Finish p)).answer ≡ FinishedBatch finished)
 
 -- the replies are those of the world's resolvers to the awaited record
 pub record AreOfTheWorld
@@ -302,7 +302,7 @@ AProxyFinishesAsTheWorld =
     → handle_event config w (Finish p)
     ≡ record {
       world = record w { finished = slice_set w.finished p (suc (slice_index w.finished p)) };
-      answer = Completed finished;
+      answer = FinishedBatch finished;
     }
 
 -- and is the new one of the world

@@ -59,7 +59,7 @@ pub fn growing_law()
 
 /// A column of verdict cells with a cell for each row grows, with one record more, by the verdicts
 /// of its resolver on that record's share. It is a column of the first records too.
-pub fn column_law()
+pub fn column_growth_law()
     ensures more { VerdictColumnsGrow }
     ensures first { VerdictColumnsOfFirstRecords }
 {}

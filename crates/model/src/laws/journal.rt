@@ -11,7 +11,7 @@ ghost use Rattle.model.specs.Laws.Journal.{ReplyRowsAreOfTheJournal, JournalRows
 ghost use Rattle.model.specs.Laws.Journal.{ReplyRowsDetermineTheJournalRow};
 ghost use Rattle.model.specs.Laws.Journal.{UnseenRowsAreOfTheJournal};
 
-/// The journal of more records begins with that of the first ones, by the same source of verdicts.
+/// The journal of more records begins with the journal of the first ones, by one source of verdicts.
 pub fn journal_law()
     ensures longer { JournalsContinue }
     ensures next { JournalsGrowByARow }

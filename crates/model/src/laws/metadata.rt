@@ -21,7 +21,7 @@ ghost use Rattle.model.specs.Laws.PrivateCopies.{ServerTagsGoToTheirServer};
 ghost use Rattle.model.specs.Laws.PrivateCopies.{OtherSetsHaveNoCopy, ClearsHaveNoCopy};
 
 /// The entries of every metadata are in strict order of their keys, which are all kept ones. The
-/// metadata of a longer journal continues from that of its first rows. Each change, and so each row
+/// metadata of a longer journal continues from what its first rows give. Each change, and so each row
 /// of a journal, keeps the order, and adds kept keys alone.
 pub fn fold_law()
     ensures order { MetadataIsInOrder }
@@ -54,7 +54,7 @@ pub fn lock_law()
 /// The entry of a key is the keyServers entry that serves it: it is at or before the key, and no
 /// other such entry is above it. This holds for all entries in order, and so for every metadata. If
 /// no entry serves the key, no keyServers entry is at or before it.
-pub fn route_law()
+pub fn serving_entry_law()
     ensures order { KeyServersAreInOrder }
     ensures kept { KeyServersHaveThePrefix }
     ensures serves { ServingEntryServes }

@@ -30,7 +30,7 @@ pub fn replies_agree_law()
 
 /// If the replies to a record are those that the resolvers give by a source of verdicts, they agree
 /// on the rows of the journal that the proxy has not seen. A proxy that goes by the replies alone
-/// then finishes the record as the source has it, and its journal stays that of the source.
+/// then finishes the record as the source has it, and its journal stays the source's journal.
 pub fn finish_law()
     ensures agree { TrueRepliesAgree }
     ensures finished { TrueRepliesFinishTheRecord }

@@ -101,7 +101,7 @@ pub fn resolver_answer_law()
 
 /// A new resolver stands for no requests, and one that judges a request stands for one more. It keeps
 /// as many rows as requests are remembered, and rows and replies in the order of their versions.
-pub fn resolver_memory_law()
+pub fn resolver_stands_law()
     ensures made { NewMemoryStandsForNoRequests }
     ensures judged { JudgingAddsARequest }
     ensures count { RowsAreOfTheRemembered }

@@ -41,7 +41,7 @@ pub fn missing_law()
 {}
 
 /// Later records change no earlier verdict, outcome, reply or finished batch. The journal of a
-/// longer history begins with that of the shorter one, and its metadata continues from there.
+/// longer history begins with the shorter one's, and its metadata continues from there.
 pub fn prefix_law()
     ensures verdicts { LaterRecordsKeepVerdicts }
     ensures journal { LaterRecordsKeepTheJournal }

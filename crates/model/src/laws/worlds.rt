@@ -34,7 +34,7 @@ pub fn events_law()
     ensures world { WorldsContinue }
 {}
 
-/// Each finished batch, each reply and each repeated reply of a run is that of its row of the final
+/// Each finished batch, each reply and each repeated reply of a run belongs to its row of the final
 /// history, whatever came later.
 pub fn answers_law()
     ensures completed { CompletedBatchesAreOfTheHistory }

@@ -13,14 +13,14 @@ use std::test::Fail;
 use std::thread::{Threads, join};
 use std::time::Clock;
 use system_keys::OutOfMemory;
-use testing::{Given, NOTHING, room};
-use testing_cluster::{Cluster, begun, blank, finished, pause};
+use testing::{TransactionLine, EMPTY_TRANSACTION, room};
+use testing_cluster::{Cluster, begin_batch, blank, finish_record, pause};
 use workers::ProxyInboxes;
 
 /// A batch that writes one key.
-const WRITE: &[Given<'static>] = &[Given {
+const WRITE: &[TransactionLine<'static>] = &[TransactionLine {
     writes: &[(b"k", b"l")],
-    ..NOTHING
+    ..EMPTY_TRANSACTION
 }];
 
 /// What a test compares of replies: the version of the last one, how many there are, and how many
@@ -64,8 +64,8 @@ pub(crate) fn ask_together<
     M: Channels + Send + Sync,
     R: Abort + Clock + Threads + Wait + Sync,
 >(rt: &R, alloc: Global, cluster: &Cluster<'_, N>, side: &ProxyInboxes<N, M>) -> Result<(), Fail> {
-    let earlier = begun(rt, alloc, cluster, 0, WRITE)?;
-    let later = begun(rt, alloc, cluster, 0, WRITE)?;
+    let earlier = begin_batch(rt, alloc, cluster, 0, WRITE)?;
+    let later = begin_batch(rt, alloc, cluster, 0, WRITE)?;
     let told = join(
         rt,
         || ask(rt, alloc, side, later.requests()),
@@ -105,8 +105,8 @@ pub(crate) fn close_meanwhile<
     M: Channels + Send + Sync,
     R: Abort + Clock + Threads + Wait + Sync,
 >(rt: &R, alloc: Global, cluster: &Cluster<'_, N>, side: &ProxyInboxes<N, M>) -> Result<(), Fail> {
-    let _earlier = begun(rt, alloc, cluster, 0, WRITE)?;
-    let later = begun(rt, alloc, cluster, 0, WRITE)?;
+    let _earlier = begin_batch(rt, alloc, cluster, 0, WRITE)?;
+    let later = begin_batch(rt, alloc, cluster, 0, WRITE)?;
     let (told, ()) = join(
         rt,
         || ask(rt, alloc, side, later.requests()),
@@ -153,9 +153,9 @@ fn finish_first<N: Naming, M: Channels, R: Wait>(
     cluster: &Cluster<'_, N>,
     side: &ProxyInboxes<N, M>,
 ) -> Result<(Vec<Request<N>>, u64), Fail> {
-    let begun = begun(rt, alloc, cluster, 0, WRITE)?;
+    let begun = begin_batch(rt, alloc, cluster, 0, WRITE)?;
     let requests = copies(alloc, &begun)?;
-    let noted = finished(rt, side, cluster.proxy(0)?, begun)?;
+    let noted = finish_record(rt, side, cluster.proxy(0)?, begun)?;
     Ok((requests, noted.value().version))
 }
 
@@ -168,7 +168,7 @@ pub(crate) fn ask_again_later<N: Naming, M: Channels, R: Abort + Wait>(
 ) -> Result<(), Fail> {
     let (stale, version) = finish_first(rt, alloc, cluster, side)?;
     assert!(rt; version == 10);
-    let next = begun(rt, alloc, cluster, 0, WRITE)?;
+    let next = begin_batch(rt, alloc, cluster, 0, WRITE)?;
     assert!(rt; ask(rt, alloc, side, next.requests()) == Ok((20, 2, 1)));
     let given_up = Refusal::GivenUp { acknowledged: 10 };
     assert!(rt; ask(rt, alloc, side, stale.as_slice()) == Err(given_up));

@@ -16,7 +16,7 @@ use std::thread::{Threads, join};
 use std::time::Clock;
 use testing::room;
 use testing_cluster::Cluster;
-use workers::{AskedRequest, Gate, ProxyInboxes, ResolverWorker};
+use workers::{PendingRequest, Gate, ProxyInboxes, ResolverWorker};
 
 /// A worker for each resolver, with a gate, and what is left of workers.
 #[derive(Drop)]
@@ -26,9 +26,9 @@ struct Run<'a, 'l, N: Naming, M: Channels, G: Gate + Drop> {
     left: &'a Left<N, M, G>,
 }
 
-impl<'a, 'l, N: Naming, M: Channels, G: Gate + Copy + Drop> Works<FreshEnd<N, AskedRequest<N>, M>>
+impl<'a, 'l, N: Naming, M: Channels, G: Gate + Copy + Drop> Works<FreshEnd<N, PendingRequest<N>, M>>
     for Run<'a, 'l, N, M, G> {
-    fn work<R: Wait>(&self, rt: &R, alloc: Global, end: FreshEnd<N, AskedRequest<N>, M>) {
+    fn work<R: Wait>(&self, rt: &R, alloc: Global, end: FreshEnd<N, PendingRequest<N>, M>) {
         let Some(resolver) = self.cluster.resolvers.as_slice().get(end.resolver()) else {
             return;
         };
@@ -42,7 +42,7 @@ impl<'a, 'l, N: Naming, M: Channels, G: Gate + Copy + Drop> Works<FreshEnd<N, As
 /// The ends of all inboxes: those of the workers, and those of the proxies.
 #[derive(Drop)]
 pub(crate) struct Inboxes<N: Naming, M: Channels> {
-    pub(crate) ends: Vec<FreshEnd<N, AskedRequest<N>, M>>,
+    pub(crate) ends: Vec<FreshEnd<N, PendingRequest<N>, M>>,
     pub(crate) sides: Vec<ProxyInboxes<N, M>>,
 }
 
@@ -98,7 +98,7 @@ fn converse_and_end<
 pub(crate) fn sides<N: Naming, M: Channels>(
     alloc: Global,
     cluster: &Cluster<'_, N>,
-    senders: Vec<ProxySenders<N, AskedRequest<N>, M>>,
+    senders: Vec<ProxySenders<N, PendingRequest<N>, M>>,
 ) -> Result<Vec<ProxyInboxes<N, M>>, Fail> {
     let mut made = room(alloc, senders.len())?;
     for one in senders {

@@ -16,7 +16,7 @@ use std::test::Fail;
 use std::thread::{Threads, join};
 use std::time::Clock;
 use testing_cluster::{Cluster, ends_in_time};
-use workers::AskedRequest;
+use workers::PendingRequest;
 
 /// What the proxies do.
 #[derive(Clone, Copy)]
@@ -100,7 +100,7 @@ fn try_out<
     rt: &R,
     alloc: Global,
     cluster: &Cluster<'_, N>,
-    blank: BlankInboxes<N, AskedRequest<N>>,
+    blank: BlankInboxes<N, PendingRequest<N>>,
     trial: &Trial,
 ) -> Result<(), Fail>
     requires { blank ≡ M.places }

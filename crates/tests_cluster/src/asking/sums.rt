@@ -7,13 +7,13 @@ use std::alloc::Global;
 use std::sync::Mutex;
 use std::test::Fail;
 use testing::room;
-use workers::{AskedRequest, EndedWorker, Gate};
+use workers::{PendingRequest, EndedWorker, Gate};
 
 /// What is left of the threads of a run: the workers and the sending ends.
 #[derive(Drop)]
 pub(crate) struct Left<N: Naming, M: Channels, G: Gate + Drop> {
     pub(crate) workers: Mutex<Vec<EndedWorker<N, M, G>>>,
-    pub(crate) senders: Mutex<Vec<EndedSender<N, AskedRequest<N>, M>>>,
+    pub(crate) senders: Mutex<Vec<EndedSender<N, PendingRequest<N>, M>>>,
 }
 
 impl<N: Naming, M: Channels, G: Gate + Drop> Left<N, M, G> {
@@ -86,7 +86,7 @@ fn count_worker<N: Naming, M: Channels, G: Gate + Drop>(
 fn count_sender<N: Naming, M: Channels, G: Gate + Drop>(
     sum: &mut Sum,
     workers: &mut [EndedWorker<N, M, G>],
-    sender: EndedSender<N, AskedRequest<N>, M>,
+    sender: EndedSender<N, PendingRequest<N>, M>,
     messages: &[u64],
 ) {
     let sent = messages.get(sender.proxy()).copied();
@@ -100,7 +100,7 @@ fn count_sender<N: Naming, M: Channels, G: Gate + Drop>(
 /// Compares the sender with the worker of its resolver, if there is one.
 fn compare<N: Naming, M: Channels, G: Gate + Drop>(
     workers: &mut [EndedWorker<N, M, G>],
-    sender: EndedSender<N, AskedRequest<N>, M>,
+    sender: EndedSender<N, PendingRequest<N>, M>,
 ) -> Option<Counts> {
     let mut sender = sender;
     for worker in workers.iter_mut() {

@@ -15,7 +15,7 @@ use testing::is_memory_refused;
 /// tag.
 pub(crate) type Seen = ((u64, u64), [Option<Outcome>; 2], usize, Option<Tag>);
 
-/// A commit, or the number of its refusal, which is 0 for want of memory.
+/// A commit, or the number of its refusal, which is 0 for `OutOfMemory`.
 pub(crate) type Commit = Result<Seen, u32>;
 
 fn seen(finished: &Finished, shown: u64) -> Seen {

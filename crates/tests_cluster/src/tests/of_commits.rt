@@ -10,28 +10,28 @@ use std::process::Abort;
 use std::sync::Wait;
 use std::test::Fail;
 use system_keys::Tag;
-use testing::{Given, NOTHING, Step, batch, range};
+use testing::{TransactionLine, EMPTY_TRANSACTION, MutationLine, batch, range};
 
 /// A transaction that gives a server its tag and all keys.
-const PLACE: Given<'static> = Given {
+const PLACE: TransactionLine<'static> = TransactionLine {
     mutations: &[
-        Step::Set(b"\xff/serverTag/server0000000001", b"\x00\x00\x01"),
-        Step::Set(b"\xff/keyServers/", b"\x01server0000000001\x00"),
+        MutationLine::Set(b"\xff/serverTag/server0000000001", b"\x00\x00\x01"),
+        MutationLine::Set(b"\xff/keyServers/", b"\x01server0000000001\x00"),
     ],
-    ..NOTHING
+    ..EMPTY_TRANSACTION
 };
 
 /// A transaction that writes from `k` up to `n`.
-const WRITE: Given<'static> = Given {
+const WRITE: TransactionLine<'static> = TransactionLine {
     writes: &[(b"k", b"n")],
-    mutations: &[Step::Set(b"k", b"1")],
-    ..NOTHING
+    mutations: &[MutationLine::Set(b"k", b"1")],
+    ..EMPTY_TRANSACTION
 };
 
 /// A transaction that reads at `m`, before any write.
-const READ: Given<'static> = Given {
+const READ: TransactionLine<'static> = TransactionLine {
     reads: &[(b"m", b"n")],
-    ..NOTHING
+    ..EMPTY_TRANSACTION
 };
 
 const LINES: [Line<'static>; 3] = [(0, &[PLACE, WRITE]), (1, &[WRITE, READ]), (0, &[READ])];
@@ -66,7 +66,7 @@ const WANTED: [Commit; 3] = [
     Ok(((30, 30), [Some(Outcome::Conflict), None], 0, None)),
 ];
 
-/// Moves the keys from `m` on to the last of so many resolvers.
+/// Moves the keys from `m` on to the last resolver.
 fn move_keys<N: Naming, R: AllocGlobal + Wait>(
     rt: &R,
     alloc: Global,
@@ -92,7 +92,7 @@ fn commit_each<N: Naming, R: Abort + AllocGlobal + Wait>(
     Ok(())
 }
 
-/// Moves keys to the last of so many resolvers, and commits the batches.
+/// Moves keys to the last resolver, and commits the batches.
 pub(crate) fn commit_in_order<N: Naming, R: Abort + AllocGlobal + Wait>(
     rt: &R,
     alloc: Global,

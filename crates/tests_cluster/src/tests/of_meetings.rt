@@ -14,24 +14,24 @@ use std::alloc::Global;
 use std::process::Abort;
 use std::sync::Wait;
 use std::test::Fail;
-use testing::{Given, NOTHING, Step as Change};
+use testing::{TransactionLine, EMPTY_TRANSACTION, MutationLine as Change};
 
 /// A transaction that gives a server its tag and all keys.
-const FIRST: Given<'static> = Given {
+const FIRST: TransactionLine<'static> = TransactionLine {
     mutations: &[
         Change::Set(b"\xff/serverTag/server0000000001", b"\x00\x00\x01"),
         Change::Set(b"\xff/keyServers/", b"\x01server0000000001\x00"),
     ],
-    ..NOTHING
+    ..EMPTY_TRANSACTION
 };
 
 /// A transaction that gives another server its tag and the keys from `m` on.
-const SECOND: Given<'static> = Given {
+const SECOND: TransactionLine<'static> = TransactionLine {
     mutations: &[
         Change::Set(b"\xff/serverTag/server0000000002", b"\x00\x00\x02"),
         Change::Set(b"\xff/keyServers/m", b"\x01server0000000002\x00"),
     ],
-    ..NOTHING
+    ..EMPTY_TRANSACTION
 };
 
 const LINES: &[Line<'static>] = &[(0, &[FIRST]), (1, &[SECOND])];

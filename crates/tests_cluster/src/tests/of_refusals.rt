@@ -10,15 +10,15 @@ use std::alloc::Global;
 use std::process::Abort;
 use std::sync::Wait;
 use std::test::Fail;
-use testing::{Given, NOTHING};
-use workers::{AskedRequest, Open, ProxyInboxes, ResolverWorker};
+use testing::{TransactionLine, EMPTY_TRANSACTION};
+use workers::{PendingRequest, Open, ProxyInboxes, ResolverWorker};
 
 /// A batch of proxy 0, which writes one key.
 pub(crate) const ONE: &[Line<'static>] = &[(
     0,
-    &[Given {
+    &[TransactionLine {
         writes: &[(b"a", b"b")],
-        ..NOTHING
+        ..EMPTY_TRANSACTION
     }],
 )];
 
@@ -29,7 +29,7 @@ pub(crate) const BEGIN_ONE: &[Step] = &[(0, 0, None)];
 fn misplaced<N: Naming, M: Channels>(
     alloc: Global,
     cluster: &Cluster<'_, N>,
-    end: Option<FreshEnd<N, AskedRequest<N>, M>>,
+    end: Option<FreshEnd<N, PendingRequest<N>, M>>,
 ) -> Option<Refusal> {
     let resolver = cluster.resolvers().first()?;
     match ResolverWorker::new(alloc, resolver, end?, Open) {

@@ -11,18 +11,18 @@ use std::alloc::Global;
 use std::process::Abort;
 use std::sync::Wait;
 use std::test::Fail;
-use testing::{Given, NOTHING};
+use testing::{TransactionLine, EMPTY_TRANSACTION};
 
 /// A batch that writes at `k`.
-const WRITE: &[Given<'static>] = &[Given {
+const WRITE: &[TransactionLine<'static>] = &[TransactionLine {
     writes: &[(b"k", b"l")],
-    ..NOTHING
+    ..EMPTY_TRANSACTION
 }];
 
 /// A batch that reads at `k`, before the write of another.
-const READ: &[Given<'static>] = &[Given {
+const READ: &[TransactionLine<'static>] = &[TransactionLine {
     reads: &[(b"k", b"l")],
-    ..NOTHING
+    ..EMPTY_TRANSACTION
 }];
 
 /// The first record writes where the second reads.

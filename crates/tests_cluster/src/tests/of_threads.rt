@@ -18,7 +18,7 @@ use std::test::Fail;
 use std::thread::{Threads, join};
 use system_keys::{Items, Tag};
 use testing::{
-    NOTHING, Step, batch, batch_of, bytes, given_range, mutation, one, room, transaction,
+    EMPTY_TRANSACTION, MutationLine, batch, batch_of, bytes, given_range, mutation, one, room, transaction,
 };
 
 // ---- closing
@@ -83,7 +83,7 @@ fn threads_that_wait_are_told_of_a_closed_resolver(rt: HostRuntime) -> Result<()
 const TAG: Tag = Tag { locality: 0, id: 1 };
 
 /// The server has this tag.
-const TAGGED: Step<'static> = Step::Set(b"\xff/serverTag/server0000000001", b"\x00\x00\x01");
+const TAGGED: MutationLine<'static> = MutationLine::Set(b"\xff/serverTag/server0000000001", b"\x00\x00\x01");
 
 /// The value that gives keys to the server.
 const SERVER: &[u8] = b"\x01server0000000001\x00";
@@ -113,7 +113,7 @@ pub(crate) fn own_batch(alloc: Global, number: usize) -> Result<Batch, Fail> {
     if number == 0 {
         mutations.push(mutation(alloc, TAGGED)?)?;
     }
-    let mut given = transaction(alloc, NOTHING)?;
+    let mut given = transaction(alloc, EMPTY_TRANSACTION)?;
     given.writes = one(alloc, given_range(alloc, &row, &end)?)?;
     given.mutations = Items::from(mutations);
     let mut transactions = room(alloc, 1)?;
@@ -223,7 +223,7 @@ fn close_each<N: Naming, R: Abort + AllocGlobal + Wait>(
     Ok(())
 }
 
-/// So many proxies have the routing of the 27 rows at the version of the first closing, and all the same
+/// This number of proxies have the routing of the 27 rows at the version of the first closing, and all the same
 /// one.
 fn are_routed<N: Naming, R: Abort + AllocGlobal + Wait>(
     rt: &R,

@@ -16,7 +16,7 @@ use std::sync::Wait;
 use std::test::Fail;
 use std::thread::Threads;
 use system_keys::OutOfMemory;
-use workers::{AskedRequest, Gate, Open, ProxyInboxes, ResolverWorker};
+use workers::{PendingRequest, Gate, Open, ProxyInboxes, ResolverWorker};
 
 /// A worker for each resolver, with a gate, and proxies that follow a plan. Each proxy asks the
 /// requests twice, if there are any.
@@ -31,14 +31,14 @@ struct Planned<'a, 'l, N: Naming, M: Channels, G: Gate + Drop> {
 }
 
 impl<'a, 'l, N: Naming, M: Channels, G: Gate + Copy + Drop> Parts<
-    FreshEnd<N, AskedRequest<N>, M>,
+    FreshEnd<N, PendingRequest<N>, M>,
     ProxyInboxes<N, M>,
 > for Planned<'a, 'l, N, M, G> {
     fn work<R: AllocGlobal + Wait>(
         &self,
         rt: &R,
         alloc: Global,
-        end: FreshEnd<N, AskedRequest<N>, M>,
+        end: FreshEnd<N, PendingRequest<N>, M>,
     ) {
         let Some(resolver) = self.cluster.resolvers().get(end.resolver()) else {
             return;
@@ -136,7 +136,7 @@ fn are_alike(one: &Reply, other: &Reply) -> bool {
         && one.verdicts.as_slice() == other.verdicts.as_slice()
 }
 
-/// The own batches of three proxies, so many of each.
+/// The own batches of three proxies, the given number of each.
 fn own_batches(alloc: Global, of_each: usize) -> Result<Vec<Batch>, Fail> {
     let mut batches = Vec::new(alloc);
     for number in 0..of_each.saturating_mul(3) {

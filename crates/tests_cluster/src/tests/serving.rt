@@ -126,7 +126,7 @@ fn commit<N: Naming, M: Channels, R: AllocGlobal + Wait>(
     }
 }
 
-/// The number of the refusal, 0 for want of memory.
+/// The number of the refusal, 0 for `OutOfMemory`.
 fn number<N: Naming>(fault: &CommitFault<N>) -> u32 {
     let number = match fault {
         CommitFault::Sequencing { refusal, .. } => refusal.number(),

@@ -11,10 +11,10 @@ use model::Config;
 use std::alloc::Global;
 use std::sync::Wait;
 use std::test::Fail;
-use testing::{Given, batch, room, twice};
-use workers::{AskedRequest, ProxyInboxes};
+use testing::{TransactionLine, batch, room, twice};
+use workers::{PendingRequest, ProxyInboxes};
 
-/// A ledger of so many rows, for so many proxies and resolvers.
+/// A ledger of `rows` rows for the given proxies and resolvers.
 pub(crate) fn blank(
     alloc: Global,
     rows: usize,
@@ -108,7 +108,7 @@ fn resolvers<'l, N: Naming>(
 /// proxies.
 #[derive(Drop)]
 pub(crate) struct Inboxes<N: Naming, M: Channels> {
-    pub(crate) ends: Vec<FreshEnd<N, AskedRequest<N>, M>>,
+    pub(crate) ends: Vec<FreshEnd<N, PendingRequest<N>, M>>,
     pub(crate) sides: Vec<ProxyInboxes<N, M>>,
 }
 
@@ -117,7 +117,7 @@ impl<N: Naming, M: Channels> Inboxes<N, M> {
     pub(crate) fn new(
         alloc: Global,
         ledger: &Ledger<N>,
-        blank: BlankInboxes<N, AskedRequest<N>>,
+        blank: BlankInboxes<N, PendingRequest<N>>,
     ) -> Result<Inboxes<N, M>, Fail>
         requires { blank ≡ M.places }
     {
@@ -134,7 +134,7 @@ impl<N: Naming, M: Channels> Inboxes<N, M> {
 fn sides<N: Naming, M: Channels>(
     alloc: Global,
     ledger: &Ledger<N>,
-    senders: Vec<ProxySenders<N, AskedRequest<N>, M>>,
+    senders: Vec<ProxySenders<N, PendingRequest<N>, M>>,
 ) -> Result<Vec<ProxyInboxes<N, M>>, Fail> {
     let mut made = room(alloc, senders.len())?;
     for one in senders {
@@ -146,7 +146,7 @@ fn sides<N: Naming, M: Channels>(
 // ---- records
 
 /// The proxy of a record, and its batch.
-pub(crate) type Line<'a> = (usize, &'a [Given<'a>]);
+pub(crate) type Line<'a> = (usize, &'a [TransactionLine<'a>]);
 
 /// The ticket of a batch.
 fn ticket<N: Naming, R: AllocGlobal + Wait>(

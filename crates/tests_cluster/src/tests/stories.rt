@@ -21,12 +21,12 @@ use std::process::Abort;
 use std::sync::Wait;
 use std::test::Fail;
 use std::thread::Threads;
-use workers::AskedRequest;
+use workers::PendingRequest;
 
 /// What a test does with a new cluster.
 #[derive(Drop)]
 pub(crate) enum Story {
-    /// Batches are committed in order over so many resolvers.
+    /// Batches are committed in order over this number of resolvers.
     InOrder(usize),
     /// Two proxies meet.
     Meetings,
@@ -125,7 +125,7 @@ fn tell_with<
     rt: &R,
     alloc: Global,
     cluster: &Cluster<'_, N>,
-    blank: BlankInboxes<N, AskedRequest<N>>,
+    blank: BlankInboxes<N, PendingRequest<N>>,
     story: &InboxStory,
 ) -> Result<(), Fail>
     requires { blank ≡ M.places }

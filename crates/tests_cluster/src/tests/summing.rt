@@ -7,7 +7,7 @@ use std::alloc::Global;
 use std::sync::Mutex;
 use std::test::Fail;
 use testing::room;
-use workers::{AskedRequest, EndedWorker, Gate};
+use workers::{PendingRequest, EndedWorker, Gate};
 
 /// What each proxy does before it ends, and what it is to come to.
 #[derive(Clone, Copy)]
@@ -25,14 +25,14 @@ pub(crate) struct Plan {
 }
 
 /// What a call of a proxy came to: the version of a commit, or how many replies came twice. Otherwise
-/// the number of the refusal, 0 for want of memory.
+/// the number of the refusal, 0 for `OutOfMemory`.
 pub(crate) type Called = Result<u64, u32>;
 
 /// What is left of the threads of a run: the workers, the sending ends, and what the calls came to.
 #[derive(Drop)]
 pub(crate) struct Left<N: Naming, M: Channels, G: Gate + Drop> {
     pub(crate) workers: Mutex<Vec<EndedWorker<N, M, G>>>,
-    pub(crate) senders: Mutex<Vec<EndedSender<N, AskedRequest<N>, M>>>,
+    pub(crate) senders: Mutex<Vec<EndedSender<N, PendingRequest<N>, M>>>,
     pub(crate) calls: Mutex<Vec<Called>>,
 }
 
@@ -133,7 +133,7 @@ fn count_workers<N: Naming, M: Channels, G: Gate + Drop>(
 fn count_senders<N: Naming, M: Channels, G: Gate + Drop>(
     sum: &mut Summary,
     workers: &mut [EndedWorker<N, M, G>],
-    senders: Vec<EndedSender<N, AskedRequest<N>, M>>,
+    senders: Vec<EndedSender<N, PendingRequest<N>, M>>,
     plan: &Plan,
 ) {
     for sender in senders {
@@ -157,7 +157,7 @@ impl Plan {
 /// Compares the sender with the worker of its resolver, if there is one.
 fn compare<N: Naming, M: Channels, G: Gate + Drop>(
     workers: &mut [EndedWorker<N, M, G>],
-    sender: EndedSender<N, AskedRequest<N>, M>,
+    sender: EndedSender<N, PendingRequest<N>, M>,
 ) -> Option<Counts> {
     let mut sender = sender;
     for worker in workers.iter_mut() {

@@ -4,7 +4,7 @@
 
 use super::devices::{Faltering, Halting};
 use super::{are, assert_copied, is_range};
-use fold_run::{FoldScript, read_script, run_fold, stream_script};
+use fold_run::{FoldScript, read_fold, run_fold, stream_fold};
 use model::{StateTxn, Verdict};
 use scripts::{Reader, RunStatus, ScriptFault, Sink, Source, Writer};
 use std::alloc::{AllocError, Global};
@@ -12,7 +12,7 @@ use std::io::ErrorKind;
 use std::process::Abort;
 use std::test::Fail;
 use system_keys::{Change, OutOfMemory};
-use testing::{Step, bytes, is_memory_refused, journal_row, list, one, repeated, twice};
+use testing::{MutationLine, bytes, is_memory_refused, journal_row, list, one, repeat_byte, twice};
 
 /// 37 bytes.
 const SCRIPT: &[u8] = br#"{"resolvers":1,"rows":[],"ask":["a"]}"#;
@@ -239,7 +239,7 @@ const SPACES: &[(usize, usize, u64, u64, RunStatus)] = &[
 #[test]
 fn reads_ask_for_4_096_bytes_up_to_a_limit_on_reads(rt: HostRuntime) -> Result<(), Fail> {
     for (count, most, reads, writes, status) in SPACES {
-        let script = repeated(rt.alloc(), b' ', *count)?;
+        let script = repeat_byte(rt.alloc(), b' ', *count)?;
         let trial = Trial {
             script: &script,
             text: NOT_JSON,
@@ -260,8 +260,8 @@ fn reads_ask_for_4_096_bytes_up_to_a_limit_on_reads(rt: HostRuntime) -> Result<(
 
 /// Reads the script by its tokens, at the second try if an allocation failed at the first.
 fn is_streamed(alloc: Global, script: &[u8]) -> bool {
-    stream_script(alloc, script).is_some()
-        || is_memory_refused(alloc) && stream_script(alloc, script).is_some()
+    stream_fold(alloc, script).is_some()
+        || is_memory_refused(alloc) && stream_fold(alloc, script).is_some()
 }
 
 /// Right scripts, with their fields in any order and each form of a field.
@@ -298,7 +298,7 @@ fn right_scripts_are_streamed(rt: HostRuntime) {
 #[test]
 fn a_script_with_a_long_key_is_streamed(rt: HostRuntime) -> Result<(), Fail> {
     let mut script = list(rt.alloc(), br#"{"resolvers":1,"rows":[],"ask":[""#)?;
-    let key = repeated(rt.alloc(), b'a', 100_000)?;
+    let key = repeat_byte(rt.alloc(), b'a', 100_000)?;
     script.extend_from_slice(&key)?;
     script.extend_from_slice(br#""]}"#)?;
     assert!(rt; is_streamed(rt.alloc(), &script));
@@ -313,7 +313,7 @@ const READ_AS_A_TREE: &[u8] = br#"{"resolvers":2,"resolvers":1,"ask":["a","m","z
 fn a_script_is_read_as_a_tree_where_a_field_stands_twice(rt: HostRuntime) -> Result<(), Fail> {
     let script = twice!(
         rt.alloc();
-        read_script(rt.alloc(), READ_AS_A_TREE),
+        read_fold(rt.alloc(), READ_AS_A_TREE),
         ScriptFault::OutOfMemory
     )?;
     assert!(rt; script.rows.as_slice().len() == 2 && script.ask.as_slice().len() == 3);
@@ -322,7 +322,7 @@ fn a_script_is_read_as_a_tree_where_a_field_stands_twice(rt: HostRuntime) -> Res
 
 /// A script of one row with one state transaction, and of one key.
 fn fold_script(alloc: Global) -> Result<FoldScript, Fail> {
-    let steps = &[Step::Set(b"a", b"1"), Step::Clear(b"m", b"t")];
+    let steps = &[MutationLine::Set(b"a", b"1"), MutationLine::Clear(b"m", b"t")];
     let row = journal_row(
         alloc,
         10,
@@ -390,7 +390,7 @@ const THREE_ROWS: &[u8] = br#"{"resolvers":3,"ask":["a","n"],"rows":[
 fn a_fold_script_of_three_rows_is_copied(rt: HostRuntime) -> Result<(), Fail> {
     let script = twice!(
         rt.alloc();
-        read_script(rt.alloc(), THREE_ROWS),
+        read_fold(rt.alloc(), THREE_ROWS),
         ScriptFault::OutOfMemory
     )?;
     assert_copied(&rt, &script, FoldScript::copy);
@@ -436,7 +436,7 @@ fn a_long_fold_script_is_read(rt: HostRuntime) -> Result<(), Fail> {
     let text = long_script(rt.alloc(), END)?;
     let script = twice!(
         rt.alloc();
-        read_script(rt.alloc(), text.as_bytes()),
+        read_fold(rt.alloc(), text.as_bytes()),
         ScriptFault::OutOfMemory
     )?;
     assert!(rt; count_states(&script) == STATES + 1);
@@ -444,7 +444,7 @@ fn a_long_fold_script_is_read(rt: HostRuntime) -> Result<(), Fail> {
 }
 
 fn fault_at_once(alloc: Global, script: &str) -> Option<ScriptFault> {
-    read_script(alloc, script.as_bytes()).err()
+    read_fold(alloc, script.as_bytes()).err()
 }
 
 #[test]

@@ -8,7 +8,7 @@ use model::{
 use std::test::Fail;
 use system_keys::Tag;
 use testing::{
-    Content, ReplyLine, Step, bytes, carried, change, journal_row, one, part, range, reply,
+    Content, ReplyLine, MutationLine, bytes, content_of_line, change, journal_row, one, part, range, reply,
 };
 
 const TAG: Tag = Tag {
@@ -17,11 +17,11 @@ const TAG: Tag = Tag {
 };
 
 /// A Set and a Clear, lock aware.
-const CONTENT: Content<'static> = (&[Step::Set(b"a", b"1"), Step::Clear(b"m", b"t")], true);
+const CONTENT: Content<'static> = (&[MutationLine::Set(b"a", b"1"), MutationLine::Clear(b"m", b"t")], true);
 
 #[test]
 fn contents_and_their_marks_are_copied(rt: HostRuntime) -> Result<(), Fail> {
-    let carried = carried(rt.alloc(), CONTENT)?;
+    let carried = content_of_line(rt.alloc(), CONTENT)?;
     assert_copied(&rt, &carried, Carried::copy);
     let mark = StateMark {
         number: 1,
@@ -111,7 +111,7 @@ fn finished_batches_are_copied(rt: HostRuntime) -> Result<(), Fail> {
     let tagged = Tagged {
         number: 1,
         place: 2,
-        change: change(rt.alloc(), Step::Set(b"a", b"1"))?,
+        change: change(rt.alloc(), MutationLine::Set(b"a", b"1"))?,
         tags,
         private: Some(private),
     };

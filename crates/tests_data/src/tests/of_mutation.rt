@@ -8,7 +8,7 @@ use mutation::{
 use std::alloc::Global;
 use std::test::Fail;
 use system_keys::{Change, KeyRange};
-use testing::{Given, NOTHING, Step, admitted, batch, repeated, room, transaction, transaction_of};
+use testing::{TransactionLine, EMPTY_TRANSACTION, MutationLine, admit_line, batch, repeat_byte, room, transaction, transaction_of};
 
 /// A value that waits for its stamp at the offset 2.
 const AT_TWO: &[u8] = b"ab0123456789\x02\x00\x00\x00";
@@ -17,14 +17,14 @@ const AT_TWO: &[u8] = b"ab0123456789\x02\x00\x00\x00";
 const AT_TWO_STAMPED: &[u8] = b"ab\x00\x00\x00\x00\x00\x00\x01\x02\x00\x03";
 
 /// A lock aware transaction with one read, one write and a mutation of each kind.
-const ONE_EACH: Given<'static> = Given {
+const ONE_EACH: TransactionLine<'static> = TransactionLine {
     snapshot: 7,
     reads: &[(b"a", b"b")],
     writes: &[(b"c", b"\xff\xff")],
     mutations: &[
-        Step::Set(b"k", b"v"),
-        Step::Clear(b"", b"m"),
-        Step::SetStamped(b"n", AT_TWO),
+        MutationLine::Set(b"k", b"v"),
+        MutationLine::Clear(b"", b"m"),
+        MutationLine::SetStamped(b"n", AT_TWO),
     ],
     lock_aware: true,
 };
@@ -73,7 +73,7 @@ fn is_one_each(admitted: &Admitted) -> bool {
 
 #[test]
 fn an_admitted_transaction_is_as_it_was_given(rt: HostRuntime) -> Result<(), Fail> {
-    let admitted = admitted(rt.alloc(), ONE_EACH)?;
+    let admitted = admit_line(rt.alloc(), ONE_EACH)?;
     assert!(rt; is_one_each(&admitted));
     assert_copied(&rt, &admitted, Admitted::copy);
     for mutation in admitted.mutations() {
@@ -94,47 +94,47 @@ fn an_owned_transaction_is_admitted_as_a_lent_one(rt: HostRuntime) -> Result<(),
 const AT_THREE: &[u8] = b"ab0123456789\x03\x00\x00\x00";
 
 /// The metadata version, ten bytes and the offset 1.
-const VERSION_AT_ONE: Step<'static> = Step::SetStamped(
+const VERSION_AT_ONE: MutationLine<'static> = MutationLine::SetStamped(
     b"\xff/metadataVersion",
     b"\x00\x00\x00\x00\x00\x00\x00\x00\x00\x00\x01\x00\x00\x00",
 );
 
 /// Transactions, and the first fault of each: reads come before writes, and these before mutations.
-const FAULTY: &[(Given<'static>, Refusal)] = &[
+const FAULTY: &[(TransactionLine<'static>, Refusal)] = &[
     (
-        Given {
+        TransactionLine {
             reads: &[(b"b", b"a")],
-            mutations: &[Step::Set(b"\xff\xff", b"v")],
-            ..NOTHING
+            mutations: &[MutationLine::Set(b"\xff\xff", b"v")],
+            ..EMPTY_TRANSACTION
         },
         Refusal::Key(system_keys::Refusal::EmptyRange),
     ),
     (
-        Given {
+        TransactionLine {
             writes: &[(b"b", b"b")],
-            mutations: &[Step::SetStamped(b"n", b"v")],
+            mutations: &[MutationLine::SetStamped(b"n", b"v")],
             ..ONE_EACH
         },
         Refusal::Key(system_keys::Refusal::EmptyRange),
     ),
     (
-        Given {
+        TransactionLine {
             mutations: &[VERSION_AT_ONE],
-            ..NOTHING
+            ..EMPTY_TRANSACTION
         },
         Refusal::BadStamp,
     ),
     (
-        Given {
-            mutations: &[Step::SetStamped(b"k", AT_THREE)],
-            ..NOTHING
+        TransactionLine {
+            mutations: &[MutationLine::SetStamped(b"k", AT_THREE)],
+            ..EMPTY_TRANSACTION
         },
         Refusal::BadStamp,
     ),
     (
-        Given {
-            mutations: &[Step::SetStamped(b"\xff/serverTag/server0000000001", b"\x00\x00\x01")],
-            ..NOTHING
+        TransactionLine {
+            mutations: &[MutationLine::SetStamped(b"\xff/serverTag/server0000000001", b"\x00\x00\x01")],
+            ..EMPTY_TRANSACTION
         },
         Refusal::Key(system_keys::Refusal::BadRow),
     ),
@@ -150,11 +150,11 @@ fn the_first_fault_of_a_transaction_is_told(rt: HostRuntime) -> Result<(), Fail>
     Ok(())
 }
 
-/// So many transactions with nothing in them.
+/// `count` transactions with nothing in them.
 fn many(alloc: Global, count: usize) -> Result<Vec<Admitted>, Fail> {
     let mut transactions = room(alloc, count)?;
     for _ in 0..count {
-        transactions.push(admitted(alloc, NOTHING)?)?;
+        transactions.push(admit_line(alloc, EMPTY_TRANSACTION)?)?;
     }
     Ok(transactions)
 }
@@ -174,11 +174,11 @@ fn a_batch_has_at_most_1024_transactions_and_more_come_back(rt: HostRuntime) -> 
 
 #[test]
 fn a_key_has_at_most_10000_bytes(rt: HostRuntime) -> Result<(), Fail> {
-    let key = repeated(rt.alloc(), b'k', 10_000)?;
-    let fits = transaction_of(rt.alloc(), Step::Set(key.as_slice(), b"v"))?;
+    let key = repeat_byte(rt.alloc(), b'k', 10_000)?;
+    let fits = transaction_of(rt.alloc(), MutationLine::Set(key.as_slice(), b"v"))?;
     assert!(rt; admit(rt.alloc(), &fits)?.mutations().len() == 1);
-    let key = repeated(rt.alloc(), b'k', 10_001)?;
-    let long = transaction_of(rt.alloc(), Step::Set(key.as_slice(), b"v"))?;
+    let key = repeat_byte(rt.alloc(), b'k', 10_001)?;
+    let long = transaction_of(rt.alloc(), MutationLine::Set(key.as_slice(), b"v"))?;
     let refused = Refusal::Key(system_keys::Refusal::KeyTooLong);
     assert!(rt; matches!(admit(rt.alloc(), &long), Err(refusal) if refusal == refused));
     Ok(())
@@ -199,18 +199,18 @@ const ROW_VALUES: &[&[u8]] = &[
 ];
 
 /// Mutations of that row with values of neither form, and one that waits for its stamp.
-const BAD_ROWS: &[Step<'static>] = &[
-    Step::Set(ROW, b"\x00"),
-    Step::Set(ROW, b"\x00\x00\x01"),
-    Step::Set(ROW, b"\x00\x00\x02\x00\x00\x02\x00\x00\x01\x00"),
-    Step::Set(ROW, b"\x00\x00\x00\x00\x00"),
-    Step::SetStamped(ROW, LISTING),
+const BAD_ROWS: &[MutationLine<'static>] = &[
+    MutationLine::Set(ROW, b"\x00"),
+    MutationLine::Set(ROW, b"\x00\x00\x01"),
+    MutationLine::Set(ROW, b"\x00\x00\x02\x00\x00\x02\x00\x00\x01\x00"),
+    MutationLine::Set(ROW, b"\x00\x00\x00\x00\x00"),
+    MutationLine::SetStamped(ROW, LISTING),
 ];
 
 #[test]
 fn a_row_of_either_form_is_admitted(rt: HostRuntime) -> Result<(), Fail> {
     for value in ROW_VALUES {
-        let given = transaction_of(rt.alloc(), Step::Set(ROW, *value))?;
+        let given = transaction_of(rt.alloc(), MutationLine::Set(ROW, *value))?;
         assert!(rt; admit(rt.alloc(), &given)?.mutations().len() == 1);
         assert!(rt; admit_owned(rt.alloc(), given)?.mutations().len() == 1);
     }
@@ -251,7 +251,7 @@ fn are_changes(changes: &[Change]) -> bool {
 
 /// That transaction.
 fn stamped(alloc: Global) -> Result<Stamped, Fail> {
-    let admitted = admitted(alloc, ONE_EACH)?;
+    let admitted = admit_line(alloc, ONE_EACH)?;
     Ok(admitted.stamped(alloc, 258, 3)?)
 }
 
@@ -267,7 +267,7 @@ fn a_stamp_takes_ten_bytes_and_every_other_field_stays(rt: HostRuntime) -> Resul
 
 #[test]
 fn an_own_transaction_is_stamped_alike(rt: HostRuntime) -> Result<(), Fail> {
-    let admitted = admitted(rt.alloc(), ONE_EACH)?;
+    let admitted = admit_line(rt.alloc(), ONE_EACH)?;
     let stamped = admitted.into_stamped(rt.alloc(), 258, 3)?;
     assert!(rt; stamped.snapshot() == 7 && stamped.lock_aware());
     assert!(rt; are_ranges(stamped.reads(), stamped.writes()));
@@ -289,7 +289,7 @@ fn given_transactions_are_copied(rt: HostRuntime) -> Result<(), Fail> {
 
 #[test]
 fn batches_are_copied(rt: HostRuntime) -> Result<(), Fail> {
-    let batch = batch(rt.alloc(), &[NOTHING, NOTHING, ONE_EACH])?;
+    let batch = batch(rt.alloc(), &[EMPTY_TRANSACTION, EMPTY_TRANSACTION, ONE_EACH])?;
     assert!(rt; matches!(batch.transactions(), [_, _, last] if are_mutations(last.mutations())));
     assert_copied(&rt, &batch, Batch::copy);
     Ok(())
@@ -297,7 +297,7 @@ fn batches_are_copied(rt: HostRuntime) -> Result<(), Fail> {
 
 #[test]
 fn the_transactions_of_a_batch_are_taken(rt: HostRuntime) -> Result<(), Fail> {
-    let batch = batch(rt.alloc(), &[NOTHING, NOTHING, ONE_EACH])?;
+    let batch = batch(rt.alloc(), &[EMPTY_TRANSACTION, EMPTY_TRANSACTION, ONE_EACH])?;
     let taken = batch.into_transactions();
     assert!(rt; matches!(taken.as_slice(), [_, _, last] if is_one_each(last)));
     Ok(())

@@ -7,7 +7,7 @@ use scripts::{RawChange, RunStatus, ScriptFault, read_batch, stream_batch};
 use std::alloc::Global;
 use std::test::Fail;
 use system_keys::OutOfMemory;
-use testing::{Given, NOTHING, Step, are_shown_as, batch, bytes, is_memory_refused, twice};
+use testing::{TransactionLine, EMPTY_TRANSACTION, MutationLine, are_shown_as, batch, bytes, is_memory_refused, twice};
 
 /// Each fault in words; those of a key, a transaction or a batch are shown alone.
 const WORDS: &[(ScriptFault, &str)] = &[
@@ -46,21 +46,21 @@ const TWO_TRANSACTIONS: &[u8] = br#" [ {"snapshot":7,"reads":[["a","b"],["","\\x
 {"lock_aware":false,"mutations":[],"writes":[],"reads":[],"snapshot":9223372036854775807}]"#;
 
 /// These transactions.
-const TWO: &[Given<'static>] = &[
-    Given {
+const TWO: &[TransactionLine<'static>] = &[
+    TransactionLine {
         snapshot: 7,
         reads: &[(b"a", b"b"), (b"", b"\xff\xff")],
         writes: &[(b"c", b"d\x00")],
         mutations: &[
-            Step::Set(b"\xff/dbLocked", b"v"),
-            Step::Clear(b"e", b"f"),
-            Step::SetStamped(b"g", b"ab0123456789\x02\x00\x00\x00"),
+            MutationLine::Set(b"\xff/dbLocked", b"v"),
+            MutationLine::Clear(b"e", b"f"),
+            MutationLine::SetStamped(b"g", b"ab0123456789\x02\x00\x00\x00"),
         ],
         lock_aware: true,
     },
-    Given {
+    TransactionLine {
         snapshot: 9_223_372_036_854_775_807,
-        ..NOTHING
+        ..EMPTY_TRANSACTION
     },
 ];
 
@@ -106,7 +106,7 @@ fn every_field_of_a_batch_is_read_by_its_tokens(rt: HostRuntime) -> Result<(), F
 
 #[test]
 fn a_batch_is_read_as_a_tree_where_a_field_stands_twice(rt: HostRuntime) -> Result<(), Fail> {
-    let expected = batch(rt.alloc(), &[NOTHING])?;
+    let expected = batch(rt.alloc(), &[EMPTY_TRANSACTION])?;
     let read = twice!(
         rt.alloc();
         read_batch(rt.alloc(), SNAPSHOT_TWICE),

@@ -9,7 +9,7 @@ use system_keys::{
     decode_tag, encode_key_servers, encode_tag, encode_tag_teams, is_state, print_bytes,
     read_bytes,
 };
-use testing::{Step, bytes, change, list, range, room, twice};
+use testing::{MutationLine, bytes, change, list, range, room, twice};
 
 /// `server0000000001`.
 const SERVER_1: [u8; 16] = [
@@ -102,14 +102,14 @@ fn a_set_is_made_and_copied(rt: HostRuntime) -> Result<(), Fail> {
 }
 
 /// Changes, and whether they change the state.
-const CHANGES: &[(Step<'_>, bool)] = &[
-    (Step::Set(b"\xff", b"1"), true),
-    (Step::Set(b"\xff\x02a", b"1"), false),
-    (Step::Set(b"\xfe", b"1"), false),
-    (Step::Clear(b"a", b"\xff"), false),
-    (Step::Clear(b"a", b"\xff\x02"), true),
-    (Step::Clear(b"\xff\x02a", b"\xff\x03"), false),
-    (Step::Clear(b"\xff\x02", b"\xff\x04"), true),
+const CHANGES: &[(MutationLine<'_>, bool)] = &[
+    (MutationLine::Set(b"\xff", b"1"), true),
+    (MutationLine::Set(b"\xff\x02a", b"1"), false),
+    (MutationLine::Set(b"\xfe", b"1"), false),
+    (MutationLine::Clear(b"a", b"\xff"), false),
+    (MutationLine::Clear(b"a", b"\xff\x02"), true),
+    (MutationLine::Clear(b"\xff\x02a", b"\xff\x03"), false),
+    (MutationLine::Clear(b"\xff\x02", b"\xff\x04"), true),
 ];
 
 #[test]

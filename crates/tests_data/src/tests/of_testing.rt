@@ -5,7 +5,7 @@ use std::test::Fail;
 use system_keys::{Bytes, OutOfMemory};
 use testing::{is_memory_refused, twice};
 
-/// Fails for want of memory, and counts its calls.
+/// Fails with `AllocError`, and counts its calls.
 fn fail(calls: &mut u8) -> Result<(), OutOfMemory> {
     *calls = calls.saturating_add(1);
     Err(OutOfMemory)

@@ -8,7 +8,7 @@ use proxy_state::{JournalRow, Metadata, Verdict};
 use std::process::Abort;
 use std::test::Fail;
 use system_keys::{Change, OutOfMemory, Tag};
-use testing::{Joined, Step, change, journal_row, twice, twice_on};
+use testing::{StateLine, MutationLine, change, journal_row, twice, twice_on};
 
 const ROW_OF_B: &[u8] = b"\xff/keyServers/b";
 
@@ -112,7 +112,7 @@ fn apply<R: Abort + AllocGlobal, A: Applied>(
 fn apply_step<R: Abort + AllocGlobal>(
     rt: &R,
     metadata: &mut Metadata,
-    step: Step<'_>,
+    step: MutationLine<'_>,
 ) -> Result<(), Fail> {
     let change = change(rt.alloc(), step)?;
     apply(rt, metadata, &change)?;
@@ -123,7 +123,7 @@ fn apply_step<R: Abort + AllocGlobal>(
 fn apply_all<R: Abort + AllocGlobal>(
     rt: &R,
     metadata: &mut Metadata,
-    steps: &[Step<'_>],
+    steps: &[MutationLine<'_>],
 ) -> Result<(), Fail> {
     for step in steps {
         apply_step(rt, metadata, *step)?;
@@ -134,14 +134,14 @@ fn apply_all<R: Abort + AllocGlobal>(
 // ---- single changes
 
 /// Steps, and then the entries and the kept tags.
-type Stage = (&'static [Step<'static>], Entries, Cached);
+type Stage = (&'static [MutationLine<'static>], Entries, Cached);
 
 /// A row of one server, and one from which a range moves to a second.
-const TWO_SERVERS: &[Step<'static>] = &[
-    Step::Set(ROW_OF_ALL, SERVER_1),
-    Step::Set(TAG_ROW_1, b"\x00\x00\x01"),
-    Step::Set(ROW_OF_B, SERVERS_1_TO_2),
-    Step::Set(TAG_ROW_2, b"\x00\x00\x00"),
+const TWO_SERVERS: &[MutationLine<'static>] = &[
+    MutationLine::Set(ROW_OF_ALL, SERVER_1),
+    MutationLine::Set(TAG_ROW_1, b"\x00\x00\x01"),
+    MutationLine::Set(ROW_OF_B, SERVERS_1_TO_2),
+    MutationLine::Set(TAG_ROW_2, b"\x00\x00\x00"),
 ];
 
 const OF_TWO_SERVERS: Entries = &[(ROW_OF_B, Some(SERVERS_1_TO_2)), (VERSION, None)];
@@ -153,30 +153,30 @@ const STAGES: &[Stage] = &[
     // of a user's key, a key of the configuration and the version of the metadata one is kept
     (
         &[
-            Step::Set(b"a", b"1"),
-            Step::Set(b"\xff/conf/x", b"2"),
-            Step::Set(VERSION, b"v"),
+            MutationLine::Set(b"a", b"1"),
+            MutationLine::Set(b"\xff/conf/x", b"2"),
+            MutationLine::Set(VERSION, b"v"),
         ],
         &[(b"a", None), (b"\xff/conf/x", None), (VERSION, Some(b"v"))],
         &[Some(&[TAG_1]), Some(&[TAG_0, TAG_1]), None],
     ),
-    (&[Step::Set(VERSION, b"w")], &[(VERSION, Some(b"w"))], &[]),
+    (&[MutationLine::Set(VERSION, b"w")], &[(VERSION, Some(b"w"))], &[]),
     // a changed tag changes at each place that names its server
     (
-        &[Step::Set(TAG_ROW_1, b"\x00\x00\x02")],
+        &[MutationLine::Set(TAG_ROW_1, b"\x00\x00\x02")],
         &[],
         &[Some(&[TAG_2]), Some(&[TAG_0, TAG_2]), None],
     ),
     (
-        &[Step::Clear(ROW_OF_ALL, ROW_OF_B)],
+        &[MutationLine::Clear(ROW_OF_ALL, ROW_OF_B)],
         &[(ROW_OF_ALL, None), (ROW_OF_B, Some(SERVERS_1_TO_2))],
         &[Some(&[TAG_0, TAG_2]), None],
     ),
     // a value that does not decode names no server
     (
         &[
-            Step::Set(ROW_OF_ALL, SERVER_1),
-            Step::Set(ROW_OF_B, b"\x01server"),
+            MutationLine::Set(ROW_OF_ALL, SERVER_1),
+            MutationLine::Set(ROW_OF_B, b"\x01server"),
         ],
         &[(ROW_OF_B, Some(b"\x01server"))],
         &[Some(&[TAG_2]), Some(&[]), None],
@@ -184,16 +184,16 @@ const STAGES: &[Stage] = &[
     // a row that lists tags has them, whatever tag a server gets
     (
         &[
-            Step::Set(ROW_OF_B, LISTING),
-            Step::Set(TAG_ROW_1, b"\x00\x00\x01"),
+            MutationLine::Set(ROW_OF_B, LISTING),
+            MutationLine::Set(TAG_ROW_1, b"\x00\x00\x01"),
         ],
         &[(ROW_OF_B, Some(LISTING))],
         &[Some(&[TAG_1]), Some(&[TAG_0, TAG_2]), None],
     ),
     (
         &[
-            Step::Set(ROW_OF_B, SERVER_2),
-            Step::Clear(b"\xff/serverTag/", b"\xff/serverTag0"),
+            MutationLine::Set(ROW_OF_B, SERVER_2),
+            MutationLine::Clear(b"\xff/serverTag/", b"\xff/serverTag0"),
         ],
         &[
             (TAG_ROW_1, None),
@@ -203,7 +203,7 @@ const STAGES: &[Stage] = &[
         &[Some(&[]), Some(&[]), None],
     ),
     (
-        &[Step::Clear(b"", b"\xff\xff")],
+        &[MutationLine::Clear(b"", b"\xff\xff")],
         &[(ROW_OF_ALL, None), (ROW_OF_B, None), (VERSION, None)],
         &[None],
     ),
@@ -246,10 +246,10 @@ fn entries_and_kept_tags_follow_each_change(rt: HostRuntime) -> Result<(), Fail>
 // ---- tags
 
 /// A server with all keys, and at `b` a value that does not decode.
-const UNDECODED_AT_B: &[Step<'static>] = &[
-    Step::Set(TAG_ROW_1, b"\x00\x00\x01"),
-    Step::Set(ROW_OF_ALL, SERVER_1),
-    Step::Set(ROW_OF_B, b"\x01server"),
+const UNDECODED_AT_B: &[MutationLine<'static>] = &[
+    MutationLine::Set(TAG_ROW_1, b"\x00\x00\x01"),
+    MutationLine::Set(ROW_OF_ALL, SERVER_1),
+    MutationLine::Set(ROW_OF_B, b"\x01server"),
 ];
 
 /// Whether the key has these tags, by one call.
@@ -267,7 +267,7 @@ fn has_tags(metadata: &Metadata, change: &Change, wanted: &[Tag]) -> Result<bool
 /// `b` has no tags, and a Clear over its row has those of the row before it alone.
 fn has_no_tags_at_b<R: Abort + AllocGlobal>(rt: &R, metadata: &Metadata) -> Result<(), Fail> {
     assert!(rt; twice!(rt.alloc(); has_tags_at(metadata, b"b", &[]), OutOfMemory)?);
-    let change = change(rt.alloc(), Step::Clear(b"a", b"c"))?;
+    let change = change(rt.alloc(), MutationLine::Clear(b"a", b"c"))?;
     assert!(rt; twice!(rt.alloc(); has_tags(metadata, &change, &[TAG_1]), OutOfMemory)?);
     Ok(())
 }
@@ -312,12 +312,12 @@ fn has_copy(metadata: &Metadata, change: &Change, set: SetWithCopy) -> Result<bo
 }
 
 fn gives_copies<R: Abort + AllocGlobal>(rt: &R, metadata: &mut Metadata) -> Result<(), Fail> {
-    apply_step(rt, metadata, Step::Set(TAG_ROW_1, b"\x00\x00\x01"))?;
+    apply_step(rt, metadata, MutationLine::Set(TAG_ROW_1, b"\x00\x00\x01"))?;
     for set in SETS {
-        let change = change(rt.alloc(), Step::Set(set.0, set.1))?;
+        let change = change(rt.alloc(), MutationLine::Set(set.0, set.1))?;
         assert!(rt; twice!(rt.alloc(); has_copy(metadata, &change, *set), OutOfMemory)?);
     }
-    let cleared = change(rt.alloc(), Step::Clear(TAG_ROW_1, TAG_ROW_2))?;
+    let cleared = change(rt.alloc(), MutationLine::Clear(TAG_ROW_1, TAG_ROW_2))?;
     assert!(rt; twice!(rt.alloc(); metadata.private_of(&cleared), OutOfMemory)?.is_none());
     Ok(())
 }
@@ -333,17 +333,17 @@ fn sets_that_concern_a_server_have_a_private_copy(rt: HostRuntime) -> Result<(),
 const BOTH: &[Verdict] = &[COMMITTED, COMMITTED];
 
 /// Rows in order, each with entries after it.
-const ROWS: &[(&[Joined<'static>], Entries)] = &[
+const ROWS: &[(&[StateLine<'static>], Entries)] = &[
     // what one resolver did not commit is not applied
     (
         &[
             (
                 &[COMMITTED, Verdict::Conflict],
-                (&[Step::Set(LOCK, b"L")], true),
+                (&[MutationLine::Set(LOCK, b"L")], true),
             ),
             (
                 &[Verdict::TooOld, COMMITTED],
-                (&[Step::Set(VERSION, b"v")], true),
+                (&[MutationLine::Set(VERSION, b"v")], true),
             ),
         ],
         &[(LOCK, None), (VERSION, None)],
@@ -354,14 +354,14 @@ const ROWS: &[(&[Joined<'static>], Entries)] = &[
             BOTH,
             (
                 &[
-                    Step::Set(ROW_OF_Q, SERVER_1),
-                    Step::Set(ROW_OF_ALL, SERVER_1),
-                    Step::Clear(ROW_OF_B, b"\xff/keyServers/r"),
-                    Step::Set(ROW_OF_B, SERVER_2),
-                    Step::Set(LOCK, b"L"),
-                    Step::Clear(LOCK, ROW_OF_ALL),
-                    Step::Set(VERSION, b"1"),
-                    Step::Set(VERSION, b"2"),
+                    MutationLine::Set(ROW_OF_Q, SERVER_1),
+                    MutationLine::Set(ROW_OF_ALL, SERVER_1),
+                    MutationLine::Clear(ROW_OF_B, b"\xff/keyServers/r"),
+                    MutationLine::Set(ROW_OF_B, SERVER_2),
+                    MutationLine::Set(LOCK, b"L"),
+                    MutationLine::Clear(LOCK, ROW_OF_ALL),
+                    MutationLine::Set(VERSION, b"1"),
+                    MutationLine::Set(VERSION, b"2"),
                 ],
                 true,
             ),
@@ -377,16 +377,16 @@ const ROWS: &[(&[Joined<'static>], Entries)] = &[
     // a lock, and what is not lock aware after it in its row
     (
         &[
-            (BOTH, (&[Step::Set(LOCK, b"L")], true)),
-            (BOTH, (&[Step::Set(ROW_OF_Q, SERVER_1)], false)),
+            (BOTH, (&[MutationLine::Set(LOCK, b"L")], true)),
+            (BOTH, (&[MutationLine::Set(ROW_OF_Q, SERVER_1)], false)),
         ],
         &[(LOCK, Some(b"L")), (ROW_OF_Q, Some(SERVER_1))],
     ),
     // under a lock what is lock aware alone is applied
     (
         &[
-            (BOTH, (&[Step::Set(VERSION, b"v")], false)),
-            (BOTH, (&[Step::Set(TAG_ROW_1, b"\x00\x00\x01")], true)),
+            (BOTH, (&[MutationLine::Set(VERSION, b"v")], false)),
+            (BOTH, (&[MutationLine::Set(TAG_ROW_1, b"\x00\x00\x01")], true)),
         ],
         &[(VERSION, Some(b"2")), (TAG_ROW_1, Some(b"\x00\x00\x01"))],
     ),
@@ -396,7 +396,7 @@ const ROWS: &[(&[Joined<'static>], Entries)] = &[
 fn apply_states<R: Abort + AllocGlobal>(
     rt: &R,
     metadata: &mut Metadata,
-    states: &[Joined<'_>],
+    states: &[StateLine<'_>],
 ) -> Result<(), Fail> {
     let row = journal_row(rt.alloc(), 10, states)?;
     apply(rt, metadata, &row)?;
@@ -416,25 +416,25 @@ fn pass_rows<R: Abort + AllocGlobal>(rt: &R, metadata: &mut Metadata) -> Result<
 
 /// Rows that give a server all keys, its tag, `m` to it and to another server, and that one's tag; and
 /// the tags that are kept after each.
-const TAGS_AFTER_KEYS: &[(Step<'static>, Cached)] = &[
-    (Step::Set(ROW_OF_ALL, SERVER_1), &[Some(&[]), None]),
+const TAGS_AFTER_KEYS: &[(MutationLine<'static>, Cached)] = &[
+    (MutationLine::Set(ROW_OF_ALL, SERVER_1), &[Some(&[]), None]),
     (
-        Step::Set(TAG_ROW_1, b"\x00\x00\x01"),
+        MutationLine::Set(TAG_ROW_1, b"\x00\x00\x01"),
         &[Some(&[TAG_1]), None],
     ),
     (
-        Step::Set(
+        MutationLine::Set(
             b"\xff/keyServers/m",
             b"\x01server0000000001\x01server0000000002",
         ),
         &[Some(&[TAG_1]), Some(&[TAG_1]), None],
     ),
     (
-        Step::Set(TAG_ROW_2, b"\x00\x00\x00"),
+        MutationLine::Set(TAG_ROW_2, b"\x00\x00\x00"),
         &[Some(&[TAG_1]), Some(&[TAG_0, TAG_1]), None],
     ),
     (
-        Step::Clear(b"\xff/serverTag/", b"\xff/serverTag0"),
+        MutationLine::Clear(b"\xff/serverTag/", b"\xff/serverTag0"),
         &[Some(&[]), Some(&[]), None],
     ),
 ];

@@ -12,7 +12,7 @@ use std::process::Abort;
 use std::test::Fail;
 use system_keys::{Change, Items, OutOfMemory};
 use testing::{
-    Ends, Given, NOTHING, PartLine, Step, batch, list, none, part, plain_batch, range, room, twice,
+    Ends, TransactionLine, EMPTY_TRANSACTION, PartLine, MutationLine, batch, list, none, part, plain_batch, range, room, twice,
 };
 
 // ---- records and requests
@@ -128,7 +128,7 @@ fn parts_to(
     Ok(Items::from(parts))
 }
 
-/// The requests to so many resolvers for transactions that ask these.
+/// The requests to `resolvers` resolvers for transactions that ask these.
 fn requests_to(
     alloc: Global,
     resolvers: usize,
@@ -186,7 +186,7 @@ const FORGETTING: &[(u64, u64, &[&[usize]])] = &[
     (10, 0, WITHOUT_FIRST),
 ];
 
-/// Whether they are the requests to so many resolvers for transactions that ask these.
+/// Whether they are the requests to this number of resolvers for transactions that ask these.
 fn are_requests(
     alloc: Global,
     requests: &Requests,
@@ -286,20 +286,20 @@ fn many_transactions_go_to_the_owners_of_many_moves(rt: HostRuntime) -> Result<(
 /// The row that locks the database, and the least key after it.
 const LOCK_ROW: Ends<'static> = (b"\xff/dbLocked", b"\xff/dbLocked\0");
 
-const LOCK: &[Step<'static>] = &[Step::Set(b"\xff/dbLocked", b"L")];
+const LOCK: &[MutationLine<'static>] = &[MutationLine::Set(b"\xff/dbLocked", b"L")];
 
 /// The requests to two resolvers for a state transaction without ranges, which is lock aware or not,
 /// and then one that sets no system row.
 fn requests_for_lock(alloc: Global, lock_aware: bool) -> Result<Requests, Fail> {
-    let state = Given {
+    let state = TransactionLine {
         snapshot: 5,
         mutations: LOCK,
         lock_aware,
-        ..NOTHING
+        ..EMPTY_TRANSACTION
     };
-    let other = Given {
-        mutations: &[Step::Set(b"a", b"")],
-        ..NOTHING
+    let other = TransactionLine {
+        mutations: &[MutationLine::Set(b"a", b"")],
+        ..EMPTY_TRANSACTION
     };
     let moved = Moved::new(alloc, OwnerMap::new(alloc, 2)?);
     let batch = batch(alloc, &[state, other])?;
@@ -373,9 +373,9 @@ const AT_ZERO: &[u8] = b"0123456789z\x00\x00\x00\x00";
 
 const AT_ZERO_STAMPED: &[u8] = b"\x00\x00\x00\x00\x00\x00\x00\x28\x00\x01z";
 
-const STAMPING: Given<'static> = Given {
-    mutations: &[Step::SetStamped(b"k", AT_ZERO)],
-    ..NOTHING
+const STAMPING: TransactionLine<'static> = TransactionLine {
+    mutations: &[MutationLine::SetStamped(b"k", AT_ZERO)],
+    ..EMPTY_TRANSACTION
 };
 
 /// Whether the second transaction of two sets `k` to the value with its stamp in.
@@ -390,7 +390,7 @@ fn has_stamp(batch: &[Stamped]) -> bool {
 }
 
 fn record_of_stamping(alloc: Global) -> Result<Record, Fail> {
-    let batch = batch(alloc, &[NOTHING, STAMPING])?;
+    let batch = batch(alloc, &[EMPTY_TRANSACTION, STAMPING])?;
     Ok(record(alloc, &Moves::new(alloc), &batch)?)
 }
 
@@ -402,7 +402,7 @@ fn own_record_by_call(alloc: Global, batch: &Batch) -> Result<Record, OutOfMemor
 
 /// That record, which is made again after a failed allocation.
 fn own_record_of_stamping(alloc: Global) -> Result<Record, Fail> {
-    let batch = batch(alloc, &[NOTHING, STAMPING])?;
+    let batch = batch(alloc, &[EMPTY_TRANSACTION, STAMPING])?;
     Ok(twice!(alloc; own_record_by_call(alloc, &batch), OutOfMemory)?)
 }
 

@@ -122,7 +122,7 @@ const NESTED: &[(u64, &[PartLine<'static>], &[Verdict], &[(u64, usize)])] = &[
     (30, READ, COMMITTED, &[(0, 1)]),
 ];
 
-/// After each forgetting there are so many steps.
+/// After each forgetting there is this number of steps.
 fn forgets_to<R: Abort>(rt: &R, history: &mut WriteHistory, forgettings: &[(u64, usize)]) {
     for (oldest, steps) in forgettings {
         history.forget(*oldest);

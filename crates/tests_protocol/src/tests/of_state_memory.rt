@@ -9,7 +9,7 @@ use std::alloc::{AllocError, Global};
 use std::process::Abort;
 use std::test::Fail;
 use system_keys::OutOfMemory;
-use testing::{Content, Ends, PartLine, ReplyLine, Step, Told, ToldRow, reply, room, twice};
+use testing::{Content, Ends, PartLine, ReplyLine, MutationLine, UnseenLine, UnseenRowLine, reply, room, twice};
 
 // ---- requests and what they get
 
@@ -23,9 +23,9 @@ type Body = (&'static [PartLine<'static>], &'static [usize]);
 #[derive(Clone, Copy)]
 enum Gets<'a> {
     /// A new reply with these verdicts and unseen rows.
-    Judged(&'a [Verdict], &'a [ToldRow<'a>]),
+    Judged(&'a [Verdict], &'a [UnseenRowLine<'a>]),
     /// An earlier reply with these verdicts and unseen rows.
-    Again(&'a [Verdict], &'a [ToldRow<'a>]),
+    Again(&'a [Verdict], &'a [UnseenRowLine<'a>]),
     /// A refusal.
     Refused(Refusal),
 }
@@ -43,12 +43,12 @@ const WRITES: Body = (&[(0, &[], KEY_K)], &[0]);
 const READS_AT_9: Body = (&[(9, KEY_K, &[])], &[0]);
 
 /// The content of the state transactions: one Set of a system key.
-const CONTENT: Content<'static> = (&[Step::Set(b"\xff/a", b"x")], true);
+const CONTENT: Content<'static> = (&[MutationLine::Set(b"\xff/a", b"x")], true);
 
 /// A state transaction that is told with its verdict.
-const TOLD: &[Told<'static>] = &[(Verdict::Committed, CONTENT)];
+const TOLD: &[UnseenLine<'static>] = &[(Verdict::Committed, CONTENT)];
 
-const TOLD_CONFLICT: &[Told<'static>] = &[(Verdict::Conflict, CONTENT)];
+const TOLD_CONFLICT: &[UnseenLine<'static>] = &[(Verdict::Conflict, CONTENT)];
 
 const COMMITTED: &[Verdict] = &[Verdict::Committed];
 
@@ -77,7 +77,7 @@ fn reply_to(
     number: usize,
     line: Line,
     verdicts: &[Verdict],
-    unseen: &[ToldRow<'_>],
+    unseen: &[UnseenRowLine<'_>],
 ) -> Result<Reply, Fail> {
     let line = ReplyLine {
         resolver: number,
@@ -321,7 +321,7 @@ impl Copied for Answer {
 
 #[test]
 fn a_copied_answer_tells_the_same(rt: HostRuntime) -> Result<(), Fail> {
-    let unseen: &[ToldRow<'_>] = &[(20, TOLD), (30, &[])];
+    let unseen: &[UnseenRowLine<'_>] = &[(20, TOLD), (30, &[])];
     let reply = reply_to(rt.alloc(), 0, (0, 30, 40, 0), COMMITTED, unseen)?;
     let answer = Answer::Judged(reply);
     assert!(rt; is_copied(rt.alloc(), &answer)?);
@@ -334,7 +334,7 @@ fn a_copied_answer_tells_the_same(rt: HostRuntime) -> Result<(), Fail> {
 const MANY: u64 = 100;
 
 /// The rows of these requests, at the versions 10, 20 and so on.
-fn many_rows(alloc: Global) -> Result<Vec<ToldRow<'static>>, Fail> {
+fn many_rows(alloc: Global) -> Result<Vec<UnseenRowLine<'static>>, Fail> {
     let mut rows = room(alloc, MANY as usize)?;
     for row in 0..MANY {
         rows.push((10 * row + 10, TOLD))?;

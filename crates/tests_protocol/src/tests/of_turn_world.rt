@@ -6,7 +6,7 @@ use std::alloc::Global;
 use std::process::Abort;
 use std::test::Fail;
 use system_keys::OutOfMemory;
-use testing::{Given, NOTHING, is_memory_refused, range, room, twice};
+use testing::{TransactionLine, EMPTY_TRANSACTION, is_memory_refused, range, room, twice};
 use turn_world::{Answer, Config, Event, OfferAnswer, Refusal, Stopped, TurnWorld};
 
 /// One call for a cluster.
@@ -26,7 +26,7 @@ fn cluster(alloc: Global) -> Result<TurnWorld, Fail> {
 #[derive(Clone, Copy)]
 enum Step {
     /// A batch of these transactions goes to the proxy.
-    Sequence(usize, &'static [Given<'static>]),
+    Sequence(usize, &'static [TransactionLine<'static>]),
     /// `[m, t)` moves to the resolver.
     Move(usize),
     /// The row is offered to the resolver.
@@ -53,10 +53,10 @@ fn event_of(alloc: Global, step: Step) -> Result<Event, Fail> {
 }
 
 /// A state transaction that gives server 1 its tag.
-const TAGS: Given<'static> = Given {
+const TAGS: TransactionLine<'static> = TransactionLine {
     snapshot: 10,
-    mutations: &[testing::Step::Set(b"\xff/serverTag/server0000000001", b"\x00\x00\x01")],
-    ..NOTHING
+    mutations: &[testing::MutationLine::Set(b"\xff/serverTag/server0000000001", b"\x00\x00\x01")],
+    ..EMPTY_TRANSACTION
 };
 
 // ---- answers
@@ -275,7 +275,7 @@ fn run_tells<R: Abort + AllocGlobal>(
     Ok(())
 }
 
-/// Both resolvers remember so many versions.
+/// Both resolvers remember this number of versions.
 fn remember<R: Abort>(rt: &R, world: &TurnWorld, count: usize) {
     for number in 0..2usize {
         let remembered = world.resolver(number).map(|resolver| resolver.remembered());

@@ -9,7 +9,7 @@ use std::process::Abort;
 use std::sync::Wait;
 use std::test::Fail;
 use testing::{batch, room};
-use testing_cluster::{Cluster, begun, finished, sequenced};
+use testing_cluster::{Cluster, begin_batch, finish_record, sequence_batch};
 
 // ---- three records
 
@@ -19,7 +19,7 @@ fn finish<N: Naming, R: Wait>(
     cluster: &Cluster<'_, N>,
     begun: Begun<N>,
 ) -> Result<u64, Fail> {
-    let noted = finished(rt, &cluster.asking()?, cluster.proxy(2)?, begun)?;
+    let noted = finish_record(rt, &cluster.asking()?, cluster.proxy(2)?, begun)?;
     Ok(noted.value().version)
 }
 
@@ -31,7 +31,7 @@ pub(crate) fn begin_three<N: Naming, R: Abort + Wait>(
 ) -> Result<(), Fail> {
     let mut three = room(alloc, 3)?;
     for _record in 0..3 {
-        three.push(begun(rt, alloc, cluster, 2, &[])?)?;
+        three.push(begin_batch(rt, alloc, cluster, 2, &[])?)?;
     }
     let mut version = 0_u64;
     for begun in three {
@@ -66,7 +66,7 @@ fn not_begun<N: Naming, R: Wait>(
 
 /// The row that an empty batch of proxy 0 gets.
 fn row<N: Naming, R: Wait>(rt: &R, alloc: Global, cluster: &Cluster<'_, N>) -> Result<usize, Fail> {
-    Ok(sequenced(rt, alloc, cluster, 0, &[])?.row())
+    Ok(sequence_batch(rt, alloc, cluster, 0, &[])?.row())
 }
 
 /// Row 0 is given out by hand, and never begun. The batch that then gets row 1 is not begun, and gets no

@@ -10,7 +10,7 @@ use std::process::Abort;
 use std::sync::Wait;
 use std::test::Fail;
 use system_keys::Tag;
-use testing::{Given, NOTHING, Step, batch, range};
+use testing::{TransactionLine, EMPTY_TRANSACTION, MutationLine, batch, range};
 use testing_cluster::{Cluster, number};
 
 // ---- numbers
@@ -35,25 +35,25 @@ fn are_numbered<N: Naming, R: Wait>(rt: &R, cluster: &Cluster<'_, N>) -> bool {
 // ---- commits
 
 /// A transaction that gives a server its tag and all keys.
-const PLACE: Given<'static> = Given {
+const PLACE: TransactionLine<'static> = TransactionLine {
     mutations: &[
-        Step::Set(b"\xff/serverTag/server0000000001", b"\x00\x00\x01"),
-        Step::Set(b"\xff/keyServers/", b"\x01server0000000001\x00"),
+        MutationLine::Set(b"\xff/serverTag/server0000000001", b"\x00\x00\x01"),
+        MutationLine::Set(b"\xff/keyServers/", b"\x01server0000000001\x00"),
     ],
-    ..NOTHING
+    ..EMPTY_TRANSACTION
 };
 
 /// A transaction that writes from `k` up to `n`.
-const WRITE: Given<'static> = Given {
+const WRITE: TransactionLine<'static> = TransactionLine {
     writes: &[(b"k", b"n")],
-    mutations: &[Step::Set(b"k", b"1")],
-    ..NOTHING
+    mutations: &[MutationLine::Set(b"k", b"1")],
+    ..EMPTY_TRANSACTION
 };
 
 /// A transaction that reads at `m`, before any write.
-const READ: Given<'static> = Given {
+const READ: TransactionLine<'static> = TransactionLine {
     reads: &[(b"m", b"n")],
-    ..NOTHING
+    ..EMPTY_TRANSACTION
 };
 
 /// What a test compares of a commit: its version, the outcome of the last transaction, how many mutations

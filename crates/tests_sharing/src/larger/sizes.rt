@@ -9,7 +9,7 @@ use std::process::Abort;
 use std::sync::Wait;
 use std::test::Fail;
 use testing::range;
-use testing_cluster::{Cluster, begun, commit_empty, finished, sequenced};
+use testing_cluster::{Cluster, begin_batch, commit_empty, finish_record, sequence_batch};
 
 /// How many moves a ledger gets: of these no document names a greatest number.
 const MOVES: u64 = 10_000;
@@ -25,7 +25,7 @@ pub(crate) fn move_often<N: Naming, R: Abort + Wait>(
         let moved = cluster.sequencer.lock(rt).move_range(&range, 0);
         assert!(rt; moved == Ok(1), "move {number}");
     }
-    let ticket = sequenced(rt, alloc, cluster, 0, &[])?;
+    let ticket = sequence_batch(rt, alloc, cluster, 0, &[])?;
     assert!(rt; ticket.row() == 0);
     let guard = cluster.sequencer.lock(rt);
     let moves = match guard.records().get(cluster.ledger, 0) {
@@ -86,14 +86,14 @@ pub(crate) fn repeat_the_last<N: Naming, R: Abort + Wait>(
         let committed = commit_empty(rt, alloc, cluster, &asking, proxy);
         assert!(rt; committed.is_ok(), "row {row}");
     }
-    let last = begun(rt, alloc, cluster, 0, &[])?;
+    let last = begin_batch(rt, alloc, cluster, 0, &[])?;
     let [request] = last.requests() else {
         return Err(Fail::new("there is not one request"));
     };
     let first = version_of_reply(rt, cluster.resolver(0)?, request)?;
     let again = version_of_reply(rt, cluster.resolver(0)?, request)?;
     assert!(rt; first == 40_960 && again == 40_960);
-    let noted = finished(rt, &asking, proxy, last)?;
+    let noted = finish_record(rt, &asking, proxy, last)?;
     assert!(rt; noted.value().version == 40_960);
     Ok(())
 }

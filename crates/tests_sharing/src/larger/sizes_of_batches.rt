@@ -6,7 +6,7 @@ use mutation::{Admitted, Batch, Mutation, admit};
 use std::alloc::Global;
 use std::test::Fail;
 use system_keys::Items;
-use testing::{Given, NOTHING, Step, admitted, batch, batch_of, bytes, room, transaction};
+use testing::{TransactionLine, EMPTY_TRANSACTION, MutationLine, admit_line, batch, batch_of, bytes, room, transaction};
 use turn_world::{Answer, Event, TurnWorld};
 
 /// The only proxy commits the batch over the only resolver, in this row.
@@ -28,22 +28,22 @@ fn cluster(alloc: Global) -> Result<TurnWorld, Fail> {
 /// How many transactions a batch has at most.
 const TRANSACTIONS: usize = 1_024;
 
-const WRITE: Given<'static> = Given {
+const WRITE: TransactionLine<'static> = TransactionLine {
     writes: &[(b"k", b"l")],
-    ..NOTHING
+    ..EMPTY_TRANSACTION
 };
 
-const READ: Given<'static> = Given {
+const READ: TransactionLine<'static> = TransactionLine {
     reads: &[(b"k", b"l")],
-    ..NOTHING
+    ..EMPTY_TRANSACTION
 };
 
 /// A batch of a write and then of reads of the same keys, as many as there may be.
 fn full_batch(alloc: Global) -> Result<Batch, Fail> {
     let mut transactions = room(alloc, TRANSACTIONS)?;
-    transactions.push(admitted(alloc, WRITE)?)?;
+    transactions.push(admit_line(alloc, WRITE)?)?;
     for _ in 1..TRANSACTIONS {
-        transactions.push(admitted(alloc, READ)?)?;
+        transactions.push(admit_line(alloc, READ)?)?;
     }
     batch_of(transactions)
 }
@@ -73,7 +73,7 @@ fn row_key(number: usize) -> [u8; 15] {
     key
 }
 
-/// A transaction that gives a server so many rows.
+/// A transaction that gives a server this number of rows.
 fn many_rows(alloc: Global) -> Result<Admitted, Fail> {
     let mut mutations = room(alloc, MUTATIONS)?;
     for number in 0..MUTATIONS {
@@ -82,16 +82,16 @@ fn many_rows(alloc: Global) -> Result<Admitted, Fail> {
             value: bytes(alloc, b"\x01server0000000001\x00")?,
         })?;
     }
-    let mut given = transaction(alloc, NOTHING)?;
+    let mut given = transaction(alloc, EMPTY_TRANSACTION)?;
     given.mutations = Items::from(mutations);
     Ok(admit(alloc, &given)?)
 }
 
 /// A Clear of all keys of the metadata, by a transaction that has the lock-aware mark.
-const CLEAR: Given<'static> = Given {
-    mutations: &[Step::Clear(b"\xff/keyServers/", b"\xff/keyServers0")],
+const CLEAR: TransactionLine<'static> = TransactionLine {
+    mutations: &[MutationLine::Clear(b"\xff/keyServers/", b"\xff/keyServers0")],
     lock_aware: true,
-    ..NOTHING
+    ..EMPTY_TRANSACTION
 };
 
 /// How many rows the proxy has there.

@@ -35,7 +35,7 @@ pub(crate) fn tell<R: Abort + Wait>(rt: &R, alloc: Global, story: Story) -> Resu
     tell_of_size(rt, alloc, (3, 4, 3), story)
 }
 
-/// Tells the story of a new cluster of so many rows, proxies and resolvers.
+/// Tells the story of a new cluster of these numbers of rows, proxies and resolvers.
 pub(crate) fn tell_of_size<R: Abort + Wait>(
     rt: &R,
     alloc: Global,

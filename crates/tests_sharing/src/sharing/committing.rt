@@ -71,7 +71,7 @@ impl<N: Naming, C: Clock> Asking<N> for InOrder<'_, '_, N, C> {
 
 // ---- commits by three threads
 
-/// What three threads do: each commits so many empty batches by a proxy.
+/// What three threads do: each commits this number of empty batches by a proxy.
 #[derive(Clone, Copy)]
 pub(crate) struct Work {
     /// The proxy of each thread, and how many batches it commits.
@@ -94,7 +94,7 @@ fn bit(version: u64) -> u64 {
     }
 }
 
-/// Commits so many empty batches by the proxy. If one is refused, closes all resolvers.
+/// Commits this number of empty batches by the proxy. If one is refused, closes all resolvers.
 fn commit_all<N: Naming, A: Asking<N>, R: Wait>(
     rt: &R,
     alloc: Global,

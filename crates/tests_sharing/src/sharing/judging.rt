@@ -9,13 +9,13 @@ use std::sync::Wait;
 use std::test::Fail;
 use std::thread::{Threads, join};
 use std::time::Clock;
-use testing::{Given, NOTHING, room};
-use testing_cluster::{Cluster, begun, blank, finished, pause};
+use testing::{TransactionLine, EMPTY_TRANSACTION, room};
+use testing_cluster::{Cluster, begin_batch, blank, finish_record, pause};
 
 /// A batch that writes one key.
-const WRITE: &[Given<'static>] = &[Given {
+const WRITE: &[TransactionLine<'static>] = &[TransactionLine {
     writes: &[(b"k", b"l")],
-    ..NOTHING
+    ..EMPTY_TRANSACTION
 }];
 
 /// A copy of the request for the record to resolver 0.
@@ -26,7 +26,7 @@ fn request<N: Naming>(begun: &Begun<N>) -> Result<Request<N>, Refusal> {
     }
 }
 
-/// The requests to resolver 0 for so many further records, which proxy 0 begins.
+/// The requests to resolver 0 for this number of further records, which proxy 0 begins.
 fn requests<N: Naming, R: Wait>(
     rt: &R,
     alloc: Global,
@@ -35,7 +35,7 @@ fn requests<N: Naming, R: Wait>(
 ) -> Result<Vec<Request<N>>, Fail> {
     let mut made = room(alloc, count)?;
     for _record in 0..count {
-        let begun = begun(rt, alloc, cluster, 0, WRITE)?;
+        let begun = begin_batch(rt, alloc, cluster, 0, WRITE)?;
         made.push(request(&begun)?)?;
     }
     Ok(made)
@@ -141,9 +141,9 @@ fn finish_first<N: Naming, R: Wait>(
     alloc: Global,
     cluster: &Cluster<'_, N>,
 ) -> Result<(Request<N>, u64), Fail> {
-    let begun = begun(rt, alloc, cluster, 0, WRITE)?;
+    let begun = begin_batch(rt, alloc, cluster, 0, WRITE)?;
     let request = request(&begun)?;
-    let noted = finished(rt, &cluster.asking()?, cluster.proxy(0)?, begun)?;
+    let noted = finish_record(rt, &cluster.asking()?, cluster.proxy(0)?, begun)?;
     Ok((request, noted.value().version))
 }
 

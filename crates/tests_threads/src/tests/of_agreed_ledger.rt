@@ -116,7 +116,7 @@ fn shown<N: Naming>(ledger: &Ledger<N>, row: usize, note: &mut RecordNote<N>) ->
     Some(rec.version())
 }
 
-/// The version of the row's record as a note of its own shows it after so many looks, or 0 if it
+/// The version of the row's record as a note of its own shows it after this number of looks, or 0 if it
 /// shows none. `None` if there is no such row, or if one more look shows another record or none.
 fn seen<N: Naming>(ledger: &Ledger<N>, row: usize, looks: usize) -> Option<u64> {
     let mut note = ledger.record_note(row)?;
@@ -310,7 +310,7 @@ fn a_batch_past_the_last_version_is_refused(rt: HostRuntime) -> Result<(), Fail>
     sequence_to_the_end::<Brand, _>(&rt, alloc, blank(alloc, 3, HALF)?)
 }
 
-/// Why there is no ledger of so many rows.
+/// Why there is no ledger of `rows` rows.
 fn refusal_of_rows(alloc: Global, rows: usize, config: Config) -> Option<Refusal> {
     Ledger::new(alloc, rows, config).err()
 }

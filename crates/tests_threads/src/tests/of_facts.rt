@@ -31,7 +31,7 @@ fn set_once(rows: &mut Stretch<u64>, cell: &OnceBox<u64>, value: u64) -> Result<
     if rows.end() >= 1000 {
         return Err((false, value));
     }
-    match rows.set(cell, value) {
+    match rows.set_next(cell, value) {
         Ok(()) => Ok(()),
         Err((why, back)) => Err((is_taken(&why), back)),
     }
@@ -56,7 +56,7 @@ fn copy_once(
     if rows.end() >= 1000 {
         return Err((false, value));
     }
-    match rows.set_and_copy(cell, value) {
+    match rows.set_next_and_copy(cell, value) {
         Ok(copy) => Ok(ends(&copy)),
         Err((why, back)) => Err((is_taken(&why), back)),
     }

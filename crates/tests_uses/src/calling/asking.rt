@@ -9,7 +9,7 @@ use std::process::Abort;
 use std::sync::Wait;
 use std::sync::atomic::{AtomicU64, Ordering};
 use std::test::Fail;
-use testing_cluster::{Cluster, begun, blank};
+use testing_cluster::{Cluster, begin_batch, blank};
 use uses::{ask_each, offer_and_look, offer_twice, resolve_again, resolve_and_look};
 
 /// Asks all resolvers, but fails the first time as if an allocation had failed.
@@ -74,7 +74,7 @@ fn told_by_three<N: Naming>(replies: &[NotedReply<N>]) -> Option<[Told; 3]> {
     }
 }
 
-/// The replies of the first so many resolvers, asked at once.
+/// The replies of the first `count` resolvers, asked at once.
 fn ask<N: Naming, R: Wait>(
     rt: &R,
     alloc: Global,
@@ -144,8 +144,8 @@ pub(crate) fn ask_in_each_way<N: Naming, R: Abort + Wait>(
     alloc: Global,
     cluster: &Cluster<'_, N>,
 ) -> Result<(), Fail> {
-    let first = begun(rt, alloc, cluster, 0, WRITE)?;
-    let second = begun(rt, alloc, cluster, 0, WRITE)?;
+    let first = begin_batch(rt, alloc, cluster, 0, WRITE)?;
+    let second = begin_batch(rt, alloc, cluster, 0, WRITE)?;
     assert!(rt; ask(rt, alloc, cluster, 2, &first) == Err(Refusal::WrongResolver));
     let wanted = [(0, 10, 1), (1, 10, 0), (2, 10, 0)];
     assert!(rt; ask(rt, alloc, cluster, 3, &first) == Ok(Some(wanted)));

@@ -21,7 +21,7 @@ fn two_proxies_of_a_cluster_from_nothing_show_their_metadata(rt: HostRuntime) ->
     Ok(())
 }
 
-/// Why a cluster of so many rows and proxies shows nothing.
+/// Why a cluster of these numbers of rows and proxies shows nothing.
 fn refused<R: Wait>(
     rt: &R,
     alloc: Global,

@@ -10,7 +10,7 @@ use std::sync::Wait;
 use std::test::Fail;
 use system_keys::KeyRange;
 use testing::{batch, range};
-use testing_cluster::{Cluster, blank, sequenced};
+use testing_cluster::{Cluster, blank, sequence_batch};
 use uses::{record_of, sequence_around_move, sequence_two};
 
 /// What a test compares of a record: its row, its proxy, its version, and how many moves and
@@ -60,7 +60,7 @@ fn sequence_by_one<N: Naming, R: Wait>(
 
 /// The record that an empty batch of proxy 0 gets.
 fn next<N: Naming, R: Wait>(rt: &R, alloc: Global, cluster: &Cluster<'_, N>) -> Result<Told, Fail> {
-    let ticket = sequenced(rt, alloc, cluster, 0, &[])?;
+    let ticket = sequence_batch(rt, alloc, cluster, 0, &[])?;
     Ok(told(cluster.ledger, &ticket))
 }
 

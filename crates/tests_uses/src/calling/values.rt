@@ -5,31 +5,31 @@ use locked_cluster::NotedFinished;
 use model::{Finished, Outcome};
 use proxy_state::Metadata;
 use system_keys::Tag;
-use testing::{Given, NOTHING, Step};
+use testing::{TransactionLine, EMPTY_TRANSACTION, MutationLine};
 
 /// A transaction that gives a server its tag and all keys.
-pub(crate) const FIRST: &[Given<'static>] = &[Given {
+pub(crate) const FIRST: &[TransactionLine<'static>] = &[TransactionLine {
     mutations: &[
-        Step::Set(b"\xff/serverTag/server0000000001", b"\x00\x00\x01"),
-        Step::Set(b"\xff/keyServers/", b"\x01server0000000001\x00"),
+        MutationLine::Set(b"\xff/serverTag/server0000000001", b"\x00\x00\x01"),
+        MutationLine::Set(b"\xff/keyServers/", b"\x01server0000000001\x00"),
     ],
-    ..NOTHING
+    ..EMPTY_TRANSACTION
 }];
 
 /// A transaction that gives another server its tag and the keys from `m` on.
-pub(crate) const SECOND: &[Given<'static>] = &[Given {
+pub(crate) const SECOND: &[TransactionLine<'static>] = &[TransactionLine {
     mutations: &[
-        Step::Set(b"\xff/serverTag/server0000000002", b"\x00\x00\x02"),
-        Step::Set(b"\xff/keyServers/m", b"\x01server0000000002\x00"),
+        MutationLine::Set(b"\xff/serverTag/server0000000002", b"\x00\x00\x02"),
+        MutationLine::Set(b"\xff/keyServers/m", b"\x01server0000000002\x00"),
     ],
-    ..NOTHING
+    ..EMPTY_TRANSACTION
 }];
 
 /// A transaction that writes one key.
-pub(crate) const WRITE: &[Given<'static>] = &[Given {
+pub(crate) const WRITE: &[TransactionLine<'static>] = &[TransactionLine {
     writes: &[(b"k", b"l")],
-    mutations: &[Step::Set(b"k", b"1")],
-    ..NOTHING
+    mutations: &[MutationLine::Set(b"k", b"1")],
+    ..EMPTY_TRANSACTION
 }];
 
 /// The tag of the first server.

@@ -1,7 +1,7 @@
 -- One proxy more has an end of the inbox; and when all have one, the inbox is added.
 use Rattle.std.proofs.Common.{◌≡◌, ◌+◌, ◌<◌, ◌++◌, [], ◌∷◌, ℕ, List, length, set, refl, sym, ap, ◌∙◌, subst, arith}
 use Rattle.std.proofs.lemmas.Option.{slice_get_read}
-use Rattle.inboxes.specs.Blanks.{AreRows, BlankInboxView, BlankRow, BlankSenderView}
+use Rattle.inboxes.specs.Blanks.{AreBlankSenders, BlankInboxView, BlankSendersView, BlankSenderView}
 use Rattle.inboxes.specs.Places.{Place}
 use Rattle.inboxes.proofs.Rows.{AreRowsTo, rows_step, rows_end}
 use Rattle.inboxes.proofs.blank_inboxes.add_inbox.Goals as goal
@@ -14,7 +14,7 @@ push-requires g c =
     let within : k < length rows = omega arith in
     let at = slice_get_read rows (length rows) k row refl within c.index_mut.ensures.value in
     ap (λ (s : BlankSenderView). s.proxy) c.in_ok-sender.ensures.0
-    ∙ sym (ap (λ (r : BlankRow). r.proxy) (c.loop-proxy.invariant.rows.1 k row at))
+    ∙ sym (ap (λ (r : BlankSendersView). r.proxy) (c.loop-proxy.invariant.rows.1 k row at))
 
 pub loop-proxy-preserved : goal.loop-proxy-preserved
 loop-proxy-preserved g c =
@@ -46,5 +46,5 @@ returns-clause-rows g c =
     let all : c.loop-proxy.proxy ≡ proxies = omega arith in
     let grown : c.push-2.new.self.items ≡ places ++ place ∷ [] =
     c.in_ok-push-2.ensures.items ∙ ap (λ (p : Place). places ++ p ∷ []) c.into_end.ensures in
-    subst (λ (ps : List Place). AreRows proxies ps rows) (sym grown)
+    subst (λ (ps : List Place). AreBlankSenders proxies ps rows) (sym grown)
     (rows_end proxies places place rows (subst (λ (n : ℕ). AreRowsTo n proxies places place rows) all c.loop-proxy.invariant.rows))

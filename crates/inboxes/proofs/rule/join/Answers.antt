@@ -1,6 +1,6 @@
 -- Joining a pass keeps the rule, and the worker's pass is told what the proxy sent.
 use Rattle.std.proofs.Common.{ap, refl, subst}
-use Rattle.inboxes.specs.declared.tag.View.{View}
+use Rattle.inboxes.specs.declared.views.View.{View}
 use Rattle.inboxes.specs.Delivers.{IsToldMore}
 use Rattle.inboxes.specs.Places.{known}
 use Rattle.inboxes.proofs.Moves.{merges, learns}

@@ -7,9 +7,9 @@ use Rattle.metadata.proofs.tagging.tags_of_key.Goals as goal
 
 pub returns-in-Some : goal.returns-in-Some
 returns-in-Some c =
-    IfOk-weaker c.copied_tags.result _ _
+    IfOk-weaker c.copy_tags.result _ _
     (λ found is. is ∙ tags_known c.args.entries.now c.args.key.now (Some c.in-Some.tags.now) (ap (option_map (λ tags. tags.now)) (sym c.in-Some.is) ∙ c.in_ok-tags.ensures))
-    c.copied_tags.ensures
+    c.copy_tags.ensures
 
 pub returns-in-None : goal.returns-in-None
 returns-in-None c =

@@ -8,8 +8,8 @@ use Rattle.metadata.proofs.tagging.tags_of_range.Goals as goal
 pub returns : goal.returns
 unfolding tags
 returns c =
-    IfOk-weaker c.listed.result _ _
+    IfOk-weaker c.list_tags.result _ _
     (λ list is. is ∙ rising_both (entry_tags c.args.entries.now) (option_to_list (serving_entry (key_servers_entries c.args.entries.now) c.args.range.now.begin)) (filter (is_entry_inside c.args.range.now) (key_servers_entries c.args.entries.now))
     c.new-tags.result.keys c.add_tags_of_key.new.tags.keys c.add_tags_inside.new.tags.keys c.new-tags.ensures.empty
     (rw c.begin.ensures.value at c.in_ok-add_tags_of_key.ensures) c.in_ok-add_tags_inside.ensures)
-    c.listed.ensures
+    c.list_tags.ensures

@@ -41,7 +41,7 @@ returns-clause-read g c =
       line.0,
       (
         subst (λ (a : App). fault_of a words ≡ []) line.1.shape (read.kinds (ap is_simple_and_free line.1.shape)),
-        c.mode_in.ensures ∙ ap mode_given (first_value-rows (found_of c.in_ok-matches.matches) (codes "mode")
+        c.mode_given.ensures ∙ ap mode_given (first_value-rows (found_of c.in_ok-matches.matches) (codes "mode")
             ∙ ap (first_of (codes "mode")) ((read.matches (ap is_simple line.1.shape)).0 ∙ ap (λ (a : App). matches_of a words) line.1.shape)),
       ),
     )
@@ -49,5 +49,5 @@ returns-clause-read g c =
 pub returns-clause-offered : goal.returns-clause-offered
 returns-clause-offered g c =
     let line = c.in_ok-command.ensures in
-    subst (λ (mode : Option Mode). IsSome mode) (sym c.mode_in.ensures)
+    subst (λ (mode : Option Mode). IsSome mode) (sym c.mode_given.ensures)
     (some_mode _ (λ word is. is_name line.0 word (line.1.passes c.in_ok-matches.matches word c.in_ok-matches.ensures.parsed is)))

@@ -14,7 +14,7 @@ loop-place-preserved c =
     let moves = c.args.moves.now in
     let m = c.in-Some.one.now in
     let next : take (place + 1) moves ≡ take place moves ++ m ∷ [] = take_found moves place (place + 1) m (omega arith) c.in-Some.ensures in
-    subst (λ (so_far : List Move). HasGained c.args.owners.now so_far c.made.new.owners) (sym next) (gained_more c.args.owners.now c.loop-place.owners c.made.new.owners (take place moves) m c.loop-place.invariant c.in_ok-made.ensures)
+    subst (λ (so_far : List Move). HasGained c.args.owners.now so_far c.apply_move.new.owners) (sym next) (gained_more c.args.owners.now c.loop-place.owners c.apply_move.new.owners (take place moves) m c.loop-place.invariant c.in_ok-apply_move.ensures)
 
 pub returns : goal.returns
 returns c =

@@ -1,7 +1,7 @@
 -- The changes of one more transaction are put in, and after the last one all are.
 use Rattle.std.proofs.Common.{◌∙◌, ◌+◌, ◌<◌, refl, sym, ap, List, length, drop, arith}
 use Rattle.std.specs.Vec.Iter.{into_iter_items}
-use Rattle.model.specs.Transactions.{Transaction}
+use Rattle.model.specs.Transactions.{StampedTransaction}
 use Rattle.proxy_state.proofs.TakenChanges.{next_changes, room_for, put_run, put_all}
 use Rattle.proxy_state.proofs.outcomes.put_changes.Goals as goal
 
@@ -10,7 +10,7 @@ put_each-first-requires c =
     let outcomes = c.args.outcomes.now in
     let number = c.loop-transaction.number in
     let rest = into_iter_items c.next.new.self in
-    let size = ap (λ (ts : List Transaction). length ts) c.in-Some.ensures.steps.0 in
+    let size = ap (λ (ts : List StampedTransaction). length ts) c.in-Some.ensures.steps.0 in
     let within : number < length outcomes = omega (arith, size, c.loop-transaction.invariant.numbers, c.requires.outcomes) in
     let split = next_changes _ rest c.in-Some.transaction outcomes number (number + 1) _ c.changes_if-changes.result c.in-Some.ensures.steps.0 within c.changes_if-changes.ensures refl in
     (room_for _ _ _ c.loop-transaction.first (length c.loop-transaction.tagged.items) split c.loop-transaction.invariant.room).0
@@ -20,7 +20,7 @@ loop-transaction-preserved c =
     let outcomes = c.args.outcomes.now in
     let number = c.loop-transaction.number in
     let rest = into_iter_items c.next.new.self in
-    let size = ap (λ (ts : List Transaction). length ts) c.in-Some.ensures.steps.0 in
+    let size = ap (λ (ts : List StampedTransaction). length ts) c.in-Some.ensures.steps.0 in
     let within : number < length outcomes = omega (arith, size, c.loop-transaction.invariant.numbers, c.requires.outcomes) in
     let split = next_changes _ rest c.in-Some.transaction outcomes number (number + 1) _ c.changes_if-changes.result c.in-Some.ensures.steps.0 within c.changes_if-changes.ensures refl in
     let fits = room_for _ _ _ c.loop-transaction.first (length c.loop-transaction.tagged.items) split c.loop-transaction.invariant.room in

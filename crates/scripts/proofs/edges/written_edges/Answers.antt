@@ -2,22 +2,22 @@
 use Rattle.std.proofs.Common.{◌≡◌, ◌∙◌, ◌++◌, ℕ, List, [], ap, codes, refl, arith}
 use Rattle.std.specs.Prelude.{Some}
 use Rattle.std.proofs.lemmas.List.{append_cancel_left}
-use Rattle.scripts.specs.Answers.{done}
-use Rattle.scripts.specs.Runs.{BeginsAnswer, WritesAnswer}
+use Rattle.scripts.specs.Outputs.{done}
+use Rattle.scripts.specs.Runs.{BeginsOutput, WritesOutput}
 use Rattle.scripts.specs.declared.status.RunStatus.{RunStatus}
 use Rattle.scripts.proofs.edges.written_edges.Goals as goal
 
 -- what was written whole
-whole : (left : List ℕ) (status : RunStatus) → WritesAnswer done (Some (codes "ab")) (Some (codes "o")) (Some left) status → left ≡ codes "oab"
+whole : (left : List ℕ) (status : RunStatus) → WritesOutput done (Some (codes "ab")) (Some (codes "o")) (Some left) status → left ≡ codes "oab"
 whole left status (bytes, is, put, same) = put ∙ ap (λ (text : List ℕ). codes "o" ++ text) is
 
 -- what was written of a beginning
-begun : (left : List ℕ) → BeginsAnswer done (Some (codes "ab")) (Some (codes "o")) (Some left)
+begun : (left : List ℕ) → BeginsOutput done (Some (codes "ab")) (Some (codes "o")) (Some left)
     → (front rest : List ℕ) × (left ≡ codes "o" ++ front) × (front ++ rest ≡ codes "ab")
 begun left (bytes, is, (rest, (front, all, put))) = (front, rest, put, all ∙ is)
 
 -- another byte begins no text of these bytes
-no_other : BeginsAnswer done (Some (codes "ab")) (Some (codes "o")) (Some (codes "ob")) → ⊥
+no_other : BeginsOutput done (Some (codes "ab")) (Some (codes "o")) (Some (codes "ob")) → ⊥
 no_other b =
     let (front, rest, put, all) = begun (codes "ob") b in
     let first : codes "b" ≡ front = append_cancel_left (codes "o") (codes "b") front put in

@@ -7,7 +7,7 @@ use Rattle.state_memory.proofs.proxy_memory.forget_replies.Goals as goal
 
 pub loop-replies-preserved-in-loop-replies : goal.loop-replies-preserved-in-loop-replies
 loop-replies-preserved-in-loop-replies c =
-    let dropped = reply_dropped c.args.version c.loop-replies.replies.items c.loop-replies.invariant.order (sym c.is_first_up_to.ensures ∙ c.loop-replies-test.true) in
+    let dropped = reply_dropped c.args.version c.loop-replies.replies.items c.loop-replies.invariant.order (sym c.is_first_reply_up_to.ensures ∙ c.loop-replies-test.true) in
     record {
       order = subst RepliesIncrease (sym c.pop_front.ensures.rest) dropped.0;
       same = ap (replies_above c.args.version) c.pop_front.ensures.rest ∙ dropped.1 ∙ c.loop-replies.invariant.same;
@@ -16,5 +16,5 @@ loop-replies-preserved-in-loop-replies c =
 
 pub returns-clause-items : goal.returns-clause-items
 returns-clause-items c =
-    sym (replys_kept c.args.version c.loop-replies.replies.items c.loop-replies.invariant.order (sym c.is_first_up_to.ensures ∙ c.loop-replies-test.false))
+    sym (replys_kept c.args.version c.loop-replies.replies.items c.loop-replies.invariant.order (sym c.is_first_reply_up_to.ensures ∙ c.loop-replies-test.false))
     ∙ c.loop-replies.invariant.same

@@ -1,4 +1,4 @@
--- So many so far, and nothing is kept of any.
+-- As many as were counted so far, and nothing is kept of any.
 use Rattle.std.proofs.Common.{◌≤◌, ◌-◌, vec_len}
 use Rattle.state_memory.specs.Kept.{AreNew}
 use Rattle.state_memory.proofs.resolver.new_proxies.Given as goal

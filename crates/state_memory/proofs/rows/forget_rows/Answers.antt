@@ -7,7 +7,7 @@ use Rattle.state_memory.proofs.rows.forget_rows.Goals as goal
 
 pub loop-rows-preserved-in-loop-rows : goal.loop-rows-preserved-in-loop-rows
 loop-rows-preserved-in-loop-rows c =
-    let dropped = row_dropped c.args.version c.loop-rows.rows.items c.loop-rows.invariant.order (sym c.is_first_up_to.ensures ∙ c.loop-rows-test.true) in
+    let dropped = row_dropped c.args.version c.loop-rows.rows.items c.loop-rows.invariant.order (sym c.is_first_row_up_to.ensures ∙ c.loop-rows-test.true) in
     record {
       order = subst RowsIncrease (sym c.pop_front.ensures.rest) dropped.0;
       same = ap (rows_above c.args.version) c.pop_front.ensures.rest ∙ dropped.1 ∙ c.loop-rows.invariant.same;
@@ -15,5 +15,5 @@ loop-rows-preserved-in-loop-rows c =
 
 pub returns : goal.returns
 returns c =
-    sym (rows_kept c.args.version c.loop-rows.rows.items c.loop-rows.invariant.order (sym c.is_first_up_to.ensures ∙ c.loop-rows-test.false))
+    sym (rows_kept c.args.version c.loop-rows.rows.items c.loop-rows.invariant.order (sym c.is_first_row_up_to.ensures ∙ c.loop-rows-test.false))
     ∙ c.loop-rows.invariant.same

@@ -9,7 +9,7 @@ use std::alloc::Global;
 use std::process::Abort;
 use std::test::Fail;
 use system_keys::OutOfMemory;
-use testing::{Ends, Given, NOTHING, batch, range, room};
+use testing::{Ends, TransactionLine, EMPTY_TRANSACTION, batch, range, room};
 use turn_world::{Answer, Event, OfferAnswer, Refusal, TurnWorld};
 
 // ---- events
@@ -18,7 +18,7 @@ use turn_world::{Answer, Event, OfferAnswer, Refusal, TurnWorld};
 #[derive(Clone, Copy)]
 enum Step {
     /// A batch of these transactions goes to the proxy.
-    Sequence(usize, &'static [Given<'static>]),
+    Sequence(usize, &'static [TransactionLine<'static>]),
     /// The range moves to the resolver.
     Move(Ends<'static>, usize),
     /// The row is offered to the resolver.
@@ -98,15 +98,15 @@ const GIVEN_UP: Told = Refused(Some(31));
 const MISSING_REPLY: Told = Refused(Some(43));
 
 /// A state transaction that writes `n`.
-const WRITE_N: Given<'static> = Given {
+const WRITE_N: TransactionLine<'static> = TransactionLine {
     writes: &[(b"n", b"n\0")],
-    mutations: &[testing::Step::Set(b"\xff/serverTag/server0000000001", b"\x00\x00\x01")],
+    mutations: &[testing::MutationLine::Set(b"\xff/serverTag/server0000000001", b"\x00\x00\x01")],
     lock_aware: true,
-    ..NOTHING
+    ..EMPTY_TRANSACTION
 };
 
 /// One that reads `n` as it was before the move.
-const READ_N: Given<'static> = Given {
+const READ_N: TransactionLine<'static> = TransactionLine {
     snapshot: 10,
     reads: &[(b"n", b"n\0")],
     writes: &[],

@@ -5,7 +5,7 @@ use model::Config;
 use proxy_state::{Replies, Verdict};
 use std::alloc::Global;
 use std::test::Fail;
-use testing::{ReplyLine, Step, reply};
+use testing::{ReplyLine, MutationLine, reply};
 
 /// A reply to a record of proxy 2, which tells it of a row.
 const REPLY: ReplyLine<'static> = ReplyLine {
@@ -18,7 +18,7 @@ const REPLY: ReplyLine<'static> = ReplyLine {
         10,
         &[(
             Verdict::Conflict,
-            (&[Step::Set(b"\xff/dbLocked", b"L")], true),
+            (&[MutationLine::Set(b"\xff/dbLocked", b"L")], true),
         )],
     )],
 };

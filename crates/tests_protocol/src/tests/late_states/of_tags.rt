@@ -5,19 +5,19 @@ use model::Verdict;
 use std::process::Abort;
 use std::test::Fail;
 use system_keys::{Change, OutOfMemory, Tag};
-use testing::{Joined, Step, change, journal_row};
+use testing::{StateLine, MutationLine, change, journal_row};
 
 /// Two servers with their tags.
-const SERVERS: &[Step<'static>] = &[
-    Step::Set(b"\xff/serverTag/server0000000001", b"\x00\x00\x01"),
-    Step::Set(b"\xff/serverTag/server0000000002", b"\x00\x00\x02"),
+const SERVERS: &[MutationLine<'static>] = &[
+    MutationLine::Set(b"\xff/serverTag/server0000000001", b"\x00\x00\x01"),
+    MutationLine::Set(b"\xff/serverTag/server0000000002", b"\x00\x00\x02"),
 ];
 
 /// The row at `b`.
-const ROW_AT_B: &[Step<'static>] = &[Step::Set(b"\xff/keyServers/b", b"\x01server0000000001\x00")];
+const ROW_AT_B: &[MutationLine<'static>] = &[MutationLine::Set(b"\xff/keyServers/b", b"\x01server0000000001\x00")];
 
 /// The row at `m`.
-const ROW_AT_M: &[Step<'static>] = &[Step::Set(b"\xff/keyServers/m", b"\x01server0000000002\x00")];
+const ROW_AT_M: &[MutationLine<'static>] = &[MutationLine::Set(b"\xff/keyServers/m", b"\x01server0000000002\x00")];
 
 const TAG_1: Tag = Tag { locality: 0, id: 1 };
 
@@ -49,14 +49,14 @@ fn has_tags(
 /// Each key has its tags.
 fn gives_tags<R: Abort + AllocGlobal>(rt: &R, metadata: &Metadata) -> Result<(), Fail> {
     for (key, wanted) in TAGS {
-        let set = change(rt.alloc(), Step::Set(*key, b"v"))?;
+        let set = change(rt.alloc(), MutationLine::Set(*key, b"v"))?;
         assert!(rt; has_tags(metadata, &set, *key, *wanted)?, "at {key:?}");
     }
     Ok(())
 }
 
 /// The metadata after the steps of these lists.
-fn metadata_after<R: AllocGlobal>(rt: &R, lists: &[&[Step<'static>]]) -> Result<Metadata, Fail> {
+fn metadata_after<R: AllocGlobal>(rt: &R, lists: &[&[MutationLine<'static>]]) -> Result<Metadata, Fail> {
     let mut metadata = Metadata::new(rt.alloc());
     for steps in lists {
         for step in *steps {
@@ -76,13 +76,13 @@ const BOTH: &[Verdict] = &[Verdict::Committed, Verdict::Committed];
 
 const ONE_ALONE: &[Verdict] = &[Verdict::Committed, Verdict::Conflict];
 
-const LOCK: &[Step<'static>] = &[Step::Set(b"\xff/dbLocked", b"l")];
+const LOCK: &[MutationLine<'static>] = &[MutationLine::Set(b"\xff/dbLocked", b"l")];
 
-const CLEAR_ALL: &[Step<'static>] = &[Step::Clear(b"\xff", b"\xff\x02")];
+const CLEAR_ALL: &[MutationLine<'static>] = &[MutationLine::Clear(b"\xff", b"\xff\x02")];
 
 /// Versions whose state transactions make the same steps. Two Clears of all rows are not applied: one of
 /// the two resolvers did not commit the first, and the database is locked when the other comes.
-const JOURNAL: &[(u64, &[Joined<'static>])] = &[
+const JOURNAL: &[(u64, &[StateLine<'static>])] = &[
     (10, &[(BOTH, (SERVERS, false)), (BOTH, (ROW_AT_B, false))]),
     (
         20,

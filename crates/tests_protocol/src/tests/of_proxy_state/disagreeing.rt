@@ -9,23 +9,23 @@ use crate::tests::{are_alike, copy_of};
 use proxy_state::Refusal;
 use std::process::Abort;
 use std::test::Fail;
-use testing::{Content, ReplyLine, Step, Told, ToldRow};
+use testing::{Content, ReplyLine, MutationLine, UnseenLine, UnseenRowLine};
 
 /// Gives server 1 its tag.
-const TAGS: Content<'static> = (&[Step::Set(TAG_ROW_1, b"\x00\x00\x01")], true);
+const TAGS: Content<'static> = (&[MutationLine::Set(TAG_ROW_1, b"\x00\x00\x01")], true);
 
-const ONE: &[Told<'static>] = &[(COMMITTED, TAGS)];
+const ONE: &[UnseenLine<'static>] = &[(COMMITTED, TAGS)];
 
-const TWO: &[Told<'static>] = &[(COMMITTED, TAGS), (COMMITTED, TAGS)];
+const TWO: &[UnseenLine<'static>] = &[(COMMITTED, TAGS), (COMMITTED, TAGS)];
 
-const ROW_0: ToldRow<'static> = (10, ONE);
+const ROW_0: UnseenRowLine<'static> = (10, ONE);
 
-const ROW_1: ToldRow<'static> = (20, ONE);
+const ROW_1: UnseenRowLine<'static> = (20, ONE);
 
-const ROW_2: ToldRow<'static> = (30, ONE);
+const ROW_2: UnseenRowLine<'static> = (30, ONE);
 
 /// The rows before row 3.
-const ROWS: &[ToldRow<'static>] = &[ROW_0, ROW_1, ROW_2];
+const ROWS: &[UnseenRowLine<'static>] = &[ROW_0, ROW_1, ROW_2];
 
 const OF_0: ReplyLine<'static> = ReplyLine {
     resolver: 0,

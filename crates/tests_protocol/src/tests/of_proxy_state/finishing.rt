@@ -13,7 +13,7 @@ use std::alloc::Global;
 use std::process::Abort;
 use std::test::Fail;
 use system_keys::{OutOfMemory, Tag};
-use testing::{Content, ReplyLine, Step, content_batch, twice};
+use testing::{Content, ReplyLine, MutationLine, content_batch, twice};
 
 // ---- records that are begun
 
@@ -122,15 +122,15 @@ fn a_proxy_begins_its_own_next_record_alone(rt: HostRuntime) -> Result<(), Fail>
 
 // ---- records that are finished
 
-const LOCKS: Content<'static> = (&[Step::Set(LOCK, b"L")], true);
+const LOCKS: Content<'static> = (&[MutationLine::Set(LOCK, b"L")], true);
 
 /// Server 1 has the keys up to `m`, and server 2 the others.
 const SPLIT: Content<'static> = (
     &[
-        Step::Set(TAG_ROW_1, b"\x00\x00\x01"),
-        Step::Set(TAG_ROW_2, b"\x00\x00\x02"),
-        Step::Set(ROW_OF_ALL, SERVER_1),
-        Step::Set(ROW_OF_M, SERVER_2),
+        MutationLine::Set(TAG_ROW_1, b"\x00\x00\x01"),
+        MutationLine::Set(TAG_ROW_2, b"\x00\x00\x02"),
+        MutationLine::Set(ROW_OF_ALL, SERVER_1),
+        MutationLine::Set(ROW_OF_M, SERVER_2),
     ],
     true,
 );
@@ -138,13 +138,13 @@ const SPLIT: Content<'static> = (
 const TAG_2: Tag = Tag { locality: 0, id: 2 };
 
 /// The row at `m` goes.
-const JOINED: Content<'static> = (&[Step::Clear(ROW_OF_M, b"\xff/keyServers/n")], true);
+const JOINED: Content<'static> = (&[MutationLine::Clear(ROW_OF_M, b"\xff/keyServers/n")], true);
 
 /// The tag of server 2 goes, and a key after `m` is written.
 const WITHOUT_TAG_2: Content<'static> = (
     &[
-        Step::Clear(TAG_ROW_2, b"\xff/serverTag/server0000000003"),
-        Step::Set(b"z", b"1"),
+        MutationLine::Clear(TAG_ROW_2, b"\xff/serverTag/server0000000003"),
+        MutationLine::Set(b"z", b"1"),
     ],
     true,
 );

@@ -12,7 +12,7 @@ use std::alloc::Global;
 use std::convert::Infallible;
 use std::test::Fail;
 use system_keys::OutOfMemory;
-use testing::{ToldRow, twice};
+use testing::{UnseenRowLine, twice};
 
 // ---- callers, proved from the public contracts alone
 
@@ -88,7 +88,7 @@ const NEXT: Line = (1, 20, 30, 0);
 const BODY: Body = (&[(20, KEY_K, KEY_K)], &[0]);
 
 /// What its reply tells.
-const UNSEEN: &[ToldRow<'static>] = &[(10, &[]), (20, &[])];
+const UNSEEN: &[UnseenRowLine<'static>] = &[(10, &[]), (20, &[])];
 
 const IS_JUDGED: &[Turn<'static>] = &[(NEXT, BODY, Gets::Judged(COMMITTED, UNSEEN), 1)];
 

@@ -1,16 +1,16 @@
 -- Answers differ by their status or by their text.
 use Rattle.std.proofs.Common.{◌≡◌, ◌+◌, ◌++◌, [], ◌∷◌, ℕ, List, ap, get_or, length, length-append, refl, sym, arith}
 use Rattle.std.specs.Fmt.{digits}
-use Rattle.scripts.specs.Answers.{Answer, refused_answer}
+use Rattle.scripts.specs.Outputs.{OutputView, refused_output}
 use Rattle.scripts.specs.declared.script_fault.ScriptFault.TheVariants.{BadShape, NotJson}
 use Rattle.scripts.specs.declared.status.RunStatus.TheVariants.{Done, ScriptRefused}
 use Rattle.threads_run.specs.Laws.{AFaultHasOneAnswer, AScriptWithoutFaultIsNotRefused}
 use Rattle.threads_run.proofs.laws.answer_law.Goals as goal
 
 -- the second digit of the number tells the faults apart
-told_apart : refused_answer BadShape ≡ refused_answer NotJson → ⊥
+told_apart : refused_output BadShape ≡ refused_output NotJson → ⊥
 unfolding digits
-told_apart same = let digit : ◌≡◌ {A = ℕ} 49 48 = ap (λ (a : Answer). get_or a.text 9 0) same in absurd (omega (arith, digit))
+told_apart same = let digit : ◌≡◌ {A = ℕ} 49 48 = ap (λ (a : OutputView). get_or a.text 9 0) same in absurd (omega (arith, digit))
 
 -- a run that is refused is not done
 status_apart : ScriptRefused ≡ Done → ⊥
@@ -27,8 +27,8 @@ fault_law : AFaultHasOneAnswer
 fault_law = record {
   answer = refl;
   another_fault = told_apart;
-  another_status = λ same. status_apart (sym (ap (λ (a : Answer). a.status) same));
-  a_line_more = λ same. no_longer (refused_answer NotJson).text (ap (λ (a : Answer). a.text) same);
+  another_status = λ same. status_apart (sym (ap (λ (a : OutputView). a.status) same));
+  a_line_more = λ same. no_longer (refused_output NotJson).text (ap (λ (a : OutputView). a.text) same);
 }
 
 no_fault_law : AScriptWithoutFaultIsNotRefused

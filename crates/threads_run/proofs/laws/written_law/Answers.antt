@@ -1,19 +1,19 @@
 -- By cases on what the bytes are.
 use Rattle.std.proofs.Common.{◌≡◌, ◌∙◌, ◌++◌, ℕ, List, append_assoc, ap, subst, sym, refl, inl, inr}
 use Rattle.std.specs.Prelude.{◌⊎◌, Result, Ok, Err, IsOk, Some}
-use Rattle.scripts.specs.Answers.{Answer, refused_answer}
+use Rattle.scripts.specs.Outputs.{OutputView, refused_output}
 use Rattle.scripts.specs.declared.script_fault.ScriptFault.{ScriptFault}
 use Rattle.scripts.specs.declared.status.RunStatus.TheVariants.{Done, ScriptRefused}
 use Rattle.threads_run.specs.Laws.{ADoneRunWroteATextOfItsScript, AFailedRunWroteABeginning, ARefusedRunWroteTheFault}
-use Rattle.threads_run.specs.Runs.{Answers, AnswersInput, IsAnswerTo}
+use Rattle.threads_run.specs.Runs.{IsOutputOf, IsOutputForInput, IsOutputFor}
 use Rattle.threads_run.specs.Text.{IsThreadsText}
 use Rattle.threads_scripts.specs.Scripts.{script_of}
 use Rattle.threads_scripts.specs.declared.script.ThreadsScript.{ThreadsScript}
 use Rattle.threads_run.proofs.laws.written_law.Goals as goal
 
 -- an answer to the input is one to these bytes
-to_bytes : (bytes : List ℕ) (answer : Answer) → AnswersInput (Some bytes) answer → IsAnswerTo bytes answer
-to_bytes bytes answer (read, is, answers) = subst (λ (b : List ℕ). IsAnswerTo b answer) is answers
+to_bytes : (bytes : List ℕ) (answer : OutputView) → IsOutputForInput (Some bytes) answer → IsOutputFor bytes answer
+to_bytes bytes answer (read, is, answers) = subst (λ (b : List ℕ). IsOutputFor b answer) is answers
 
 -- a result is one or the other
 ok_or_err : {X F : Type 0} (result : Result X F) → ((x : X) × (result ≡ Ok x)) ⊎ ((fault : F) × (result ≡ Err fault))
@@ -24,32 +24,32 @@ ok_or_err (Err fault) = inr (fault, refl)
 status_apart : ScriptRefused ≡ Done → ⊥
 status_apart same = cc
 
-refused_status : (answer refusal : Answer) → refusal.status ≡ ScriptRefused → answer ≡ refusal → answer.status ≡ ScriptRefused
-refused_status answer refusal refused is = ap (λ (a : Answer). a.status) is ∙ refused
+refused_status : (answer refusal : OutputView) → refusal.status ≡ ScriptRefused → answer ≡ refusal → answer.status ≡ ScriptRefused
+refused_status answer refusal refused is = ap (λ (a : OutputView). a.status) is ∙ refused
 
 -- a script that is done has no fault
-done_script : (said : Result ThreadsScript ScriptFault) (answer : Answer) → Answers said answer → answer.status ≡ Done
+done_script : (said : Result ThreadsScript ScriptFault) (answer : OutputView) → IsOutputOf said answer → answer.status ≡ Done
     → (script : ThreadsScript) × (said ≡ Ok script) × IsThreadsText script answer.text
 done_script said answer is done = by (ok_or_err said)
   where
-    told : (result : Result ThreadsScript ScriptFault) → said ≡ result → Answers result answer
-    told result same = subst (λ (r : Result ThreadsScript ScriptFault). Answers r answer) same is
+    told : (result : Result ThreadsScript ScriptFault) → said ≡ result → IsOutputOf result answer
+    told result same = subst (λ (r : Result ThreadsScript ScriptFault). IsOutputOf r answer) same is
 
     by : ((script : ThreadsScript) × (said ≡ Ok script)) ⊎ ((fault : ScriptFault) × (said ≡ Err fault))
         → (script : ThreadsScript) × (said ≡ Ok script) × IsThreadsText script answer.text
     by (inl (script, ok)) = (script, ok, (told (Ok script) ok).0)
-    by (inr (fault, err)) = absurd (status_apart (sym (refused_status answer (refused_answer fault) refl (told (Err fault) err)) ∙ done))
+    by (inr (fault, err)) = absurd (status_apart (sym (refused_status answer (refused_output fault) refl (told (Err fault) err)) ∙ done))
 
 -- one that is refused has one
-refused_script : (said : Result ThreadsScript ScriptFault) (answer : Answer) → Answers said answer → answer.status ≡ ScriptRefused
-    → (fault : ScriptFault) × (said ≡ Err fault) × (answer ≡ refused_answer fault)
+refused_script : (said : Result ThreadsScript ScriptFault) (answer : OutputView) → IsOutputOf said answer → answer.status ≡ ScriptRefused
+    → (fault : ScriptFault) × (said ≡ Err fault) × (answer ≡ refused_output fault)
 refused_script said answer is refused = by (ok_or_err said)
   where
-    told : (result : Result ThreadsScript ScriptFault) → said ≡ result → Answers result answer
-    told result same = subst (λ (r : Result ThreadsScript ScriptFault). Answers r answer) same is
+    told : (result : Result ThreadsScript ScriptFault) → said ≡ result → IsOutputOf result answer
+    told result same = subst (λ (r : Result ThreadsScript ScriptFault). IsOutputOf r answer) same is
 
     by : ((script : ThreadsScript) × (said ≡ Ok script)) ⊎ ((fault : ScriptFault) × (said ≡ Err fault))
-        → (fault : ScriptFault) × (said ≡ Err fault) × (answer ≡ refused_answer fault)
+        → (fault : ScriptFault) × (said ≡ Err fault) × (answer ≡ refused_output fault)
     by (inl (script, ok)) = absurd (status_apart (sym refused ∙ (told (Ok script) ok).1))
     by (inr (fault, err)) = (fault, err, told (Err fault) err)
 
@@ -61,7 +61,7 @@ done_law answer bytes old new (answers, put, status) =
 refused_law : ARefusedRunWroteTheFault
 refused_law answer bytes old new (answers, put, status) =
     let (fault, is, same) = refused_script (script_of bytes) answer (to_bytes bytes answer answers) status in
-    (fault, is, put ∙ ap (λ (a : Answer). old ++ a.text) same)
+    (fault, is, put ∙ ap (λ (a : OutputView). old ++ a.text) same)
 
 failed_law : AFailedRunWroteABeginning
 failed_law answer bytes old new (inl none) = absurd none

@@ -25,10 +25,10 @@ pub returns-clause-lines : goal.returns-clause-lines
 returns-clause-lines g c =
     let config = g.N.Naming.cells.config in
     let rows = length g.N.Naming.cells.records in
-    let answered = c.in_ok-lines_of.field-0 in
+    let answered = c.in_ok-lines_beside.field-0 in
     subst (λ (proxies : ℕ). AreAnswerLines config rows c.args.work.now proxies answered.history (string_bytes answered.text)) c.requires.proxies
     (of_ok c.in_ok-lines.field-0.lines answered (λ one. AreAnswerLines config rows c.args.work.now (length c.args.cluster.now.proxies.items) one.history (string_bytes one.text))
-    c.in_ok-lines_of.ensures.answered c.in_ok-lines.ensures.lines)
+    c.in_ok-lines_beside.ensures.answered c.in_ok-lines.ensures.lines)
 
 pub returns-clause-sides : goal.returns-clause-sides
 returns-clause-sides g c =

@@ -1,4 +1,4 @@
--- So many so far.
+-- As many as were counted so far.
 use Rattle.turn_world.specs.Parts.{AreNewResolvers}
 use Rattle.turn_world.proofs.starting.new_resolvers.Given as goal
 

@@ -1,7 +1,7 @@
 -- The phase that failed first returned what holds the batch.
 use Rattle.std.proofs.Common.{List, subst}
 use Rattle.std.specs.Prelude.{IfErr}
-use Rattle.model.specs.Stamps.{Given}
+use Rattle.model.specs.Stamps.{AdmittedTransaction}
 use Rattle.locked_cluster.specs.Commits.{HandsBack}
 use Rattle.uses.specs.Causes.{WasNotCommitted}
 use Rattle.uses.proofs.committing.commit_or_go_on.Goals as goal
@@ -10,7 +10,7 @@ pub returns-in-Err-Sequencing-clause-refused : goal.returns-in-Err-Sequencing-cl
 returns-in-Err-Sequencing-clause-refused g c =
     let cells = g.N.Naming.cells in
     let back = subst (HandsBack cells (g.A.Asking.takes c.args.asking.now) c.args.proxy.now c.args.batch) c.in-Err-Sequencing.field-0-is c.in-Err-Sequencing.ensures in
-    subst (λ (batch : List Given). IfErr c.commit_once.result (WasNotCommitted cells c.args.proxy.now batch)) back.0 c.commit_once.ensures.refused
+    subst (λ (batch : List AdmittedTransaction). IfErr c.commit_once.result (WasNotCommitted cells c.args.proxy.now batch)) back.0 c.commit_once.ensures.refused
 
 pub returns-in-Err-Beginning-clause-refused : goal.returns-in-Err-Beginning-clause-refused
 returns-in-Err-Beginning-clause-refused g c =

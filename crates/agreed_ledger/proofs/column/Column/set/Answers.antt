@@ -5,8 +5,8 @@ use Rattle.agreed_ledger.specs.Cells.{verdict_cells}
 use Rattle.agreed_ledger.proofs.CellLaws.{column_row_below}
 use Rattle.agreed_ledger.proofs.column.Column.set.Goals as goal
 
-pub set-requires : goal.set-requires
-set-requires g c =
+pub set_next-requires : goal.set_next-requires
+set_next-requires g c =
     let cells = g.N.Naming.cells in
     let column = verdict_cells cells c.self.inside.resolver in
     let within : c.end.result < length column = slice_get_within column c.end.result (cell_name c.verdict_cell-cell.result.now) c.verdict_cell-cell.ensures in

@@ -8,8 +8,8 @@ use Rattle.agreed_ledger.proofs.StretchLaws.{values_end}
 use Rattle.agreed_ledger.proofs.CellLaws.{column_row_below}
 use Rattle.agreed_ledger.proofs.column.Column.set_and_copy.Goals as goal
 
-pub set_and_copy-requires : goal.set_and_copy-requires
-set_and_copy-requires g c =
+pub set_next_and_copy-requires : goal.set_next_and_copy-requires
+set_next_and_copy-requires g c =
     let cells = g.N.Naming.cells in
     let column = verdict_cells cells c.self.inside.resolver in
     let within : c.end-row.result < length column = slice_get_within column c.end-row.result (cell_name c.verdict_cell-cell.result.now) c.verdict_cell-cell.ensures in

@@ -8,8 +8,8 @@ use Rattle.agreed_ledger.specs.Cells.{IsKnownAt}
 use Rattle.agreed_ledger.proofs.StretchLaws.{values_end}
 use Rattle.agreed_ledger.proofs.records.Records.set.Goals as goal
 
-pub set_and_copy-requires : goal.set_and_copy-requires
-set_and_copy-requires g c =
+pub set_next_and_copy-requires : goal.set_next_and_copy-requires
+set_next_and_copy-requires g c =
     let cells = g.N.Naming.cells.records in
     let below : c.end-row.result < length cells = slice_get_within cells c.end-row.result (cell_name c.record_cell-cell.result.now) c.record_cell-cell.ensures in
     omega (arith, below, c.rows-rows.ensures.kept.rows.1, c.end-row.ensures.value)

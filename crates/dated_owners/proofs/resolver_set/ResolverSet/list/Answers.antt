@@ -6,6 +6,6 @@ use Rattle.dated_owners.proofs.resolver_set.ResolverSet.list.Goals as goal
 
 pub returns : goal.returns
 returns c =
-    IfOk-weaker c.flagged.result _ _
+    IfOk-weaker c.flagged_resolvers.result _ _
     (λ list is. is ∙ listed_front c.self.inside.flags c.self.inside.resolvers (omega (arith, c.self.invariant)) ∙ c.self.view_is)
-    c.flagged.ensures
+    c.flagged_resolvers.ensures

@@ -2,7 +2,7 @@
 use Rattle.std.proofs.Common.{subst}
 use Rattle.inboxes.specs.Ends.{AreSenders, ProxyView}
 use Rattle.inboxes.specs.Sending.{AreEndedSenders}
-use Rattle.inboxes.specs.Tags.{end_tag}
+use Rattle.inboxes.specs.MessageViews.{end_view}
 use Rattle.inboxes.proofs.Sent.{all_ended, sent_senders}
 use Rattle.inboxes.proofs.proxy_senders.ProxySenders.into_ended.Goals as goal
 
@@ -13,7 +13,7 @@ returns-clause-senders g c =
     let before = c.self.inside.ends.items in
     let after = c.send_ends.new.ends.items in
     subst (λ (v : ProxyView). AreSenders v.proxy resolvers after) c.self.view_is
-    (sent_senders proxy resolvers (end_tag proxy) before after c.send_ends.ensures c.self.invariant.0)
+    (sent_senders proxy resolvers (end_view proxy) before after c.send_ends.ensures c.self.invariant.0)
 
 pub returns-clause-ended : goal.returns-clause-ended
 returns-clause-ended g c =

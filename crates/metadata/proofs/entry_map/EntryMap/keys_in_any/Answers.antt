@@ -1,4 +1,4 @@
--- A range joins the run that it begins in, or begins a new one, and what it has beyond the run is listed.
+-- A range joins the run that it begins in, or begins a new one, and its keys beyond the run are listed.
 use Rattle.std.proofs.Common.{◌≡◌, ◌∙◌, ap, sym, refl, take, ◌+◌, ◌||◌, List, ℕ, Bor}
 use Rattle.std.specs.Global.{Vec}
 use Rattle.system_keys.specs.Keys.{Key, Range, holds}
@@ -23,15 +23,15 @@ loop-range-preserved c =
     ] in
     let next : (key : Key) → is_held after key ≡ (is_held done key || holds range key) =
     λ key. held_next ranges c.loop-range.range-index c.range-item.result key c.loop-range-test.true ∙ ap (λ (r : Bor Range). is_held done key || holds r.now key) (sym c.range-item.is) in
-    elim c.if-precedes.branch [
+    elim c.if-is_key_below.branch [
       | then-precedes+in_ok-list_keys_between w ↦
-          held_more c.if-not-is_between.from.now c.if-not-is_between.up_to.now w.end-then-precedes.result.now c.if-precedes.up_to.now done after range
-          (bytes_of_keys c.loop-range.keys.items) (bytes_of_keys c.if-precedes.keys.items) c.args.self.now c.args.self.now joins w.end-then-precedes.ensures.value
+          held_more c.if-not-is_between.from.now c.if-not-is_between.up_to.now w.end-then-precedes.result.now c.if-is_key_below.up_to.now done after range
+          (bytes_of_keys c.loop-range.keys.items) (bytes_of_keys c.if-is_key_below.keys.items) c.args.self.now c.args.self.now joins w.end-then-precedes.ensures.value
           (ap (λ (key : Bor Key). key.now) w.up_to-is ∙ w.end-up_to.ensures.value) (ap (λ (keys : Vec (Vec ℕ)). bytes_of_keys keys.items) w.keys-is ∙ w.in_ok-list_keys_between.ensures) refl
           next c.loop-range.invariant.listed
       | else-precedes w ↦
-          held_already c.if-not-is_between.from.now c.if-not-is_between.up_to.now c.end.result.now c.if-precedes.up_to.now done after range
-          (bytes_of_keys c.loop-range.keys.items) (bytes_of_keys c.if-precedes.keys.items) c.args.self.now joins (sym c.precedes.ensures ∙ w.if-precedes.false) c.end.ensures.value
+          held_already c.if-not-is_between.from.now c.if-not-is_between.up_to.now c.end.result.now c.if-is_key_below.up_to.now done after range
+          (bytes_of_keys c.loop-range.keys.items) (bytes_of_keys c.if-is_key_below.keys.items) c.args.self.now joins (sym c.is_key_below.ensures ∙ w.if-precedes.false) c.end.ensures.value
           (ap (λ (key : Bor Key). key.now) w.up_to-is) (ap (λ (keys : Vec (Vec ℕ)). bytes_of_keys keys.items) w.keys-is)
           next c.loop-range.invariant.listed
     ]

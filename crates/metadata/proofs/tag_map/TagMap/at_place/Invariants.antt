@@ -1,4 +1,4 @@
--- The row at the place is the row so many places on among those that are left.
+-- The row at the place is the row at the remaining distance among those that are left.
 use Rattle.std.proofs.Common.{◌≡◌, slice_get}
 use Rattle.metadata.specs.TagEntries.{rows_of}
 use Rattle.metadata.proofs.tag_map.TagMap.at_place.Given as goal

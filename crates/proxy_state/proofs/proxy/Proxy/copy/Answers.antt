@@ -12,7 +12,7 @@ pub returns : goal.returns
 returns c =
     let owned : c.in_ok-copy.field-0 ≡ c.self.inside.owners = search rules in
     let begun : c.in_ok-clone.field-0.items ≡ c.self.inside.begun.items = clones_same c.self.inside.begun.items c.in_ok-clone.field-0.items c.in_ok-clone.ensures.cases.0 in
-    let journal : c.in_ok-copied_rows.field-0.items ≡ c.self.inside.journal.items = search rules in
+    let journal : c.in_ok-copy_journal.field-0.items ≡ c.self.inside.journal.items = search rules in
     (λ i. record {
       number = c.self.inside.number;
       config = c.self.inside.config;

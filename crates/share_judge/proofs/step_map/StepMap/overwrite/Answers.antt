@@ -10,18 +10,18 @@ edges-edges-requires c =
     ap₂ is_key_below (c.in_ok-begin.ensures ∙ c.begin.ensures.value) (c.in_ok-end.ensures ∙ c.end.ensures.value)
     ∙ begins_below c.args.range.now.begin c.args.range.now.end c.begin.ensures.kept
 
-pub overwrite_free-requires-clause-below : goal.overwrite_free-requires-clause-below
-overwrite_free-requires-clause-below c =
+pub overwrite_between_starts-requires-clause-below : goal.overwrite_between_starts-requires-clause-below
+overwrite_between_starts-requires-clause-below c =
     ap₂ is_key_below (c.in_ok-begin.ensures ∙ c.begin.ensures.value) (c.in_ok-end.ensures ∙ c.end.ensures.value)
     ∙ begins_below c.args.range.now.begin c.args.range.now.end c.begin.ensures.kept
 
-pub overwrite_free-requires-clause-rising : goal.overwrite_free-requires-clause-rising
-overwrite_free-requires-clause-rising c = subst AreRising c.self.view_is c.self.invariant
+pub overwrite_between_starts-requires-clause-rising : goal.overwrite_between_starts-requires-clause-rising
+overwrite_between_starts-requires-clause-rising c = subst AreRising c.self.view_is c.self.invariant
 
-pub overwrite_steps-requires-clause-below : goal.overwrite_steps-requires-clause-below
-overwrite_steps-requires-clause-below c =
+pub overwrite_across_starts-requires-clause-below : goal.overwrite_across_starts-requires-clause-below
+overwrite_across_starts-requires-clause-below c =
     ap₂ is_key_below (c.in_ok-begin.ensures ∙ c.begin.ensures.value) (c.in_ok-end.ensures ∙ c.end.ensures.value)
     ∙ begins_below c.args.range.now.begin c.args.range.now.end c.begin.ensures.kept
 
-pub overwrite_steps-requires-clause-rising : goal.overwrite_steps-requires-clause-rising
-overwrite_steps-requires-clause-rising c = subst AreRising c.self.view_is c.self.invariant
+pub overwrite_across_starts-requires-clause-rising : goal.overwrite_across_starts-requires-clause-rising
+overwrite_across_starts-requires-clause-rising c = subst AreRising c.self.view_is c.self.invariant

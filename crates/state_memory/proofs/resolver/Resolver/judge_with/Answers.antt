@@ -25,11 +25,11 @@ judge_with-requires-clause-above g c =
     let above = version_above c.args.self.now c.args.request.now c.self.inside.version c.self.inside.history.last c.requires.next (ap (λ (v : ResolverView). v.version) c.self.view_is) c.self.invariant.0 in
     omega (arith, above, c.version.ensures)
 
-pub note_reply-requires-clause-there : goal.note_reply-requires-clause-there
-note_reply-requires-clause-there g c = place_within c.args.self.now c.args.request.now c.prepare.new.proxies.items c.requires.next (c.prepare.ensures.proxies ∙ ap (λ (v : ResolverView). v.proxies) c.self.view_is)
+pub keep_reply-requires-clause-there : goal.keep_reply-requires-clause-there
+keep_reply-requires-clause-there g c = place_within c.args.self.now c.args.request.now c.prepare.new.proxies.items c.requires.next (c.prepare.ensures.proxies ∙ ap (λ (v : ResolverView). v.proxies) c.self.view_is)
 
-pub note_reply-requires-clause-order : goal.note_reply-requires-clause-order
-note_reply-requires-clause-order g c = kept_replies_increase c.self.inside.version c.self.inside.rows.items (all_kept c.self.inside.proxies.items) c.prepare.new.proxies.items c.self.invariant.1 c.prepare.ensures.proxies
+pub keep_reply-requires-clause-order : goal.keep_reply-requires-clause-order
+keep_reply-requires-clause-order g c = kept_replies_increase c.self.inside.version c.self.inside.rows.items (all_kept c.self.inside.proxies.items) c.prepare.new.proxies.items c.self.invariant.1 c.prepare.ensures.proxies
 
 pub forget_rows-requires : goal.forget_rows-requires
 forget_rows-requires g c =
@@ -42,8 +42,8 @@ invariant_of-self-2 g c =
     let found = next_there c.args.self.now c.args.request.now c.prepare.new.proxies.items c.requires.next (c.prepare.ensures.proxies ∙ ap (λ (v : ResolverView). v.proxies) c.self.view_is) in
     let order = subst (λ kept. AreInOrder c.self.inside.version c.self.inside.rows.items kept) (sym c.prepare.ensures.proxies) c.self.invariant.1 in (
       c.forget.ensures.last ∙ c.in_ok-verdicts.ensures.last ∙ c.version.ensures ∙ sym c.version-self-inside.ensures,
-      subst (λ n. AreInOrder n c.forget_rows.new.rows.items (all_kept c.note_reply.new.proxies.items)) (sym c.version-self-inside.ensures)
-          (order_after c.self.inside.version c.reached_by_all.result c.self.inside.rows.items c.push_back_reserved.new.self.items c.forget_rows.new.rows.items (all_kept c.prepare.new.proxies.items) (all_kept c.note_reply.new.proxies.items) found.0 c.args.request.now (record { version = c.version-2.result; states = c.from.result }) c.reply-noted.result order new c.version-2.ensures (ap (λ (r : Reply). r.version) c.reply-noted.ensures) (c.push_back_reserved.ensures.items ∙ ap (λ rows. rows ++ (record { version = c.version-2.result; states = c.from.result }) ∷ []) c.prepare.ensures.rows) c.forget_rows.ensures found.1 (c.note_reply.ensures found.0 found.1)),
+      subst (λ n. AreInOrder n c.forget_rows.new.rows.items (all_kept c.keep_reply.new.proxies.items)) (sym c.version-self-inside.ensures)
+          (order_after c.self.inside.version c.reached_by_all.result c.self.inside.rows.items c.push_back_reserved.new.self.items c.forget_rows.new.rows.items (all_kept c.prepare.new.proxies.items) (all_kept c.keep_reply.new.proxies.items) found.0 c.args.request.now (record { version = c.version-2.result; states = c.from.result }) c.reply-noted.result order new c.version-2.ensures (ap (λ (r : Reply). r.version) c.reply-noted.ensures) (c.push_back_reserved.ensures.items ∙ ap (λ rows. rows ++ (record { version = c.version-2.result; states = c.from.result }) ∷ []) c.prepare.ensures.rows) c.forget_rows.ensures found.1 (c.keep_reply.ensures found.0 found.1)),
     )
 
 pub returns-clause-judged : goal.returns-clause-judged
@@ -78,7 +78,7 @@ returns-clause-judged g c =
           judged_memory c.args.self.now _ one judged c.args.request.now c.in_ok-verdicts.verdicts c.reply-noted.result (record { version = c.version-2.result; states = c.from.result }) c.judge_with.new.self _ stands c.requires.next at are gains c.forget.ensures.stands
           (c.forget.ensures.window ∙ c.in_ok-verdicts.ensures.window ∙ ap (λ (w : WriteHistoryView). w.window) history)
           (ap (λ (v : ResolverView). v.number) c.self.view_is) c.version-self-inside.ensures row_is reply_is
-          (c.note_reply.ensures one (ap (λ xs. slice_get xs c.args.request.now.proxy) c.prepare.ensures.proxies ∙ here) ∙ ap (λ xs. slice_set xs c.args.request.now.proxy (proxy_after one c.args.request.now c.reply-noted.result)) (c.prepare.ensures.proxies ∙ kept))
+          (c.keep_reply.ensures one (ap (λ xs. slice_get xs c.args.request.now.proxy) c.prepare.ensures.proxies ∙ here) ∙ ap (λ xs. slice_set xs c.args.request.now.proxy (proxy_after one c.args.request.now c.reply-noted.result)) (c.prepare.ensures.proxies ∙ kept))
           (c.forget_rows.ensures ∙ (λ k. rows_above ((c.reached_by_all.ensures ∙ ap (λ raw. reached_by_all (all_kept raw)) c.deref.ensures.value) k) ((c.push_back_reserved.ensures.items ∙ ap (λ xs. xs ++ (record { version = c.version-2.result; states = c.from.result }) ∷ []) (c.prepare.ensures.rows ∙ rows)) k)));
       forgets = λ judged stands.
           let history = ap (λ (v : ResolverView). v.written) c.self.view_is in
@@ -94,7 +94,7 @@ returns-clause-judged g c =
       number = ap (λ (v : ResolverView). v.number) c.self.view_is;
       proxies =
           let found = next_there c.args.self.now c.args.request.now c.prepare.new.proxies.items c.requires.next (c.prepare.ensures.proxies ∙ ap (λ (v : ResolverView). v.proxies) c.self.view_is) in
-          noted_count (all_kept c.prepare.new.proxies.items) (all_kept c.note_reply.new.proxies.items) found.0 c.args.request.now c.reply-noted.result (c.note_reply.ensures found.0 found.1) ∙ ap length (c.prepare.ensures.proxies ∙ ap (λ (v : ResolverView). v.proxies) c.self.view_is);
+          noted_count (all_kept c.prepare.new.proxies.items) (all_kept c.keep_reply.new.proxies.items) found.0 c.args.request.now c.reply-noted.result (c.keep_reply.ensures found.0 found.1) ∙ ap length (c.prepare.ensures.proxies ∙ ap (λ (v : ResolverView). v.proxies) c.self.view_is);
       window = c.forget.ensures.window ∙ c.in_ok-verdicts.ensures.window ∙ ap (λ (v : ResolverView). v.written.window) c.self.view_is;
     }
 

@@ -42,8 +42,8 @@ returns-in-Some-first_missing-clause-answer c =
     let counts : c.as_slice.result.now ≡ t.judged_counts.items = c.as_slice.ensures.value in
     first_named t.config w c.args.self.now c.args.proxy rec rest v t.resolvers.items t.proxies.items requests c.in-Some-first_missing.resolver c.self.view_is is (c.in-Some-first_missing.ensures ∙ (λ i. slice_get (missing_of (row i) (counts i)) 0))
 
-pub kept_replies-requires-clause-kept : goal.kept_replies-requires-clause-kept
-kept_replies-requires-clause-kept c =
+pub kept_replies_at-requires-clause-kept : goal.kept_replies_at-requires-clause-kept
+kept_replies_at-requires-clause-kept c =
     let t = c.self.inside in
     let w = world_of t.rows.items t.moves t.judged_counts.items t.finished.items in
     let there : c.args.proxy < t.config.proxies = omega (arith, c.proxies.ensures.value, c.if-proxies-proxy.false) in

@@ -128,8 +128,8 @@ returns-in-Ok-Again-clause-ok c =
     let specified = e.answer _ k.stands in
     again_after t.config w c.args.self.now c.args.row c.args.resolver c.in-Ok-Again.reply c.self.view_is (again_told _ _ c.in-Ok-Again.reply k.told specified)
 
-pub passed_on-requires : goal.passed_on-requires
-passed_on-requires c =
+pub cluster_refusal-requires : goal.cluster_refusal-requires
+cluster_refusal-requires c =
     let t = c.self.inside in
     let w = world_of t.rows.items t.moves t.judged_counts.items t.finished.items in
     let many : c.len.result ≡ length t.rows.items = search rules in
@@ -158,4 +158,4 @@ returns-in-Err-clause-answer c =
     let e = c.in-Err.ensures in
     let k = known t.config w t.rows.items c.args.row c.args.resolver c.index.result.now e.v c.index-requests-resolver.result t.resolvers.items t.proxies.items t.last refl c.self.invariant.0 c.self.invariant.1 there at at_q e.at in
     let specified = e.answer _ k.stands in
-    subst (λ now. IsFaultOf (fault_of c.passed_on.result) (answer_to_event now (Offer c.args.row c.args.resolver))) c.self.view_is (refused_told _ _ c.in-Err.refusal c.passed_on.result k.told specified c.passed_on.ensures)
+    subst (λ now. IsFaultOf (fault_of c.cluster_refusal.result) (answer_to_event now (Offer c.args.row c.args.resolver))) c.self.view_is (refused_told _ _ c.in-Err.refusal c.cluster_refusal.result k.told specified c.cluster_refusal.ensures)

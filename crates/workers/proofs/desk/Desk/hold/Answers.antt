@@ -8,11 +8,11 @@ use Rattle.workers.proofs.desk.Desk.hold.Goals as goal
 pub returns-in_default-clause-keeps : goal.returns-in_default-clause-keeps
 returns-in_default-clause-keeps g c =
     let desk : List RequestView → DeskView = λ held. record { column = c.self.inside.column; held = held; closed = c.self.inside.closed; wanted = c.self.inside.wanted } in
-    let more = one_more (desk c.self.inside.held.items) (desk c.push.new.self.items) c.args.held (ap desk c.in_default.ensures.items) in
+    let more = one_more (desk c.self.inside.held.items) (desk c.push.new.self.items) c.args.pending (ap desk c.in_default.ensures.items) in
     subst (λ (v : DeskView). KeepsServing v (desk c.push.new.self.items)) c.self.view_is more.0
 
 pub returns-in_default-clause-held : goal.returns-in_default-clause-held
 returns-in_default-clause-held g c =
     let desk : List RequestView → DeskView = λ held. record { column = c.self.inside.column; held = held; closed = c.self.inside.closed; wanted = c.self.inside.wanted } in
-    let more = one_more (desk c.self.inside.held.items) (desk c.push.new.self.items) c.args.held (ap desk c.in_default.ensures.items) in
+    let more = one_more (desk c.self.inside.held.items) (desk c.push.new.self.items) c.args.pending (ap desk c.in_default.ensures.items) in
     λ sound. more.1

@@ -9,7 +9,7 @@ returns-clause-keeps g c = keeps_trans _ _ _ c.hold-told.ensures.keeps c.offer_d
 
 pub returns-clause-served : goal.returns-clause-served
 returns-clause-served g c =
-    λ own sound. c.offer_due.ensures.keeps.served sound c.args.held.plain.row (inr (c.hold-told.ensures.held (c.offer_due.ensures.keeps.failed sound)))
+    λ own sound. c.offer_due.ensures.keeps.served sound c.args.pending.plain.row (inr (c.hold-told.ensures.held (c.offer_due.ensures.keeps.failed sound)))
 
 pub returns-clause-late : goal.returns-clause-late
 returns-clause-late g c =

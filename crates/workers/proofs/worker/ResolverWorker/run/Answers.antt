@@ -10,7 +10,7 @@ loop-preserved g c =
     let went = subst (λ (b : Bool). MatchBool b ((c.loop.worker.proxies_left ≡ 0) ⊎ IsTrue c.loop.worker.cut_off) ((0 < c.loop.worker.proxies_left) × IsFalse c.loop.worker.cut_off))
     c.if-has_ended.false c.has_ended.ensures.ended in
     record {
-      taken = taken_next c.args.self.taken c.loop.worker c.step.new.self c.loop.invariant.taken c.step.ensures.taken;
-      stays = stays_trans c.args.self c.loop.worker c.step.new.self c.loop.invariant.stays c.step.ensures.stays;
-      missing = λ whole cut. missing_next g.N.Naming.cells.config.proxies c.loop.worker c.step.new.self c.step.ensures.taken went c.has_ended.ensures.kept cut;
+      taken = taken_next c.args.self.taken c.loop.worker c.serve_next_message.new.self c.loop.invariant.taken c.serve_next_message.ensures.taken;
+      stays = stays_trans c.args.self c.loop.worker c.serve_next_message.new.self c.loop.invariant.stays c.serve_next_message.ensures.stays;
+      missing = λ whole cut. missing_next g.N.Naming.cells.config.proxies c.loop.worker c.serve_next_message.new.self c.serve_next_message.ensures.taken went c.has_ended.ensures.kept cut;
     }

@@ -33,8 +33,8 @@ returns-then-own_previous-expected-clause-refused g c =
     subst (λ (u : LockedProxyView). IsBeginRefusalOf u.proxy rec (refusals.OutOfOrder c.last_begun-expected.result)) c.self.view_is
     (out_of_order v rec c.own_previous.result c.last_begun-expected.result mine c.own_previous.ensures c.last_begun-expected.ensures c.if-own_previous-expected.true)
 
-pub returns-in_err-kept-clause-refused : goal.returns-in_err-kept-clause-refused
-returns-in_err-kept-clause-refused g c =
+pub returns-in_err-proxy_records-clause-refused : goal.returns-in_err-proxy_records-clause-refused
+returns-in_err-proxy_records-clause-refused g c =
     let config = g.N.Naming.cells.config in
     let s = c.self.inside in
     let v : LockedProxyView = record { proxy = s.proxy; records = s.records.known; columns = s.columns } in
@@ -90,8 +90,8 @@ returns-in-Err-clause-err g c =
     let same = c.in-Err.ensures.err in
     ap (λ (p : ProxyView). record { proxy = p; records = s.records.known; columns = s.columns }) same ∙ c.self.view_is
 
-pub joined_with-requests-requires-clause-are : goal.joined_with-requests-requires-clause-are
-joined_with-requests-requires-clause-are g c =
+pub requests_with_records-requests-requires-clause-are : goal.requests_with_records-requests-requires-clause-are
+requests_with_records-requests-requires-clause-are g c =
     let config = g.N.Naming.cells.config in
     let s = c.self.inside in
     let v : LockedProxyView = record { proxy = s.proxy; records = s.records.known; columns = s.columns } in
@@ -104,8 +104,8 @@ joined_with-requests-requires-clause-are g c =
     let all : c.from.result.items ≡ requests_to_all config rec v.proxy.version = c.from.ensures ∙ c.in-Ok.ensures.requests ∙ ap (λ (n : Config). requests_to_all n rec v.proxy.version) c.self.invariant.2.config_of in
     subst (AreRequestsFor config t.records) (sym all) (are_requests_for config v t rec is)
 
-pub joined_with-requests-requires-clause-copies : goal.joined_with-requests-requires-clause-copies
-joined_with-requests-requires-clause-copies g c =
+pub requests_with_records-requests-requires-clause-copies : goal.requests_with_records-requests-requires-clause-copies
+requests_with_records-requests-requires-clause-copies g c =
     let config = g.N.Naming.cells.config in
     let s = c.self.inside in
     let v : LockedProxyView = record { proxy = s.proxy; records = s.records.known; columns = s.columns } in
@@ -115,10 +115,10 @@ joined_with-requests-requires-clause-copies g c =
     let follows : rec.own_previous ≡ v.proxy.last_begun = sym c.own_previous.ensures ∙ c.if-own_previous-expected.false ∙ c.last_begun-expected.ensures in
     let all : c.from.result.items ≡ requests_to_all config rec v.proxy.version = c.from.ensures ∙ c.in-Ok.ensures.requests ∙ ap (λ (n : Config). requests_to_all n rec v.proxy.version) c.self.invariant.2.config_of in
     let count : c.resolvers.result ≡ length c.from.result.items = c.resolvers.ensures.value ∙ ap (λ (n : Config). n.resolvers) c.requires.config ∙ sym (ap (λ (qs : List Request). length qs) all ∙ all_count config rec v.proxy.version) in
-    c.in_ok-kept.ensures.copies ∙ ap (λ (n : ℕ). replicate n c.args.records.now) count
+    c.in_ok-proxy_records.ensures.copies ∙ ap (λ (n : ℕ). replicate n c.args.records.now) count
 
-pub joined_with-requests-requires-clause-room : goal.joined_with-requests-requires-clause-room
-joined_with-requests-requires-clause-room g c =
+pub requests_with_records-requests-requires-clause-room : goal.requests_with_records-requests-requires-clause-room
+requests_with_records-requests-requires-clause-room g c =
     let config = g.N.Naming.cells.config in
     let s = c.self.inside in
     let v : LockedProxyView = record { proxy = s.proxy; records = s.records.known; columns = s.columns } in
@@ -128,10 +128,10 @@ joined_with-requests-requires-clause-room g c =
     let follows : rec.own_previous ≡ v.proxy.last_begun = sym c.own_previous.ensures ∙ c.if-own_previous-expected.false ∙ c.last_begun-expected.ensures in
     let all : c.from.result.items ≡ requests_to_all config rec v.proxy.version = c.from.ensures ∙ c.in-Ok.ensures.requests ∙ ap (λ (n : Config). requests_to_all n rec v.proxy.version) c.self.invariant.2.config_of in
     let count : c.resolvers.result ≡ length c.from.result.items = c.resolvers.ensures.value ∙ ap (λ (n : Config). n.resolvers) c.requires.config ∙ sym (ap (λ (qs : List Request). length qs) all ∙ all_count config rec v.proxy.version) in
-    omega (arith, count, c.in_ok-kept.ensures.room)
+    omega (arith, count, c.in_ok-proxy_records.ensures.room)
 
 pub of-requires-clause-first : goal.of-requires-clause-first
-of-requires-clause-first g c = ap (λ (u : Stretch Record). u.first) c.in_ok-kept.ensures.told ∙ c.requires.first
+of-requires-clause-first g c = ap (λ (u : Stretch Record). u.first) c.in_ok-proxy_records.ensures.begun ∙ c.requires.first
 
 pub of-requires-clause-is : goal.of-requires-clause-is
 of-requires-clause-is g c =
@@ -145,9 +145,9 @@ of-requires-clause-is g c =
     let agree : Agree 0 v.records 0 t.records = agree_from_zero s.records c.args.records.now t.records c.self.invariant.1 (from_zero c.args.records.now c.requires.first) c.agree.ensures in
     let is : Continues config v t rec = record { keeps = c.self.invariant.2; ticket = c.requires.ticket; there = c.requires.there; follows = follows; agree = agree } in
     let all : c.from.result.items ≡ requests_to_all config rec v.proxy.version = c.from.ensures ∙ c.in-Ok.ensures.requests ∙ ap (λ (n : Config). requests_to_all n rec v.proxy.version) c.self.invariant.2.config_of in
-    let told : c.in_ok-kept.field-0.told.known ≡ t.records = ap (λ (u : Stretch Record). u.known) c.in_ok-kept.ensures.told in
-    let are : c.joined_with-requests.result.items ≡ with_records t.records (requests_to_all config rec v.proxy.version) = c.joined_with-requests.ensures ∙ ap (with_records t.records) all in
-    subst (λ (rs : List Record). IsBegun config (record { row = c.args.row; records = rs; requests = c.joined_with-requests.result.items })) (sym told) (is_begun config v t rec c.joined_with-requests.result.items is are)
+    let told : c.in_ok-proxy_records.field-0.begun_records.known ≡ t.records = ap (λ (u : Stretch Record). u.known) c.in_ok-proxy_records.ensures.begun in
+    let are : c.requests_with_records-requests.result.items ≡ with_records t.records (requests_to_all config rec v.proxy.version) = c.requests_with_records-requests.ensures ∙ ap (with_records t.records) all in
+    subst (λ (rs : List Record). IsBegun config (record { row = c.args.row; records = rs; requests = c.requests_with_records-requests.result.items })) (sym told) (is_begun config v t rec c.requests_with_records-requests.result.items is are)
 
 pub invariant_of-self-2 : goal.invariant_of-self-2
 invariant_of-self-2 g c =
@@ -162,9 +162,9 @@ invariant_of-self-2 g c =
     let is : Continues config v t rec = record { keeps = c.self.invariant.2; ticket = c.requires.ticket; there = c.requires.there; follows = follows; agree = agree } in
     let new = c.begin.new.self in
     let has : HasBegun v.proxy new rec = c.in-Ok.ensures.begun in
-    let kept : c.in_ok-kept.field-0.kept.known ≡ t.records = ap (λ (u : Stretch Record). u.known) c.in_ok-kept.ensures.kept in (
+    let kept : c.in_ok-proxy_records.field-0.proxy_records.known ≡ t.records = ap (λ (u : Stretch Record). u.known) c.in_ok-proxy_records.ensures.proxy in (
       c.self.invariant.0 ∙ sym has.number,
-      ap (λ (u : Stretch Record). u.first) c.in_ok-kept.ensures.kept ∙ c.requires.first,
+      ap (λ (u : Stretch Record). u.first) c.in_ok-proxy_records.ensures.proxy ∙ c.requires.first,
       subst (λ (rs : List Record). IsLockedProxy config (record { proxy = new; records = rs; columns = s.columns })) (sym kept) (begun_keeps config v t rec new is (record { own = mine; follows = follows }) has),
     )
 
@@ -182,9 +182,9 @@ returns-clause-begun g c =
     let all : c.from.result.items ≡ requests_to_all config rec v.proxy.version = c.from.ensures ∙ c.in-Ok.ensures.requests ∙ ap (λ (n : Config). requests_to_all n rec v.proxy.version) c.self.invariant.2.config_of in
     let new = c.begin.new.self in
     let has : HasBegun v.proxy new rec = c.in-Ok.ensures.begun in
-    let kept : c.in_ok-kept.field-0.kept.known ≡ t.records = ap (λ (u : Stretch Record). u.known) c.in_ok-kept.ensures.kept in
-    let told : c.in_ok-kept.field-0.told.known ≡ t.records = ap (λ (u : Stretch Record). u.known) c.in_ok-kept.ensures.told in
-    let are : c.joined_with-requests.result.items ≡ with_records t.records (requests_to_all config rec v.proxy.version) = c.joined_with-requests.ensures ∙ ap (with_records t.records) all in
+    let kept : c.in_ok-proxy_records.field-0.proxy_records.known ≡ t.records = ap (λ (u : Stretch Record). u.known) c.in_ok-proxy_records.ensures.proxy in
+    let told : c.in_ok-proxy_records.field-0.begun_records.known ≡ t.records = ap (λ (u : Stretch Record). u.known) c.in_ok-proxy_records.ensures.begun in
+    let are : c.requests_with_records-requests.result.items ≡ with_records t.records (requests_to_all config rec v.proxy.version) = c.requests_with_records-requests.ensures ∙ ap (with_records t.records) all in
     let answer : c.of.result ≡ record { row = t.row; records = t.records; requests = with_records t.records (requests_to_all config rec v.proxy.version) } = c.of.ensures ∙ (λ i. record { row = c.args.row; records = told i; requests = are i }) in
-    subst (λ (u : LockedProxyView). BeginsTicket config u t (record { proxy = new; records = c.in_ok-kept.field-0.kept.known; columns = s.columns }) c.of.result) c.self.view_is
-    (begins_ticket config v t rec new c.in_ok-kept.field-0.kept.known c.of.result is (record { own = mine; follows = follows }) has kept answer)
+    subst (λ (u : LockedProxyView). BeginsTicket config u t (record { proxy = new; records = c.in_ok-proxy_records.field-0.proxy_records.known; columns = s.columns }) c.of.result) c.self.view_is
+    (begins_ticket config v t rec new c.in_ok-proxy_records.field-0.proxy_records.known c.of.result is (record { own = mine; follows = follows }) has kept answer)

@@ -1,5 +1,0 @@
-use Rattle.endings.proofs.Orders.{orders_meet}
-use Rattle.endings.proofs.laws.orders.meet_law.Goals as goal
-
-pub returns : goal.returns
-returns c = orders_meet

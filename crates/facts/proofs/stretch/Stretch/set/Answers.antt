@@ -1,5 +1,0 @@
-use Rattle.std.proofs.Common.{rules}
-use Rattle.facts.proofs.stretch.Stretch.set.Goals as goal
-
-pub returns-clause-gained : goal.returns-clause-gained
-returns-clause-gained g c = (c.in_ok-fact.fact, search rules, search rules, search rules)

@@ -1,6 +1,0 @@
--- A new pass keeps the rule.
-use Rattle.inboxes.proofs.Moves.{forks}
-use Rattle.inboxes.proofs.rule.admit.Goals as goal
-
-pub another-requires-clause-rule : goal.another-requires-clause-rule
-another-requires-clause-rule g c = forks _ _ c.requires.worker

@@ -1,0 +1,88 @@
+//! The output of a script of any kind.
+
+ghost use Rattle.std.specs.Prelude.{◌≡◌, ◌++◌, ℕ, List, IfOk, IfSome, OnOk, Ok, string_bytes};
+ghost use Rattle.scripts.specs.Outputs.{OutputView, IsOutput, output_for, done};
+ghost use Rattle.scripts.specs.ScriptFaults.{IsReadAs};
+ghost use Rattle.scripts.specs.Scripts.{read_as};
+ghost use Rattle.scripts.specs.Statuses.{IsWholeText};
+
+use crate::checks::Checked;
+use crate::output::{Output, output_of_fault};
+use crate::reading::read_checked;
+use crate::script_fault::ScriptFault;
+use crate::status::RunStatus;
+use crate::streams::Streamed;
+use std::alloc::Global;
+use system_keys::OutOfMemory;
+
+/// A kind of script: how one is read, and what is printed of it.
+pub trait ScriptKind {
+    /// A script as it is written.
+    type Raw: Streamed;
+
+    /// A script whose keys, values and ranges are checked.
+    type Script: Checked<Self::Raw>;
+
+    ghost printed: { Self.Script → List ℕ };
+
+    ghost output_to: { List ℕ → OutputView };
+
+    /// Prints the lines of a script as its tokens come, where the kind needs no whole script.
+    /// `None` decides nothing: the script is then read and printed.
+    fn stream(alloc: Global, bytes: &[u8]) -> Option<String>
+        ensures { IfSome result (λ text. output_to bytes.now ≡ done (string_bytes text)) };
+
+    /// Prints the lines of a script. Fails only with `OutOfMemory`.
+    fn print(alloc: Global, text: &mut String, script: Self::Script) -> Result<(), OutOfMemory>
+        ensures { OnOk result (string_bytes text.new
+            ≡ string_bytes text.old ++ printed script) };
+
+    ghost answers: { (bytes : List ℕ) → output_to bytes
+        ≡ output_for printed (read_as Self.Raw.shape Self.Script.checked bytes) };
+}
+
+/// The output for a script of this kind: what is printed of it, or its first fault (this project's
+/// profile). Fails only with `OutOfMemory`.
+pub fn output_for<K: ScriptKind>(alloc: Global, bytes: Vec<u8>) -> Result<Output, OutOfMemory>
+    ensures output { IfOk result (IsOutput (K.output_to bytes.items)) }
+    ensures answered { IfOk result (λ output. IsWholeText output.status) }
+{
+    if let Some(text) = K::stream(alloc, &bytes) {
+        return Ok(Output {
+            text,
+            status: RunStatus::Done,
+        });
+    }
+    output_for_whole::<K>(alloc, bytes)
+}
+
+/// The output for a script of this kind, which is read before anything of it is printed.
+fn output_for_whole<K: ScriptKind>(alloc: Global, bytes: Vec<u8>) -> Result<Output, OutOfMemory>
+    ensures output { IfOk result (IsOutput (K.output_to bytes.items)) }
+    ensures answered { IfOk result (λ output. IsWholeText output.status) }
+{
+    match read_of::<K>(alloc, bytes) {
+        Ok(script) => output_of::<K>(alloc, script),
+        Err(fault) => output_of_fault(alloc, fault),
+    }
+}
+
+/// The script that the bytes hold, or their first fault. Drops the bytes.
+fn read_of<K: ScriptKind>(alloc: Global, bytes: Vec<u8>) -> Result<K::Script, ScriptFault>
+    ensures { IsReadAs (λ script. script) result
+        (read_as K.Raw.shape K.Script.checked bytes.items) }
+{
+    read_checked::<K::Raw, K::Script>(alloc, &bytes)
+}
+
+fn output_of<K: ScriptKind>(alloc: Global, script: K::Script) -> Result<Output, OutOfMemory>
+    ensures output { IfOk result (IsOutput (output_for K.printed (Ok script))) }
+    ensures answered { IfOk result (λ output. IsWholeText output.status) }
+{
+    let mut text = String::new(alloc);
+    K::print(alloc, &mut text, script)?;
+    Ok(Output {
+        text,
+        status: RunStatus::Done,
+    })
+}

@@ -1,0 +1,166 @@
+//! Each event of a script is carried out, and its answer or its refusal is printed: which line that
+//! is, and the lines of a finish.
+
+ghost use Rattle.std.specs.Prelude.{◌≡◌, ◌++◌, IsSome, OnOk, string_bytes, map, true};
+ghost use Rattle.model.specs.Turns.{after_event};
+ghost use Rattle.model.specs.World.{answers, handle_event, world_after};
+ghost use Rattle.turn_world.specs.Events.{event_answer_of, event_of, refusal_number};
+ghost use Rattle.turns_run.specs.Lines.{answer_text, finished_batch_text, event_text, events_text};
+ghost use Rattle.turns_run.specs.Lines.{finish_text, finished_text, finishing_proxy};
+ghost use Rattle.turns_run.specs.Lines.{refusal_line, refusal_value};
+ghost use Rattle.turns_run.specs.OrderOfMutations.{are_in_order, FitsFinish};
+
+use crate::lines::{print_move, print_offer, print_sequence};
+use crate::numbers::push_numbered;
+use crate::transactions::print_transactions;
+use cluster_lines::push_number_and_name;
+use model::{Finished, ProxyNumber, Version};
+use std::fmt::Write;
+use system_keys::{Items, OutOfMemory};
+use turn_world::{Answer, Event, OfferAnswer, Refusal, TurnWorld};
+
+/// Carries out the events, one after another, and prints the lines of each. Fails only with
+/// `OutOfMemory`.
+pub(crate) fn carry_out_events(
+    text: &mut String,
+    events: Items<Event>,
+    world: &mut TurnWorld,
+) -> Result<(), OutOfMemory>
+    ensures text { let before = world.old in let given = map event_of events in
+        OnOk result (string_bytes text.new
+        ≡ string_bytes text.old ++ events_text given (answers before.config before.world given)) }
+    ensures world { let before = world.old in
+        OnOk result (world.new ≡ record before {
+          world = world_after before.config before.world (map event_of events);
+        }) }
+{
+    for event in Vec::from(events) {
+        carry_out_event(text, event, world)?;
+    }
+    Ok(())
+}
+
+/// Carries out the event, of which nothing is copied, and prints its lines.
+pub(crate) fn carry_out_event(
+    text: &mut String,
+    event: Event,
+    world: &mut TurnWorld,
+) -> Result<(), OutOfMemory>
+    ensures text { let given = event_of event in let before = world.old in
+        OnOk result (string_bytes text.new ≡ string_bytes text.old
+        ++ event_text given (handle_event before.config before.world given).answer) }
+    ensures world { OnOk result (world.new ≡ after_event world.old (event_of event)) }
+{
+    let finishing = finishing_proxy(&event);
+    match world.step_owned(event) {
+        Ok(answer) => print_answer(text, finishing, &answer),
+        Err(refusal) => print_refusal(text, &refusal),
+    }
+}
+
+/// The proxy that finishes a record, if the event is a finish.
+fn finishing_proxy(event: &Event) -> Option<ProxyNumber>
+    ensures { result ≡ finishing_proxy (event_of event.now) }
+{
+    match event {
+        Event::Finish { proxy } => Some(*proxy),
+        Event::Sequence { .. } | Event::Move { .. } | Event::Offer { .. } => None,
+    }
+}
+
+/// Prints the lines of an event that was carried out; if it was a finish, its proxy is given.
+fn print_answer(
+    text: &mut String,
+    finishing: Option<ProxyNumber>,
+    answer: &Answer,
+) -> Result<(), OutOfMemory>
+    requires { FitsFinish finishing (event_answer_of answer.now) }
+    ensures { OnOk result (string_bytes text.new
+        ≡ string_bytes text.old ++ answer_text finishing (event_answer_of answer.now)) }
+{
+    match answer {
+        Answer::Sequenced { row, version } => print_sequence(text, *row, *version),
+        Answer::Moved { date } => print_move(text, *date),
+        Answer::Offered(OfferAnswer::Judged(reply)) => print_offer(text, "judged", reply),
+        Answer::Offered(OfferAnswer::Again(reply)) => print_offer(text, "again", reply),
+        Answer::Finished(finished) => print_finished_batch(text, finishing, finished),
+    }
+}
+
+// Prints a finished record, whose proxy is given.
+fn print_finished_batch(
+    text: &mut String,
+    finishing: Option<ProxyNumber>,
+    finished: &Finished,
+) -> Result<(), OutOfMemory>
+    requires finish { IsSome finishing }
+    requires in_order { are_in_order 0 finished.now.tagged ≡ true }
+    ensures { OnOk result (string_bytes text.new
+        ≡ string_bytes text.old ++ finished_batch_text finishing finished.now) }
+{
+    match finishing {
+        Some(proxy) => print_finished(text, proxy, finished),
+        None => unreachable!(),
+    }
+}
+
+/// Prints the line of a finish, and then those of the transactions of its batch.
+fn print_finished(text: &mut String, proxy: ProxyNumber, finished: &Finished) -> Result<(), OutOfMemory>
+    requires { are_in_order 0 finished.now.tagged ≡ true }
+    ensures { OnOk result (string_bytes text.new
+        ≡ string_bytes text.old ++ finished_text proxy finished.now) }
+{
+    push_finish(text, proxy, finished.version)?;
+    text.push_str("\n")?;
+    print_transactions(
+        text,
+        finished.tagged.as_slice(),
+        finished.outcomes.as_slice(),
+    )
+}
+
+/// Appends the line of a finish.
+fn push_finish(text: &mut String, proxy: ProxyNumber, version: Version) -> Result<(), OutOfMemory>
+    ensures { OnOk result (string_bytes text.new
+        ≡ string_bytes text.old ++ finish_text proxy version) }
+{
+    push_numbered(text, "finish proxy ", proxy as u64)?;
+    push_numbered(text, " version ", version)?;
+    Ok(())
+}
+
+// Fails also for the refusal `OutOfMemory`, which has no number.
+fn print_refusal(text: &mut String, refusal: &Refusal) -> Result<(), OutOfMemory>
+    ensures numbered { OnOk result (IsSome (refusal_number refusal.now)) }
+    ensures text { OnOk result (string_bytes text.new
+        ≡ string_bytes text.old ++ refusal_line refusal.now) }
+{
+    let number = refusal.number().ok_or(OutOfMemory)?;
+    push_number_and_name(text, number, refusal.name())?;
+    push_refusal_value(text, refusal)?;
+    text.push_str("\n")?;
+    Ok(())
+}
+
+/// Appends what a refusal carries after a space, if it carries anything.
+fn push_refusal_value(text: &mut String, refusal: &Refusal) -> Result<(), OutOfMemory>
+    ensures { OnOk result (string_bytes text.new
+        ≡ string_bytes text.old ++ refusal_value refusal.now) }
+{
+    match refusal {
+        Refusal::Early { version } => write!(text, " {version}")?,
+        Refusal::GivenUp { acknowledged } => write!(text, " {acknowledged}")?,
+        Refusal::OutOfTurn {
+            expected: Some(row),
+        } => write!(text, " {row}")?,
+        Refusal::OutOfTurn { expected: None } => text.push_str(" none")?,
+        Refusal::MissingReply { resolver } => write!(text, " {resolver}")?,
+        Refusal::NoSuchResolver
+        | Refusal::NoSuchProxy
+        | Refusal::WrongResolver
+        | Refusal::NoSuchRow
+        | Refusal::VersionsEnd
+        | Refusal::OutOfMemory => {}
+    }
+    Ok(())
+}
