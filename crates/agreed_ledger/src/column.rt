@@ -21,12 +21,12 @@ ghost use Rattle.facts.specs.Unsets.{IfTaken};
 ghost use Rattle.agreed_ledger.specs.Cells.{AreKnownAt, IsWithin, verdict_cells, with_rows};
 ghost use Rattle.agreed_ledger.specs.declared.refusal.Refusal.TheVariants as refusals;
 
-use model::{ResolverNumber, RowNumber};
 use crate::ledger::Ledger;
 use crate::naming::Naming;
 use crate::notes::VerdictNote;
 use crate::refusal::Refusal;
 use facts::{Fact, Stretch, Unset};
+use model::{ResolverNumber, RowNumber};
 use share_judge::Verdicts;
 use std::alloc::Global;
 use std::marker::{Model, PhantomData};

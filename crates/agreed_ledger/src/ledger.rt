@@ -165,7 +165,11 @@ impl<N: Naming> Ledger<N> {
     }
 
     /// The verdict cell of the row and the resolver.
-    pub(crate) fn verdict_cell(&self, row: RowNumber, resolver: ResolverNumber) -> &OnceBox<Verdicts>
+    pub(crate) fn verdict_cell(
+        &self,
+        row: RowNumber,
+        resolver: ResolverNumber,
+    ) -> &OnceBox<Verdicts>
         requires { row < length (verdict_cells N.cells resolver) }
         ensures { slice_get (verdict_cells N.cells resolver) row ≡ Some (cell_name result.now) }
     {

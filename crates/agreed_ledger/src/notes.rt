@@ -11,12 +11,12 @@ ghost use Rattle.agreed_ledger.specs.Cells.{NotesAgree, Shows, ShowsNoVerdicts, 
 ghost use Rattle.agreed_ledger.specs.Cells.{ShowsVerdicts, new_note, new_verdict_note, row_note};
 ghost use Rattle.agreed_ledger.specs.Cells.{verdict_cells};
 
-use model::{ResolverNumber, RowNumber};
 use crate::column::Column;
 use crate::ledger::Ledger;
 use crate::naming::Naming;
 use crate::records::Records;
 use facts::{Fact, Unset};
+use model::{ResolverNumber, RowNumber};
 use once_cell::race::{Note, OnceBox};
 use request_builder::Record;
 use share_judge::Verdicts;

@@ -19,11 +19,11 @@ ghost use Rattle.facts.specs.Stretches.{part_of, rows_limit};
 ghost use Rattle.facts.specs.Unsets.{IfTaken};
 ghost use Rattle.agreed_ledger.specs.Cells.{IsKnownAt, IsWithin};
 
-use model::RowNumber;
 use crate::ledger::Ledger;
 use crate::naming::Naming;
 use crate::notes::RecordNote;
 use facts::{Fact, Stretch, Unset};
+use model::RowNumber;
 use request_builder::Record;
 use std::alloc::Global;
 use std::marker::{Model, PhantomData};

@@ -117,7 +117,12 @@ impl<N: Naming> Sequenced<N> {
     }
 
     /// The next record, at this version, for a batch of this proxy.
-    fn next_record(&self, version: Version, proxy: ProxyNumber, batch: &Batch) -> Result<Record, OutOfMemory>
+    fn next_record(
+        &self,
+        version: Version,
+        proxy: ProxyNumber,
+        batch: &Batch,
+    ) -> Result<Record, OutOfMemory>
         requires proxy { proxy < N.cells.config.proxies }
         requires version { version ≡ last_version self.now.records + N.cells.config.step }
         ensures { IfOk result (λ rec. rec

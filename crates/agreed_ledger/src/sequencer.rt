@@ -11,13 +11,13 @@ ghost use Rattle.agreed_ledger.specs.Sequencing.{
 };
 ghost use Rattle.agreed_ledger.specs.declared.refusal.Refusal.TheVariants as refusals;
 
-use model::{ProxyNumber, ResolverNumber};
 use crate::ledger::Ledger;
 use crate::naming::Naming;
 use crate::records::Records;
 use crate::refusal::Refusal;
 use crate::sequenced::Sequenced;
 use crate::ticket::Ticket;
+use model::{ProxyNumber, ResolverNumber};
 use mutation::Batch;
 use std::alloc::Global;
 use std::marker::Model;
@@ -80,7 +80,11 @@ impl<'a, N: Naming> SequencerGuard<'a, N> {
     }
 
     /// Gives the batch of the proxy the next row and version, as [`Sequenced::sequence`] does.
-    pub fn sequence(&mut self, proxy: ProxyNumber, batch: Batch) -> Result<Ticket<N>, (Refusal, Batch)>
+    pub fn sequence(
+        &mut self,
+        proxy: ProxyNumber,
+        batch: Batch,
+    ) -> Result<Ticket<N>, (Refusal, Batch)>
         ensures ok { OnOk result (sequence_fault N.cells self.old proxy ≡ None) }
         ensures sequenced { IfOk result (λ ticket.
             HasSequenced N.cells.config self.old proxy batch self.new ticket) }

@@ -4,9 +4,9 @@ ghost use Rattle.std.specs.Prelude.{◌≡◌, ◌-◌, ◌<◌, length};
 ghost use Rattle.model.specs.Records.{IsHistory};
 ghost use Rattle.agreed_ledger.specs.Sequencing.{IsTicket};
 
-use model::RowNumber;
 use crate::naming::Naming;
 use crate::records::Records;
+use model::RowNumber;
 use std::marker::Model;
 
 /// The row of a batch, and the records up to it, its own among them.

@@ -4,8 +4,8 @@ ghost use Rattle.std.specs.Prelude.{◌≡◌, ◌++◌, OnOk, string_bytes};
 ghost use Rattle.scripts.specs.Lines.{asked_text};
 ghost use Rattle.cluster_lines.specs.MetadataLines.{metadata_text, proxy_line};
 
-use model::{ProxyNumber, Version};
 use metadata::Metadata;
+use model::{ProxyNumber, Version};
 use scripts::{print_asked, print_routing};
 use std::alloc::Global;
 use std::fmt::Write;

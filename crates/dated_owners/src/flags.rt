@@ -19,7 +19,10 @@ pub fn flag(flags: &mut [bool], resolver: ResolverNumber)
 
 /// Returns the numbers of the resolvers that are flagged, in rising order. Fails only with
 /// `OutOfMemory`.
-pub fn flagged_resolvers(alloc: Global, flags: &[bool]) -> Result<Items<ResolverNumber>, OutOfMemory>
+pub fn flagged_resolvers(
+    alloc: Global,
+    flags: &[bool],
+) -> Result<Items<ResolverNumber>, OutOfMemory>
     ensures { let flags = flags.now in
         IfOk result (λ list. list ≡ filter (is_flagged flags) (each_below (length flags))) }
 {

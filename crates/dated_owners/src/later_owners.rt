@@ -43,7 +43,10 @@ impl LaterOwners {
     }
 
     /// A copy of the owners. Fails only with `OutOfMemory`.
-    pub(crate) fn from_slice(alloc: Global, owners: &[LaterOwner]) -> Result<LaterOwners, OutOfMemory>
+    pub(crate) fn from_slice(
+        alloc: Global,
+        owners: &[LaterOwner],
+    ) -> Result<LaterOwners, OutOfMemory>
         ensures { IfOk result (λ copy. copy ≡ owners.now) }
     {
         let mut list = Vec::new(alloc);

@@ -26,7 +26,10 @@ pub(crate) fn has_one_date_twice(owners: &[LaterOwner]) -> bool
 /// Owners by which walks visit the same resolvers as by these. Of the owners of one date each
 /// resolver is left once, and all but the last are in the order of their numbers. Fails only with
 /// `OutOfMemory`.
-pub(crate) fn merge_owners(alloc: Global, owners: &[LaterOwner]) -> Result<Vec<LaterOwner>, OutOfMemory>
+pub(crate) fn merge_owners(
+    alloc: Global,
+    owners: &[LaterOwner],
+) -> Result<Vec<LaterOwner>, OutOfMemory>
     ensures { IfOk result (λ merged. WalkAlike owners.now merged.items) }
 {
     let mut merged = Vec::new(alloc);

@@ -8,10 +8,10 @@ ghost use Rattle.inboxes.specs.Ends.{fresh_sender};
 ghost use Rattle.inboxes.specs.Places.{known, place_at, place_of};
 
 use crate::channels::Channels;
-use crate::sender_end::SenderEnd;
 use crate::inbox_end::FreshEnd;
 use crate::question::Question;
 use crate::rule::{Hand, Inbox, Post, add_sender, make};
+use crate::sender_end::SenderEnd;
 use crate::worker_pass::WorkerPass;
 use agreed_ledger::Naming;
 use model::{ProxyNumber, ResolverNumber};

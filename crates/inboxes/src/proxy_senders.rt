@@ -7,9 +7,9 @@ ghost use Rattle.inboxes.specs.Sending.{with_gone, with_sent};
 ghost use Rattle.inboxes.specs.MessageViews.{end_view};
 
 use crate::channels::Channels;
-use crate::sender_end::{EndedSender, SenderEnd};
 use crate::message::Message;
 use crate::question::Question;
+use crate::sender_end::{EndedSender, SenderEnd};
 use agreed_ledger::Naming;
 use model::{ProxyNumber, ResolverNumber};
 use std::marker::Model;

@@ -3,10 +3,10 @@
 ghost use Rattle.std.specs.Prelude.{◌≡◌, length, IfOk};
 
 use crate::channels::Channels;
-use crate::sender_end::SenderEnd;
 use crate::inbox_end::FreshEnd;
 use crate::proxy_senders::ProxySenders;
 use crate::question::Question;
+use crate::sender_end::SenderEnd;
 use agreed_ledger::{Ledger, Naming};
 use std::alloc::{AllocError, Global};
 use std::marker::Model;

@@ -11,11 +11,11 @@ ghost use Rattle.inboxes.specs.Places.{IsHandOf, known, place_at, place_of};
 ghost use Rattle.inboxes.specs.declared.refusal.Refusal.TheVariants as refusals;
 
 use crate::channels::Channels;
-use crate::sender_end::{EndedSender, SenderEnd};
 use crate::message::Message;
 use crate::question::Question;
 use crate::refusal::Refusal;
 use crate::rule::{Hand, Inbox, join, take_one};
+use crate::sender_end::{EndedSender, SenderEnd};
 use agreed_ledger::Naming;
 use crossbeam_channel::RecvError;
 use model::{ProxyNumber, ResolverNumber};
@@ -58,7 +58,11 @@ impl<N: Naming, C: Question, M: Channels> Model for WorkerPass<N, C, M> {
 
 impl<N: Naming, C: Question, M: Channels> WorkerPass<N, C, M> {
     /// The worker's pass, which took nothing, with a count of 0 for each proxy.
-    pub(crate) fn new(resolver: ResolverNumber, hand: Hand<C>, counts: Vec<u64>) -> WorkerPass<N, C, M>
+    pub(crate) fn new(
+        resolver: ResolverNumber,
+        hand: Hand<C>,
+        counts: Vec<u64>,
+    ) -> WorkerPass<N, C, M>
         requires place { IsHandOf (place_at M.places resolver) hand }
         requires worker { ((known hand).gets ≡ true) × ((known hand).got ≡ []) }
         requires counts { AreCounts N.cells.config.proxies [] counts.items }

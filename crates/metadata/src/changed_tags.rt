@@ -8,10 +8,10 @@ ghost use Rattle.metadata.specs.ServerTables.{AreServers, values_after};
 
 use crate::entry_map::EntryMap;
 use crate::server_table::ServerTable;
-use crate::value_tags::{names_put, value_tags};
 use crate::servers_after_puts::ServersAfterPuts;
 use crate::tag_key::behind_prefix;
 use crate::tag_map::TagRow;
+use crate::value_tags::{names_put, value_tags};
 use system_keys::{OutOfMemory, SERVER_TAG_PREFIX};
 
 /// The tags that change when the entries are put over the others, as they are afterwards: those of

@@ -20,7 +20,6 @@ mod private_copies;
 mod raw_ids;
 mod routes;
 mod server_table;
-mod value_tags;
 mod servers_after_puts;
 mod staged;
 mod started;
@@ -28,6 +27,7 @@ mod tag_key;
 mod tag_list;
 mod tag_map;
 mod tagging;
+mod value_tags;
 
 pub use entry_view::EntryView;
 pub use journal_fold::JournalFold;

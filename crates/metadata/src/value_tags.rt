@@ -21,7 +21,10 @@ use system_keys::{Items, Location, OutOfMemory, RowFault, ServerId, Tag, decode_
 /// The tags of a keyServers value after the entries are put over the others, strictly increasing:
 /// those of the servers that it names, or those that it lists. Fails only with `OutOfMemory`.
 #[tactic(auto, unfolding(crate::specs::CachedTags::tags_by))]
-pub(crate) fn value_tags(over: &ServersAfterPuts<'_>, value: &[u8]) -> Result<Items<Tag>, OutOfMemory>
+pub(crate) fn value_tags(
+    over: &ServersAfterPuts<'_>,
+    value: &[u8],
+) -> Result<Items<Tag>, OutOfMemory>
     ensures { IfOk result (λ found. found ≡ tags_by (values_after over.now) value.now) }
 {
     let mut tags = TagList::new(over.alloc());

@@ -9,8 +9,8 @@ ghost use Rattle.model.specs.Verdicts.{joined};
 ghost use Rattle.model.specs.Finishing.{reply_from, verdicts_of_reply};
 ghost use Rattle.proxy_state.specs.Learning.{column_by, columns_of, by_columns};
 
-use crate::joined_verdict::least_of;
 use crate::disagreements::{is_in, reply_from};
+use crate::joined_verdict::least_of;
 use model::{Reply, ResolverNumber, TransactionNumber, Verdict};
 use std::alloc::Global;
 use system_keys::{Items, OutOfMemory};

@@ -6,10 +6,10 @@
 
 mod begun;
 mod columns;
+mod disagreements;
 mod finishing;
 mod joined_verdict;
 mod learned;
-mod disagreements;
 mod moving;
 mod outcomes;
 mod own_row;

@@ -14,9 +14,9 @@ ghost use Rattle.proxy_state.specs.Beginning.{HasMapFor, AsksFor, IsFirst, has_r
 ghost use Rattle.proxy_state.specs.Finishing.{finish_fault, IsReplied, IsLearned};
 
 use crate::begun::BegunRecord;
+use crate::disagreements::{first_disagreement, first_unreplied};
 use crate::finishing::finish_batch;
 use crate::learned::Learned;
-use crate::disagreements::{first_disagreement, first_unreplied};
 use crate::moving::keep_map;
 use crate::owned_moves::OwnedMoves;
 use crate::owners::ProxyOwners;

@@ -4,7 +4,6 @@
 //! Source: this project's profile (scripts, lines and statuses).
 #![tactic(auto)]
 
-mod script_kind;
 mod batch_checks;
 mod batch_reading;
 mod batch_shapes;
@@ -21,6 +20,7 @@ mod raw_change;
 mod reading;
 mod run;
 mod script_fault;
+mod script_kind;
 mod shaped;
 mod status;
 mod stream_objects;
@@ -29,7 +29,6 @@ mod stream_tokens;
 mod streams;
 mod value_reading;
 
-pub use script_kind::ScriptKind;
 pub use batch_checks::admit_batch;
 pub use batch_reading::{read_batch, stream_batch};
 pub use checks::{Checked, check_each, check_range};
@@ -42,6 +41,7 @@ pub use raw_change::RawChange;
 pub use reading::{read_checked, stream_checked};
 pub use run::run_script;
 pub use script_fault::ScriptFault;
+pub use script_kind::ScriptKind;
 pub use shaped::{Shaped, field, has_fields, pair};
 pub use status::RunStatus;
 pub use stream_objects::{Fields, take_into, take_object};

@@ -2,8 +2,8 @@
 ghost use Rattle.std.specs.Prelude.{◌-◌, ◌^◌, ◌<◌};
 ghost use Rattle.scripts.specs.Runs.{LeavesDevices, WritesTextOf};
 
-use crate::script_kind::{ScriptKind, output_for};
 use crate::devices::{Failed, ReadFault, Sink, Source, read_all, write_all};
+use crate::script_kind::{ScriptKind, output_for};
 use crate::status::RunStatus;
 use std::alloc::Global;
 

@@ -136,7 +136,10 @@ fn pair_of(alloc: Global, values: &[Value]) -> Result<(Bytes, Bytes), ScriptFaul
     ensures { IsReadAs (λ found. found) result (or_bad_shape (pair_of (items_view values.now))) }
 {
     match values {
-        [first, second] => Ok((Bytes::from_value(alloc, first)?, Bytes::from_value(alloc, second)?)),
+        [first, second] => Ok((
+            Bytes::from_value(alloc, first)?,
+            Bytes::from_value(alloc, second)?,
+        )),
         _ => Err(ScriptFault::BadShape),
     }
 }

@@ -22,5 +22,5 @@ pub use model::{
 pub use proxy_state::Metadata;
 pub use turn_world::{Answer, Event, OfferAnswer, Refusal as TurnRefusal, Stopped, TurnWorld};
 pub use workers::{
-    PendingRequest, EndedWorker, Gate, Open, Place, ProxyInboxes, ResolverWorker, SendersGuard,
+    EndedWorker, Gate, Open, PendingRequest, Place, ProxyInboxes, ResolverWorker, SendersGuard,
 };

@@ -17,7 +17,7 @@ ghost use Rattle.std.specs.VecDeque.{deque_len, deque_capacity};
 use crate::answer::{Answer, Course};
 use crate::proxy_memory::{ProxyMemory, reached_by_all};
 use crate::refusal::Refusal;
-use crate::rows::{rows_above, copy_rows, forget_rows, judge_states, unjudged_states};
+use crate::rows::{copy_rows, forget_rows, judge_states, rows_above, unjudged_states};
 use model::{ProxyNumber, Reply, ResolverNumber, UnseenRow, UnseenState, Verdict, Version};
 use request_builder::Request;
 use share_judge::{NotJudged, Verdicts, WriteHistory};

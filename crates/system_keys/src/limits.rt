@@ -6,7 +6,7 @@ ghost use Rattle.system_keys.specs.Limits.{range_fault, set_fault};
 
 use crate::kind::classify;
 use crate::location::is_row_value;
-use crate::order::{is_key_up_to, is_key_below};
+use crate::order::{is_key_below, is_key_up_to};
 use crate::refusal::Refusal;
 
 /// The greatest number of bytes of a key (this project's profile).

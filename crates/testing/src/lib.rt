@@ -20,12 +20,12 @@ pub use key_ranges::{Ends, given_range, given_ranges, range, ranges};
 pub use lists::{bytes, list, none, one, repeat_byte, room};
 pub use random::Random;
 pub use replies::{
-    StateLine, ReplyLine, UnseenLine, UnseenRowLine, content_of_line, content_if, journal_row, reply, reply_by,
-    unseen_rows,
+    ReplyLine, StateLine, UnseenLine, UnseenRowLine, content_if, content_of_line, journal_row,
+    reply, reply_by, unseen_rows,
 };
 pub use shares::{PartLine, part, parts};
 pub use texts::{are_shown_as, join_texts, text_room};
 pub use transactions::{
-    Content, TransactionLine, EMPTY_TRANSACTION, MutationLine, admit_line, batch, batch_of, change, changes, content_batch,
-    mutation, mutations, plain_batch, transaction, transaction_of,
+    Content, EMPTY_TRANSACTION, MutationLine, TransactionLine, admit_line, batch, batch_of, change,
+    changes, content_batch, mutation, mutations, plain_batch, transaction, transaction_of,
 };

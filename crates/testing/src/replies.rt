@@ -116,7 +116,11 @@ fn state(alloc: Global, joined: StateLine<'_>) -> Result<StateTxn, Fail> {
 }
 
 /// The row of the journal with these state transactions.
-pub fn journal_row(alloc: Global, version: u64, lines: &[StateLine<'_>]) -> Result<JournalRow, Fail> {
+pub fn journal_row(
+    alloc: Global,
+    version: u64,
+    lines: &[StateLine<'_>],
+) -> Result<JournalRow, Fail> {
     let mut states = room(alloc, lines.len())?;
     for line in lines {
         states.push(state(alloc, *line)?)?;

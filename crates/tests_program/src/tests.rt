@@ -11,7 +11,7 @@ mod of_turns_run;
 use model::Config;
 use mutation::{Admitted, AdmittedMutation, Batch};
 use system_keys::{Bytes, KeyRange};
-use testing::{TransactionLine, MutationLine};
+use testing::{MutationLine, TransactionLine};
 
 /// A transaction with something in each field.
 const GIVEN: TransactionLine<'static> = TransactionLine {

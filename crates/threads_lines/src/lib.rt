@@ -16,9 +16,9 @@ mod laws;
 mod lines;
 mod meetings;
 mod moves;
+mod proxy_threads;
 mod run_history;
 mod worker_threads;
-mod proxy_threads;
 
 pub use checks::{check_answered, check_moves, check_proxies, check_resolvers, records_of};
 pub use cluster::Cluster;
@@ -26,6 +26,6 @@ pub use committer::{AnsweredLines, Committer};
 pub use faults::{RunFault, status_of};
 pub use laws::{audit_law, end_law};
 pub use meetings::{print_audits, print_meetings};
+pub use proxy_threads::{CommitsBatches, EndsProxies};
 pub use run_history::RunHistory;
 pub use worker_threads::{RunOutcome, ServesInbox, commit_over_workers};
-pub use proxy_threads::{CommitsBatches, EndsProxies};

@@ -9,7 +9,7 @@ use Rattle.std.proofs.lemmas.Option.{same_Some, slice_get_within, slice_get-get_
 use Rattle.model.specs.Configs.{Config}
 use Rattle.model.specs.Records.{Record, records_of_proxy}
 use Rattle.locked_resolvers.proofs.Lists.{got}
-use Rattle.inboxes.specs.declared.views.Tag.{Tag}
+use Rattle.inboxes.specs.declared.views.MessageView.{MessageView}
 use Rattle.inboxes.specs.Counts.{counted}
 use Rattle.inboxes.specs.Delivers.{of_proxy}
 use Rattle.inboxes.specs.Ends.{AreSenders, IsBeginning, ProxyView, SenderView}
@@ -20,7 +20,7 @@ use Rattle.threads_lines.specs.declared.faults.RunFault.{RunFault}
 use Rattle.threads_run.specs.Delivered.{IsDelivered, IsSideDelivered, IsTaken, messages_of}
 
 -- a count below the greatest number is how many messages there are
-counts_all : (messages : List Tag) (count : ℕ) → count < 2 ^ 64 - 1 → count ≡ counted messages → length messages ≡ count
+counts_all : (messages : List MessageView) (count : ℕ) → count < 2 ^ 64 - 1 → count ≡ counted messages → length messages ≡ count
 counts_all messages count below is = by (cases_order (2 ^ 64 - 1) (length messages))
   where
     most : 2 ^ 64 - 1 ≤ length messages → length messages ≡ count
@@ -34,7 +34,7 @@ counts_all messages count below is = by (cases_order (2 ^ 64 - 1) (length messag
     by (inr (inr small)) = let within : length messages ≤ 2 ^ 64 - 1 = omega (arith, small) in sym (min-eq_left within) ∙ sym is
 
 -- fewer messages than the greatest number are counted as they are
-pub counted_all : (messages : List Tag) (count : ℕ) → count < 2 ^ 64 - 1 → length messages ≡ count → counted messages ≡ count
+pub counted_all : (messages : List MessageView) (count : ℕ) → count < 2 ^ 64 - 1 → length messages ≡ count → counted messages ≡ count
 counted_all messages count below is =
     let small : length messages ≤ 2 ^ 64 - 1 = omega (arith, below, is) in
     min-eq_left small ∙ is
@@ -49,11 +49,11 @@ taken_all messages worker sender sent taken below last same (rest, begins) is_se
     let got = of_proxy sender.proxy worker.taken.got in
     let put_size : length sender.put ≡ messages = counts_all sender.put messages below (sym all_sent ∙ is_sent) in
     let got_size : length got ≡ messages = counts_all got messages below (sym all_taken ∙ is_taken) in
-    let both : length sender.put ≡ length got + length rest = ap (λ (ts : List Tag). length ts) begins ∙ length-append got rest in
+    let both : length sender.put ≡ length got + length rest = ap (λ (ts : List MessageView). length ts) begins ∙ length-append got rest in
     let none : rest ≡ [] = nil_from_length rest (omega (arith, put_size, got_size, both)) in
     record {
       resolver = same;
-      taken = sym (append-nil got) ∙ ap (λ (ts : List Tag). got ++ ts) (sym none) ∙ sym begins;
+      taken = sym (append-nil got) ∙ ap (λ (ts : List MessageView). got ++ ts) (sym none) ∙ sym begins;
       ended = last;
       count = put_size;
     }

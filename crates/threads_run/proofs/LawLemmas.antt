@@ -11,7 +11,7 @@ use Rattle.model.specs.Stamps.{AdmittedTransaction}
 use Rattle.model.proofs.History.Chain.{version_before}
 use Rattle.model.proofs.History.Growth.{own_version_up_to}
 use Rattle.agreed_ledger.specs.declared.refusal.Refusal.TheVariants as refusals
-use Rattle.inboxes.specs.declared.views.Tag.{Tag}
+use Rattle.inboxes.specs.declared.views.MessageView.{MessageView}
 use Rattle.inboxes.specs.Delivers.{of_proxy}
 use Rattle.inboxes.specs.Ends.{ProxyView, SenderView}
 use Rattle.inboxes.specs.Sending.{HasEndLast, ends_in}
@@ -225,8 +225,8 @@ took_all config history workers p r side worker own within there sent =
     let taken : IsTaken messages worker sender = subst (λ (w : EndedView). IsTaken messages w sender) same all.taken in
     let proxy : sender.proxy ≡ p = places.1 ∙ own in
     let got : of_proxy p worker.taken.got ≡ sender.put = ap (λ (q : ℕ). of_proxy q worker.taken.got) (sym proxy) ∙ taken.taken in (
-      ap (λ (ms : List Tag). length ms) got ∙ taken.count ∙ ap (λ (q : ℕ). messages_of history q) own,
-      subst (λ (ms : List Tag). HasEndLast p ms) (sym got) (subst (λ (q : ℕ). HasEndLast q sender.put) proxy taken.ended),
+      ap (λ (ms : List MessageView). length ms) got ∙ taken.count ∙ ap (λ (q : ℕ). messages_of history q) own,
+      subst (λ (ms : List MessageView). HasEndLast p ms) (sym got) (subst (λ (q : ℕ). HasEndLast q sender.put) proxy taken.ended),
     )
 
 pub each_worker_took_all : EachWorkerTookAll
@@ -248,7 +248,7 @@ only x y zero at = same_Some x y at
 only x y (suc k) at = absurd (none-some y at)
 
 -- all that one proxy sent was delivered
-goes_by_one : (history : List Record) (messages : List Tag)
+goes_by_one : (history : List Record) (messages : List MessageView)
     → of_proxy 0 messages ≡ messages → HasEndLast 0 messages → length messages ≡ messages_of history 0
     → GoesByOne history messages messages
 goes_by_one history messages own last count = record {
@@ -281,13 +281,13 @@ goes_by_one history messages own last count = record {
     first_in_place (suc p) number at = absurd (none-some number at)
 
 -- what the worker took, if a run of one record went by its inbox
-taken_of_one : (sent taken : List Tag) → GoesByOne (one_of 10) sent taken → (length (of_proxy 0 taken) ≡ 2) × HasEndLast 0 (of_proxy 0 taken)
+taken_of_one : (sent taken : List MessageView) → GoesByOne (one_of 10) sent taken → (length (of_proxy 0 taken) ≡ 2) × HasEndLast 0 (of_proxy 0 taken)
 taken_of_one sent taken goes = each_worker_took_all one_proxy.config (one_of 10) (side_that_sent sent ∷ []) (worker_that_took taken ∷ []) goes 0 0 (worker_that_took taken) (omega arith) refl
 
 -- requests are no End
 no_end_last : HasEndLast 0 (a_request ∷ a_request ∷ []) → ⊥
 no_end_last (before, none, whole) =
-    let ends : 0 ≡ ends_in (before ++ the_end ∷ []) = ap (λ (ms : List Tag). ends_in ms) whole in
+    let ends : 0 ≡ ends_in (before ++ the_end ∷ []) = ap (λ (ms : List MessageView). ends_in ms) whole in
     let one : ends_in (before ++ the_end ∷ []) ≡ ends_in before + 1 = one_end before the_end refl in
     omega (arith, ends, one)
 

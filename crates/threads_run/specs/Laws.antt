@@ -12,7 +12,7 @@ use Rattle.model.specs.Numbers.{ProxyNumber, ResolverNumber}
 use Rattle.model.specs.Records.{Record}
 use Rattle.model.specs.Stamps.{AdmittedTransaction}
 use Rattle.agreed_ledger.specs.declared.refusal.Refusal.TheVariants as refusals
-use Rattle.inboxes.specs.declared.views.Tag.{Tag}
+use Rattle.inboxes.specs.declared.views.MessageView.{MessageView}
 use Rattle.inboxes.specs.Delivers.{of_proxy}
 use Rattle.inboxes.specs.Ends.{ProxyView}
 use Rattle.inboxes.specs.Sending.{HasEndLast}
@@ -124,14 +124,14 @@ EachTextWentByItsInboxes =
     → p < script.config.proxies → slice_get workers r ≡ Some worker → TookAllOf is.history p worker)
 
 -- what is left of proxy 0, which sent these messages to resolver 0
-abbrev pub side_that_sent : List Tag → ProxyView
+abbrev pub side_that_sent : List MessageView → ProxyView
 side_that_sent messages = record {
   proxy = 0;
   ends = record { resolver = 0; proxy = 0; put = messages; gone = false } ∷ [];
 }
 
 -- what is left of the worker of resolver 0, which took these messages
-abbrev pub worker_that_took : List Tag → EndedView
+abbrev pub worker_that_took : List MessageView → EndedView
 worker_that_took messages = record {
   taken = record { resolver = 0; got = messages };
   column = record { resolver = 0; rows = record { first = 0; known = [] } };
@@ -142,16 +142,16 @@ worker_that_took messages = record {
 
 -- the run of this history went by the inbox of resolver 0, to which proxy 0 sent these messages, and whose
 -- worker took those
-abbrev pub GoesByOne : (history : List Record) → (sent taken : List Tag) → Type 0
+abbrev pub GoesByOne : (history : List Record) → (sent taken : List MessageView) → Type 0
 GoesByOne history sent taken =
     GoesByInboxes one_proxy.config history
     (side_that_sent sent ∷ []) (worker_that_took taken ∷ [])
 
 -- a request of proxy 0 to resolver 0, and its last message
-abbrev pub a_request : Tag
+abbrev pub a_request : MessageView
 a_request = request_view 0 0 0
 
-abbrev pub the_end : Tag
+abbrev pub the_end : MessageView
 the_end = end_view 0
 
 -- A run of one record sent a request and the End. It did not go by its inbox if the proxy asked the resolver

@@ -18,7 +18,7 @@ use std::marker::Model;
 use std::sync::Wait;
 use system_keys::OutOfMemory;
 use threads_lines::{RunFault, RunHistory, records_of};
-use workers::{PendingRequest, EndedWorker, Open, ProxyInboxes};
+use workers::{EndedWorker, Open, PendingRequest, ProxyInboxes};
 
 /// What is left of the worker of an inbox.
 pub(crate) type Ended<N, M> = EndedWorker<N, M, Open>;

@@ -7,7 +7,9 @@ ghost use Rattle.threads_scripts.specs.Scripts.{script_of};
 ghost use Rattle.threads_lines.specs.declared.faults.RunFault.TheVariants as faults;
 
 use crate::text::threads_text;
-use scripts::{Failed, Output, ReadFault, RunStatus, Sink, Source, read_all, output_of_fault, write_all};
+use scripts::{
+    Failed, Output, ReadFault, RunStatus, Sink, Source, output_of_fault, read_all, write_all,
+};
 use std::alloc::Global;
 use std::sync::Wait;
 use std::thread::Threads;

@@ -19,7 +19,7 @@ use threads_lines::{
     AnsweredLines, Cluster, CommitsBatches, Committer, EndsProxies, RunFault, RunHistory,
     ServesInbox,
 };
-use workers::{PendingRequest, Open, ProxyInboxes, ResolverWorker};
+use workers::{Open, PendingRequest, ProxyInboxes, ResolverWorker};
 
 /// The resolvers of the cluster, which workers ask for the proxies.
 #[derive(Drop)]

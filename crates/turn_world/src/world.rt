@@ -25,7 +25,7 @@ use crate::ending::push_offers;
 use crate::event::Event;
 use crate::finishing::{finish_at, first_missing, kept_replies_at};
 use crate::kept_record::{KeptRecord, drop_parts_at};
-use crate::offering::{offer_at, cluster_refusal};
+use crate::offering::{cluster_refusal, offer_at};
 use crate::past_record::PastRecord;
 use crate::refusal::Refusal;
 use crate::sent_requests::{PastRequests, SentRequests};

@@ -105,7 +105,11 @@ fn print_finished_batch(
 }
 
 /// Prints the line of a finish, and then those of the transactions of its batch.
-fn print_finished(text: &mut String, proxy: ProxyNumber, finished: &Finished) -> Result<(), OutOfMemory>
+fn print_finished(
+    text: &mut String,
+    proxy: ProxyNumber,
+    finished: &Finished,
+) -> Result<(), OutOfMemory>
     requires { are_in_order 0 finished.now.tagged ≡ true }
     ensures { OnOk result (string_bytes text.new
         ≡ string_bytes text.old ++ finished_text proxy finished.now) }

@@ -6,8 +6,8 @@
 
 mod carrying_out;
 mod checks;
-mod event_streams;
 mod event_lines;
+mod event_streams;
 mod lines;
 mod numbers;
 mod proxies;

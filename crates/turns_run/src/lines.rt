@@ -12,7 +12,11 @@ use model::{Reply, ResolverNumber, RowNumber, UnseenRow, Verdict, Version};
 use system_keys::OutOfMemory;
 
 /// Prints that a batch has the record at a row, and its version. Fails only with `OutOfMemory`.
-pub fn print_sequence(text: &mut String, row: RowNumber, version: Version) -> Result<(), OutOfMemory>
+pub fn print_sequence(
+    text: &mut String,
+    row: RowNumber,
+    version: Version,
+) -> Result<(), OutOfMemory>
     ensures { OnOk result (string_bytes text.new
         ≡ string_bytes text.old ++ sequence_line row version) }
 {
@@ -56,7 +60,11 @@ pub fn print_offer(text: &mut String, word: &str, reply: &Reply) -> Result<(), O
 }
 
 /// Appends how the line of an offer begins, up to its verdicts.
-fn push_offered(text: &mut String, row: RowNumber, resolver: ResolverNumber) -> Result<(), OutOfMemory>
+fn push_offered(
+    text: &mut String,
+    row: RowNumber,
+    resolver: ResolverNumber,
+) -> Result<(), OutOfMemory>
     ensures { OnOk result (string_bytes text.new
         ≡ string_bytes text.old ++ offered_text row resolver) }
 {

@@ -12,8 +12,8 @@ ghost use Rattle.turn_world.specs.Events.{event_of};
 ghost use Rattle.turn_world.specs.Steps.{HasCarriedOut, HasStopped};
 ghost use Rattle.uses.specs.Running.{AreAtOneVersion, AreNotAtOneVersion};
 
-use model::{Config, ProxyNumber};
 use model::laws::{chain_law, events_law};
+use model::{Config, ProxyNumber};
 use proxy_state::Metadata;
 use shared_cluster::{Answer, Event, Stopped, TurnRefusal, TurnWorld};
 use std::alloc::Global;

@@ -7,8 +7,8 @@ ghost use Rattle.agreed_ledger.specs.Sequencing.{HasSequenced};
 ghost use Rattle.uses.specs.Tickets.{ComesAfter, ComesNext, IsTicketFor, move_after};
 ghost use Rattle.uses.specs.Tickets.{RefusesAroundMove, RefusesBatch, RefusesOneOfTwo};
 
-use model::{ProxyNumber, ResolverNumber};
 use agreed_ledger::{Ledger, Naming, Refusal, SequencerGuard, Ticket};
+use model::{ProxyNumber, ResolverNumber};
 use mutation::Batch;
 use request_builder::Record;
 use system_keys::KeyRange;

@@ -15,9 +15,9 @@ ghost use Rattle.locked_resolvers.specs.Resolvers.{closed_resolver};
 ghost use Rattle.locked_resolvers.specs.declared.refusal.Refusal.TheVariants as refusals;
 ghost use Rattle.crossbeam_channel.specs.declared.err.SendError.TheVariants as sends;
 
-use crate::answer::{WorkerAnswer, RefusedRequest};
-use crate::pending_request::PendingRequest;
+use crate::answer::{RefusedRequest, WorkerAnswer};
 use crate::gate::{Gate, Place};
+use crate::pending_request::PendingRequest;
 use crate::refusing::{refused_as_closed, refused_by_offer};
 use crate::told::{Told, tell};
 use agreed_ledger::{Column, Naming};
@@ -156,7 +156,12 @@ impl<N: Naming> Desk<N> {
     }
 
     /// Sends the answer. If whoever asked has gone, the answer is dropped.
-    fn tell<R: Wait>(&mut self, rt: &R, reply: Sender<WorkerAnswer<N>>, answer: WorkerAnswer<N>) -> Told
+    fn tell<R: Wait>(
+        &mut self,
+        rt: &R,
+        reply: Sender<WorkerAnswer<N>>,
+        answer: WorkerAnswer<N>,
+    ) -> Told
         ensures told { result ≡ told_by answer }
         ensures fails { OnlyFails self.old self.new }
         ensures closed { self.new.closed ≡ self.old.closed }
@@ -318,7 +323,11 @@ impl<N: Naming> Desk<N> {
 
     /// Offers the request to the resolver. Returns the answer: the reply, or why there is none. If that
     /// closes the worker, so it does the resolver.
-    fn offer_to_resolver(&mut self, guard: &mut ResolverGuard<'_, N>, request: Request<N>) -> WorkerAnswer<N>
+    fn offer_to_resolver(
+        &mut self,
+        guard: &mut ResolverGuard<'_, N>,
+        request: Request<N>,
+    ) -> WorkerAnswer<N>
         requires { self.old.column.resolver ≡ guard.old.memory.number }
         ensures keeps { KeepsServing self.old self.new }
         ensures held { self.new.held ≡ self.old.held }

@@ -7,8 +7,8 @@ ghost use Rattle.inboxes.specs.Ends.{IsBeginning};
 ghost use Rattle.inboxes.specs.declared.refusal.Refusal.TheVariants as refusals;
 ghost use Rattle.workers.specs.Workers.{IsEnded};
 
-use crate::pending_request::PendingRequest;
 use crate::gate::Gate;
+use crate::pending_request::PendingRequest;
 use agreed_ledger::{Column, Naming};
 use inboxes::{Channels, Counts, EndedSender, Refusal, WorkerPass};
 use std::marker::Model;

@@ -7,20 +7,20 @@
 #![tactic(auto)]
 
 mod answer;
-mod pending_request;
 mod desk;
 mod edges;
 mod ended;
 mod gate;
+mod pending_request;
 mod proxy_inboxes;
 mod refusing;
 mod told;
 mod waiting;
 mod worker;
 
-pub use pending_request::PendingRequest;
 pub use edges::ended_worker_edges;
 pub use ended::EndedWorker;
 pub use gate::{Gate, Open, Place};
+pub use pending_request::PendingRequest;
 pub use proxy_inboxes::{ProxyInboxes, SendersGuard};
 pub use worker::ResolverWorker;

@@ -8,7 +8,7 @@ ghost use Rattle.locked_resolvers.specs.Asking.{IsAskedRefusal, IsForeignAt};
 ghost use Rattle.locked_resolvers.specs.NotedReplies.{IsReplyToRequest};
 ghost use Rattle.workers.specs.Asking.{Gives};
 
-use crate::answer::{WorkerAnswer, RefusedRequest};
+use crate::answer::{RefusedRequest, WorkerAnswer};
 use crate::pending_request::PendingRequest;
 use agreed_ledger::Naming;
 use crossbeam_channel::{Receiver, bounded};

@@ -6,10 +6,10 @@ ghost use Rattle.inboxes.specs.Sending.{ends_in};
 ghost use Rattle.workers.specs.Workers.{HasTakenMore, IsWorkerOf, StaysFailed, TakesOne, new_worker};
 ghost use Rattle.locked_resolvers.specs.declared.refusal.Refusal.TheVariants as refusals;
 
-use crate::pending_request::PendingRequest;
 use crate::desk::Desk;
 use crate::ended::EndedWorker;
 use crate::gate::Gate;
+use crate::pending_request::PendingRequest;
 use agreed_ledger::Naming;
 use inboxes::{Body, Channels, FreshEnd, InboxEnd};
 use locked_resolvers::{Refusal, SharedResolver};

@@ -13,7 +13,7 @@ use std::test::Fail;
 use std::thread::{Threads, join};
 use std::time::Clock;
 use system_keys::OutOfMemory;
-use testing::{TransactionLine, EMPTY_TRANSACTION, room};
+use testing::{EMPTY_TRANSACTION, TransactionLine, room};
 use testing_cluster::{Cluster, begin_batch, blank, finish_record, pause};
 use workers::ProxyInboxes;
 

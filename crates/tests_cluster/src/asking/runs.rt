@@ -16,7 +16,7 @@ use std::thread::{Threads, join};
 use std::time::Clock;
 use testing::room;
 use testing_cluster::Cluster;
-use workers::{PendingRequest, Gate, ProxyInboxes, ResolverWorker};
+use workers::{Gate, PendingRequest, ProxyInboxes, ResolverWorker};
 
 /// A worker for each resolver, with a gate, and what is left of workers.
 #[derive(Drop)]

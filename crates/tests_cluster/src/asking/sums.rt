@@ -7,7 +7,7 @@ use std::alloc::Global;
 use std::sync::Mutex;
 use std::test::Fail;
 use testing::room;
-use workers::{PendingRequest, EndedWorker, Gate};
+use workers::{EndedWorker, Gate, PendingRequest};
 
 /// What is left of the threads of a run: the workers and the sending ends.
 #[derive(Drop)]

@@ -14,7 +14,7 @@ use std::alloc::Global;
 use std::process::Abort;
 use std::sync::Wait;
 use std::test::Fail;
-use testing::{TransactionLine, EMPTY_TRANSACTION, MutationLine as Change};
+use testing::{EMPTY_TRANSACTION, MutationLine as Change, TransactionLine};
 
 /// A transaction that gives a server its tag and all keys.
 const FIRST: TransactionLine<'static> = TransactionLine {

@@ -10,8 +10,8 @@ use std::alloc::Global;
 use std::process::Abort;
 use std::sync::Wait;
 use std::test::Fail;
-use testing::{TransactionLine, EMPTY_TRANSACTION};
-use workers::{PendingRequest, Open, ProxyInboxes, ResolverWorker};
+use testing::{EMPTY_TRANSACTION, TransactionLine};
+use workers::{Open, PendingRequest, ProxyInboxes, ResolverWorker};
 
 /// A batch of proxy 0, which writes one key.
 pub(crate) const ONE: &[Line<'static>] = &[(

@@ -11,7 +11,7 @@ use std::alloc::Global;
 use std::process::Abort;
 use std::sync::Wait;
 use std::test::Fail;
-use testing::{TransactionLine, EMPTY_TRANSACTION};
+use testing::{EMPTY_TRANSACTION, TransactionLine};
 
 /// A batch that writes at `k`.
 const WRITE: &[TransactionLine<'static>] = &[TransactionLine {

@@ -18,7 +18,8 @@ use std::test::Fail;
 use std::thread::{Threads, join};
 use system_keys::{Items, Tag};
 use testing::{
-    EMPTY_TRANSACTION, MutationLine, batch, batch_of, bytes, given_range, mutation, one, room, transaction,
+    EMPTY_TRANSACTION, MutationLine, batch, batch_of, bytes, given_range, mutation, one, room,
+    transaction,
 };
 
 // ---- closing
@@ -83,7 +84,10 @@ fn threads_that_wait_are_told_of_a_closed_resolver(rt: HostRuntime) -> Result<()
 const TAG: Tag = Tag { locality: 0, id: 1 };
 
 /// The server has this tag.
-const TAGGED: MutationLine<'static> = MutationLine::Set(b"\xff/serverTag/server0000000001", b"\x00\x00\x01");
+const TAGGED: MutationLine<'static> = MutationLine::Set(
+    b"\xff/serverTag/server0000000001",
+    b"\x00\x00\x01",
+);
 
 /// The value that gives keys to the server.
 const SERVER: &[u8] = b"\x01server0000000001\x00";

@@ -16,7 +16,7 @@ use std::sync::Wait;
 use std::test::Fail;
 use std::thread::Threads;
 use system_keys::OutOfMemory;
-use workers::{PendingRequest, Gate, Open, ProxyInboxes, ResolverWorker};
+use workers::{Gate, Open, PendingRequest, ProxyInboxes, ResolverWorker};
 
 /// A worker for each resolver, with a gate, and proxies that follow a plan. Each proxy asks the
 /// requests twice, if there are any.

@@ -7,7 +7,7 @@ use std::alloc::Global;
 use std::sync::Mutex;
 use std::test::Fail;
 use testing::room;
-use workers::{PendingRequest, EndedWorker, Gate};
+use workers::{EndedWorker, Gate, PendingRequest};
 
 /// What each proxy does before it ends, and what it is to come to.
 #[derive(Clone, Copy)]

@@ -322,7 +322,10 @@ fn a_script_is_read_as_a_tree_where_a_field_stands_twice(rt: HostRuntime) -> Res
 
 /// A script of one row with one state transaction, and of one key.
 fn fold_script(alloc: Global) -> Result<FoldScript, Fail> {
-    let steps = &[MutationLine::Set(b"a", b"1"), MutationLine::Clear(b"m", b"t")];
+    let steps = &[
+        MutationLine::Set(b"a", b"1"),
+        MutationLine::Clear(b"m", b"t"),
+    ];
     let row = journal_row(
         alloc,
         10,

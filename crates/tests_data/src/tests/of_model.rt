@@ -8,7 +8,8 @@ use model::{
 use std::test::Fail;
 use system_keys::Tag;
 use testing::{
-    Content, ReplyLine, MutationLine, bytes, content_of_line, change, journal_row, one, part, range, reply,
+    Content, MutationLine, ReplyLine, bytes, change, content_of_line, journal_row, one, part,
+    range, reply,
 };
 
 const TAG: Tag = Tag {
@@ -17,7 +18,13 @@ const TAG: Tag = Tag {
 };
 
 /// A Set and a Clear, lock aware.
-const CONTENT: Content<'static> = (&[MutationLine::Set(b"a", b"1"), MutationLine::Clear(b"m", b"t")], true);
+const CONTENT: Content<'static> = (
+    &[
+        MutationLine::Set(b"a", b"1"),
+        MutationLine::Clear(b"m", b"t"),
+    ],
+    true,
+);
 
 #[test]
 fn contents_and_their_marks_are_copied(rt: HostRuntime) -> Result<(), Fail> {

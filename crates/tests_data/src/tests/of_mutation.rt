@@ -8,7 +8,10 @@ use mutation::{
 use std::alloc::Global;
 use std::test::Fail;
 use system_keys::{Change, KeyRange};
-use testing::{TransactionLine, EMPTY_TRANSACTION, MutationLine, admit_line, batch, repeat_byte, room, transaction, transaction_of};
+use testing::{
+    EMPTY_TRANSACTION, MutationLine, TransactionLine, admit_line, batch, repeat_byte, room,
+    transaction, transaction_of,
+};
 
 /// A value that waits for its stamp at the offset 2.
 const AT_TWO: &[u8] = b"ab0123456789\x02\x00\x00\x00";
@@ -133,7 +136,10 @@ const FAULTY: &[(TransactionLine<'static>, Refusal)] = &[
     ),
     (
         TransactionLine {
-            mutations: &[MutationLine::SetStamped(b"\xff/serverTag/server0000000001", b"\x00\x00\x01")],
+            mutations: &[MutationLine::SetStamped(
+                b"\xff/serverTag/server0000000001",
+                b"\x00\x00\x01",
+            )],
             ..EMPTY_TRANSACTION
         },
         Refusal::Key(system_keys::Refusal::BadRow),
@@ -289,7 +295,10 @@ fn given_transactions_are_copied(rt: HostRuntime) -> Result<(), Fail> {
 
 #[test]
 fn batches_are_copied(rt: HostRuntime) -> Result<(), Fail> {
-    let batch = batch(rt.alloc(), &[EMPTY_TRANSACTION, EMPTY_TRANSACTION, ONE_EACH])?;
+    let batch = batch(
+        rt.alloc(),
+        &[EMPTY_TRANSACTION, EMPTY_TRANSACTION, ONE_EACH],
+    )?;
     assert!(rt; matches!(batch.transactions(), [_, _, last] if are_mutations(last.mutations())));
     assert_copied(&rt, &batch, Batch::copy);
     Ok(())
@@ -297,7 +306,10 @@ fn batches_are_copied(rt: HostRuntime) -> Result<(), Fail> {
 
 #[test]
 fn the_transactions_of_a_batch_are_taken(rt: HostRuntime) -> Result<(), Fail> {
-    let batch = batch(rt.alloc(), &[EMPTY_TRANSACTION, EMPTY_TRANSACTION, ONE_EACH])?;
+    let batch = batch(
+        rt.alloc(),
+        &[EMPTY_TRANSACTION, EMPTY_TRANSACTION, ONE_EACH],
+    )?;
     let taken = batch.into_transactions();
     assert!(rt; matches!(taken.as_slice(), [_, _, last] if is_one_each(last)));
     Ok(())

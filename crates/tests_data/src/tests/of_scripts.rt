@@ -7,7 +7,10 @@ use scripts::{RawChange, RunStatus, ScriptFault, read_batch, stream_batch};
 use std::alloc::Global;
 use std::test::Fail;
 use system_keys::OutOfMemory;
-use testing::{TransactionLine, EMPTY_TRANSACTION, MutationLine, are_shown_as, batch, bytes, is_memory_refused, twice};
+use testing::{
+    EMPTY_TRANSACTION, MutationLine, TransactionLine, are_shown_as, batch, bytes,
+    is_memory_refused, twice,
+};
 
 /// Each fault in words; those of a key, a transaction or a batch are shown alone.
 const WORDS: &[(ScriptFault, &str)] = &[

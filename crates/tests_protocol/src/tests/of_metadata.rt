@@ -8,7 +8,7 @@ use proxy_state::{JournalRow, Metadata, Verdict};
 use std::process::Abort;
 use std::test::Fail;
 use system_keys::{Change, OutOfMemory, Tag};
-use testing::{StateLine, MutationLine, change, journal_row, twice, twice_on};
+use testing::{MutationLine, StateLine, change, journal_row, twice, twice_on};
 
 const ROW_OF_B: &[u8] = b"\xff/keyServers/b";
 
@@ -160,7 +160,11 @@ const STAGES: &[Stage] = &[
         &[(b"a", None), (b"\xff/conf/x", None), (VERSION, Some(b"v"))],
         &[Some(&[TAG_1]), Some(&[TAG_0, TAG_1]), None],
     ),
-    (&[MutationLine::Set(VERSION, b"w")], &[(VERSION, Some(b"w"))], &[]),
+    (
+        &[MutationLine::Set(VERSION, b"w")],
+        &[(VERSION, Some(b"w"))],
+        &[],
+    ),
     // a changed tag changes at each place that names its server
     (
         &[MutationLine::Set(TAG_ROW_1, b"\x00\x00\x02")],
@@ -386,7 +390,10 @@ const ROWS: &[(&[StateLine<'static>], Entries)] = &[
     (
         &[
             (BOTH, (&[MutationLine::Set(VERSION, b"v")], false)),
-            (BOTH, (&[MutationLine::Set(TAG_ROW_1, b"\x00\x00\x01")], true)),
+            (
+                BOTH,
+                (&[MutationLine::Set(TAG_ROW_1, b"\x00\x00\x01")], true),
+            ),
         ],
         &[(VERSION, Some(b"2")), (TAG_ROW_1, Some(b"\x00\x00\x01"))],
     ),

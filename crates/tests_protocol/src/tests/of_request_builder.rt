@@ -12,7 +12,8 @@ use std::process::Abort;
 use std::test::Fail;
 use system_keys::{Change, Items, OutOfMemory};
 use testing::{
-    Ends, TransactionLine, EMPTY_TRANSACTION, PartLine, MutationLine, batch, list, none, part, plain_batch, range, room, twice,
+    EMPTY_TRANSACTION, Ends, MutationLine, PartLine, TransactionLine, batch, list, none, part,
+    plain_batch, range, room, twice,
 };
 
 // ---- records and requests

@@ -9,7 +9,9 @@ use std::alloc::{AllocError, Global};
 use std::process::Abort;
 use std::test::Fail;
 use system_keys::OutOfMemory;
-use testing::{Content, Ends, PartLine, ReplyLine, MutationLine, UnseenLine, UnseenRowLine, reply, room, twice};
+use testing::{
+    Content, Ends, MutationLine, PartLine, ReplyLine, UnseenLine, UnseenRowLine, reply, room, twice,
+};
 
 // ---- requests and what they get
 

@@ -6,7 +6,7 @@ use std::alloc::Global;
 use std::process::Abort;
 use std::test::Fail;
 use system_keys::OutOfMemory;
-use testing::{TransactionLine, EMPTY_TRANSACTION, is_memory_refused, range, room, twice};
+use testing::{EMPTY_TRANSACTION, TransactionLine, is_memory_refused, range, room, twice};
 use turn_world::{Answer, Config, Event, OfferAnswer, Refusal, Stopped, TurnWorld};
 
 /// One call for a cluster.

@@ -10,7 +10,7 @@ use std::process::Abort;
 use std::sync::Wait;
 use std::test::Fail;
 use system_keys::Tag;
-use testing::{TransactionLine, EMPTY_TRANSACTION, MutationLine, batch, range};
+use testing::{EMPTY_TRANSACTION, MutationLine, TransactionLine, batch, range};
 use testing_cluster::{Cluster, number};
 
 // ---- numbers

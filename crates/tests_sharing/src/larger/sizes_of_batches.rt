@@ -6,7 +6,10 @@ use mutation::{Admitted, Batch, Mutation, admit};
 use std::alloc::Global;
 use std::test::Fail;
 use system_keys::Items;
-use testing::{TransactionLine, EMPTY_TRANSACTION, MutationLine, admit_line, batch, batch_of, bytes, room, transaction};
+use testing::{
+    EMPTY_TRANSACTION, MutationLine, TransactionLine, admit_line, batch, batch_of, bytes, room,
+    transaction,
+};
 use turn_world::{Answer, Event, TurnWorld};
 
 /// The only proxy commits the batch over the only resolver, in this row.

@@ -9,7 +9,7 @@ use std::sync::Wait;
 use std::test::Fail;
 use std::thread::{Threads, join};
 use std::time::Clock;
-use testing::{TransactionLine, EMPTY_TRANSACTION, room};
+use testing::{EMPTY_TRANSACTION, TransactionLine, room};
 use testing_cluster::{Cluster, begin_batch, blank, finish_record, pause};
 
 /// A batch that writes one key.

@@ -5,7 +5,7 @@ use locked_cluster::NotedFinished;
 use model::{Finished, Outcome};
 use proxy_state::Metadata;
 use system_keys::Tag;
-use testing::{TransactionLine, EMPTY_TRANSACTION, MutationLine};
+use testing::{EMPTY_TRANSACTION, MutationLine, TransactionLine};
 
 /// A transaction that gives a server its tag and all keys.
 pub(crate) const FIRST: &[TransactionLine<'static>] = &[TransactionLine {

@@ -9,7 +9,7 @@ use std::alloc::Global;
 use std::process::Abort;
 use std::test::Fail;
 use system_keys::OutOfMemory;
-use testing::{Ends, TransactionLine, EMPTY_TRANSACTION, batch, range, room};
+use testing::{EMPTY_TRANSACTION, Ends, TransactionLine, batch, range, room};
 use turn_world::{Answer, Event, OfferAnswer, Refusal, TurnWorld};
 
 // ---- events

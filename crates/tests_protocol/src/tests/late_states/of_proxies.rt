@@ -5,7 +5,7 @@ use model::Config;
 use proxy_state::{Replies, Verdict};
 use std::alloc::Global;
 use std::test::Fail;
-use testing::{ReplyLine, MutationLine, reply};
+use testing::{MutationLine, ReplyLine, reply};
 
 /// A reply to a record of proxy 2, which tells it of a row.
 const REPLY: ReplyLine<'static> = ReplyLine {

@@ -5,7 +5,7 @@ use model::Verdict;
 use std::process::Abort;
 use std::test::Fail;
 use system_keys::{Change, OutOfMemory, Tag};
-use testing::{StateLine, MutationLine, change, journal_row};
+use testing::{MutationLine, StateLine, change, journal_row};
 
 /// Two servers with their tags.
 const SERVERS: &[MutationLine<'static>] = &[
@@ -14,10 +14,16 @@ const SERVERS: &[MutationLine<'static>] = &[
 ];
 
 /// The row at `b`.
-const ROW_AT_B: &[MutationLine<'static>] = &[MutationLine::Set(b"\xff/keyServers/b", b"\x01server0000000001\x00")];
+const ROW_AT_B: &[MutationLine<'static>] = &[MutationLine::Set(
+    b"\xff/keyServers/b",
+    b"\x01server0000000001\x00",
+)];
 
 /// The row at `m`.
-const ROW_AT_M: &[MutationLine<'static>] = &[MutationLine::Set(b"\xff/keyServers/m", b"\x01server0000000002\x00")];
+const ROW_AT_M: &[MutationLine<'static>] = &[MutationLine::Set(
+    b"\xff/keyServers/m",
+    b"\x01server0000000002\x00",
+)];
 
 const TAG_1: Tag = Tag { locality: 0, id: 1 };
 
@@ -56,7 +62,10 @@ fn gives_tags<R: Abort + AllocGlobal>(rt: &R, metadata: &Metadata) -> Result<(),
 }
 
 /// The metadata after the steps of these lists.
-fn metadata_after<R: AllocGlobal>(rt: &R, lists: &[&[MutationLine<'static>]]) -> Result<Metadata, Fail> {
+fn metadata_after<R: AllocGlobal>(
+    rt: &R,
+    lists: &[&[MutationLine<'static>]],
+) -> Result<Metadata, Fail> {
     let mut metadata = Metadata::new(rt.alloc());
     for steps in lists {
         for step in *steps {

@@ -9,7 +9,7 @@ use crate::tests::{are_alike, copy_of};
 use proxy_state::Refusal;
 use std::process::Abort;
 use std::test::Fail;
-use testing::{Content, ReplyLine, MutationLine, UnseenLine, UnseenRowLine};
+use testing::{Content, MutationLine, ReplyLine, UnseenLine, UnseenRowLine};
 
 /// Gives server 1 its tag.
 const TAGS: Content<'static> = (&[MutationLine::Set(TAG_ROW_1, b"\x00\x00\x01")], true);

@@ -13,7 +13,7 @@ use std::alloc::Global;
 use std::process::Abort;
 use std::test::Fail;
 use system_keys::{OutOfMemory, Tag};
-use testing::{Content, ReplyLine, MutationLine, content_batch, twice};
+use testing::{Content, MutationLine, ReplyLine, content_batch, twice};
 
 // ---- records that are begun
 
