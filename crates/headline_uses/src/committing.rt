@@ -10,7 +10,7 @@ use std::sync::Wait;
 
 /// Commits a batch, and lets the proxy go. A way to ask that takes the requests of one proxy alone, as
 /// the inboxes of a proxy do, commits by this proxy and by no other.
-pub fn commit_by_own_way<N: Naming, R: Wait, A: Asking<N>>(
+pub fn commit_by_own_inboxes<N: Naming, R: Wait, A: Asking<N>>(
     rt: &R,
     proxy: &SharedProxy<'_, N>,
     sequencer: &Sequencer<'_, N>,

@@ -12,6 +12,6 @@ mod showing;
 
 pub use answering::{has_come_to, records_of_answer, sent_mutations, tags_by_proxy};
 pub use auditing::{audit_in_order, columns_of_proxy, resolver_to_wait_for};
-pub use committing::commit_by_own_way;
+pub use committing::commit_by_own_inboxes;
 pub use promising::{metadata_at_one_version, records_of_proxy, routing_of_history};
 pub use showing::{columns_of_answer, journal_of_other, records_of_routing};

@@ -18,8 +18,8 @@ use Rattle.locked_resolvers.specs.Requests.{RequestView}
 use Rattle.locked_resolvers.specs.NotedReplies.{NotedReplyView}
 use Rattle.locked_cluster.specs.Begun.{BegunView, IsBegun, requests_to_all, with_records}
 use Rattle.locked_cluster.specs.Ready.{AreRepliesOfAll}
-use Rattle.locked_resolvers.specs.Asking.{AreOfOneRecord, AreRepliesInOrder, AreTaken, IsTaken, TakesProxy}
-use Rattle.locked_cluster.specs.Commits.{HoldsBatch, TakesRecord}
+use Rattle.locked_resolvers.specs.Asking.{AreOfOneRecord, AreRepliesInOrder, AreTaken, IsTaken}
+use Rattle.locked_cluster.specs.Commits.{HoldsBatch, TakesProxy, TakesRecord}
 use Rattle.locked_cluster.proofs.ProxyBegins.{request_at}
 
 -- the numbers of the request at a place

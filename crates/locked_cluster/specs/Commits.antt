@@ -1,5 +1,5 @@
 -- What a commit does. *Profile*: all of it.
-use Rattle.std.specs.Prelude.{◌≡◌, List, slice_get, Option, Some, IsFalse}
+use Rattle.std.specs.Prelude.{◌≡◌, List, slice_get, Option, None, Some, IsFalse}
 use Rattle.model.specs.Numbers.{ProxyNumber, RowNumber}
 use Rattle.model.specs.Configs.{Config}
 use Rattle.model.specs.Records.{Record, MovesFollow}
@@ -8,7 +8,7 @@ use Rattle.agreed_ledger.specs.Cells.{Cells}
 use Rattle.agreed_ledger.specs.Refusals.{refusal_fault}
 use Rattle.agreed_ledger.specs.Sequencing.{SequencedView, TicketView, sequence_fault}
 use Rattle.agreed_ledger.specs.declared.refusal.Refusal.{Refusal as LedgerRefusal}
-use Rattle.locked_resolvers.specs.Asking.{IsAskAllRefusal, TakesProxy}
+use Rattle.locked_resolvers.specs.Asking.{IsAskAllRefusal}
 use Rattle.locked_cluster.specs.Answers.{NotedFinishedView}
 use Rattle.locked_cluster.specs.Begun.{BegunView}
 use Rattle.locked_cluster.specs.Ready.{ReadyView}
@@ -26,6 +26,11 @@ pub record HoldsBatch
   pub there : slice_get records row ≡ Some rec
   pub own : rec.proxy ≡ p
   pub batch_is : rec.batch ≡ stamped_from rec.version 0 batch
+
+-- the way to ask takes the requests of this proxy
+abbrev pub TakesProxy : (whose : Option ProxyNumber) → ProxyNumber → Type 0
+TakesProxy None p = Unit {0}
+TakesProxy (Some only) p = p ≡ only
 
 -- the way to ask takes the requests of the proxy whose record was begun
 abbrev pub TakesRecord : (whose : Option ProxyNumber) → BegunView → Type 0

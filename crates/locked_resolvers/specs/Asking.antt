@@ -47,11 +47,6 @@ abbrev pub IsTaken : (whose : Option ProxyNumber) → Request → Type 0
 IsTaken None q = Unit {0}
 IsTaken (Some p) q = q.proxy ≡ p
 
--- the way to ask takes the requests of this proxy
-abbrev pub TakesProxy : (whose : Option ProxyNumber) → ProxyNumber → Type 0
-TakesProxy None p = Unit {0}
-TakesProxy (Some only) p = p ≡ only
-
 -- each request is one that it takes
 abbrev pub AreTaken : (whose : Option ProxyNumber) → List RequestView → Type 0
 AreTaken whose requests =

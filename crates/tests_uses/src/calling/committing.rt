@@ -4,7 +4,7 @@ use crate::calling::asking::SecondTime;
 use crate::calling::stories::{Story, tell};
 use crate::calling::values::{FIRST, Seen, TAG, WRITE, seen_by};
 use agreed_ledger::Naming;
-use headline_uses::commit_by_own_way;
+use headline_uses::commit_by_own_inboxes;
 use locked_cluster::{Asking, NotedFinished, Refusal};
 use mutation::Batch;
 use std::alloc::Global;
@@ -68,7 +68,7 @@ fn commit_at_once<N: Naming, A: Asking<N>, R: Wait>(
     let Ok(proxy) = cluster.proxy(proxy) else {
         return Err(32);
     };
-    match commit_by_own_way(rt, proxy, &cluster.sequencer, asking, batch) {
+    match commit_by_own_inboxes(rt, proxy, &cluster.sequencer, asking, batch) {
         Ok(noted) => Ok(seen_by(&noted)),
         Err(fault) => Err(number(&fault)),
     }

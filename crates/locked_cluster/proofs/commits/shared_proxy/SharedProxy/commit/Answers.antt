@@ -1,7 +1,7 @@
 -- What failed returned what it was given, which holds the batch.
 use Rattle.std.proofs.Common.{◌≡◌, sym, subst, rules}
 use Rattle.std.specs.Prelude.{MatchResult, Result, Err}
-use Rattle.locked_resolvers.specs.Asking.{IsAskAllRefusal, TakesProxy}
+use Rattle.locked_resolvers.specs.Asking.{IsAskAllRefusal}
 use Rattle.locked_cluster.specs.Begun.{BegunView}
 use Rattle.locked_cluster.specs.Commits.{HandsBack, HoldsBatch, IsCommitted}
 use Rattle.locked_cluster.proofs.commits.shared_proxy.SharedProxy.commit.Goals as goal
