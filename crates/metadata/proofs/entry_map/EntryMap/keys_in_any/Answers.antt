@@ -25,13 +25,13 @@ loop-range-preserved c =
     λ key. held_next ranges c.loop-range.range-index c.range-item.result key c.loop-range-test.true ∙ ap (λ (r : Bor Range). is_held done key || holds r.now key) (sym c.range-item.is) in
     elim c.if-is_key_below.branch [
       | then-is_key_below+in_ok-list_keys_between w ↦
-          held_more c.if-not-is_between.from.now c.if-not-is_between.up_to.now w.end-then-precedes.result.now c.if-is_key_below.up_to.now done after range
-          (bytes_of_keys c.loop-range.keys.items) (bytes_of_keys c.if-is_key_below.keys.items) c.args.self.now c.args.self.now joins w.end-then-precedes.ensures.value
+          held_more c.if-not-is_between.from.now c.if-not-is_between.up_to.now w.end-then-is_key_below.result.now c.if-is_key_below.up_to.now done after range
+          (bytes_of_keys c.loop-range.keys.items) (bytes_of_keys c.if-is_key_below.keys.items) c.args.self.now c.args.self.now joins w.end-then-is_key_below.ensures.value
           (ap (λ (key : Bor Key). key.now) w.up_to-is ∙ w.end-up_to.ensures.value) (ap (λ (keys : Vec (Vec ℕ)). bytes_of_keys keys.items) w.keys-is ∙ w.in_ok-list_keys_between.ensures) refl
           next c.loop-range.invariant.listed
       | else-is_key_below w ↦
           held_already c.if-not-is_between.from.now c.if-not-is_between.up_to.now c.end.result.now c.if-is_key_below.up_to.now done after range
-          (bytes_of_keys c.loop-range.keys.items) (bytes_of_keys c.if-is_key_below.keys.items) c.args.self.now joins (sym c.is_key_below.ensures ∙ w.if-precedes.false) c.end.ensures.value
+          (bytes_of_keys c.loop-range.keys.items) (bytes_of_keys c.if-is_key_below.keys.items) c.args.self.now joins (sym c.is_key_below.ensures ∙ w.if-is_key_below.false) c.end.ensures.value
           (ap (λ (key : Bor Key). key.now) w.up_to-is) (ap (λ (keys : Vec (Vec ℕ)). bytes_of_keys keys.items) w.keys-is)
           next c.loop-range.invariant.listed
     ]
