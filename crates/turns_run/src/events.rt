@@ -39,8 +39,9 @@ pub(crate) fn print_events(
     Ok(())
 }
 
-/// Carries out the event, of which nothing is copied, and prints its lines.
-pub(crate) fn print_event(
+/// Carries out the event, of which nothing is copied, and prints its lines. Fails only with
+/// `OutOfMemory`.
+pub fn print_event(
     text: &mut String,
     event: Event,
     world: &mut TurnWorld,
@@ -124,8 +125,9 @@ fn push_finish(text: &mut String, proxy: usize, version: u64) -> Result<(), OutO
     Ok(())
 }
 
-// Fails also for the refusal `OutOfMemory`, which has no number.
-fn print_refusal(text: &mut String, refusal: &Refusal) -> Result<(), OutOfMemory>
+/// Prints the line of a refusal. Fails only with `OutOfMemory`, which is also what it makes of the
+/// refusal `OutOfMemory`, since that has no number.
+pub fn print_refusal(text: &mut String, refusal: &Refusal) -> Result<(), OutOfMemory>
     ensures numbered { OnOk result (IsSome (refusal_number refusal.now)) }
     ensures text { OnOk result (string_bytes text.new
         ≡ string_bytes text.old ++ refusal_line refusal.now) }

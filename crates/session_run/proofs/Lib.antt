@@ -1,0 +1,2 @@
+pub mod TurnsScriptLemmas
+pub mod LineLemmas

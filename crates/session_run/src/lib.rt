@@ -1,0 +1,23 @@
+//! A session with a cluster without threads: each line of the input is an event of a turns script, or
+//! begins a cluster, or shows a proxy, and is answered before the next read.
+//!
+//! Source: this project's profile (lines, answers and statuses of sessions).
+#![tactic(auto)]
+
+mod answers;
+mod checks;
+mod joined;
+mod line;
+mod reading;
+mod run;
+mod session;
+mod shapes;
+mod streams;
+mod turns_scripts;
+
+pub use line::{Line, Show};
+pub use reading::read_line;
+pub use run::run_session;
+pub use session::Session;
+pub use turns_scripts::lines_give_turns;
+pub use sessions::{Answering, SessionStatus};

@@ -1,0 +1,137 @@
+//! A session with a cluster without threads.
+
+ghost use Rattle.std.specs.Prelude.{◌≡◌, IfOk, IfSome, None, OnErr, OnOk, Option, Some, string_bytes};
+ghost use Rattle.model.specs.Turns.{TurnCluster, after_event};
+ghost use Rattle.turn_world.specs.Events.{event_of};
+ghost use Rattle.session_run.specs.Session.{after_line, answer_with, carried_out_text};
+ghost use Rattle.session_run.specs.Session.{line_text, session_rules, show_text};
+
+use crate::answers::{cluster_answer, ended, faulty_answer, no_cluster_answer};
+use crate::line::{Line, Show};
+use crate::reading::read_line;
+use model::Config;
+use sessions::Answering;
+use std::alloc::Global;
+use system_keys::OutOfMemory;
+use turn_world::{Event, Refusal, TurnWorld};
+use turns_run::{print_event, print_proxy, print_refusal};
+
+/// A session: the cluster that a line has begun, if there is one.
+#[derive(Drop)]
+pub struct Session {
+    cluster: Option<TurnWorld>,
+}
+
+impl Session {
+    /// The session before its first line.
+    pub fn new() -> Session
+        ensures { result.cluster ≡ None }
+    {
+        Session { cluster: None }
+    }
+
+    /// The cluster, whose records obey the rule of commit.
+    pub fn cluster(&self) -> Option<&TurnWorld>
+        ensures none { result ≡ None → self.now.cluster ≡ None }
+        ensures some { IfSome result (λ cluster. self.now.cluster ≡ Some cluster.now) }
+    {
+        match &self.cluster {
+            Some(cluster) => Some(cluster),
+            None => None,
+        }
+    }
+
+    /// Carries out what a line asks, and returns its answer. Fails only with `OutOfMemory`; the
+    /// session is then unchanged.
+    pub fn answer_line(&mut self, alloc: Global, line: Line) -> Result<String, OutOfMemory>
+        ensures text { IfOk result (λ text.
+            string_bytes text ≡ answer_with (line_text self.old.cluster line)) }
+        ensures ok { OnOk result (self.new.cluster ≡ after_line self.old.cluster line) }
+        ensures err { OnErr result (self.new.cluster ≡ self.old.cluster) }
+    {
+        match line {
+            Line::Cluster(config) => self.begin(alloc, &config),
+            Line::Event(event) => self.carry_out(alloc, event),
+            Line::Show(show) => self.show(alloc, &show),
+        }
+    }
+
+    /// Begins a new cluster in place of the last one.
+    fn begin(&mut self, alloc: Global, config: &Config) -> Result<String, OutOfMemory>
+        ensures text { IfOk result (λ text. string_bytes text
+            ≡ answer_with (line_text self.old.cluster (Line.Cluster config.now))) }
+        ensures ok { OnOk result (self.new.cluster
+            ≡ after_line self.old.cluster (Line.Cluster config.now)) }
+        ensures err { OnErr result (self.new.cluster ≡ self.old.cluster) }
+    {
+        let text = cluster_answer(alloc)?;
+        let cluster = TurnWorld::new(alloc, config)?;
+        self.cluster = Some(cluster);
+        Ok(text)
+    }
+
+    /// Carries out an event.
+    fn carry_out(&mut self, alloc: Global, event: Event) -> Result<String, OutOfMemory>
+        ensures text { IfOk result (λ text. string_bytes text
+            ≡ answer_with (line_text self.old.cluster (Line.Event event))) }
+        ensures ok { OnOk result (self.new.cluster
+            ≡ after_line self.old.cluster (Line.Event event)) }
+        ensures err { OnErr result (self.new.cluster ≡ self.old.cluster) }
+    {
+        let Some(cluster) = &mut self.cluster else {
+            return no_cluster_answer(alloc);
+        };
+        event_answer(alloc, cluster, event)
+    }
+
+    /// Shows a proxy.
+    fn show(&self, alloc: Global, show: &Show) -> Result<String, OutOfMemory>
+        ensures { IfOk result (λ text. string_bytes text
+            ≡ answer_with (line_text self.now.cluster (Line.Show show.now))) }
+    {
+        let Some(cluster) = &self.cluster else {
+            return no_cluster_answer(alloc);
+        };
+        show_answer(alloc, cluster, show)
+    }
+}
+
+impl Answering for Session {
+    ghost State = { Option TurnCluster };
+
+    ghost state = { λ session. session.cluster };
+
+    ghost rules = { session_rules };
+
+    fn answer(&mut self, alloc: Global, line: &[u8]) -> Result<String, OutOfMemory> {
+        match read_line(alloc, line) {
+            Ok(line) => self.answer_line(alloc, line),
+            Err(fault) => faulty_answer(alloc, fault),
+        }
+    }
+}
+
+/// The answer to an event.
+fn event_answer(alloc: Global, cluster: &mut TurnWorld, event: Event) -> Result<String, OutOfMemory>
+    ensures text { IfOk result (λ text. string_bytes text
+        ≡ answer_with (carried_out_text cluster.old (event_of event))) }
+    ensures ok { OnOk result (cluster.new ≡ after_event cluster.old (event_of event)) }
+    ensures err { OnErr result (cluster.new ≡ cluster.old) }
+{
+    let mut text = String::new(alloc);
+    print_event(&mut text, event, cluster)?;
+    ended(text)
+}
+
+/// The answer to a line that shows a proxy.
+fn show_answer(alloc: Global, cluster: &TurnWorld, show: &Show) -> Result<String, OutOfMemory>
+    ensures { IfOk result (λ text. string_bytes text
+        ≡ answer_with (show_text cluster.now show.now.proxy show.now.ask)) }
+{
+    let mut text = String::new(alloc);
+    match cluster.proxy(show.proxy) {
+        Some(proxy) => print_proxy(alloc, &mut text, show.proxy, proxy, show.ask.as_slice())?,
+        None => print_refusal(&mut text, &Refusal::NoSuchProxy)?,
+    }
+    ended(text)
+}
