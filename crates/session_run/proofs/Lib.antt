@@ -1,2 +1,3 @@
 pub mod TurnsScriptLemmas
 pub mod LineLemmas
+pub mod AnswerLemmas

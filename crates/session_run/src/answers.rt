@@ -1,7 +1,8 @@
 //! The texts of answers.
 
-ghost use Rattle.std.specs.Prelude.{◌≡◌, IfOk, string_bytes};
+ghost use Rattle.std.specs.Prelude.{◌≡◌, IfOk, IsSome, OnOk, string_bytes};
 ghost use Rattle.scripts.specs.Answers.{refused_answer};
+ghost use Rattle.scripts.specs.ScriptFaults.{fault_number};
 ghost use Rattle.session_run.specs.Session.{answer_with, cluster_text, no_cluster_text};
 
 use scripts::{ScriptFault, refused};
@@ -11,7 +12,9 @@ use system_keys::OutOfMemory;
 /// The answer to a line with this fault. Fails only with `OutOfMemory`, which is also what it makes
 /// of the fault `OutOfMemory`.
 pub(crate) fn faulty_answer(alloc: Global, fault: ScriptFault) -> Result<String, OutOfMemory>
-    ensures { IfOk result (λ text. string_bytes text ≡ answer_with (refused_answer fault).text) }
+    ensures numbered { OnOk result (IsSome (fault_number fault)) }
+    ensures text { IfOk result (λ text.
+        string_bytes text ≡ answer_with (refused_answer fault).text) }
 {
     let output = refused(alloc, fault)?;
     ended(output.text)

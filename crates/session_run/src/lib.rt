@@ -19,5 +19,5 @@ pub use line::{Line, Show};
 pub use reading::read_line;
 pub use run::run_session;
 pub use session::Session;
+pub use sessions::{Answering, SessionStatus, Unanswered};
 pub use turns_scripts::lines_give_turns;
-pub use sessions::{Answering, SessionStatus};

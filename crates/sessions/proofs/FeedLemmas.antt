@@ -1,33 +1,38 @@
 -- How far a piece of the input has been taken up.
-use Rattle.std.proofs.Common.{◌≡◌, ◌≢◌, ℕ, List, [], ◌∷◌, ◌++◌, Result, Ok, Err, OnOk, OnErr, refl, sym, ap, ◌∙◌, append_assoc, append-nil, subst}
-use Rattle.sessions.specs.Answers.{Rules, Answers}
+use Rattle.std.proofs.Common.{◌≡◌, ◌≢◌, ℕ, List, [], ◌∷◌, ◌++◌, Result, Ok, Err, OnOk, OnErr, refl, sym, ap, ◌∙◌, append_assoc, append-nil, subst, inl}
+use Rattle.sessions.specs.Answers.{Rules, Answer, Answers}
 use Rattle.sessions.specs.Events.{View, WritesText}
-use Rattle.sessions.specs.Feeds.{AnswersLine, Feeds, Sends}
+use Rattle.sessions.specs.Feeds.{AnswersLine, Feeds, LeavesWrites, Sends}
 use Rattle.sessions.specs.Lines.{lines_from, open_from}
 use Rattle.sessions.specs.Pending.{Holds}
 use Rattle.sessions.specs.declared.pending.Pending.{Pending}
-use Rattle.sessions.specs.declared.device.Failed.{Failed}
+use Rattle.sessions.specs.declared.stopped.Stopped.{Stopped}
 use Rattle.sessions.proofs.AnswerLemmas.{answers_one, answers_join, answers_prolonged}
 use Rattle.sessions.proofs.EventLemmas.{writes_nothing, writes_text_more}
 use Rattle.sessions.proofs.LineLemmas.{lines_append, open_append, lines_more, open_more}
 
--- what `write_all` leaves
-pub sends_all : {N : Type 0} (old new : View N) (bytes : List ℕ) (result : Result (Unit {0}) Failed) → OnOk result (WritesText old new bytes)
-    → OnErr result ((text : List ℕ) × (unwritten : List ℕ) × WritesText old new text × (text ++ unwritten ≡ bytes)) → Sends old new bytes [] result
-sends_all old new bytes (Ok done) wrote begun = record { text = bytes; rest = []; wrote = wrote; whole = append-nil bytes; all = refl }
-sends_all old new bytes (Err e) wrote begun = record { text = begun.0; rest = begun.1; wrote = begun.2; whole = begun.3; all = tt }
+-- all was written, or a beginning
+pub sends_written : {N : Type 0} (old new : View N) (bytes : List ℕ) → WritesText old new bytes → Sends old new bytes [] (Ok tt)
+sends_written old new bytes wrote = record { text = bytes; rest = []; wrote = wrote; whole = append-nil bytes; all = refl }
+
+pub sends_begun : {N : Type 0} (old new : View N) (bytes kept : List ℕ) (stopped : Stopped) → ((text : List ℕ) × (unwritten : List ℕ) × WritesText old new text × (text ++ unwritten ≡ bytes)) → Sends old new bytes kept (Err stopped)
+sends_begun old new bytes kept stopped begun = record { text = begun.0; rest = begun.1; wrote = begun.2; whole = begun.3; all = tt }
+
+-- what was kept is now given up or written
+pub sends_cleared : {N : Type 0} (old new : View N) (bytes kept : List ℕ) (result : Result (Unit {0}) Stopped) → Sends old new bytes [] result → kept ≡ [] → Sends old new bytes kept result
+sends_cleared old new bytes kept result sends none = subst (λ l. Sends old new bytes l result) (sym none) sends
 
 pub sends_nothing : {N : Type 0} (view : View N) (bytes : List ℕ) → Sends view view bytes bytes (Ok tt)
 sends_nothing view bytes = record { text = []; rest = bytes; wrote = writes_nothing view; whole = refl; all = refl }
 
 -- all was written
-pub sends_wrote : {N : Type 0} (old new : View N) (bytes kept : List ℕ) (result : Result (Unit {0}) Failed) → Sends old new bytes kept result → result ≡ Ok tt → kept ≡ [] → WritesText old new bytes
+pub sends_wrote : {N : Type 0} (old new : View N) (bytes kept : List ℕ) (result : Result (Unit {0}) Stopped) → Sends old new bytes kept result → result ≡ Ok tt → kept ≡ [] → WritesText old new bytes
 sends_wrote old new bytes kept result sends ok none =
     let left : sends.rest ≡ kept = rw ok at sends.all in
     subst (WritesText old new) (sym (ap (λ l. sends.text ++ l) (left ∙ none) ∙ append-nil sends.text) ∙ sends.whole) sends.wrote
 
 -- two texts, one after the other
-pub sends_more : {N : Type 0} (old mid new : View N) (first second kept : List ℕ) (result : Result (Unit {0}) Failed)
+pub sends_more : {N : Type 0} (old mid new : View N) (first second kept : List ℕ) (result : Result (Unit {0}) Stopped)
     → WritesText old mid first → Sends mid new second kept result → Sends old new (first ++ second) kept result
 sends_more old mid new first second kept result wrote sends =
     record {
@@ -38,8 +43,8 @@ sends_more old mid new first second kept result wrote sends =
       all = sends.all;
     }
 
--- a write failed before these bytes
-pub sends_less : {N : Type 0} (old new : View N) (first second kept kept_after : List ℕ) (result after : Result (Unit {0}) Failed) (e : Failed)
+-- the session stops before these bytes
+pub sends_less : {N : Type 0} (old new : View N) (first second kept kept_after : List ℕ) (result after : Result (Unit {0}) Stopped) (e : Stopped)
     → Sends old new first kept result → after ≡ Err e → Sends old new (first ++ second) kept_after after
 sends_less old new first second kept kept_after result after e sends failed =
     record {
@@ -75,39 +80,41 @@ fed_byte rules start now old new open_line taken kept byte pending after other p
     }
 
 -- what was wrote, and a line's answer, of which a part was wrote
-joined : {S N : Type 0} (rules : Rules S) (start now next : S) (mid new : View N) (open_line taken kept kept_after wrote : List ℕ) (result : Result (Unit {0}) Failed)
+joined : {S N : Type 0} (rules : Rules S) (start now next : S) (mid new : View N) (open_line taken kept kept_after wrote : List ℕ) (result : Result (Unit {0}) Stopped)
     → Answers rules start (lines_from open_line taken) (wrote ++ kept) now → (line : AnswersLine rules now next mid new (open_from open_line taken) kept kept_after result)
-    → Answers rules start (lines_from open_line taken ++ open_from open_line taken ∷ []) ((wrote ++ line.sends.text) ++ line.sends.rest) next
+    → Answers rules start (lines_from open_line taken ++ open_from open_line taken ∷ []) ((wrote ++ line.sends.text) ++ line.sends.rest) line.next
 joined rules start now next mid new open_line taken kept kept_after wrote result answers line =
     let parts : (wrote ++ kept) ++ line.text ≡ (wrote ++ line.sends.text) ++ line.sends.rest =
     append_assoc wrote kept line.text ∙ ap (λ l. wrote ++ l) (sym line.sends.whole) ∙ sym (append_assoc wrote line.sends.text line.sends.rest) in
-    subst (λ t. Answers rules start (lines_from open_line taken ++ open_from open_line taken ∷ []) t next) parts
-    (answers_join rules start now next _ _ (wrote ++ kept) line.text answers (answers_one rules now (open_from open_line taken) line.text next line.answer))
+    subst (λ t. Answers rules start (lines_from open_line taken ++ open_from open_line taken ∷ []) t line.next) parts
+    (answers_join rules start now line.next _ _ (wrote ++ kept) line.text answers (answers_one rules now (open_from open_line taken) line.text line.next line.answer))
 
 -- a line feed, after which the answer was written or kept
-pub fed_line : {S N : Type 0} (rules : Rules S) (start now next : S) (old mid new : View N) (open_line taken kept kept_after : List ℕ) (pending after : Pending) (result : Result (Unit {0}) Failed)
+pub fed_line : {S N : Type 0} (rules : Rules S) (start now next : S) (old mid new : View N) (open_line taken kept kept_after : List ℕ) (pending after : Pending) (result : Result (Unit {0}) Stopped)
     → Fed rules start now old mid open_line taken kept pending → AnswersLine rules now next mid new (open_from open_line taken) kept kept_after result → result ≡ Ok tt → Holds after []
     → Fed rules start next old new open_line (taken ++ 10 ∷ []) kept_after after
 fed_line rules start now next old mid new open_line taken kept kept_after pending after result fed line ok cleared =
     let left : line.sends.rest ≡ kept_after = rw ok at line.sends.all in
+    let reached : next ≡ line.next = rw ok at line.state in
     let text = fed.text ++ line.sends.text in
     let answers = joined rules start now next mid new open_line taken kept kept_after fed.text result fed.answers line in
     record {
       text = text;
       wrote = writes_text_more old mid new fed.text line.sends.text fed.wrote line.sends.wrote;
       answers = subst (λ l. Answers rules start l (text ++ kept_after) next) (sym (lines_append open_line taken (10 ∷ [])))
-          (subst (λ l. Answers rules start (lines_from open_line taken ++ open_from open_line taken ∷ []) (text ++ l) next) left answers);
+          (subst (λ l. Answers rules start (lines_from open_line taken ++ open_from open_line taken ∷ []) (text ++ l) next) left
+          (subst (Answers rules start (lines_from open_line taken ++ open_from open_line taken ∷ []) (text ++ line.sends.rest)) (sym reached) answers));
       held = subst (Holds after) (sym (open_append open_line taken (10 ∷ []))) cleared;
     }
 
--- a line feed, after which a write failed
-pub fed_failing : {S N : Type 0} (rules : Rules S) (start now next : S) (old mid new : View N) (open_line taken kept kept_after rest : List ℕ) (pending after : Pending) (line_result result : Result (Unit {0}) Failed) (e : Failed)
+-- a line feed, after which the session stops
+pub fed_failing : {S N : Type 0} (rules : Rules S) (start now next : S) (old mid new : View N) (open_line taken kept kept_after rest : List ℕ) (pending after : Pending) (line_result result : Result (Unit {0}) Stopped) (e : Stopped)
     → Fed rules start now old mid open_line taken kept pending → AnswersLine rules now next mid new (open_from open_line taken) kept kept_after line_result → result ≡ Err e
     → Feeds rules start next old new open_line (taken ++ 10 ∷ rest) after result
 fed_failing rules start now next old mid new open_line taken kept kept_after rest pending after line_result result e fed line failed =
     let text = fed.text ++ line.sends.text in
     let answers = joined rules start now next mid new open_line taken kept kept_after fed.text line_result fed.answers line in
-    let (more, end, all) = answers_prolonged rules start next _ (lines_from [] rest) (text ++ line.sends.rest) answers in
+    let (more, end, all) = answers_prolonged rules start line.next _ (lines_from [] rest) (text ++ line.sends.rest) answers in
     let lines : (lines_from open_line taken ++ open_from open_line taken ∷ []) ++ lines_from [] rest ≡ lines_from open_line (taken ++ 10 ∷ rest) =
     append_assoc (lines_from open_line taken) (open_from open_line taken ∷ []) (lines_from [] rest) ∙ sym (lines_append open_line taken (10 ∷ rest)) in
     record {
@@ -122,8 +129,8 @@ fed_failing rules start now next old mid new open_line taken kept kept_after res
       kept = rw failed tt;
     }
 
--- all bytes were taken up, and what was kept was written, unless a write failed
-pub fed_all : {S N : Type 0} (rules : Rules S) (start now : S) (old mid new : View N) (open_line bytes kept kept_after : List ℕ) (pending : Pending) (result : Result (Unit {0}) Failed)
+-- all bytes were taken up, and what was kept was written, unless the session stops
+pub fed_all : {S N : Type 0} (rules : Rules S) (start now : S) (old mid new : View N) (open_line bytes kept kept_after : List ℕ) (pending : Pending) (result : Result (Unit {0}) Stopped)
     → Fed rules start now old mid open_line bytes kept pending → Sends mid new kept kept_after result → OnOk result (kept_after ≡ []) → Feeds rules start now old new open_line bytes pending result
 fed_all rules start now old mid new open_line bytes kept kept_after pending (Ok done) fed sends none =
     let parts : fed.text ++ kept ≡ (fed.text ++ sends.text) ++ sends.rest = ap (λ l. fed.text ++ l) (sym sends.whole) ∙ sym (append_assoc fed.text sends.text sends.rest) in
@@ -149,3 +156,26 @@ fed_all rules start now old mid new open_line bytes kept kept_after pending (Err
       state = tt;
       kept = tt;
     }
+
+-- an answer of a line, and the state that it leaves
+pub line_answered : {S N : Type 0} (rules : Rules S) (start now next : S) (old new : View N) (line text kept_before kept_after : List ℕ) (result : Result (Unit {0}) Stopped)
+    → Answer rules start line text next → Sends old new (kept_before ++ text) kept_after result → OnOk result (now ≡ next) → AnswersLine rules start now old new line kept_before kept_after result
+line_answered rules start now next old new line text kept_before kept_after result answer sends state =
+    record { text = text; next = next; answer = answer; sends = sends; state = state }
+
+-- whatever the result, if it is so
+pub on_ok_always : {X : Type 0} (result : Result (Unit {0}) Stopped) → X → OnOk result X
+on_ok_always (Ok done) x = x
+on_ok_always (Err stopped) x = tt
+
+-- a line whose answer is lost
+pub line_lost : {S N : Type 0} (rules : Rules S) (start now : S) (old new : View N) (line kept_before kept_after : List ℕ) (result : Result (Unit {0}) Stopped)
+    → ((text : List ℕ) → Sends old new (kept_before ++ text) kept_after result) → OnOk result ⊥ → AnswersLine rules start now old new line kept_before kept_after result
+line_lost rules start now old new line kept_before kept_after (Ok done) sends stops = absurd stops
+line_lost rules start now old new line kept_before kept_after (Err stopped) sends stops =
+    record { text = rules.answer start line; next = rules.after start line; answer = inl (refl, refl); sends = sends (rules.answer start line); state = tt }
+
+-- ---- failed writes
+
+pub writes_after : {F : Type 0} (write_fails : F → F → Type 0) (old mid new : F) (result : Result (Unit {0}) Stopped) → mid ≡ old → LeavesWrites write_fails mid new result → LeavesWrites write_fails old new result
+writes_after write_fails old mid new result same leaves = subst (λ f. LeavesWrites write_fails f new result) same leaves

@@ -11,8 +11,9 @@ mod lines;
 mod pending;
 mod run;
 mod status;
+mod stopped;
 
-pub use answering::Answering;
+pub use answering::{Answering, Unanswered};
 pub use device::{Device, Failed, write_all};
 pub use lines::lines_are_exact;
 pub use run::answer_lines;

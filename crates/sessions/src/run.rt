@@ -8,6 +8,7 @@ use crate::device::{Device, Failed};
 use crate::feed::{feed, finish};
 use crate::pending::Pending;
 use crate::status::SessionStatus;
+use crate::stopped::end_status;
 use std::alloc::Global;
 
 // How many bytes one read call asks for.
@@ -51,14 +52,11 @@ fn converse<A: Answering, T: Device>(
             Err(Failed) => return SessionStatus::ReadFailed,
         };
         if count == 0 {
-            return match finish(alloc, answering, device, &mut pending) {
-                Ok(()) => SessionStatus::Done,
-                Err(Failed) => SessionStatus::WriteFailed,
-            };
+            return end_status(finish(alloc, answering, device, &mut pending));
         }
         match feed(alloc, answering, device, &mut pending, &chunk[..count]) {
             Ok(()) => {}
-            Err(Failed) => return SessionStatus::WriteFailed,
+            Err(stopped) => return stopped.status(),
         }
     }
     SessionStatus::Unended

@@ -4,6 +4,8 @@
 pub mod Text
 -- the lines that are printed of an event
 pub mod Lines
+-- the lines of what an event came to in a cluster
+pub mod Answers
 -- what events come to that are carried out as they are read
 pub mod CarryingOut
 -- mutations in the order of their transactions

@@ -1,10 +1,11 @@
 //! Each event of a script is carried out, and its answer or its refusal is printed: which line that
 //! is, and the lines of a finish.
 
-ghost use Rattle.std.specs.Prelude.{◌≡◌, ◌++◌, IsSome, OnOk, string_bytes, map};
+ghost use Rattle.std.specs.Prelude.{◌≡◌, ◌++◌, IfOk, IsSome, OnErr, OnOk, string_bytes, map};
 ghost use Rattle.model.specs.Turns.{after_event};
 ghost use Rattle.model.specs.World.{answers, handle_event, world_after};
 ghost use Rattle.turn_world.specs.Events.{answer_of, event_of, refusal_number};
+ghost use Rattle.turns_run.specs.Answers.{lines_of_answer};
 ghost use Rattle.turns_run.specs.Lines.{answer_text, completed_text, event_text, events_text};
 ghost use Rattle.turns_run.specs.Lines.{finish_text, finished_text, finishing_proxy};
 ghost use Rattle.turns_run.specs.Lines.{refusal_line, refusal_value};
@@ -41,7 +42,7 @@ pub(crate) fn print_events(
 
 /// Carries out the event, of which nothing is copied, and prints its lines. Fails only with
 /// `OutOfMemory`.
-pub fn print_event(
+pub(crate) fn print_event(
     text: &mut String,
     event: Event,
     world: &mut TurnWorld,
@@ -51,10 +52,54 @@ pub fn print_event(
         ++ event_text given (handle_event before.config before.world given).answer) }
     ensures world { OnOk result (world.new ≡ after_event world.old (event_of event)) }
 {
+    let answer = carry_out(event, world)?;
+    answer.print(text)
+}
+
+/// What an event came to: the answer or the refusal of the cluster that got it.
+#[derive(Drop)]
+pub struct EventAnswer {
+    finishing: Option<ProxyNumber>,
+    answer: Result<Answer, Refusal>,
+}
+
+impl EventAnswer {
+    /// Prints the lines of the event. Fails only with `OutOfMemory`.
+    pub fn print(&self, text: &mut String) -> Result<(), OutOfMemory>
+        ensures { OnOk result (string_bytes text.new
+            ≡ string_bytes text.old ++ lines_of_answer self.now) }
+    {
+        match &self.answer {
+            Ok(answer) => print_answer(text, self.finishing, answer),
+            Err(refusal) => print_refusal(text, refusal),
+        }
+    }
+}
+
+/// Carries out the event, of which nothing is copied. Fails only with `OutOfMemory`; the cluster is
+/// then unchanged.
+pub fn carry_out(event: Event, world: &mut TurnWorld) -> Result<EventAnswer, OutOfMemory>
+    ensures answer { let given = event_of event in let before = world.old in
+        IfOk result (λ answer. lines_of_answer answer
+        ≡ event_text given (handle_event before.config before.world given).answer) }
+    ensures ok { OnOk result (world.new ≡ after_event world.old (event_of event)) }
+    ensures err { OnErr result (world.new ≡ world.old) }
+{
     let finishing = finishing_proxy(&event);
     match world.step_owned(event) {
-        Ok(answer) => print_answer(text, finishing, &answer),
-        Err(refusal) => print_refusal(text, &refusal),
+        Ok(answer) => Ok(EventAnswer {
+            finishing,
+            answer: Ok(answer),
+        }),
+        Err(refusal) => {
+            if refusal.number().is_none() {
+                return Err(OutOfMemory);
+            }
+            Ok(EventAnswer {
+                finishing,
+                answer: Err(refusal),
+            })
+        }
     }
 }
 

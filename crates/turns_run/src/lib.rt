@@ -19,7 +19,7 @@ mod streams;
 mod text;
 mod transactions;
 
-pub use events::{print_event, print_refusal};
+pub use events::{EventAnswer, carry_out, print_refusal};
 pub use proxies::print_proxy;
 pub use reading::{read_turns, stream_turns};
 pub use run::run_turns;

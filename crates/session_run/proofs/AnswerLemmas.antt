@@ -1,0 +1,25 @@
+-- The answers to lines with faults.
+use Rattle.std.proofs.Common.{◌≡◌, ◌∙◌, ℕ, List, ap, refl, sym}
+use Rattle.std.specs.Prelude.{None, Result, Ok, Err, IfOk, OnOk, IsSome}
+use Rattle.system_keys.specs.AsSpecified.{IsFaultIfAllocated}
+use Rattle.scripts.specs.Answers.{refused_answer}
+use Rattle.scripts.specs.ScriptFaults.{fault_number, script_fault}
+use Rattle.scripts.specs.declared.script_fault.ScriptFault.{ScriptFault}
+use Rattle.scripts.specs.declared.script_fault.ScriptFault.TheVariants as faults
+use Rattle.session_run.specs.Session.{State, after_read, read_text}
+use Rattle.session_run.specs.declared.line.Line.{Line}
+
+-- a fault that has a number is that of the line
+pub fault_is : (asked : Result Line ScriptFault) (fault : ScriptFault) → IsFaultIfAllocated (script_fault fault) asked → IsSome (fault_number fault) → asked ≡ Err fault
+fault_is asked faults.NotJson fails numbered = fails
+fault_is asked faults.BadShape fails numbered = fails
+fault_is asked (faults.Refused refusal) fails numbered = fails
+fault_is asked faults.NoSuchResolver fails numbered = fails
+fault_is asked faults.OutOfMemory fails numbered = let none : IsSome {T = ℕ} None = numbered in cc
+
+-- the text of the answer, and the state after it
+pub faulty_text : (state : State) (asked : Result Line ScriptFault) (fault : ScriptFault) → asked ≡ Err fault → read_text state asked ≡ (refused_answer fault).text
+faulty_text state asked fault is = ap (read_text state) is
+
+pub faulty_state : (state : State) (asked : Result Line ScriptFault) (fault : ScriptFault) → asked ≡ Err fault → state ≡ after_read state asked
+faulty_state state asked fault is = sym (ap (after_read state) is)
