@@ -16,7 +16,10 @@ LIMIT = 120
 # how many seconds are waited to see that no answer comes
 QUIET = 0.3
 # the address space of a program whose line does not end, and how long that line is
-SMALL_SPACE, LONG_LINE = 2**26, 2**26
+SMALL_SPACE, LONG_LINE = 2**25, 2**25
+
+# so many transactions make an answer longer than what is allocated before
+MANY = 220
 
 OUT_OF_MEMORY = b"out of memory\n\n"
 CLUSTER = b'{"cluster":{"proxies":2,"resolvers":2,"window":100,"step":10}}'
@@ -84,16 +87,20 @@ class Talk:
         self.process.stdin.write(given)
         self.process.stdin.flush()
 
-    def answer(self):
-        """The next answer, up to its empty line. Nothing may stand after it."""
+    def read(self, is_whole):
+        """What comes, until it is whole. Nothing may stand after it."""
         text, last = b"", time.monotonic() + LIMIT
-        while not text.endswith(b"\n\n"):
+        while not is_whole(text):
             ready, _, _ = select.select([self.process.stdout], [], [], max(0, last - time.monotonic()))
             piece = self.process.stdout.read() if ready else b""
             if not piece:
                 raise Wrong("no whole answer came: %r" % text)
             text += piece
         return text
+
+    def answer(self):
+        """The next answer, up to its empty line."""
+        return self.read(lambda text: text.endswith(b"\n\n"))
 
     def is_quiet(self):
         return not select.select([self.process.stdout], [], [], QUIET)[0]
@@ -159,15 +166,14 @@ LINES = [CLUSTER, SEQUENCE, b"", SEQUENCE.replace(b"0", b"7"), b'{"offer":{"row"
 def broken_lines(program):
     """The same lines in two pieces, broken at every byte, and in pieces of one byte."""
     given, wanted = b"\n".join(LINES) + b"\n", answers(LINES)
-    for place in range(1, len(given), 3):
+    for place in range(1, len(given)):
+        first, rest = answers(given[:place].split(b"\n")[:-1]), given[place:]
         with program.talk() as talk:
             talk.send(given[:place])
-            for line in given[:place].split(b"\n")[:-1]:
-                del line
-            talk.send(given[place:])
-            talk.process.stdin.close()
-            os.set_blocking(talk.process.stdout.fileno(), True)
-            expect("broken at %d" % place, talk.process.stdout.read(), wanted)
+            expect("broken at %d" % place, talk.read(lambda text: len(text) >= len(first)), first)
+            talk.send(rest)
+            expect("broken at %d" % place, talk.read(lambda text: len(first + text) >= len(wanted)), wanted[len(first):])
+            expect("the end", talk.end(), 0)
     expect("short reads", program.run(given, SHORT_READ="1", SHORT_WRITE="1"), (0, wanted))
 
 
@@ -230,11 +236,19 @@ def judge_growth(status, output, lines, what):
             expect("%s, %r" % (what, line[:80]), text, session.answer(line))
 
 
-def refused_growths(program, lines):
-    """Every growth refused, one in each run, and all from one on."""
+def long_answers(program, lines):
+    """The same where the answer of a finish is longer than what is allocated before: now and then that answer is lost."""
+    nothing = {"snapshot": 0, "reads": [], "writes": [], "mutations": [], "lock_aware": False}
+    batch = json.dumps({"sequence": {"proxy": 0, "batch": [nothing] * MANY}}).encode()
+    offers = [b'{"offer":{"row":0,"resolver":%d}}' % resolver for resolver in (0, 1)]
+    refused_growths(program, [lines[0], batch, *offers, FINISH, SHOW], 13)
+
+
+def refused_growths(program, lines, step=1):
+    """Every growth refused, or one of so many, one in each run, and all from one on."""
     given = b"\n".join(lines) + b"\n"
     for more in ({}, {"REFUSE_ON": "1"}):
-        for number in range(1, 1_000_000):
+        for number in range(1, 1_000_000, step):
             status, output = program.run(given, REFUSE_GROWTH=str(number), **more)
             if not program.has_refused():
                 break

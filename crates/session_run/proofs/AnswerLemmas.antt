@@ -1,11 +1,12 @@
--- The answers to lines with faults.
-use Rattle.std.proofs.Common.{◌≡◌, ◌∙◌, ℕ, List, ap, refl, sym}
+-- The answers to lines.
+use Rattle.std.proofs.Common.{◌≡◌, ◌∙◌, ℕ, List, [], ◌∷◌, ap, refl, sym, inl}
 use Rattle.std.specs.Prelude.{None, Result, Ok, Err, IfOk, OnOk, IsSome}
 use Rattle.system_keys.specs.AsSpecified.{IsFaultIfAllocated}
 use Rattle.scripts.specs.Answers.{refused_answer}
 use Rattle.scripts.specs.ScriptFaults.{fault_number, script_fault}
 use Rattle.scripts.specs.declared.script_fault.ScriptFault.{ScriptFault}
 use Rattle.scripts.specs.declared.script_fault.ScriptFault.TheVariants as faults
+use Rattle.sessions.specs.Answers.{Answers, Rules, text_of_lines}
 use Rattle.session_run.specs.Session.{State, after_read, read_text}
 use Rattle.session_run.specs.declared.line.Line.{Line}
 
@@ -23,3 +24,11 @@ faulty_text state asked fault is = ap (read_text state) is
 
 pub faulty_state : (state : State) (asked : Result Line ScriptFault) (fault : ScriptFault) → asked ≡ Err fault → state ≡ after_read state asked
 faulty_state state asked fault is = sym (ap (after_read state) is)
+
+-- ---- all lines
+
+pub text_answers : {S : Type 0} (rules : Rules S) (old : S) (given : List (List ℕ)) → (now : S) × Answers rules old given (text_of_lines rules old given) now
+text_answers rules old [] = (old, (refl, refl))
+text_answers rules old (line ∷ given) =
+    let (now, rest) = text_answers rules (rules.after old line) given in
+    (now, (rules.answer old line, text_of_lines rules (rules.after old line) given, rules.after old line, refl, inl (refl, refl), rest))

@@ -1,3 +1,4 @@
 pub mod TurnsScriptLemmas
 pub mod LineLemmas
 pub mod AnswerLemmas
+pub mod RunLemmas

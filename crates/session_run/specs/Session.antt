@@ -8,7 +8,7 @@ use Rattle.system_keys.specs.Keys.{Key}
 use Rattle.scripts.specs.Answers.{refused_answer}
 use Rattle.scripts.specs.Lines.{line, refused_line}
 use Rattle.scripts.specs.declared.script_fault.ScriptFault.{ScriptFault}
-use Rattle.sessions.specs.Answers.{Rules, text_of_lines}
+use Rattle.sessions.specs.Answers.{Answers, Rules, text_of_lines}
 use Rattle.sessions.specs.Lines.{lines_of}
 use Rattle.turn_world.specs.Events.{event_of}
 use Rattle.turn_world.specs.declared.refusal.Refusal.TheVariants as refusals
@@ -83,3 +83,8 @@ session_rules =
 -- the text of a whole session, if no allocation fails
 abbrev pub session_text : List ℕ → List ℕ
 session_text bytes = text_of_lines session_rules None (lines_of bytes)
+
+-- it answers all lines, and leaves some state
+abbrev pub TextAnswersLines : Type 0
+TextAnswersLines =
+    (bytes : List ℕ) → (now : State) × Answers session_rules None (lines_of bytes) (session_text bytes) now

@@ -7,17 +7,17 @@
 mod answers;
 mod checks;
 mod joined;
+mod laws;
 mod line;
 mod reading;
 mod run;
 mod session;
 mod shapes;
 mod streams;
-mod turns_scripts;
 
+pub use laws::{lines_give_turns, text_answers_lines};
 pub use line::{Line, Show};
 pub use reading::read_line;
 pub use run::run_session;
 pub use session::Session;
 pub use sessions::{Answering, SessionStatus, Unanswered};
-pub use turns_scripts::lines_give_turns;
