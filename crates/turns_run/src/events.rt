@@ -92,15 +92,21 @@ pub fn carry_out(event: Event, world: &mut TurnWorld) -> Result<EventAnswer, Out
             answer: Ok(answer),
         }),
         Err(refusal) => {
-            if refusal.number().is_none() {
-                return Err(OutOfMemory);
-            }
+            check_numbered(&refusal)?;
             Ok(EventAnswer {
                 finishing,
                 answer: Err(refusal),
             })
         }
     }
+}
+
+/// Whether the refusal has a number: all have one but `OutOfMemory`.
+fn check_numbered(refusal: &Refusal) -> Result<(), OutOfMemory>
+    ensures { OnOk result (IsSome (refusal_number refusal.now)) }
+{
+    refusal.number().ok_or(OutOfMemory)?;
+    Ok(())
 }
 
 /// The proxy that finishes a record, if the event is a finish.
