@@ -51,6 +51,8 @@ impl Session {
         ensures ok { OnOk result (self.new.cluster ≡ after_line self.old.cluster line) }
         ensures unchanged { IsErrOf result Unanswered.OutOfMemory
             → self.new.cluster ≡ self.old.cluster }
+        ensures lost { IsErrOf result Unanswered.AnswerLost
+            → self.new.cluster ≡ after_line self.old.cluster line }
     {
         match line {
             Line::Cluster(config) => Ok(self.begin(alloc, &config)?),
@@ -81,6 +83,8 @@ impl Session {
             ≡ after_line self.old.cluster (lines.Event event)) }
         ensures unchanged { IsErrOf result Unanswered.OutOfMemory
             → self.new.cluster ≡ self.old.cluster }
+        ensures lost { IsErrOf result Unanswered.AnswerLost
+            → self.new.cluster ≡ after_line self.old.cluster (lines.Event event) }
     {
         let Some(cluster) = &mut self.cluster else {
             return Ok(no_cluster_answer(alloc)?);
@@ -124,6 +128,8 @@ fn event_answer(alloc: Global, cluster: &mut TurnWorld, event: Event) -> Result<
         ≡ answer_with (carried_out_text cluster.old (event_of event))) }
     ensures ok { OnOk result (cluster.new ≡ after_event cluster.old (event_of event)) }
     ensures unchanged { IsErrOf result Unanswered.OutOfMemory → cluster.new ≡ cluster.old }
+    ensures lost { IsErrOf result Unanswered.AnswerLost
+        → cluster.new ≡ after_event cluster.old (event_of event) }
 {
     let text = room(alloc)?;
     let answer = carry_out(event, cluster)?;

@@ -1,6 +1,6 @@
 -- How far a piece of the input has been taken up.
 use Rattle.std.proofs.Common.{◌≡◌, ◌≢◌, ℕ, List, [], ◌∷◌, ◌++◌, Result, Ok, Err, OnOk, OnErr, refl, sym, ap, ◌∙◌, append_assoc, append-nil, subst, inl}
-use Rattle.sessions.specs.Answers.{Rules, Answer, Answers}
+use Rattle.sessions.specs.Answers.{Rules, Answers}
 use Rattle.sessions.specs.Events.{View, WritesText}
 use Rattle.sessions.specs.Feeds.{AnswersLine, Feeds, LeavesWrites, Sends}
 use Rattle.sessions.specs.Lines.{lines_from, open_from}
@@ -82,12 +82,12 @@ fed_byte rules start now old new open_line taken kept byte pending after other p
 -- what was wrote, and a line's answer, of which a part was wrote
 joined : {S N : Type 0} (rules : Rules S) (start now next : S) (mid new : View N) (open_line taken kept kept_after wrote : List ℕ) (result : Result (Unit {0}) Stopped)
     → Answers rules start (lines_from open_line taken) (wrote ++ kept) now → (line : AnswersLine rules now next mid new (open_from open_line taken) kept kept_after result)
-    → Answers rules start (lines_from open_line taken ++ open_from open_line taken ∷ []) ((wrote ++ line.sends.text) ++ line.sends.rest) line.next
+    → Answers rules start (lines_from open_line taken ++ open_from open_line taken ∷ []) ((wrote ++ line.sends.text) ++ line.sends.rest) next
 joined rules start now next mid new open_line taken kept kept_after wrote result answers line =
     let parts : (wrote ++ kept) ++ line.text ≡ (wrote ++ line.sends.text) ++ line.sends.rest =
     append_assoc wrote kept line.text ∙ ap (λ l. wrote ++ l) (sym line.sends.whole) ∙ sym (append_assoc wrote line.sends.text line.sends.rest) in
-    subst (λ t. Answers rules start (lines_from open_line taken ++ open_from open_line taken ∷ []) t line.next) parts
-    (answers_join rules start now line.next _ _ (wrote ++ kept) line.text answers (answers_one rules now (open_from open_line taken) line.text line.next line.answer))
+    subst (λ t. Answers rules start (lines_from open_line taken ++ open_from open_line taken ∷ []) t next) parts
+    (answers_join rules start now next _ _ (wrote ++ kept) line.text answers (answers_one rules now (open_from open_line taken) line.text next line.answer))
 
 -- a line feed, after which the answer was written or kept
 pub fed_line : {S N : Type 0} (rules : Rules S) (start now next : S) (old mid new : View N) (open_line taken kept kept_after : List ℕ) (pending after : Pending) (result : Result (Unit {0}) Stopped)
@@ -95,15 +95,13 @@ pub fed_line : {S N : Type 0} (rules : Rules S) (start now next : S) (old mid ne
     → Fed rules start next old new open_line (taken ++ 10 ∷ []) kept_after after
 fed_line rules start now next old mid new open_line taken kept kept_after pending after result fed line ok cleared =
     let left : line.sends.rest ≡ kept_after = rw ok at line.sends.all in
-    let reached : next ≡ line.next = rw ok at line.state in
     let text = fed.text ++ line.sends.text in
     let answers = joined rules start now next mid new open_line taken kept kept_after fed.text result fed.answers line in
     record {
       text = text;
       wrote = writes_text_more old mid new fed.text line.sends.text fed.wrote line.sends.wrote;
       answers = subst (λ l. Answers rules start l (text ++ kept_after) next) (sym (lines_append open_line taken (10 ∷ [])))
-          (subst (λ l. Answers rules start (lines_from open_line taken ++ open_from open_line taken ∷ []) (text ++ l) next) left
-          (subst (Answers rules start (lines_from open_line taken ++ open_from open_line taken ∷ []) (text ++ line.sends.rest)) (sym reached) answers));
+          (subst (λ l. Answers rules start (lines_from open_line taken ++ open_from open_line taken ∷ []) (text ++ l) next) left answers);
       held = subst (Holds after) (sym (open_append open_line taken (10 ∷ []))) cleared;
     }
 
@@ -114,7 +112,7 @@ pub fed_failing : {S N : Type 0} (rules : Rules S) (start now next : S) (old mid
 fed_failing rules start now next old mid new open_line taken kept kept_after rest pending after line_result result e fed line failed =
     let text = fed.text ++ line.sends.text in
     let answers = joined rules start now next mid new open_line taken kept kept_after fed.text line_result fed.answers line in
-    let (more, end, all) = answers_prolonged rules start line.next _ (lines_from [] rest) (text ++ line.sends.rest) answers in
+    let (more, end, all) = answers_prolonged rules start next _ (lines_from [] rest) (text ++ line.sends.rest) answers in
     let lines : (lines_from open_line taken ++ open_from open_line taken ∷ []) ++ lines_from [] rest ≡ lines_from open_line (taken ++ 10 ∷ rest) =
     append_assoc (lines_from open_line taken) (open_from open_line taken ∷ []) (lines_from [] rest) ∙ sym (lines_append open_line taken (10 ∷ rest)) in
     record {
@@ -157,23 +155,11 @@ fed_all rules start now old mid new open_line bytes kept kept_after pending (Err
       kept = tt;
     }
 
--- an answer of a line, and the state that it leaves
-pub line_answered : {S N : Type 0} (rules : Rules S) (start now next : S) (old new : View N) (line text kept_before kept_after : List ℕ) (result : Result (Unit {0}) Stopped)
-    → Answer rules start line text next → Sends old new (kept_before ++ text) kept_after result → OnOk result (now ≡ next) → AnswersLine rules start now old new line kept_before kept_after result
-line_answered rules start now next old new line text kept_before kept_after result answer sends state =
-    record { text = text; next = next; answer = answer; sends = sends; state = state }
-
--- whatever the result, if it is so
-pub on_ok_always : {X : Type 0} (result : Result (Unit {0}) Stopped) → X → OnOk result X
-on_ok_always (Ok done) x = x
-on_ok_always (Err stopped) x = tt
-
 -- a line whose answer is lost
 pub line_lost : {S N : Type 0} (rules : Rules S) (start now : S) (old new : View N) (line kept_before kept_after : List ℕ) (result : Result (Unit {0}) Stopped)
-    → ((text : List ℕ) → Sends old new (kept_before ++ text) kept_after result) → OnOk result ⊥ → AnswersLine rules start now old new line kept_before kept_after result
-line_lost rules start now old new line kept_before kept_after (Ok done) sends stops = absurd stops
-line_lost rules start now old new line kept_before kept_after (Err stopped) sends stops =
-    record { text = rules.answer start line; next = rules.after start line; answer = inl (refl, refl); sends = sends (rules.answer start line); state = tt }
+    → now ≡ rules.after start line → ((text : List ℕ) → Sends old new (kept_before ++ text) kept_after result) → AnswersLine rules start now old new line kept_before kept_after result
+line_lost rules start now old new line kept_before kept_after result done sends =
+    record { text = rules.answer start line; answer = inl (refl, done); sends = sends (rules.answer start line) }
 
 -- ---- failed writes
 

@@ -21,10 +21,8 @@ pub record Sends {N : Type 0} (old new : View N) (bytes kept : List ℕ)
 pub record AnswersLine {S N : Type 0} (rules : Rules S) (start now : S) (old new : View N)
     (line kept_before kept_after : List ℕ) (result : Result (Unit {0}) Stopped) : Type 0 where
   pub text : List ℕ
-  pub next : S
-  pub answer : Answer rules start line text next
+  pub answer : Answer rules start line text now
   pub sends : Sends old new (kept_before ++ text) kept_after result
-  pub state : OnOk result (now ≡ next)
 
 -- a write failed and no other call, or none did
 abbrev pub LeavesWrites : {F : Type 0} → (write_fails : F → F → Type 0) → F → F

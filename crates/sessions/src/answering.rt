@@ -29,7 +29,9 @@ pub trait Answering {
             string_bytes text ≡ rules.answer (state self.old) line.now) }
         ensures ok { OnOk result (state self.new ≡ rules.after (state self.old) line.now) }
         ensures unchanged { IsErrOf result Unanswered.OutOfMemory
-            → state self.new ≡ state self.old };
+            → state self.new ≡ state self.old }
+        ensures lost { IsErrOf result Unanswered.AnswerLost
+            → state self.new ≡ rules.after (state self.old) line.now };
 }
 
 impl From<OutOfMemory> for Unanswered {
