@@ -20,4 +20,4 @@ pub use line::{Line, Show};
 pub use reading::read_line;
 pub use run::run_session;
 pub use session::Session;
-pub use sessions::{Answering, SessionStatus, Unanswered};
+pub use sessions::{Answering, SessionStatus};

@@ -1,23 +1,21 @@
 //! A session with a cluster without threads.
 
-ghost use Rattle.std.specs.Prelude.{◌≡◌, [], IfOk, IsErrOf, MatchOption, None, OnErr, OnOk, Option};
-ghost use Rattle.std.specs.Prelude.{Some, string_bytes};
-ghost use Rattle.model.specs.Turns.{TurnCluster, after_event};
-ghost use Rattle.turn_world.specs.Events.{event_of};
-ghost use Rattle.turns_run.specs.Answers.{lines_of_answer};
-ghost use Rattle.session_run.specs.Session.{after_line, answer_with, carried_out_text};
-ghost use Rattle.session_run.specs.Session.{line_text, session_rules, show_text};
+ghost use Rattle.std.specs.Prelude.{◌≡◌, ◌++◌, MatchOption, None, OnErr, OnOk, Option, Some};
+ghost use Rattle.model.specs.Turns.{TurnCluster};
+ghost use Rattle.session_run.specs.Session.{after_line, answer_with, line_text};
+ghost use Rattle.session_run.specs.Session.{no_cluster_text, session_rules, show_text};
 ghost use Rattle.session_run.specs.declared.line.Line.TheVariants as lines;
 
-use crate::answers::{cluster_answer, ended, faulty_answer, no_cluster_answer};
+use crate::answers::print_fault;
 use crate::line::{Line, Show};
 use crate::reading::read_line;
 use model::Config;
-use sessions::{Answering, Unanswered};
+use pages::Page;
+use sessions::Answering;
 use std::alloc::Global;
 use system_keys::OutOfMemory;
 use turn_world::{Event, Refusal, TurnWorld};
-use turns_run::{EventAnswer, carry_out, print_proxy, print_refusal};
+use turns_run::{carry_out, print_proxy, print_refusal};
 
 /// A session: the cluster that a line has begun, if there is one.
 #[derive(Drop)]
@@ -44,63 +42,80 @@ impl Session {
         }
     }
 
-    /// Carries out what a line asks, and returns its answer.
-    pub fn answer_line(&mut self, alloc: Global, line: Line) -> Result<String, Unanswered>
-        ensures text { IfOk result (λ text.
-            string_bytes text ≡ answer_with (line_text self.old.cluster line)) }
+    /// Carries out what a line asks, and prints its answer. Fails only with `OutOfMemory`; then
+    /// nothing is printed, and the session is unchanged.
+    pub fn answer_line<P: Page>(
+        &mut self,
+        alloc: Global,
+        line: Line,
+        page: &mut P,
+    ) -> Result<(), OutOfMemory>
+        ensures text { OnOk result (P.printed page.new
+            ≡ P.printed page.old ++ answer_with (line_text self.old.cluster line)) }
         ensures ok { OnOk result (self.new.cluster ≡ after_line self.old.cluster line) }
-        ensures unchanged { IsErrOf result Unanswered.OutOfMemory
-            → self.new.cluster ≡ self.old.cluster }
-        ensures lost { IsErrOf result Unanswered.AnswerLost
-            → self.new.cluster ≡ after_line self.old.cluster line }
+        ensures unprinted { OnErr result (P.printed page.new ≡ P.printed page.old) }
+        ensures unchanged { OnErr result (self.new.cluster ≡ self.old.cluster) }
     {
         match line {
-            Line::Cluster(config) => Ok(self.begin(alloc, &config)?),
-            Line::Event(event) => self.carry_out(alloc, event),
-            Line::Show(show) => Ok(self.show(alloc, &show)?),
+            Line::Cluster(config) => self.begin(alloc, &config, page)?,
+            Line::Event(event) => self.carry_out(event, page)?,
+            Line::Show(show) => self.show(alloc, &show, page)?,
         }
+        page.push("\n");
+        Ok(())
     }
 
     /// Begins a new cluster in place of the last one.
-    fn begin(&mut self, alloc: Global, config: &Config) -> Result<String, OutOfMemory>
-        ensures text { IfOk result (λ text. string_bytes text
-            ≡ answer_with (line_text self.old.cluster (lines.Cluster config.now))) }
+    fn begin<P: Page>(
+        &mut self,
+        alloc: Global,
+        config: &Config,
+        page: &mut P,
+    ) -> Result<(), OutOfMemory>
+        ensures text { OnOk result (P.printed page.new ≡ P.printed page.old
+            ++ line_text self.old.cluster (lines.Cluster config.now)) }
         ensures ok { OnOk result (self.new.cluster
             ≡ after_line self.old.cluster (lines.Cluster config.now)) }
-        ensures err { OnErr result (self.new.cluster ≡ self.old.cluster) }
+        ensures unprinted { OnErr result (P.printed page.new ≡ P.printed page.old) }
+        ensures unchanged { OnErr result (self.new.cluster ≡ self.old.cluster) }
     {
-        let text = cluster_answer(alloc)?;
         let cluster = TurnWorld::new(alloc, config)?;
         self.cluster = Some(cluster);
-        Ok(text)
+        page.push("cluster\n");
+        Ok(())
     }
 
-    /// Carries out an event.
-    fn carry_out(&mut self, alloc: Global, event: Event) -> Result<String, Unanswered>
-        ensures text { IfOk result (λ text. string_bytes text
-            ≡ answer_with (line_text self.old.cluster (lines.Event event))) }
+    /// Carries out an event, and prints its lines.
+    fn carry_out<P: Page>(&mut self, event: Event, page: &mut P) -> Result<(), OutOfMemory>
+        ensures text { OnOk result (P.printed page.new ≡ P.printed page.old
+            ++ line_text self.old.cluster (lines.Event event)) }
         ensures ok { OnOk result (self.new.cluster
             ≡ after_line self.old.cluster (lines.Event event)) }
-        ensures unchanged { IsErrOf result Unanswered.OutOfMemory
-            → self.new.cluster ≡ self.old.cluster }
-        ensures lost { IsErrOf result Unanswered.AnswerLost
-            → self.new.cluster ≡ after_line self.old.cluster (lines.Event event) }
+        ensures unprinted { OnErr result (P.printed page.new ≡ P.printed page.old) }
+        ensures unchanged { OnErr result (self.new.cluster ≡ self.old.cluster) }
     {
         let Some(cluster) = &mut self.cluster else {
-            return Ok(no_cluster_answer(alloc)?);
+            print_no_cluster(page);
+            return Ok(());
         };
-        event_answer(alloc, cluster, event)
+        let answer = carry_out(event, cluster)?;
+        answer.print(page);
+        Ok(())
     }
 
-    /// Shows a proxy.
-    fn show(&self, alloc: Global, show: &Show) -> Result<String, OutOfMemory>
-        ensures { IfOk result (λ text. string_bytes text
-            ≡ answer_with (line_text self.now.cluster (lines.Show show.now))) }
+    /// Prints a proxy.
+    fn show<P: Page>(&self, alloc: Global, show: &Show, page: &mut P) -> Result<(), OutOfMemory>
+        ensures text { OnOk result (P.printed page.new ≡ P.printed page.old
+            ++ line_text self.now.cluster (lines.Show show.now)) }
+        ensures unprinted { OnErr result (P.printed page.new ≡ P.printed page.old) }
     {
-        let Some(cluster) = &self.cluster else {
-            return no_cluster_answer(alloc);
-        };
-        show_answer(alloc, cluster, show)
+        match &self.cluster {
+            Some(cluster) => print_show(alloc, cluster, show, page),
+            None => {
+                print_no_cluster(page);
+                Ok(())
+            }
+        }
     }
 }
 
@@ -111,60 +126,43 @@ impl Answering for Session {
 
     ghost rules = { session_rules };
 
-    fn answer(&mut self, alloc: Global, line: &[u8]) -> Result<String, Unanswered> {
+    fn answer<P: Page>(
+        &mut self,
+        alloc: Global,
+        line: &[u8],
+        page: &mut P,
+    ) -> Result<(), OutOfMemory> {
         match read_line(alloc, line) {
-            Ok(line) => self.answer_line(alloc, line),
-            Err(fault) => Ok(faulty_answer(alloc, fault)?),
+            Ok(line) => self.answer_line(alloc, line, page),
+            Err(fault) => print_fault(alloc, fault, page),
         }
     }
 }
 
-// So many bytes of an answer have their memory before an event is carried out.
-const ROOM: usize = 4_096;
-
-/// The answer to an event.
-fn event_answer(alloc: Global, cluster: &mut TurnWorld, event: Event) -> Result<String, Unanswered>
-    ensures text { IfOk result (λ text. string_bytes text
-        ≡ answer_with (carried_out_text cluster.old (event_of event))) }
-    ensures ok { OnOk result (cluster.new ≡ after_event cluster.old (event_of event)) }
-    ensures unchanged { IsErrOf result Unanswered.OutOfMemory → cluster.new ≡ cluster.old }
-    ensures lost { IsErrOf result Unanswered.AnswerLost
-        → cluster.new ≡ after_event cluster.old (event_of event) }
+/// Prints that there is no cluster.
+fn print_no_cluster<P: Page>(page: &mut P)
+    ensures { P.printed page.new ≡ P.printed page.old ++ no_cluster_text }
 {
-    let text = room(alloc)?;
-    let answer = carry_out(event, cluster)?;
-    match printed(text, &answer) {
-        Ok(text) => Ok(text),
-        Err(OutOfMemory) => Err(Unanswered::AnswerLost),
-    }
+    page.push("refused 72 NoCluster\n");
 }
 
-/// An empty text with room.
-fn room(alloc: Global) -> Result<String, OutOfMemory>
-    ensures { IfOk result (λ text. string_bytes text ≡ []) }
+/// Prints a proxy of the cluster, or that it has none of this number.
+fn print_show<P: Page>(
+    alloc: Global,
+    cluster: &TurnWorld,
+    show: &Show,
+    page: &mut P,
+) -> Result<(), OutOfMemory>
+    ensures text { OnOk result (P.printed page.new
+        ≡ P.printed page.old ++ show_text cluster.now show.now.proxy show.now.ask) }
+    ensures unprinted { OnErr result (P.printed page.new ≡ P.printed page.old) }
 {
-    Ok(String::with_capacity(alloc, ROOM)?)
-}
-
-/// The lines of an event, and an empty line, in an empty text.
-fn printed(mut text: String, answer: &EventAnswer) -> Result<String, OutOfMemory>
-    requires { string_bytes text ≡ [] }
-    ensures { IfOk result (λ printed.
-        string_bytes printed ≡ answer_with (lines_of_answer answer.now)) }
-{
-    answer.print(&mut text)?;
-    ended(text)
-}
-
-/// The answer to a line that shows a proxy.
-fn show_answer(alloc: Global, cluster: &TurnWorld, show: &Show) -> Result<String, OutOfMemory>
-    ensures { IfOk result (λ text. string_bytes text
-        ≡ answer_with (show_text cluster.now show.now.proxy show.now.ask)) }
-{
+    let Some(proxy) = cluster.proxy(show.proxy) else {
+        print_refusal(page, &Refusal::NoSuchProxy);
+        return Ok(());
+    };
     let mut text = String::new(alloc);
-    match cluster.proxy(show.proxy) {
-        Some(proxy) => print_proxy(alloc, &mut text, show.proxy, proxy, show.ask.as_slice())?,
-        None => print_refusal(&mut text, &Refusal::NoSuchProxy)?,
-    }
-    ended(text)
+    print_proxy(alloc, &mut text, show.proxy, proxy, show.ask.as_slice())?;
+    page.push(text.as_str());
+    Ok(())
 }

@@ -7,7 +7,7 @@ use Rattle.sessions.specs.Events.{bytes_came, bytes_read, bytes_written, lines_r
 use Rattle.sessions.specs.Lines.{closed, lines_of}
 use Rattle.sessions.specs.declared.status.SessionStatus.{SessionStatus}
 use Rattle.sessions.specs.declared.status.SessionStatus.TheVariants.{Done, ReadFailed}
-use Rattle.sessions.specs.declared.status.SessionStatus.TheVariants.{WriteFailed, AnswerLost, Unended}
+use Rattle.sessions.specs.declared.status.SessionStatus.TheVariants.{WriteFailed, Unended}
 
 -- exactly the answers to the whole lines read so far are written
 abbrev pub HasAnswered : {S : Type 0} → Rules S → S → List Event → S → Type 0
@@ -40,16 +40,14 @@ abbrev pub LeavesFailures : {F : Type 0} → (read_fails write_fails : F → F �
 LeavesFailures read_fails write_fails old new Done = new ≡ old
 LeavesFailures read_fails write_fails old new ReadFailed = read_fails old new
 LeavesFailures read_fails write_fails old new WriteFailed = write_fails old new
-LeavesFailures read_fails write_fails old new AnswerLost = new ≡ old
 LeavesFailures read_fails write_fails old new Unended = new ≡ old
 
--- how it ended: all is answered, unless a write failed, or an answer was lost
+-- how it ended: all is answered, unless a write failed
 abbrev pub MatchesStatus : {S : Type 0} → Rules S → S → List Event → S → SessionStatus → Type 0
 MatchesStatus rules start events now Done = HasEnded events
     × (bytes_read events ≡ closed (bytes_came events)) × HasAnswered rules start events now
 MatchesStatus rules start events now ReadFailed = HasAnswered rules start events now
 MatchesStatus rules start events now WriteFailed = Unit {0}
-MatchesStatus rules start events now AnswerLost = Unit {0}
 MatchesStatus rules start events now Unended = (reads_of events ≡ 2 ^ 64 - 1)
     × HasAnswered rules start events now
 

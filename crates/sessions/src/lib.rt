@@ -8,12 +8,12 @@ mod answering;
 mod device;
 mod feed;
 mod lines;
+mod outbox;
 mod pending;
 mod run;
 mod status;
-mod stopped;
 
-pub use answering::{Answering, Unanswered};
+pub use answering::Answering;
 pub use device::{Device, Failed, write_all};
 pub use lines::lines_are_exact;
 pub use run::answer_lines;

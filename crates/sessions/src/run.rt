@@ -6,9 +6,9 @@ ghost use Rattle.sessions.specs.Sessions.{LeavesFailures};
 use crate::answering::Answering;
 use crate::device::{Device, Failed};
 use crate::feed::{feed, finish};
+use crate::outbox::Outbox;
 use crate::pending::Pending;
 use crate::status::SessionStatus;
-use crate::stopped::end_status;
 use std::alloc::Global;
 
 // How many bytes one read call asks for.
@@ -44,19 +44,25 @@ fn converse<A: Answering, T: Device>(
     ensures failures { LeavesFailures T.read_fails T.write_fails
         (T.failures device.old) (T.failures device.new) result }
 {
+    let mut outbox = Outbox::new(alloc, device);
     let mut pending = Pending::new(alloc);
     let mut chunk = [0u8; READ_SIZE];
     for _call in 0..u64::MAX {
-        let count = match device.read(&mut chunk) {
+        let count = match outbox.read(&mut chunk) {
             Ok(count) => count,
             Err(Failed) => return SessionStatus::ReadFailed,
         };
         if count == 0 {
-            return end_status(finish(alloc, answering, device, &mut pending));
+            finish(alloc, answering, &mut outbox, &mut pending);
+            return match outbox.flush() {
+                Ok(()) => SessionStatus::Done,
+                Err(Failed) => SessionStatus::WriteFailed,
+            };
         }
-        match feed(alloc, answering, device, &mut pending, &chunk[..count]) {
+        feed(alloc, answering, &mut outbox, &mut pending, &chunk[..count]);
+        match outbox.flush() {
             Ok(()) => {}
-            Err(stopped) => return stopped.status(),
+            Err(Failed) => return SessionStatus::WriteFailed,
         }
     }
     SessionStatus::Unended

@@ -11,9 +11,6 @@ pub enum SessionStatus {
     ReadFailed,
     /// A write failed.
     WriteFailed,
-    /// A line was carried out, and an allocation failed for its answer; each line before it was
-    /// answered.
-    AnswerLost,
     /// The input did not end within 2^64 - 1 reads.
     Unended,
 }
@@ -26,7 +23,6 @@ impl SessionStatus {
         match self {
             SessionStatus::Done => 0,
             SessionStatus::ReadFailed | SessionStatus::WriteFailed | SessionStatus::Unended => 3,
-            SessionStatus::AnswerLost => 4,
         }
     }
 }

@@ -11,11 +11,11 @@ ghost use Rattle.turns_run.specs.Lines.{finish_text, finished_text, finishing_pr
 ghost use Rattle.turns_run.specs.Lines.{refusal_line, refusal_value};
 
 use crate::lines::{print_move, print_offer, print_sequence};
-use crate::numbers::push_numbered;
+use crate::pieces::{push_numbered, push_refused};
 use crate::transactions::print_transactions;
-use cluster_lines::push_refused;
 use model::{Finished, ProxyNumber};
-use std::fmt::Write;
+use pages::{Page, TextPage};
+use std::alloc::Global;
 use system_keys::{Items, OutOfMemory};
 use turn_world::{Answer, Event, OfferAnswer, Refusal, TurnWorld};
 
@@ -53,7 +53,19 @@ pub(crate) fn print_event(
     ensures world { OnOk result (world.new ≡ after_event world.old (event_of event)) }
 {
     let answer = carry_out(event, world)?;
-    answer.print(text)
+    append_answer(text, &answer)
+}
+
+// Appends the lines of an event to a text.
+fn append_answer(text: &mut String, answer: &EventAnswer) -> Result<(), OutOfMemory>
+    ensures { OnOk result (string_bytes text.new
+        ≡ string_bytes text.old ++ lines_of_answer answer.now) }
+{
+    let alloc: Global = *text.allocator();
+    let mut page = TextPage::of(std::mem::replace(text, String::new(alloc)));
+    answer.print(&mut page);
+    *text = page.into_text()?;
+    Ok(())
 }
 
 /// What an event came to: the answer or the refusal of the cluster that got it.
@@ -64,14 +76,13 @@ pub struct EventAnswer {
 }
 
 impl EventAnswer {
-    /// Prints the lines of the event. Fails only with `OutOfMemory`.
-    pub fn print(&self, text: &mut String) -> Result<(), OutOfMemory>
-        ensures { OnOk result (string_bytes text.new
-            ≡ string_bytes text.old ++ lines_of_answer self.now) }
+    /// Prints the lines of the event.
+    pub fn print<P: Page>(&self, page: &mut P)
+        ensures { P.printed page.new ≡ P.printed page.old ++ lines_of_answer self.now }
     {
         match &self.answer {
-            Ok(answer) => print_answer(text, self.finishing, answer),
-            Err(refusal) => print_refusal(text, refusal),
+            Ok(answer) => print_answer(page, self.finishing, answer),
+            Err(refusal) => print_refusal(page, refusal),
         }
     }
 }
@@ -120,89 +131,71 @@ fn finishing_proxy(event: &Event) -> Option<ProxyNumber>
 }
 
 /// Prints the lines of an event that was carried out; if it was a finish, its proxy is given.
-fn print_answer(
-    text: &mut String,
-    finishing: Option<ProxyNumber>,
-    answer: &Answer,
-) -> Result<(), OutOfMemory>
-    ensures { OnOk result (string_bytes text.new
-        ≡ string_bytes text.old ++ answer_text finishing (answer_of answer.now)) }
+fn print_answer<P: Page>(page: &mut P, finishing: Option<ProxyNumber>, answer: &Answer)
+    ensures { P.printed page.new
+        ≡ P.printed page.old ++ answer_text finishing (answer_of answer.now) }
 {
     match answer {
-        Answer::Sequenced { row, version } => print_sequence(text, *row, *version),
-        Answer::Moved { date } => print_move(text, *date),
-        Answer::Offered(OfferAnswer::Judged(reply)) => print_offer(text, "judged", reply),
-        Answer::Offered(OfferAnswer::Again(reply)) => print_offer(text, "again", reply),
-        Answer::Finished(finished) => print_completed(text, finishing, finished),
+        Answer::Sequenced { row, version } => print_sequence(page, *row, *version),
+        Answer::Moved { date } => print_move(page, *date),
+        Answer::Offered(OfferAnswer::Judged(reply)) => print_offer(page, "judged", reply),
+        Answer::Offered(OfferAnswer::Again(reply)) => print_offer(page, "again", reply),
+        Answer::Finished(finished) => print_completed(page, finishing, finished),
     }
 }
 
 // Prints a finished record, if it was a finish that was carried out.
-fn print_completed(
-    text: &mut String,
-    finishing: Option<ProxyNumber>,
-    finished: &Finished,
-) -> Result<(), OutOfMemory>
-    ensures { OnOk result (string_bytes text.new
-        ≡ string_bytes text.old ++ completed_text finishing finished.now) }
+fn print_completed<P: Page>(page: &mut P, finishing: Option<ProxyNumber>, finished: &Finished)
+    ensures { P.printed page.new ≡ P.printed page.old ++ completed_text finishing finished.now }
 {
     match finishing {
-        Some(proxy) => print_finished(text, proxy, finished),
-        None => Ok(()),
+        Some(proxy) => print_finished(page, proxy, finished),
+        None => {}
     }
 }
 
 /// Prints the line of a finish, and then those of the transactions of its batch.
-fn print_finished(text: &mut String, proxy: usize, finished: &Finished) -> Result<(), OutOfMemory>
-    ensures { OnOk result (string_bytes text.new
-        ≡ string_bytes text.old ++ finished_text proxy finished.now) }
+fn print_finished<P: Page>(page: &mut P, proxy: usize, finished: &Finished)
+    ensures { P.printed page.new ≡ P.printed page.old ++ finished_text proxy finished.now }
 {
-    push_finish(text, proxy, finished.version)?;
-    text.push_str("\n")?;
+    push_finish(page, proxy, finished.version);
+    page.push("\n");
     print_transactions(
-        text,
+        page,
         finished.tagged.as_slice(),
         finished.outcomes.as_slice(),
-    )
+    );
 }
 
 /// Appends the line of a finish.
-fn push_finish(text: &mut String, proxy: usize, version: u64) -> Result<(), OutOfMemory>
-    ensures { OnOk result (string_bytes text.new
-        ≡ string_bytes text.old ++ finish_text proxy version) }
+fn push_finish<P: Page>(page: &mut P, proxy: usize, version: u64)
+    ensures { P.printed page.new ≡ P.printed page.old ++ finish_text proxy version }
 {
-    push_numbered(text, "finish proxy ", proxy as u64)?;
-    push_numbered(text, " version ", version)?;
-    Ok(())
+    push_numbered(page, "finish proxy ", proxy as u64);
+    push_numbered(page, " version ", version);
 }
 
-/// Prints the line of a refusal. Fails only with `OutOfMemory`, which is also what it makes of the
-/// refusal `OutOfMemory`, since that has no number.
-pub fn print_refusal(text: &mut String, refusal: &Refusal) -> Result<(), OutOfMemory>
-    ensures numbered { OnOk result (IsSome (refusal_number refusal.now)) }
-    ensures text { OnOk result (string_bytes text.new
-        ≡ string_bytes text.old ++ refusal_line refusal.now) }
+/// Prints the line of a refusal.
+pub fn print_refusal<P: Page>(page: &mut P, refusal: &Refusal)
+    ensures { P.printed page.new ≡ P.printed page.old ++ refusal_line refusal.now }
 {
-    let number = refusal.number().ok_or(OutOfMemory)?;
-    push_refused(text, number, refusal.name())?;
-    push_refusal_value(text, refusal)?;
-    text.push_str("\n")?;
-    Ok(())
+    push_refused(page, refusal.number(), refusal.name());
+    push_refusal_value(page, refusal);
+    page.push("\n");
 }
 
 /// Appends what a refusal carries after a space, if it carries anything.
-fn push_refusal_value(text: &mut String, refusal: &Refusal) -> Result<(), OutOfMemory>
-    ensures { OnOk result (string_bytes text.new
-        ≡ string_bytes text.old ++ refusal_value refusal.now) }
+fn push_refusal_value<P: Page>(page: &mut P, refusal: &Refusal)
+    ensures { P.printed page.new ≡ P.printed page.old ++ refusal_value refusal.now }
 {
     match refusal {
-        Refusal::Early { version } => write!(text, " {version}")?,
-        Refusal::GivenUp { acknowledged } => write!(text, " {acknowledged}")?,
+        Refusal::Early { version } => push_numbered(page, " ", *version),
+        Refusal::GivenUp { acknowledged } => push_numbered(page, " ", *acknowledged),
         Refusal::OutOfTurn {
             expected: Some(row),
-        } => write!(text, " {row}")?,
-        Refusal::OutOfTurn { expected: None } => text.push_str(" none")?,
-        Refusal::MissingReply { resolver } => write!(text, " {resolver}")?,
+        } => push_numbered(page, " ", *row),
+        Refusal::OutOfTurn { expected: None } => page.push(" none"),
+        Refusal::MissingReply { resolver } => push_numbered(page, " ", *resolver as u64),
         Refusal::NoSuchResolver
         | Refusal::NoSuchProxy
         | Refusal::WrongResolver
@@ -210,5 +203,4 @@ fn push_refusal_value(text: &mut String, refusal: &Refusal) -> Result<(), OutOfM
         | Refusal::VersionsEnd
         | Refusal::OutOfMemory => {}
     }
-    Ok(())
 }

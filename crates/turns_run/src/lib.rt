@@ -9,7 +9,7 @@ mod checks;
 mod event_streams;
 mod events;
 mod lines;
-mod numbers;
+mod pieces;
 mod proxies;
 mod reading;
 mod run;
