@@ -18,7 +18,7 @@ QUIET = 0.3
 # the address space of a program whose line does not end, and how long that line is
 SMALL_SPACE, LONG_LINE = 2**25, 2**25
 
-# so many transactions make an answer longer than what is allocated before
+# so many transactions make a long answer
 MANY = 220
 
 OUT_OF_MEMORY = b"out of memory\n\n"
@@ -228,16 +228,16 @@ def texts_of(output):
 
 
 def judge_growth(status, output, lines, what):
-    """Each line is answered rightly, or `out of memory` and has changed nothing; of status 4 the last ones are not answered."""
+    """Each line is answered rightly, or `out of memory` and has changed nothing; or no line, of status 4."""
     session, texts = Session(), texts_of(output)
-    expect(what + ", status", status, 0 if len(texts) == len(lines) else 4)
+    expect(what + ", status and answers", (status, len(texts)), (0, len(lines)) if texts else (4, 0))
     for line, text in zip(lines, texts):
         if text != OUT_OF_MEMORY:
             expect("%s, %r" % (what, line[:80]), text, session.answer(line))
 
 
 def long_answers(program, lines):
-    """The same where the answer of a finish is longer than what is allocated before: now and then that answer is lost."""
+    """The same where the answer of a finish is long."""
     nothing = {"snapshot": 0, "reads": [], "writes": [], "mutations": [], "lock_aware": False}
     batch = json.dumps({"sequence": {"proxy": 0, "batch": [nothing] * MANY}}).encode()
     offers = [b'{"offer":{"row":0,"resolver":%d}}' % resolver for resolver in (0, 1)]
