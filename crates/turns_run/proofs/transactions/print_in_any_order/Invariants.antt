@@ -1,10 +1,9 @@
 use Rattle.std.proofs.Common.{◌≡◌, ◌++◌, drop}
-use Rattle.std.specs.Prelude.{string_bytes}
 use Rattle.turns_run.specs.Lines.{transactions_text}
 use Rattle.turns_run.proofs.transactions.print_in_any_order.Given as goal
 
 abbrev pub invariant-loop-outcome : goal.invariant-loop-outcome
-invariant-loop-outcome l = record {
-  told : string_bytes l.text ++ transactions_text l.tagged l.number (drop l.outcome-index l.outcomes) ≡ string_bytes l.fn.text ++ transactions_text l.tagged 0 l.outcomes;
+invariant-loop-outcome g l = record {
+  told : g.P.Page.printed l.page ++ transactions_text l.tagged l.number (drop l.outcome-index l.outcomes) ≡ g.P.Page.printed l.fn.page ++ transactions_text l.tagged 0 l.outcomes;
   count : l.number ≡ l.outcome-index;
 }
