@@ -1,14 +1,11 @@
 use Rattle.std.proofs.Common.{◌≡◌, ℕ, List, take}
+use Rattle.sessions.specs.Feeds.{Feeds}
 use Rattle.sessions.specs.Pending.{Holds}
-use Rattle.sessions.proofs.FeedLemmas.{Fed}
 use Rattle.sessions.proofs.feed.feed.Given as goal
 
 abbrev pub invariant-loop-byte : goal.invariant-loop-byte
 invariant-loop-byte g l =
     let state = g.A.Answering.state in
-    let view = g.T.Device.view in
-    record {
-      fed : (open_line : List ℕ) → Holds l.fn.pending open_line
-          → Fed g.A.Answering.rules (state l.fn.answering) (state l.answering) (view l.fn.device) (view l.device) open_line (take l.byte-index l.bytes) l.kept.items l.pending;
-      unfailed : g.T.Device.failures l.device ≡ g.T.Device.failures l.fn.device;
-    }
+    let printed = g.P.Page.printed in
+    (open_line : List ℕ) → Holds l.fn.pending open_line
+    → Feeds g.A.Answering.rules (state l.fn.answering) (state l.answering) (printed l.fn.page) (printed l.page) open_line (take l.byte-index l.bytes) l.pending
