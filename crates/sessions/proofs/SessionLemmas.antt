@@ -1,16 +1,14 @@
 -- What a session keeps from one read to the next.
-use Rattle.std.proofs.Common.{◌≡◌, ℕ, List, [], ◌∷◌, ◌++◌, Result, Ok, Err, refl, sym, ap, ◌∙◌, append_assoc, append-nil, subst, ◌+◌, ◌-◌, ◌^◌}
+use Rattle.std.proofs.Common.{◌≡◌, ℕ, List, [], ◌∷◌, ◌++◌, Result, Ok, refl, sym, ap, ◌∙◌, append_assoc, append-nil, subst, ◌+◌, ◌-◌, ◌^◌}
 use Rattle.sessions.specs.Answers.{Rules, Answers}
 use Rattle.sessions.specs.Events.{Event, Read, End, Wrote, View, GoesOnBy, HasEnded, bytes_came, bytes_read, bytes_written, lines_read, reads_of, Writes}
-use Rattle.sessions.specs.Feeds.{Feeds, LeavesWrites}
+use Rattle.sessions.specs.Feeds.{AnswersBytes}
 use Rattle.sessions.specs.Lines.{lines_from, open_from, whole_lines, open_line_of, line_end, closed}
 use Rattle.sessions.specs.Pending.{Holds}
-use Rattle.sessions.specs.Sessions.{HasAnswered, AnswersBeforeReads, NeverAhead, MatchesStatus, IsSession, LeavesFailures}
-use Rattle.sessions.specs.Statuses.{end_status, stopped_status}
+use Rattle.sessions.specs.Sessions.{HasAnswered, AnswersBeforeReads, NeverAhead, IsSession}
 use Rattle.sessions.specs.declared.pending.Pending.{Pending}
-use Rattle.sessions.specs.declared.status.SessionStatus.TheVariants.{Done, ReadFailed, Unended}
-use Rattle.sessions.specs.declared.stopped.Stopped.{Stopped}
-use Rattle.sessions.specs.declared.stopped.Stopped.TheVariants as stopped
+use Rattle.sessions.specs.declared.status.SessionStatus.TheVariants.{Done, ReadFailed, WriteFailed, Unended}
+use Rattle.sessions.specs.declared.device.Failed.{Failed}
 use Rattle.sessions.proofs.AnswerLemmas.{answers_join}
 use Rattle.sessions.proofs.EventLemmas.{goes_on_by_nothing, goes_on_by_more, read_before_writes, came_before_writes, reads_before_writes, written_by_writes}
 use Rattle.sessions.proofs.LineLemmas.{lines_append, open_append}
@@ -106,7 +104,7 @@ whole rules start end events unwritten answers none =
 -- bytes came, and the lines that they ended were answered
 pub stands_on : {S N : Type 0} (rules : Rules S) (start now next : S) (old mid came new : View N) (pending after : Pending) (calls : ℕ) (bytes : List ℕ)
     → Standing rules start now old mid pending calls → GoesOnBy mid came (Read bytes ∷ [])
-    → ((open_line : List ℕ) → Holds pending open_line → Feeds rules now next came new open_line bytes after (Ok tt))
+    → ((open_line : List ℕ) → Holds pending open_line → AnswersBytes rules now next came new open_line bytes after (Ok tt))
     → Standing rules start next old new after (calls + 1)
 stands_on rules start now next old mid came new pending after calls bytes stands grew feeds =
     let es = stands.events in
@@ -124,25 +122,12 @@ stands_on rules start now next old mid came new pending after calls bytes stands
       counted = reads_before_writes (Read bytes ∷ es) ws fed.text writes ∙ ap (λ n. n + 1) stands.counted;
     }
 
--- how a session ends that stops
-stops : {S : Type 0} (rules : Rules S) (start now : S) (events : List Event) (why : Stopped) → MatchesStatus rules start events now (stopped_status why)
-stops rules start now events stopped.WriteFailed = tt
-stops rules start now events stopped.AnswerLost = tt
-
-pub stopped_failures : {F : Type 0} (read_fails write_fails : F → F → Type 0) (old new : F) (why : Stopped) → LeavesWrites write_fails old new (Err why) → LeavesFailures read_fails write_fails old new (stopped_status why)
-stopped_failures read_fails write_fails old new stopped.WriteFailed leaves = leaves
-stopped_failures read_fails write_fails old new stopped.AnswerLost leaves = leaves
-
-pub end_failures : {F : Type 0} (read_fails write_fails : F → F → Type 0) (old new : F) (result : Result (Unit {0}) Stopped) → LeavesWrites write_fails old new result → LeavesFailures read_fails write_fails old new (end_status result)
-end_failures read_fails write_fails old new (Ok done) leaves = leaves
-end_failures read_fails write_fails old new (Err why) leaves = stopped_failures read_fails write_fails old new why leaves
-
--- the session stops after bytes came
-pub session_fails : {S N : Type 0} (rules : Rules S) (start now next : S) (old mid came new : View N) (pending after : Pending) (calls : ℕ) (bytes : List ℕ) (result : Result (Unit {0}) Stopped) (why : Stopped)
+-- a write failed after bytes came
+pub session_fails : {S N : Type 0} (rules : Rules S) (start now next : S) (old mid came new : View N) (pending after : Pending) (calls : ℕ) (bytes : List ℕ) (result : Result (Unit {0}) Failed)
     → Standing rules start now old mid pending calls → GoesOnBy mid came (Read bytes ∷ [])
-    → ((open_line : List ℕ) → Holds pending open_line → Feeds rules now next came new open_line bytes after result)
-    → IsSession rules start next old new (stopped_status why)
-session_fails rules start now next old mid came new pending after calls bytes result why stands grew feeds =
+    → ((open_line : List ℕ) → Holds pending open_line → AnswersBytes rules now next came new open_line bytes after result)
+    → IsSession rules start next old new WriteFailed
+session_fails rules start now next old mid came new pending after calls bytes result stands grew feeds =
     let es = stands.events in
     let fed = feeds (open_line_of (bytes_read es)) stands.kept in
     let (ws, wrote, writes) = fed.wrote in
@@ -152,13 +137,13 @@ session_fails rules start now next old mid came new pending after calls bytes re
       leads = goes_on_by_more old came new (Read bytes ∷ es) ws (goes_on_by_more old mid came es (Read bytes ∷ []) stands.leads grew) wrote;
       in_turn = done.in_turn;
       never_ahead = done.never_ahead;
-      ends = stops rules start next (ws ++ Read bytes ∷ es) why;
+      ends = tt;
     }
 
 -- the input ended, and the open line was answered
-session_done : {S N : Type 0} (rules : Rules S) (start now next : S) (old mid came new : View N) (pending after : Pending) (calls : ℕ)
+pub session_done : {S N : Type 0} (rules : Rules S) (start now next : S) (old mid came new : View N) (pending after : Pending) (calls : ℕ)
     → Standing rules start now old mid pending calls → GoesOnBy mid came (End ∷ [])
-    → ((open_line : List ℕ) → Holds pending open_line → Feeds rules now next came new open_line (line_end open_line) after (Ok tt))
+    → ((open_line : List ℕ) → Holds pending open_line → AnswersBytes rules now next came new open_line (line_end open_line) after (Ok tt))
     → IsSession rules start next old new Done
 session_done rules start now next old mid came new pending after calls stands grew feeds =
     let es = stands.events in
@@ -178,12 +163,12 @@ session_done rules start now next old mid came new pending after calls stands gr
       );
     }
 
--- the session stops after the input ended
-session_fails_at_end : {S N : Type 0} (rules : Rules S) (start now next : S) (old mid came new : View N) (pending after : Pending) (calls : ℕ) (result : Result (Unit {0}) Stopped) (why : Stopped)
+-- a write failed after the input ended
+pub session_fails_at_end : {S N : Type 0} (rules : Rules S) (start now next : S) (old mid came new : View N) (pending after : Pending) (calls : ℕ) (result : Result (Unit {0}) Failed)
     → Standing rules start now old mid pending calls → GoesOnBy mid came (End ∷ [])
-    → ((open_line : List ℕ) → Holds pending open_line → Feeds rules now next came new open_line (line_end open_line) after result)
-    → IsSession rules start next old new (stopped_status why)
-session_fails_at_end rules start now next old mid came new pending after calls result why stands grew feeds =
+    → ((open_line : List ℕ) → Holds pending open_line → AnswersBytes rules now next came new open_line (line_end open_line) after result)
+    → IsSession rules start next old new WriteFailed
+session_fails_at_end rules start now next old mid came new pending after calls result stands grew feeds =
     let es = stands.events in
     let fed = feeds (open_line_of (bytes_read es)) stands.kept in
     let (ws, wrote, writes) = fed.wrote in
@@ -194,16 +179,8 @@ session_fails_at_end rules start now next old mid came new pending after calls r
       leads = goes_on_by_more old came new (End ∷ es) ws (goes_on_by_more old mid came es (End ∷ []) stands.leads grew) wrote;
       in_turn = done.in_turn;
       never_ahead = done.never_ahead;
-      ends = stops rules start next (ws ++ End ∷ es) why;
+      ends = tt;
     }
-
--- the input ended, and the session with it
-pub session_ends : {S N : Type 0} (rules : Rules S) (start now next : S) (old mid came new : View N) (pending after : Pending) (calls : ℕ) (result : Result (Unit {0}) Stopped)
-    → Standing rules start now old mid pending calls → GoesOnBy mid came (End ∷ [])
-    → ((open_line : List ℕ) → Holds pending open_line → Feeds rules now next came new open_line (line_end open_line) after result)
-    → IsSession rules start next old new (end_status result)
-session_ends rules start now next old mid came new pending after calls (Ok done) stands grew feeds = session_done rules start now next old mid came new pending after calls stands grew feeds
-session_ends rules start now next old mid came new pending after calls (Err why) stands grew feeds = session_fails_at_end rules start now next old mid came new pending after calls (Err why) why stands grew feeds
 
 -- a read failed
 pub session_unread : {S N : Type 0} (rules : Rules S) (start now : S) (old mid new : View N) (pending : Pending) (calls : ℕ)

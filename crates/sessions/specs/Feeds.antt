@@ -1,8 +1,10 @@
 -- What a piece of the input leaves.
-use Rattle.std.specs.Prelude.{◌≡◌, ℕ, List, ◌++◌}
+use Rattle.std.specs.Prelude.{◌≡◌, ℕ, List, [], ◌++◌, Result, OnOk}
 use Rattle.sessions.specs.Answers.{Rules, Answer, Answers}
+use Rattle.sessions.specs.Events.{View, WritesText}
 use Rattle.sessions.specs.Lines.{lines_from, open_from}
 use Rattle.sessions.specs.Pending.{Holds}
+use Rattle.sessions.specs.declared.device.Failed.{Failed}
 use Rattle.sessions.specs.declared.pending.Pending.{Pending}
 
 -- a line has an answer, which is printed
@@ -18,3 +20,16 @@ pub record Feeds {S : Type 0} (rules : Rules S) (start now : S) (old new open_li
   pub answers : Answers rules start (lines_from open_line bytes) text now
   pub printed : new ≡ old ++ text
   pub held : Holds pending (open_from open_line bytes)
+
+-- the lines that these bytes end were answered; or a beginning of the answers was written, if a
+-- write failed
+pub record AnswersBytes {S N : Type 0} (rules : Rules S) (start now : S) (old new : View N)
+    (open_line bytes : List ℕ) (pending : Pending) (result : Result (Unit {0}) Failed) : Type 0 where
+  pub text : List ℕ
+  pub unwritten : List ℕ
+  pub end : S
+  pub wrote : WritesText old new text
+  pub answers : Answers rules start (lines_from open_line bytes) (text ++ unwritten) end
+  pub all : OnOk result (unwritten ≡ [])
+  pub state : OnOk result (now ≡ end)
+  pub kept : OnOk result (Holds pending (open_from open_line bytes))

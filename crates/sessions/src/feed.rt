@@ -1,7 +1,6 @@
 //! Answering the lines of bytes that have come.
 ghost use Rattle.std.specs.Prelude.{ℕ, List};
 ghost use Rattle.sessions.specs.Feeds.{AnswersLine, Feeds};
-ghost use Rattle.sessions.specs.Lines.{line_end};
 ghost use Rattle.sessions.specs.Pending.{Holds};
 
 use crate::answering::Answering;
@@ -52,21 +51,5 @@ pub(crate) fn feed<A: Answering, P: Page>(
         } else {
             pending.push(*byte);
         }
-    }
-}
-
-/// Answers the line that the end of the input left open, if there is one.
-pub(crate) fn finish<A: Answering, P: Page>(
-    alloc: Global,
-    answering: &mut A,
-    page: &mut P,
-    pending: &mut Pending,
-)
-    ensures { (open_line : List ℕ) → Holds pending.old open_line → Feeds A.rules
-        (A.state answering.old) (A.state answering.new)
-        (P.printed page.old) (P.printed page.new) open_line (line_end open_line) pending.new }
-{
-    if !pending.is_empty() {
-        feed(alloc, answering, page, pending, b"\n");
     }
 }

@@ -5,8 +5,7 @@ ghost use Rattle.sessions.specs.Sessions.{LeavesFailures};
 
 use crate::answering::Answering;
 use crate::device::{Device, Failed};
-use crate::feed::{feed, finish};
-use crate::outbox::Outbox;
+use crate::outbox::{answer_bytes, finish};
 use crate::pending::Pending;
 use crate::status::SessionStatus;
 use std::alloc::Global;
@@ -44,23 +43,20 @@ fn converse<A: Answering, T: Device>(
     ensures failures { LeavesFailures T.read_fails T.write_fails
         (T.failures device.old) (T.failures device.new) result }
 {
-    let mut outbox = Outbox::new(alloc, device);
     let mut pending = Pending::new(alloc);
     let mut chunk = [0u8; READ_SIZE];
     for _call in 0..u64::MAX {
-        let count = match outbox.read(&mut chunk) {
+        let count = match device.read(&mut chunk) {
             Ok(count) => count,
             Err(Failed) => return SessionStatus::ReadFailed,
         };
         if count == 0 {
-            finish(alloc, answering, &mut outbox, &mut pending);
-            return match outbox.flush() {
+            return match finish(alloc, answering, device, &mut pending) {
                 Ok(()) => SessionStatus::Done,
                 Err(Failed) => SessionStatus::WriteFailed,
             };
         }
-        feed(alloc, answering, &mut outbox, &mut pending, &chunk[..count]);
-        match outbox.flush() {
+        match answer_bytes(alloc, answering, device, &mut pending, &chunk[..count]) {
             Ok(()) => {}
             Err(Failed) => return SessionStatus::WriteFailed,
         }
