@@ -1,13 +1,14 @@
 -- The answers to lines.
-use Rattle.std.proofs.Common.{◌≡◌, ◌∙◌, ℕ, List, [], ◌∷◌, ap, refl, sym, inl}
+use Rattle.std.proofs.Common.{◌≡◌, ◌∙◌, ℕ, List, [], ◌∷◌, ◌++◌, ap, refl, sym, inl}
 use Rattle.std.specs.Prelude.{None, Result, Ok, Err, IfOk, OnOk, IsSome}
+use Rattle.system_keys.specs.declared.memory.OutOfMemory.{OutOfMemory}
 use Rattle.system_keys.specs.AsSpecified.{IsFaultIfAllocated}
 use Rattle.scripts.specs.Answers.{refused_answer}
 use Rattle.scripts.specs.ScriptFaults.{fault_number, script_fault}
 use Rattle.scripts.specs.declared.script_fault.ScriptFault.{ScriptFault}
 use Rattle.scripts.specs.declared.script_fault.ScriptFault.TheVariants as faults
 use Rattle.sessions.specs.Answers.{Answers, Rules, text_of_lines}
-use Rattle.session_run.specs.Session.{State, after_read, read_text}
+use Rattle.session_run.specs.Session.{State, after_read, answer_with, read_text}
 use Rattle.session_run.specs.declared.line.Line.{Line}
 
 -- a fault that has a number is that of the line
@@ -24,6 +25,19 @@ faulty_text state asked fault is = ap (read_text state) is
 
 pub faulty_state : (state : State) (asked : Result Line ScriptFault) (fault : ScriptFault) → asked ≡ Err fault → state ≡ after_read state asked
 faulty_state state asked fault is = sym (ap (after_read state) is)
+
+-- what was printed for a line with a fault, and the state after it
+pub faulty_printed : (state : State) (asked : Result Line ScriptFault) (fault : ScriptFault) (result : Result (Unit {0}) OutOfMemory) (old new : List ℕ)
+    → IsFaultIfAllocated (script_fault fault) asked → OnOk result (IsSome (fault_number fault)) → OnOk result (new ≡ old ++ answer_with (refused_answer fault).text)
+    → OnOk result (new ≡ old ++ answer_with (read_text state asked))
+faulty_printed state asked fault (Ok done) old new fails numbered printed =
+    printed ∙ ap (λ text. old ++ answer_with text) (sym (faulty_text state asked fault (fault_is asked fault fails numbered)))
+faulty_printed state asked fault (Err memory) old new fails numbered printed = tt
+
+pub faulty_after : (state : State) (asked : Result Line ScriptFault) (fault : ScriptFault) (result : Result (Unit {0}) OutOfMemory)
+    → IsFaultIfAllocated (script_fault fault) asked → OnOk result (IsSome (fault_number fault)) → OnOk result (state ≡ after_read state asked)
+faulty_after state asked fault (Ok done) fails numbered = faulty_state state asked fault (fault_is asked fault fails numbered)
+faulty_after state asked fault (Err memory) fails numbered = tt
 
 -- ---- all lines
 
