@@ -8,7 +8,7 @@ use Rattle.scripts.specs.ScriptFaults.{fault_number, script_fault}
 use Rattle.scripts.specs.declared.script_fault.ScriptFault.{ScriptFault}
 use Rattle.scripts.specs.declared.script_fault.ScriptFault.TheVariants as faults
 use Rattle.sessions.specs.Answers.{Answers, Rules, text_of_lines}
-use Rattle.session_run.specs.Session.{State, after_read, answer_with, read_text}
+use Rattle.session_run.specs.Session.{State, after_read, with_empty_line, read_text}
 use Rattle.session_run.specs.declared.line.Line.{Line}
 
 -- a fault that has a number is that of the line
@@ -28,10 +28,10 @@ faulty_state state asked fault is = sym (ap (after_read state) is)
 
 -- what was printed for a line with a fault, and the state after it
 pub faulty_printed : (state : State) (asked : Result Line ScriptFault) (fault : ScriptFault) (result : Result (Unit {0}) OutOfMemory) (old new : List ℕ)
-    → IsFaultIfAllocated (script_fault fault) asked → OnOk result (IsSome (fault_number fault)) → OnOk result (new ≡ old ++ answer_with (refused_answer fault).text)
-    → OnOk result (new ≡ old ++ answer_with (read_text state asked))
+    → IsFaultIfAllocated (script_fault fault) asked → OnOk result (IsSome (fault_number fault)) → OnOk result (new ≡ old ++ with_empty_line (refused_answer fault).text)
+    → OnOk result (new ≡ old ++ with_empty_line (read_text state asked))
 faulty_printed state asked fault (Ok done) old new fails numbered printed =
-    printed ∙ ap (λ text. old ++ answer_with text) (sym (faulty_text state asked fault (fault_is asked fault fails numbered)))
+    printed ∙ ap (λ text. old ++ with_empty_line text) (sym (faulty_text state asked fault (fault_is asked fault fails numbered)))
 faulty_printed state asked fault (Err memory) old new fails numbered printed = tt
 
 pub faulty_after : (state : State) (asked : Result Line ScriptFault) (fault : ScriptFault) (result : Result (Unit {0}) OutOfMemory)

@@ -18,7 +18,7 @@ use Rattle.turns_run.specs.Lines.{events_text}
 use Rattle.turns_run.specs.Text.{printed_text, proxies_text, proxy_text}
 use Rattle.turns_run.specs.declared.script.TurnsScript.{TurnsScript}
 use Rattle.session_run.specs.Lines.{line_of}
-use Rattle.session_run.specs.Session.{State, answer_with, carried_out_text, cluster_text, session_rules, show_text}
+use Rattle.session_run.specs.Session.{State, with_empty_line, carried_out_text, cluster_text, session_rules, show_text}
 use Rattle.session_run.specs.TurnsScripts.{AnswersScript, AsksForScript, asks_event, asks_show}
 use Rattle.session_run.specs.declared.line.Line.{Line}
 use Rattle.session_run.specs.declared.line.Line.TheVariants as lines
@@ -48,14 +48,14 @@ after_events-is now [] = refl
 after_events-is now (event ∷ events) = after_events-is (after_event now (event_of event)) events
 
 events_answered : (now : TurnCluster) (events : List Event) (given rest : List (List ℕ)) → map line_of given ≡ map asks_event events
-    → answers_to session_rules (Some now) (given ++ rest) ≡ map answer_with (event_parts now events) ++ answers_to session_rules (Some (after_events now events)) rest
+    → answers_to session_rules (Some now) (given ++ rest) ≡ map with_empty_line (event_parts now events) ++ answers_to session_rules (Some (after_events now events)) rest
 events_answered now [] [] rest same = refl
 events_answered now [] (line ∷ given) rest same = cc
 events_answered now (event ∷ events) [] rest same = cc
 events_answered now (event ∷ events) (line ∷ given) rest same =
     let first : line_of line ≡ Ok (lines.Event event) = cc in
     let others : map line_of given ≡ map asks_event events = cc in
-    rw first (ap (λ l. answer_with (carried_out_text now (event_of event)) ∷ l) (events_answered (after_event now (event_of event)) events given rest others))
+    rw first (ap (λ l. with_empty_line (carried_out_text now (event_of event)) ∷ l) (events_answered (after_event now (event_of event)) events given rest others))
 
 -- ---- proxies
 
@@ -63,14 +63,14 @@ show_parts : TurnCluster → List Key → List ℕ → List (List ℕ)
 show_parts now ask numbers = map (λ p. show_text now p ask) numbers
 
 shows_answered : (now : TurnCluster) (script : TurnsScript) (numbers : List ℕ) (given : List (List ℕ)) → map line_of given ≡ map (asks_show script) numbers
-    → answers_to session_rules (Some now) given ≡ map answer_with (show_parts now script.ask numbers)
+    → answers_to session_rules (Some now) given ≡ map with_empty_line (show_parts now script.ask numbers)
 shows_answered now script [] [] same = refl
 shows_answered now script [] (line ∷ given) same = cc
 shows_answered now script (p ∷ numbers) [] same = cc
 shows_answered now script (p ∷ numbers) (line ∷ given) same =
     let first : line_of line ≡ asks_show script p = cc in
     let others : map line_of given ≡ map (asks_show script) numbers = cc in
-    rw first (ap (λ l. answer_with (show_text now p script.ask) ∷ l) (shows_answered now script numbers given others))
+    rw first (ap (λ l. with_empty_line (show_text now p script.ask) ∷ l) (shows_answered now script numbers given others))
 
 shows_text : (config : Config) (now : TurnCluster) (ask : List Key) (n : ℕ) → now.config ≡ config → n ≤ config.proxies
     → joined (show_parts now ask (each_below n)) ≡ flat_map (proxy_text config now.world ask) (each_below n)
@@ -96,15 +96,15 @@ script_answered script lines_given asks =
     let numbers = each_below script.config.proxies in
     let shows = show_parts ends script.ask numbers in
     let carried : after_events start script.events ≡ ends = after_events-is start script.events in
-    let shown : answers_to session_rules (Some ends) asks.shows ≡ map answer_with shows = shows_answered ends script numbers asks.shows asks.shows_each in
-    let answered : answers_to session_rules (Some start) (asks.events ++ asks.shows) ≡ map answer_with events ++ map answer_with shows =
+    let shown : answers_to session_rules (Some ends) asks.shows ≡ map with_empty_line shows = shows_answered ends script numbers asks.shows asks.shows_each in
+    let answered : answers_to session_rules (Some start) (asks.events ++ asks.shows) ≡ map with_empty_line events ++ map with_empty_line shows =
     events_answered start script.events asks.events asks.shows asks.carries_out
-    ∙ ap (λ (c : TurnCluster). map answer_with events ++ answers_to session_rules (Some c) asks.shows) carried
-    ∙ ap (λ l. map answer_with events ++ l) shown in
-    let first : answers_to session_rules None (asks.first ∷ (asks.events ++ asks.shows)) ≡ answer_with cluster_text ∷ answers_to session_rules (Some start) (asks.events ++ asks.shows) =
+    ∙ ap (λ (c : TurnCluster). map with_empty_line events ++ answers_to session_rules (Some c) asks.shows) carried
+    ∙ ap (λ l. map with_empty_line events ++ l) shown in
+    let first : answers_to session_rules None (asks.first ∷ (asks.events ++ asks.shows)) ≡ with_empty_line cluster_text ∷ answers_to session_rules (Some start) (asks.events ++ asks.shows) =
     rw asks.begins refl in
     record {
       parts = events ++ shows;
       text = flat_map-append (λ part. part) events shows ∙ ap₂ (λ text more. text ++ more) (event_parts-text start script.events) (shows_text script.config ends script.ask script.config.proxies refl (omega arith));
-      answers = ap (answers_to session_rules None) asks.all ∙ first ∙ ap (λ l. answer_with cluster_text ∷ l) (answered ∙ sym (map-append answer_with events shows));
+      answers = ap (answers_to session_rules None) asks.all ∙ first ∙ ap (λ l. with_empty_line cluster_text ∷ l) (answered ∙ sym (map-append with_empty_line events shows));
     }

@@ -23,8 +23,8 @@ abbrev pub State : Type 0
 State = Option TurnCluster
 
 -- an answer ends with an empty line
-abbrev pub answer_with : List ℕ → List ℕ
-answer_with text = text ++ 10 ∷ []
+abbrev pub with_empty_line : List ℕ → List ℕ
+with_empty_line text = text ++ 10 ∷ []
 
 -- ---- the lines of an answer
 
@@ -76,7 +76,7 @@ after_read state (Err fault) = state
 abbrev pub session_rules : Rules State
 session_rules =
     record {
-      answer = λ state bytes. answer_with (read_text state (line_of bytes));
+      answer = λ state bytes. with_empty_line (read_text state (line_of bytes));
       after = λ state bytes. after_read state (line_of bytes);
     }
 
@@ -87,4 +87,5 @@ session_text bytes = text_of_lines session_rules None (lines_of bytes)
 -- it answers all lines, and leaves some state
 abbrev pub TextAnswersLines : Type 0
 TextAnswersLines =
-    (bytes : List ℕ) → (now : State) × Answers session_rules None (lines_of bytes) (session_text bytes) now
+    (bytes : List ℕ)
+    → (now : State) × Answers session_rules None (lines_of bytes) (session_text bytes) now

@@ -7,7 +7,7 @@ use Rattle.turn_world.specs.declared.event.Event.{Event}
 use Rattle.turns_run.specs.Text.{printed_text}
 use Rattle.turns_run.specs.declared.script.TurnsScript.{TurnsScript}
 use Rattle.session_run.specs.Lines.{line_of}
-use Rattle.session_run.specs.Session.{answer_with, cluster_text, session_rules}
+use Rattle.session_run.specs.Session.{with_empty_line, cluster_text, session_rules}
 use Rattle.session_run.specs.declared.line.Line.{Line}
 use Rattle.session_run.specs.declared.line.Line.TheVariants as lines
 
@@ -34,7 +34,7 @@ pub record AnswersScript (script : TurnsScript) (lines_given : List (List ℕ)) 
   pub parts : List (List ℕ)
   pub text : flat_map (λ part. part) parts ≡ printed_text script
   pub answers : answers_to session_rules None lines_given
-      ≡ map answer_with (cluster_text ∷ parts)
+      ≡ map with_empty_line (cluster_text ∷ parts)
 
 -- a turns script that is given line by line is answered with its text
 abbrev pub LinesGiveTurns : Type 0

@@ -3,7 +3,7 @@
 ghost use Rattle.std.specs.Prelude.{◌≡◌, ◌++◌, IsSome, OnErr, OnOk};
 ghost use Rattle.scripts.specs.Answers.{refused_answer};
 ghost use Rattle.scripts.specs.ScriptFaults.{fault_number};
-ghost use Rattle.session_run.specs.Session.{answer_with};
+ghost use Rattle.session_run.specs.Session.{with_empty_line};
 
 use pages::Page;
 use scripts::{ScriptFault, refused};
@@ -19,7 +19,7 @@ pub(crate) fn print_fault<P: Page>(
 ) -> Result<(), OutOfMemory>
     ensures numbered { OnOk result (IsSome (fault_number fault)) }
     ensures text { OnOk result (P.printed page.new
-        ≡ P.printed page.old ++ answer_with (refused_answer fault).text) }
+        ≡ P.printed page.old ++ with_empty_line (refused_answer fault).text) }
     ensures unprinted { OnErr result (P.printed page.new ≡ P.printed page.old) }
 {
     let output = refused(alloc, fault)?;

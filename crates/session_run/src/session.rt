@@ -1,8 +1,9 @@
 //! A session with a cluster without threads.
 
-ghost use Rattle.std.specs.Prelude.{◌≡◌, ◌++◌, MatchOption, None, OnErr, OnOk, Option, Some};
+ghost use Rattle.std.specs.Prelude.{◌≡◌, ◌++◌, IfSome, MatchOption, None, OnErr, OnOk, Option, Some};
+ghost use Rattle.model.specs.Serial.{IsSerial};
 ghost use Rattle.model.specs.Turns.{TurnCluster};
-ghost use Rattle.session_run.specs.Session.{after_line, answer_with, line_text};
+ghost use Rattle.session_run.specs.Session.{after_line, with_empty_line, line_text};
 ghost use Rattle.session_run.specs.Session.{no_cluster_text, session_rules, show_text};
 ghost use Rattle.session_run.specs.declared.line.Line.TheVariants as lines;
 
@@ -33,11 +34,16 @@ impl Session {
 
     /// The cluster, whose records obey the rule of commit.
     pub fn cluster(&self) -> Option<&TurnWorld>
-        ensures { MatchOption result (self.now.cluster ≡ None)
+        ensures cluster { MatchOption result (self.now.cluster ≡ None)
             (λ cluster. self.now.cluster ≡ Some cluster.now) }
+        ensures serial { IfSome result (λ cluster.
+            IsSerial cluster.now.config cluster.now.world.history) }
     {
         match &self.cluster {
-            Some(cluster) => Some(cluster),
+            Some(cluster) => {
+                let _ = cluster.config();
+                Some(cluster)
+            }
             None => None,
         }
     }
@@ -51,7 +57,7 @@ impl Session {
         page: &mut P,
     ) -> Result<(), OutOfMemory>
         ensures text { OnOk result (P.printed page.new
-            ≡ P.printed page.old ++ answer_with (line_text self.old.cluster line)) }
+            ≡ P.printed page.old ++ with_empty_line (line_text self.old.cluster line)) }
         ensures ok { OnOk result (self.new.cluster ≡ after_line self.old.cluster line) }
         ensures unprinted { OnErr result (P.printed page.new ≡ P.printed page.old) }
         ensures unchanged { OnErr result (self.new.cluster ≡ self.old.cluster) }

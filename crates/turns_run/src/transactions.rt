@@ -62,7 +62,8 @@ fn print_first_mutations<'a, P: Page>(
     tagged: &'a [Tagged],
 ) -> &'a [Tagged]
     requires { are_in_order number tagged.now ≡ true }
-    ensures printed { P.printed page.new ≡ P.printed page.old ++ flat_map mutation_text (mutations_of number tagged.now) }
+    ensures printed { P.printed page.new
+        ≡ P.printed page.old ++ flat_map mutation_text (mutations_of number tagged.now) }
     ensures later { IsAfter number tagged.now result.now }
 {
     let mut later = tagged;
@@ -90,7 +91,8 @@ fn print_in_any_order<P: Page>(page: &mut P, tagged: &[Tagged], outcomes: &[Outc
 
 // Prints the mutations of this transaction.
 fn print_mutations<P: Page>(page: &mut P, number: usize, tagged: &[Tagged])
-    ensures { P.printed page.new ≡ P.printed page.old ++ flat_map mutation_text (mutations_of number tagged.now) }
+    ensures { P.printed page.new
+        ≡ P.printed page.old ++ flat_map mutation_text (mutations_of number tagged.now) }
 {
     for mutation in tagged {
         if mutation.number == number {
