@@ -1,0 +1,5 @@
+pub mod TurnsScriptLemmas
+pub mod LineLemmas
+pub mod AnswerLemmas
+pub mod ShowLemmas
+pub mod RunLemmas
