@@ -12,7 +12,7 @@ TOOL = os.path.join(ROOT, "tools", "check_log")
 LOGS = os.path.join(ROOT, "examples", "sessions")
 
 # how many lines a long log has, and how many more kilobytes it may take than a short one
-LONG, MORE = 20_000, 8_000
+LONG, MORE = 5_000, 8_000
 
 BROKEN = (
     b"{", b"[]", b"7", b'{"event":{"finish":{"proxy":0}},"got":["a"]} {}', b'{"got":[]}', b'{"event":{},"show":{}}',

@@ -3,3 +3,4 @@ pub mod LineLemmas
 pub mod AnswerLemmas
 pub mod ShowLemmas
 pub mod RunLemmas
+pub mod ShapeLemmas

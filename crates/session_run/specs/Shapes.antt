@@ -1,12 +1,14 @@
 -- The form of a line: an object has all its fields and no other, in any order, and the numbers of a
 -- cluster are within their limits (this project's profile).
-use Rattle.std.specs.Prelude.{codes, if◌then◌else◌, Option, Some, None}
+use Rattle.std.specs.Prelude.{codes, if◌then◌else◌, Option, Some, None, Result, Err, Bool, true, false}
 use Rattle.serde_json.specs.Data.{Data}
 use Rattle.serde_json.specs.Find.{get}
 use Rattle.model.specs.Configs.{Config}
 use Rattle.cluster_scripts.specs.Shapes.{config_shape}
 use Rattle.scripts.specs.Shapes.{◌>>=◌, number_shape, bytes_shape, list_shape}
 use Rattle.scripts.specs.Shapes.{has_fields, field_shape}
+use Rattle.scripts.specs.declared.script_fault.ScriptFault.{ScriptFault}
+use Rattle.scripts.specs.declared.script_fault.ScriptFault.TheVariants as faults
 use Rattle.turns_run.specs.Shapes.{event_shape}
 use Rattle.session_run.specs.declared.line.RawLine.{RawLine}
 use Rattle.session_run.specs.declared.line.RawLine.TheVariants.{Cluster, Event, Show}
@@ -61,3 +63,8 @@ first_line (Some line) other = Some line
 -- an event of a turns script, `{"cluster":..}` or `{"show":..}`
 abbrev pub line_shape : Data → Option RawLine
 line_shape d = first_line (event_line d) (other_line d)
+
+-- a word of a private clause: what was read is that a value does not have the shape
+abbrev pub is_bad_shape : Result RawLine ScriptFault → Bool
+is_bad_shape (Err faults.BadShape) = true
+is_bad_shape read = false

@@ -1,9 +1,10 @@
 //! What is read of the values of lines.
 
+ghost use Rattle.std.specs.Prelude.{◌≡◌};
 ghost use Rattle.serde_json.specs.View.{view};
 ghost use Rattle.scripts.specs.ScriptFaults.{IsReadAs};
 ghost use Rattle.scripts.specs.Shapes.{or_bad_shape};
-ghost use Rattle.session_run.specs.Shapes.{cluster_shape, event_line, line_shape};
+ghost use Rattle.session_run.specs.Shapes.{cluster_shape, event_line, is_bad_shape, line_shape};
 ghost use Rattle.session_run.specs.Shapes.{other_line, show_shape};
 
 use crate::line::{RawLine, Show};
@@ -18,10 +19,21 @@ impl Shaped for RawLine {
     ghost shape = { line_shape };
 
     fn shaped(alloc: Global, value: &Value) -> Result<RawLine, ScriptFault> {
-        match event_line(alloc, value) {
-            Err(ScriptFault::BadShape) => other_line(alloc, value),
-            read => read,
+        let read = event_line(alloc, value);
+        if is_bad_shape(&read) {
+            return other_line(alloc, value);
         }
+        read
+    }
+}
+
+/// Whether a value does not have the shape that was read for.
+fn is_bad_shape(read: &Result<RawLine, ScriptFault>) -> bool
+    ensures { result ≡ is_bad_shape read.now }
+{
+    match read {
+        Err(ScriptFault::BadShape) => true,
+        Ok(_) | Err(_) => false,
     }
 }
 

@@ -1,5 +1,5 @@
 -- What is printed on a page that goes to a device.
-use Rattle.std.proofs.Common.{◌≡◌, ◌≢◌, ℕ, List, [], ◌∷◌, ◌++◌, Bool, true, false, Result, Ok, Err, refl, sym, ap, ◌∙◌, append_assoc, append-nil, subst}
+use Rattle.std.proofs.Common.{◌≡◌, ◌≢◌, ℕ, List, [], ◌∷◌, ◌++◌, Bool, true, false, Result, Ok, Err, refl, sym, ap, ◌∙◌, append_assoc, append-nil, subst, arith}
 use Rattle.std.proofs.lemmas.Bool.{false≢true}
 use Rattle.std.specs.Borrow.{GName}
 use Rattle.sessions.specs.Answers.{Rules, Answers}
@@ -12,10 +12,10 @@ use Rattle.sessions.specs.declared.pending.Pending.{Pending}
 use Rattle.sessions.specs.declared.device.Failed.{Failed}
 use Rattle.sessions.proofs.EventLemmas.{writes_nothing, writes_text_more}
 
-pub sent_nothing : {N F : Type 0} {write_fails : F → F → Type 0} (borrow : GName) (view : View N) (failures : F)
-    → HasSent write_fails borrow view failures [] false (record { borrow = borrow; view = view; failures = failures }) []
-sent_nothing borrow view failures =
-    record { same = refl; written = []; unwritten = []; wrote = writes_nothing view; all = refl; unfailed = λ _. (refl, refl); failed = λ never. absurd (false≢true never) }
+pub sent_nothing : {N F : Type 0} {write_fails : F → F → Type 0} {borrow : GName} {view : View N} {failures : F} {kept : List ℕ} → kept ≡ []
+    → HasSent write_fails borrow view failures kept false (record { borrow = borrow; view = view; failures = failures }) []
+sent_nothing {view = view} none =
+    record { same = refl; written = []; unwritten = []; wrote = writes_nothing view; all = refl; unfailed = λ _. (sym none, refl); failed = λ never. absurd (false≢true never) }
 
 -- more is kept
 pub sent_kept : {N F : Type 0} {write_fails : F → F → Type 0} {borrow : GName} {view : View N} {failures : F} {kept more : List ℕ} {beginning : Beginning N F} {printed text : List ℕ}
@@ -108,37 +108,86 @@ sent_front_of_kept {write_fails = write_fails} {borrow = borrow} {next = next} {
     let none : HasSent write_fails borrow next later more true beginning (printed ++ []) = sent_front sent front (append-nil kept) fails in
     sent_no_more {kept = more} (subst (HasSent write_fails borrow next later more true beginning) (append-nil printed) none)
 
+-- ---- each way that a text goes
+
+-- a write has failed before
+pub send_nothing : {N F : Type 0} {write_fails : F → F → Type 0} {borrow : GName} {view : View N} {failures : F} {kept : List ℕ} {flag : Bool} {beginning : Beginning N F} {printed text : List ℕ}
+    → flag ≡ true → HasSent write_fails borrow view failures kept flag beginning printed → HasSent write_fails borrow view failures kept flag beginning (printed ++ text)
+send_nothing {write_fails = write_fails} {borrow = borrow} {view = view} {failures = failures} {kept = kept} {beginning = beginning} {printed = printed} {text = text} failed sent =
+    let before : HasSent write_fails borrow view failures kept true beginning printed = subst (λ b. HasSent write_fails borrow view failures kept b beginning printed) failed sent in
+    subst (λ b. HasSent write_fails borrow view failures kept b beginning (printed ++ text)) (sym failed) (sent_no_more before)
+
+-- it is kept
+pub send_later : {N F : Type 0} {write_fails : F → F → Type 0} {borrow : GName} {view : View N} {failures : F} {kept more : List ℕ} {flag : Bool} {beginning : Beginning N F} {printed text : List ℕ}
+    → flag ≡ false → more ≡ kept ++ text → HasSent write_fails borrow view failures kept flag beginning printed
+    → HasSent write_fails borrow view failures more flag beginning (printed ++ text)
+send_later {write_fails = write_fails} {borrow = borrow} {view = view} {failures = failures} {kept = kept} {more = more} {beginning = beginning} {printed = printed} {text = text} unfailed grown sent =
+    let before : HasSent write_fails borrow view failures kept false beginning printed = subst (λ b. HasSent write_fails borrow view failures kept b beginning printed) unfailed sent in
+    subst (λ b. HasSent write_fails borrow view failures more b beginning (printed ++ text)) (sym unfailed) (sent_kept grown before)
+
+-- what is kept is written, and then it
+pub send_done : {N F : Type 0} {write_fails : F → F → Type 0} {borrow : GName} {view mid last : View N} {failures between later : F} {kept after : List ℕ} {flag : Bool} {beginning : Beginning N F} {printed text : List ℕ}
+    → flag ≡ false → after ≡ [] → WritesText view mid kept → between ≡ failures → WritesText mid last text → later ≡ between
+    → HasSent write_fails borrow view failures kept flag beginning printed → HasSent write_fails borrow last later after flag beginning (printed ++ text)
+send_done {write_fails = write_fails} {borrow = borrow} {view = view} {last = last} {failures = failures} {later = later} {kept = kept} {after = after} {beginning = beginning} {printed = printed} {text = text} unfailed none first same second again sent =
+    let before : HasSent write_fails borrow view failures kept false beginning printed = subst (λ b. HasSent write_fails borrow view failures kept b beginning printed) unfailed sent in
+    let done : HasSent write_fails borrow last later [] false beginning (printed ++ text) = sent_text (sent_all before first same) second again in
+    subst (λ b. HasSent write_fails borrow last later after b beginning (printed ++ text)) (sym unfailed)
+    (subst (λ l. HasSent write_fails borrow last later l false beginning (printed ++ text)) (sym none) done)
+
+-- the write of what is kept fails
+pub send_stuck : {N F : Type 0} {write_fails : F → F → Type 0} {borrow : GName} {view next : View N} {failures later : F} {kept more : List ℕ} {flag : Bool} {beginning : Beginning N F} {printed text : List ℕ}
+    → flag ≡ false → WritesFront view next kept → write_fails failures later
+    → HasSent write_fails borrow view failures kept flag beginning printed → HasSent write_fails borrow next later more true beginning (printed ++ text)
+send_stuck {write_fails = write_fails} {borrow = borrow} {view = view} {failures = failures} {kept = kept} {beginning = beginning} {printed = printed} unfailed front fails sent =
+    let before : HasSent write_fails borrow view failures kept false beginning printed = subst (λ b. HasSent write_fails borrow view failures kept b beginning printed) unfailed sent in
+    sent_front_of_kept before front fails
+
+-- its own write fails
+pub send_cut : {N F : Type 0} {write_fails : F → F → Type 0} {borrow : GName} {view mid next : View N} {failures between later : F} {kept more : List ℕ} {flag : Bool} {beginning : Beginning N F} {printed text : List ℕ}
+    → flag ≡ false → WritesText view mid kept → between ≡ failures → WritesFront mid next text → write_fails between later
+    → HasSent write_fails borrow view failures kept flag beginning printed → HasSent write_fails borrow next later more true beginning (printed ++ text)
+send_cut {write_fails = write_fails} {borrow = borrow} {view = view} {failures = failures} {kept = kept} {beginning = beginning} {printed = printed} unfailed first same front fails sent =
+    let before : HasSent write_fails borrow view failures kept false beginning printed = subst (λ b. HasSent write_fails borrow view failures kept b beginning printed) unfailed sent in
+    sent_front (sent_all before first same) front refl fails
+
 -- ---- all bytes of a read
 
+-- a line that is not whole yet has some bytes
+pub holds_some : (pending : Pending) → (line : List ℕ) × Holds pending line
+holds_some pending = by pending.lost refl
+  where
+    by : (b : Bool) → pending.lost ≡ b → (line : List ℕ) × Holds pending line
+    by false kept = (pending.bytes.items, record { bytes = λ _. refl; some = λ lost. absurd (false≢true (sym kept ∙ lost)) })
+    by true lost = (0 ∷ [], record { bytes = λ kept. absurd (false≢true (sym kept ∙ lost)); some = λ _. omega arith })
+
 -- the lines were answered, and the answers written
-pub bytes_answered : {S N F : Type 0} (rules : Rules S) (write_fails : F → F → Type 0) (start now : S) (borrow : GName) (view : View N) (failures : F) (kept : List ℕ) (beginning : Beginning N F) (open_line bytes text : List ℕ) (pending : Pending)
-    → Answers rules start (lines_from open_line bytes) text now → Holds pending (open_from open_line bytes) → kept ≡ []
-    → HasSent write_fails borrow view failures kept false beginning text
-    → AnswersBytes rules start now beginning.view view open_line bytes pending (Ok tt)
-bytes_answered rules write_fails start now borrow view failures kept beginning open_line bytes text pending answers held none sent =
+pub bytes_answered : {S N F : Type 0} {rules : Rules S} {write_fails : F → F → Type 0} {start now : S} {borrow : GName} {view : View N} {failures : F} {kept : List ℕ} {flag : Bool} {beginning : Beginning N F} {open_line bytes text : List ℕ} {pending : Pending}
+    → Answers rules start (lines_from open_line bytes) text now → Holds pending (open_from open_line bytes) → HasSent write_fails borrow view failures kept flag beginning (text ++ [])
+    → flag ≡ false → kept ≡ [] → AnswersBytes rules start now beginning.view view open_line bytes pending (Ok tt)
+bytes_answered {rules = rules} {start = start} {now = now} {open_line = open_line} {bytes = bytes} {text = text} answers held sent unfailed none =
     record {
       text = sent.written;
       unwritten = sent.unwritten;
       end = now;
       wrote = sent.wrote;
-      answers = subst (λ l. Answers rules start (lines_from open_line bytes) l now) (sym sent.all) answers;
-      all = (sent.unfailed refl).0 ∙ none;
+      answers = subst (λ l. Answers rules start (lines_from open_line bytes) l now) (sym (sent.all ∙ append-nil text)) answers;
+      all = (sent.unfailed unfailed).0 ∙ none;
       state = refl;
       kept = held;
     }
 
 -- the lines were answered, but a write failed
-pub bytes_unwritten : {S N F : Type 0} (rules : Rules S) (write_fails : F → F → Type 0) (start now : S) (borrow : GName) (view : View N) (failures : F) (kept : List ℕ) (beginning : Beginning N F) (open_line bytes text : List ℕ) (pending : Pending) (why : Failed)
-    → Answers rules start (lines_from open_line bytes) text now
-    → HasSent write_fails borrow view failures kept true beginning text
+pub bytes_unwritten : {S N F : Type 0} {rules : Rules S} {write_fails : F → F → Type 0} {start now : S} {borrow : GName} {view : View N} {failures : F} {kept : List ℕ} {flag : Bool} {beginning : Beginning N F} {open_line bytes text : List ℕ} {pending : Pending} (why : Failed)
+    → Answers rules start (lines_from open_line bytes) text now → HasSent write_fails borrow view failures kept flag beginning (text ++ [])
     → AnswersBytes rules start now beginning.view view open_line bytes pending (Err why)
-bytes_unwritten rules write_fails start now borrow view failures kept beginning open_line bytes text pending why answers sent =
+bytes_unwritten {rules = rules} {start = start} {now = now} {open_line = open_line} {bytes = bytes} {text = text} why answers sent =
     record {
       text = sent.written;
       unwritten = sent.unwritten;
       end = now;
       wrote = sent.wrote;
-      answers = subst (λ l. Answers rules start (lines_from open_line bytes) l now) (sym sent.all) answers;
+      answers = subst (λ l. Answers rules start (lines_from open_line bytes) l now) (sym (sent.all ∙ append-nil text)) answers;
       all = tt;
       state = tt;
       kept = tt;

@@ -64,7 +64,10 @@ impl<T: Device> Page for Outbox<'_, T> {
         outbox.kept.items outbox.has_failed beginning printed };
 
     fn push(&mut self, text: &str) {
-        if self.has_failed || keep(&mut self.kept, text.as_bytes()) {
+        if self.has_failed {
+            return;
+        }
+        if keep(&mut self.kept, text.as_bytes()) {
             return;
         }
         self.send(text.as_bytes());
@@ -111,7 +114,10 @@ pub(crate) fn answer_bytes<A: Answering, T: Device>(
         has_failed,
     } = outbox;
     let _ = &*device;
-    if has_failed { Err(Failed) } else { Ok(()) }
+    if has_failed {
+        return Err(Failed);
+    }
+    Ok(())
 }
 
 /// Answers the line that the end of the input left open, if there is one.
