@@ -25,7 +25,7 @@ fn answer_line<A: Answering, P: Page>(
         page.push("out of memory\n\n");
         return;
     }
-    match answering.answer(alloc, &pending.bytes, page) {
+    match answering.answer(alloc, pending.bytes.as_slice(), page) {
         Ok(()) => {}
         Err(OutOfMemory) => page.push("out of memory\n\n"),
     }

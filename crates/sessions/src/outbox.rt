@@ -38,7 +38,7 @@ impl<T: Device> Outbox<'_, T> {
         if self.has_failed {
             return;
         }
-        match write_all(self.device, &self.kept) {
+        match write_all(self.device, self.kept.as_slice()) {
             Ok(()) => {}
             Err(Failed) => {
                 self.has_failed = true;
@@ -67,10 +67,11 @@ impl<T: Device> Page for Outbox<'_, T> {
         if self.has_failed {
             return;
         }
-        if keep(&mut self.kept, text.as_bytes()) {
+        let bytes = text.as_bytes();
+        if keep(&mut self.kept, bytes) {
             return;
         }
-        self.send(text.as_bytes());
+        self.send(bytes);
     }
 }
 
