@@ -31,8 +31,8 @@ leaves_all page whole = record { ends = λ last printed. printed }
 
 -- a beginning of what is left was printed
 pub leaves_less : {P O : Type 0} {has_printed : P → O → List ℕ → Type 0} {start now next : P} {first left rest whole : List ℕ}
-    → Leaves has_printed start now left whole → left ≡ first ++ rest → Prints has_printed now next first → Leaves has_printed start next rest whole
-leaves_less {has_printed = has_printed} {now = now} leaves split printed =
+    → Leaves has_printed start now left whole → Prints has_printed now next first → left ≡ first ++ rest → Leaves has_printed start next rest whole
+leaves_less {has_printed = has_printed} {now = now} leaves printed split =
     record { ends = λ last others. leaves.ends last (prints_as (prints_both printed others) (sym split)) }
 
 -- nothing is left

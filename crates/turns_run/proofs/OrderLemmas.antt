@@ -32,7 +32,7 @@ printed_one {n = n} {tagged = tagged} {later = later} {rest = rest} {first = fir
     let ordered : are_in_order n (first ∷ rest) ≡ true = rw split at so_far.in_order in
     let parts = and_parts (nat_le n first.number) (are_in_order first.number rest) ordered in
     record {
-      printed = leaves_less so_far.printed text more;
+      printed = leaves_less so_far.printed more text;
       in_order = rw its at parts.1;
       all = λ k above. others k above (rw split at (so_far.all k above));
     }

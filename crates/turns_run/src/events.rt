@@ -167,6 +167,7 @@ pub fn print_refusal<P: Page>(page: &mut P, refusal: &Refusal)
 }
 
 /// Appends what a refusal carries after a space, if it carries anything.
+#[tactic(auto, using(pages::proofs::Prints::prints_nothing))]
 fn push_refusal_value<P: Page>(page: &mut P, refusal: &Refusal)
     ensures { Prints P.has_printed page.old page.new (refusal_value refusal.now) }
 {

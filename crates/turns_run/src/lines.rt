@@ -58,6 +58,7 @@ fn push_offered<P: Page>(page: &mut P, row: usize, resolver: usize)
 }
 
 /// Appends the verdicts of a reply, or `none`.
+#[tactic(auto, using(pages::proofs::Prints::prints_both))]
 fn push_verdicts<P: Page>(page: &mut P, verdicts: &[Verdict])
     ensures { Prints P.has_printed page.old page.new (list_text (map verdict_name verdicts.now)) }
 {
@@ -76,12 +77,12 @@ fn push_spaced_verdicts<P: Page>(page: &mut P, verdicts: &[Verdict])
         (flat_map spaced (map verdict_name verdicts.now)) }
 {
     for verdict in verdicts {
-        page.push(" ");
-        page.push(verdict_name(*verdict));
+        push_word(page, verdict_name(*verdict));
     }
 }
 
 /// Appends the versions of the unseen rows of a reply, or `none`.
+#[tactic(auto, using(pages::proofs::Prints::prints_both))]
 fn push_unseen<P: Page>(page: &mut P, rows: &[UnseenRow])
     ensures { Prints P.has_printed page.old page.new (list_text (map unseen_version rows.now)) }
 {

@@ -13,6 +13,7 @@ use pages::Page;
 use system_keys::Tag;
 
 /// Appends the words, and after them the number.
+#[tactic(auto, using(pages::proofs::Prints::prints_both))]
 pub(crate) fn push_numbered<P: Page>(page: &mut P, words: &str, number: u64)
     ensures { Prints P.has_printed page.old page.new (words.now ++ decimal number) }
 {
@@ -21,6 +22,7 @@ pub(crate) fn push_numbered<P: Page>(page: &mut P, words: &str, number: u64)
 }
 
 /// Appends tags with one space between, or `none` without tags.
+#[tactic(auto, using(pages::proofs::Prints::prints_both))]
 pub(crate) fn push_tags<P: Page>(page: &mut P, tags: &[Tag])
     ensures { Prints P.has_printed page.old page.new (tags_text tags.now) }
 {
@@ -44,6 +46,7 @@ fn push_spaced_tags<P: Page>(page: &mut P, tags: &[Tag])
 }
 
 /// Appends a tag: its locality, a colon, its id.
+#[tactic(auto, using(pages::proofs::Prints::prints_both))]
 pub(crate) fn push_tag<P: Page>(page: &mut P, tag: &Tag)
     ensures { Prints P.has_printed page.old page.new (tag_text tag.now) }
 {
@@ -89,6 +92,7 @@ fn is_plain(byte: u8) -> bool
 }
 
 /// Appends `\x` and the two hexadecimal digits of a byte.
+#[tactic(auto, using(pages::proofs::Prints::prints_both))]
 fn push_escape<P: Page>(page: &mut P, byte: u8)
     ensures { Prints P.has_printed page.old page.new
         (92 ∷ 120 ∷ digit_char (byte / 16) ∷ digit_char (byte % 16) ∷ []) }

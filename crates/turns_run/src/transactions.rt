@@ -61,6 +61,7 @@ fn print_transaction<P: Page>(page: &mut P, number: usize, outcome: Outcome)
 }
 
 /// Appends the name of an outcome.
+#[tactic(auto, using(pages::proofs::Prints::prints_both))]
 fn push_outcome<P: Page>(page: &mut P, outcome: Outcome)
     ensures { Prints P.has_printed page.old page.new (outcome_text outcome) }
 {
@@ -69,6 +70,7 @@ fn push_outcome<P: Page>(page: &mut P, outcome: Outcome)
 }
 
 /// Appends the numbers of an outcome that has some.
+#[tactic(auto, using(pages::proofs::Prints::prints_both))]
 fn push_outcome_numbers<P: Page>(page: &mut P, outcome: Outcome)
     ensures { Prints P.has_printed page.old page.new (outcome_numbers outcome) }
 {

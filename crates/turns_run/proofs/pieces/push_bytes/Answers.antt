@@ -9,7 +9,7 @@ loop-byte-init g c = leaves_all _ _
 
 pub loop-byte-preserved : goal.loop-byte-preserved
 loop-byte-preserved g c =
-    leaves_less c.loop-byte.invariant (at_drop_more text_of c.args.bytes.now c.loop-byte.byte-index 0 c.loop-byte-test.true) c.push_byte.ensures
+    leaves_less c.loop-byte.invariant c.push_byte.ensures (at_drop_more text_of c.args.bytes.now c.loop-byte.byte-index 0 c.loop-byte-test.true)
 
 pub returns : goal.returns
 returns g c = leaves_none c.loop-byte.invariant (at_drop_all text_of c.args.bytes.now c.loop-byte.byte-index (omega arith))

@@ -14,7 +14,7 @@ loop-tag-init g c = leaves_all _ _
 
 pub loop-tag-preserved : goal.loop-tag-preserved
 loop-tag-preserved g c =
-    leaves_less c.loop-tag.invariant (at_drop_more text c.args.tags.now c.loop-tag.tag-index _ c.loop-tag-test.true) (prints_both c.push.ensures c.push_tag.ensures)
+    leaves_less c.loop-tag.invariant (prints_both c.push.ensures c.push_tag.ensures) (at_drop_more text c.args.tags.now c.loop-tag.tag-index _ c.loop-tag-test.true)
 
 pub returns : goal.returns
 returns g c = leaves_none c.loop-tag.invariant (at_drop_all text c.args.tags.now c.loop-tag.tag-index (omega arith))

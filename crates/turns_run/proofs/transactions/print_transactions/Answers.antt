@@ -14,7 +14,7 @@ loop-outcome-preserved g c =
     let after = c.print_first_mutations-rest.ensures.later in
     let split = drop_more c.args.outcomes.now l.outcome-index _ c.loop-outcome-test.true in
     record {
-      told = leaves_less l.invariant.told (next_transaction l.number l.rest.now c.print_first_mutations-rest.result.now _ _ _ split after) (prints_both c.print_transaction.ensures c.print_first_mutations-rest.ensures.printed);
+      told = leaves_less l.invariant.told (prints_both c.print_transaction.ensures c.print_first_mutations-rest.ensures.printed) (next_transaction l.number l.rest.now c.print_first_mutations-rest.result.now _ _ _ split after);
       in_order = rw add-one after.in_order;
       count = ap (λ n. n + 1) l.invariant.count;
     }
