@@ -1,4 +1,4 @@
-use Rattle.std.proofs.Common.{◌++◌, subst}
+use Rattle.std.proofs.Common.{[], subst}
 use Rattle.std.specs.Prelude.{string_bytes}
 use Rattle.pages.specs.TextPages.{HasText}
 use Rattle.turns_run.proofs.events.print_event.Goals as goal
