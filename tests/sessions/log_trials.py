@@ -1,4 +1,4 @@
-"""Trials of tools/check_log: each takes the path of a proxy_session and raises `Wrong` where the tool says what it must not."""
+"""Trials of tools/check_log: each takes the path of a proxy_session, and raises `Wrong` if the tool is wrong."""
 import json
 import os
 import subprocess
@@ -60,7 +60,8 @@ def differences(program):
     for change in changes:
         log = b"".join(log_of(lines, change))
         status, text, _ = check(program, "--keep-going", "-", log=log)
-        expect("all differ", (status, text.splitlines()[-1]), (1, "%d answers of the log checked, %d differ" % ((len(lines),) * 2)))
+        wanted = "%d answers of the log checked, %d differ" % (len(lines), len(lines))
+        expect("all differ", (status, text.splitlines()[-1]), (1, wanted))
         with tempfile.NamedTemporaryFile() as file:
             file.write(log)
             file.flush()

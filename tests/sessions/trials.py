@@ -261,7 +261,8 @@ def failing_devices(program, lines):
     for variable in ("REFUSE_READ", "REFUSE_WRITE"):
         for error in (errno.EIO, errno.EINTR, 0) if variable == "REFUSE_WRITE" else (errno.EIO, errno.EINTR):
             for number in range(1, 1_000_000):
-                status, output = program.run(given, **{variable: str(number), "REFUSE_ERROR": str(error), "SHORT_READ": "100"})
+                refused = {variable: str(number), "REFUSE_ERROR": str(error), "SHORT_READ": "100"}
+                status, output = program.run(given, **refused)
                 if not program.has_refused():
                     break
                 expect("%s %d, status" % (variable, number), status, 3)

@@ -12,7 +12,7 @@ class BadEntry(Exception):
 
 
 class Entry(NamedTuple):
-    """An entry: which one it is, what it asks as it is written, and the lines that the implementation printed, if it has them."""
+    """An entry: its line, what it asks as it is written, and the lines that the implementation printed, if it has them."""
 
     number: int
     kind: str

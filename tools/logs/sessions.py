@@ -6,7 +6,8 @@ from tests.sessions import reference
 
 ROOT = os.path.dirname(os.path.dirname(os.path.dirname(os.path.abspath(__file__))))
 PLACES = (
-    os.path.join(ROOT, "crates", "proxy_session", "out", "proxy_session"), os.path.join(ROOT, "out", "proxy_session_unproved"),
+    os.path.join(ROOT, "crates", "proxy_session", "out", "proxy_session"),
+    os.path.join(ROOT, "out", "proxy_session_unproved"),
 )
 OUT_OF_MEMORY = ["out of memory"]
 
