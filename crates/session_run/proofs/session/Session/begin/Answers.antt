@@ -1,0 +1,5 @@
+use Rattle.pages.proofs.Prints.{prints_nothing}
+use Rattle.session_run.proofs.session.Session.begin.Goals as goal
+
+pub returns-in_err-cluster-clause-unprinted : goal.returns-in_err-cluster-clause-unprinted
+returns-in_err-cluster-clause-unprinted g c = prints_nothing _
