@@ -7,7 +7,7 @@ ghost use Rattle.scripts.specs.ScriptFaults.{fault_number};
 ghost use Rattle.session_run.specs.Session.{with_empty_line};
 
 use pages::Page;
-use scripts::{ScriptFault, refused};
+use scripts::{ScriptFault, output_of_fault};
 use std::alloc::Global;
 use system_keys::OutOfMemory;
 
@@ -23,7 +23,7 @@ pub(crate) fn print_fault<P: Page>(
         (with_empty_line (refused_output fault).text)) }
     ensures unprinted { OnErr result (Prints P.has_printed page.old page.new []) }
 {
-    let output = refused(alloc, fault)?;
+    let output = output_of_fault(alloc, fault)?;
     page.push(output.text.as_str());
     page.push("\n");
     Ok(())

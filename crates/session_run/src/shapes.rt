@@ -18,7 +18,7 @@ use turns_run::RawEvent;
 impl Shaped for RawLine {
     ghost shape = { line_shape };
 
-    fn shaped(alloc: Global, value: &Value) -> Result<RawLine, ScriptFault> {
+    fn from_value(alloc: Global, value: &Value) -> Result<RawLine, ScriptFault> {
         let read = event_line(alloc, value);
         if is_bad_shape(&read) {
             return other_line(alloc, value);
@@ -41,7 +41,7 @@ fn is_bad_shape(read: &Result<RawLine, ScriptFault>) -> bool
 fn event_line(alloc: Global, value: &Value) -> Result<RawLine, ScriptFault>
     ensures { IsReadAs (λ found. found) result (or_bad_shape (event_line (view value.now))) }
 {
-    Ok(RawLine::Event(RawEvent::shaped(alloc, value)?))
+    Ok(RawLine::Event(RawEvent::from_value(alloc, value)?))
 }
 
 /// The line that begins a cluster or shows a proxy.
@@ -70,7 +70,7 @@ fn cluster(alloc: Global, value: &Value) -> Result<Config, ScriptFault>
 impl Shaped for Show {
     ghost shape = { show_shape };
 
-    fn shaped(alloc: Global, value: &Value) -> Result<Show, ScriptFault> {
+    fn from_value(alloc: Global, value: &Value) -> Result<Show, ScriptFault> {
         if !has_fields(value, 2) {
             return Err(ScriptFault::BadShape);
         }

@@ -123,7 +123,7 @@ fn hex_digit(value: u8) -> char
 }
 
 /// Appends the number of a refusal, or `none`, and its name.
-pub(crate) fn push_refused<P: Page>(page: &mut P, number: Option<u32>, name: &str)
+pub(crate) fn push_number_and_name<P: Page>(page: &mut P, number: Option<u32>, name: &str)
     ensures { Prints P.has_printed page.old page.new (refused_text number name.now) }
 {
     push_refused_number(page, number);

@@ -112,7 +112,7 @@ all_moves P config each h (suc i) rec history is = by (before h i rec is) (λ mi
 
 -- each destination is a resolver that is there
 pub destinations_within : (config : Config) (h : List Record) (i : ℕ) (rec : Record) → IsHistory config h → slice_get h i ≡ Some rec → All (λ (m : Move). m.dest < config.resolvers) rec.moves
-destinations_within config h i rec history is = all_moves (λ (m : Move). m.dest < config.resolvers) config (λ previous m made. made.destination) h i rec history is
+destinations_within config h i rec history is = all_moves (λ (m : Move). m.dest < config.resolvers) config (λ previous m made. made.dest) h i rec history is
 
 -- the dates of the moves never go back, from `first` on and up to `last`
 abbrev pub DatesRise : ℕ → List Move → ℕ → Type 0
