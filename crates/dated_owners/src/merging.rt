@@ -47,7 +47,7 @@ fn add_merged(merged: &mut Vec<LaterOwner>, owners: &[LaterOwner]) -> Result<(),
     match owners {
         [owner, later @ ..] => {
             if !comes_again(*owner, later) {
-                let place = place_for(merged, *owner, later);
+                let place = place_within_date(merged, *owner, later);
                 merged.insert(place, *owner)?;
             }
             Ok(())
@@ -73,7 +73,7 @@ fn comes_again(owner: LaterOwner, later: &[LaterOwner]) -> bool
 
 /// The place of an owner among the merged ones: at the end if it is the last one of its date, else in
 /// the order of the resolvers.
-fn place_for(merged: &[LaterOwner], owner: LaterOwner, later: &[LaterOwner]) -> usize
+fn place_within_date(merged: &[LaterOwner], owner: LaterOwner, later: &[LaterOwner]) -> usize
     ensures within { result ≤ length merged.now }
     ensures dated { AreDated owner.date (drop result merged.now) }
     ensures inside { result < length merged.now → IsTrue (begins_dated owner.date later.now) }

@@ -21,7 +21,7 @@ use Rattle.fold_run.specs.Limits.{versions_increase, row_has_verdicts, script_sh
 use Rattle.fold_run.specs.Scripts.{script_of}
 use Rattle.fold_run.specs.Shapes.{fields_shape}
 use Rattle.fold_run.specs.Text.{fold_text, folded_text, last_version, version_of}
-use Rattle.fold_run.specs.declared.folding.FoldedRows.{FoldedRows}
+use Rattle.fold_run.specs.declared.folded_rows.FoldedRows.{FoldedRows}
 use Rattle.fold_run.specs.declared.script.FoldScript.{FoldScript}
 use Rattle.fold_run.specs.declared.script.RawRow.{RawRow}
 use Rattle.scripts.proofs.CheckLemmas.{checked_turn}

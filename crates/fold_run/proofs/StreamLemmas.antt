@@ -11,7 +11,7 @@ use Rattle.scripts.proofs.StreamObjectLemmas.{slot_put, slot_other, slot_value, 
 use Rattle.fold_run.specs.Shapes.{fields_shape, row_shape}
 use Rattle.fold_run.specs.Streams.{HoldsFields}
 use Rattle.fold_run.specs.declared.script.RawRow.{RawRow}
-use Rattle.fold_run.specs.declared.streams.ScriptFields.{ScriptFields}
+use Rattle.fold_run.specs.declared.script_fields.ScriptFields.{ScriptFields}
 
 -- the rows are taken into an empty place
 pub rows_put : {R : Type 0} (is_from : R → List RawRow → Type 0) (depth : ℕ) (old rest : List Token) (f new : ScriptFields R) (result : Option Unit)

@@ -9,7 +9,7 @@ use Rattle.scripts.specs.Scripts.{checked_raw}
 use Rattle.fold_run.specs.Checks.{checked_row, checked_script}
 use Rattle.fold_run.specs.Limits.{versions_increase, row_has_verdicts, script_shape}
 use Rattle.fold_run.specs.Text.{folded_text, last_version}
-use Rattle.fold_run.specs.declared.folding.FoldedRows.{FoldedRows}
+use Rattle.fold_run.specs.declared.folded_rows.FoldedRows.{FoldedRows}
 use Rattle.fold_run.specs.declared.script.FoldScript.{FoldScript}
 use Rattle.fold_run.specs.declared.script.RawRow.{RawRow}
 use Rattle.fold_run.specs.declared.text.FoldText.{FoldText}

@@ -5,7 +5,7 @@ use Rattle.scripts.specs.Shapes.{bytes_shape, count_members, list_shape, number_
 use Rattle.scripts.specs.Streams.{IsFrom, Slot, one}
 use Rattle.fold_run.specs.Shapes.{row_shape}
 use Rattle.fold_run.specs.declared.script.RawRow.{RawRow}
-use Rattle.fold_run.specs.declared.streams.ScriptFields.{ScriptFields}
+use Rattle.fold_run.specs.declared.script_fields.ScriptFields.{ScriptFields}
 
 -- what the fields of a script hold while they come; of the rows, what `is_from` says of them
 abbrev pub HoldsFields : {R : Type 0} → (R → List RawRow → Type 0) → ScriptFields R → Members

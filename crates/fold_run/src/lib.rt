@@ -5,14 +5,14 @@
 #![tactic(auto)]
 
 mod checks;
-mod folding;
+mod folded_rows;
 mod limits;
 mod reading;
 mod row_streams;
 mod run;
 mod script;
+mod script_fields;
 mod shapes;
-mod streams;
 mod text;
 
 pub use reading::{read_fold, stream_fold};

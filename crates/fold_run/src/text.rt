@@ -6,9 +6,9 @@ ghost use Rattle.cluster_lines.specs.MetadataLines.{metadata_text};
 ghost use Rattle.fold_run.specs.Folding.{IsTextOf};
 ghost use Rattle.fold_run.specs.Text.{folded_text, last_version};
 
-use crate::folding::FoldedRows;
+use crate::folded_rows::FoldedRows;
 use crate::script::FoldScript;
-use crate::streams::ScriptFields;
+use crate::script_fields::ScriptFields;
 use cluster_lines::print_metadata;
 use json::Reader as TokenReader;
 use metadata::Metadata;

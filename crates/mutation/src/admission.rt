@@ -9,7 +9,7 @@ ghost use Rattle.mutation.specs.Admitted.{from_admitted};
 ghost use Rattle.mutation.specs.Refusals.{refusal_fault};
 
 use crate::admitted::{Admitted, AdmittedMutation};
-use crate::limits::check_transaction;
+use crate::checks::check_transaction;
 use crate::ranges::shared_ranges;
 use crate::refusal::Refusal;
 use crate::transaction::{GivenRange, Mutation, Transaction};

@@ -8,8 +8,8 @@
 mod admission;
 mod admitted;
 mod batch;
+mod checks;
 mod laws;
-mod limits;
 mod ranges;
 mod refusal;
 mod stamp;

@@ -14,7 +14,7 @@ use Rattle.model.specs.Shares.{each_below, read_bound, part_back_to, asks_back_t
 use Rattle.model.specs.Requests.{marks_from}
 use Rattle.model.specs.OwnerMaps.{OwnerMapView}
 use Rattle.dated_owners.proofs.FlagLaws.{filter_below, in_filter}
-use Rattle.request_builder.specs.AskedResolvers.{reader_lists, asked_resolvers_of, is_in_some, ranges_for, part_by, is_sent, sent_part, parts_by, mark_by, marks_by, is_asked_by, asked_by}
+use Rattle.request_builder.specs.AskedResolvers.{reader_lists, asked_resolvers_of, is_in_some, ranges_for, part_by, is_part_sent, sent_part, parts_by, mark_by, marks_by, is_asked_by, asked_by}
 
 -- ---- the lists of some ranges
 
@@ -75,7 +75,7 @@ or_four true p q r = refl
 or_four false true q r = refl
 or_four false false q r = refl
 
-sent_is : (map_of : OwnerMapView) (rec : Record) (r n : ℕ) (t : StampedTransaction) → is_sent (is_state_transaction t) (part_back_to map_of.oldest rec r n t) ≡ asks_back_to map_of.oldest rec r t
+sent_is : (map_of : OwnerMapView) (rec : Record) (r n : ℕ) (t : StampedTransaction) → is_part_sent (is_state_transaction t) (part_back_to map_of.oldest rec r n t) ≡ asks_back_to map_of.oldest rec r t
 sent_is map_of rec r n t =
     ap₂ (λ x y. is_state_transaction t || (x || y)) (any_filter (asks_read rec.moves (read_bound map_of.oldest t) r) (all_reads t)) (any_filter (asks_write rec.moves r) t.writes)
     ∙ or_assoc (is_state_transaction t) (list_any (asks_read rec.moves (read_bound map_of.oldest t) r) (all_reads t)) (list_any (asks_write rec.moves r) t.writes)

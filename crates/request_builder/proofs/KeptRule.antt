@@ -11,7 +11,7 @@ use Rattle.model.specs.Journal.{carried_by}
 use Rattle.model.specs.Requests.{Request}
 use Rattle.model.specs.RequestRules.{NumbersRise, part_numbers, KeepsRequestRule}
 use Rattle.request_builder.specs.declared.asked_resolvers.AskedResolvers.{AskedResolvers}
-use Rattle.request_builder.specs.AskedResolvers.{part_by, is_sent, sent_part, parts_by, mark_by, marks_by}
+use Rattle.request_builder.specs.AskedResolvers.{part_by, is_part_sent, sent_part, parts_by, mark_by, marks_by}
 
 -- ---- the numbers rise
 
@@ -25,7 +25,7 @@ parts_rise : (r n : ℕ) (ts : List StampedTransaction) (askings : List AskedRes
 parts_rise r n [] askings = tt
 parts_rise r n (t ∷ ts) [] = tt
 parts_rise r n (t ∷ ts) (asking ∷ askings) =
-    by (is_sent asking.is_state (part_by r n t asking)) (parts_rise r (suc n) ts askings)
+    by (is_part_sent asking.is_state (part_by r n t asking)) (parts_rise r (suc n) ts askings)
   where
     by : (b : Bool) → NumbersRise (suc n) (parts_by r (suc n) ts askings) → NumbersRise n (cond b (part_by r n t asking ∷ []) [] ++ parts_by r (suc n) ts askings)
     by true later = (omega arith, later)

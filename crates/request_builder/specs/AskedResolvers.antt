@@ -103,11 +103,12 @@ part_by r n t asking =
     }
 
 -- a part is sent if it has a range, or if its transaction is a state transaction
-abbrev pub is_sent : (is_state : Bool) → Part → Bool
-is_sent is_state part = is_state || (not (length part.reads == 0) || not (length part.writes == 0))
+abbrev pub is_part_sent : (is_state : Bool) → Part → Bool
+is_part_sent is_state part =
+    is_state || (not (length part.reads == 0) || not (length part.writes == 0))
 
 abbrev pub sent_part : (is_state : Bool) → Part → List Part
-sent_part is_state part = if is_sent is_state part then part ∷ [] else []
+sent_part is_state part = if is_part_sent is_state part then part ∷ [] else []
 
 -- the parts of these transactions, numbered from n
 abbrev pub parts_by : (r n : ℕ) → List StampedTransaction → List AskedResolvers → List Part

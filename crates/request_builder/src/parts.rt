@@ -4,7 +4,7 @@ ghost use Rattle.std.specs.Prelude.{◌≡◌, ◌∷◌, ◌++◌, [], if◌the
 ghost use Rattle.system_keys.specs.Keys.{only};
 ghost use Rattle.model.specs.Transactions.{locked_key};
 ghost use Rattle.model.specs.Journal.{list_at};
-ghost use Rattle.request_builder.specs.AskedResolvers.{is_in, ranges_for, part_by, is_sent};
+ghost use Rattle.request_builder.specs.AskedResolvers.{is_in, ranges_for, part_by, is_part_sent};
 ghost use Rattle.request_builder.specs.AskedResolvers.{sent_part, parts_by};
 
 use crate::asked_resolvers::{AskedResolvers, lock_row};
@@ -37,15 +37,15 @@ pub(crate) fn parts_by(
 fn push_sent(parts: &mut Vec<Part>, is_state: bool, part: Part) -> Result<(), OutOfMemory>
     ensures { OnOk result (parts.new.items ≡ parts.old.items ++ sent_part is_state part) }
 {
-    if is_sent(is_state, &part) {
+    if is_part_sent(is_state, &part) {
         parts.push(part)?;
     }
     Ok(())
 }
 
 /// Whether the part is sent: it has a range, or its transaction is a state transaction.
-fn is_sent(is_state: bool, part: &Part) -> bool
-    ensures { result ≡ is_sent is_state part.now }
+fn is_part_sent(is_state: bool, part: &Part) -> bool
+    ensures { result ≡ is_part_sent is_state part.now }
 {
     is_state || !part.reads.as_slice().is_empty() || !part.writes.as_slice().is_empty()
 }

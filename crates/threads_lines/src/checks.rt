@@ -114,7 +114,7 @@ fn last_version_of<N: Naming>(
 }
 
 /// How many records of the history are of the proxy.
-pub fn records_of<N: Naming>(
+pub fn count_records_of<N: Naming>(
     history: &RunHistory<N>,
     ledger: &Ledger<N>,
     proxy: ProxyNumber,

@@ -20,7 +20,7 @@ mod proxy_threads;
 mod run_history;
 mod worker_threads;
 
-pub use checks::{check_answered, check_moves, check_proxies, check_resolvers, records_of};
+pub use checks::{check_answered, check_moves, check_proxies, check_resolvers, count_records_of};
 pub use cluster::Cluster;
 pub use committer::{AnsweredLines, Committer};
 pub use faults::{RunFault, status_of};

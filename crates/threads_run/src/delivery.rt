@@ -17,7 +17,7 @@ use std::alloc::Global;
 use std::marker::Model;
 use std::sync::Wait;
 use system_keys::OutOfMemory;
-use threads_lines::{RunFault, RunHistory, records_of};
+use threads_lines::{RunFault, RunHistory, count_records_of};
 use workers::{EndedWorker, Open, PendingRequest, ProxyInboxes};
 
 /// What is left of the worker of an inbox.
@@ -185,7 +185,7 @@ fn check_delivered<N: Naming, M: Channels>(
         (IsSideDelivered N.cells.config history.now.records workers.items) sides.items)) }
 {
     for side in sides {
-        let messages = records_of(history, ledger, side.proxy()) + 1;
+        let messages = count_records_of(history, ledger, side.proxy()) + 1;
         side.check(messages as u64, &mut workers)?;
     }
     Ok(())

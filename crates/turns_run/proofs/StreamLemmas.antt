@@ -13,7 +13,7 @@ use Rattle.cluster_scripts.proofs.ConfigLemmas.{within_limits}
 use Rattle.turns_run.specs.Shapes.{event_shape, script_shape}
 use Rattle.turns_run.specs.Streams.{HoldsFields}
 use Rattle.turns_run.specs.declared.script.RawEvent.{RawEvent}
-use Rattle.turns_run.specs.declared.streams.TurnsFields.{TurnsFields}
+use Rattle.turns_run.specs.declared.turns_fields.TurnsFields.{TurnsFields}
 
 -- the events are taken into an empty place
 pub events_put : {E : Type 0} (is_from : E → List RawEvent → Type 0) (depth : ℕ) (old rest : List Token) (f new : TurnsFields E) (result : Option Unit)

@@ -6,7 +6,7 @@ use Rattle.scripts.specs.Shapes.{bytes_shape, count_members, list_shape, number_
 use Rattle.scripts.specs.Streams.{IsFrom, Slot, one}
 use Rattle.turns_run.specs.Shapes.{event_shape}
 use Rattle.turns_run.specs.declared.script.RawEvent.{RawEvent}
-use Rattle.turns_run.specs.declared.streams.TurnsFields.{TurnsFields}
+use Rattle.turns_run.specs.declared.turns_fields.TurnsFields.{TurnsFields}
 
 -- no field yet, or the event that the fields stand for
 abbrev pub Holds : Option RawEvent → Members → Type 0

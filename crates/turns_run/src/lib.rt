@@ -4,7 +4,7 @@
 //! Source: this project's profile (scripts, lines and statuses).
 #![tactic(auto)]
 
-mod carrying_out;
+mod carried_out;
 mod checks;
 mod event_lines;
 mod event_streams;
@@ -15,9 +15,9 @@ mod reading;
 mod run;
 mod script;
 mod shapes;
-mod streams;
 mod text;
 mod transactions;
+mod turns_fields;
 
 pub use event_lines::{carry_out, print_refusal};
 pub use proxies::print_proxy;

@@ -4,11 +4,11 @@ ghost use Rattle.std.specs.Prelude.{◌≡◌, ◌++◌, IfSome, OnOk, string_by
 ghost use Rattle.turns_run.specs.CarryingOut.{IsTextOf};
 ghost use Rattle.turns_run.specs.Text.{printed_text, proxies_text};
 
-use crate::carrying_out::CarriedOut;
+use crate::carried_out::CarriedOut;
 use crate::event_lines::carry_out_events;
 use crate::proxies::print_proxies;
 use crate::script::TurnsScript;
-use crate::streams::TurnsFields;
+use crate::turns_fields::TurnsFields;
 use json::Reader as TokenReader;
 use model::Config;
 use scripts::{MadeOfTokens, take_object};

@@ -59,7 +59,7 @@ fn are_refused<N: Naming, M: Channels, R: Abort + AllocGlobal + Wait>(
     rows: Vec<Phase<N>>,
 ) {
     let mut rows = rows;
-    let asked = side.ask(rt, alloc, requests(rows.as_slice())).err();
+    let asked = side.ask(rt, alloc, requests(rows.as_slice(), 0)).err();
     assert!(rt; asked == Some(Refusal::NotMine));
     let asked = foreign_all(rt, cluster, side, &mut rows);
     assert!(rt; asked == Some(Refusal::NotMine));

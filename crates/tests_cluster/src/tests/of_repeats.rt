@@ -30,7 +30,7 @@ pub(crate) fn repeat<
     R: Abort + AllocGlobal + Threads + Wait + Sync,
 >(rt: &R, alloc: Global, cluster: &Cluster<'_, N>, inboxes: Inboxes<N, M>) -> Result<(), Fail> {
     let rows = rows_after(rt, alloc, cluster, ONE, BEGIN_ONE)?;
-    let requests = requests(rows.as_slice());
+    let requests = requests(rows.as_slice(), 0);
     let sum = sum_of_run(rt, alloc, cluster, inboxes, &NOTHING_ELSE, requests, Open)?;
     assert!(rt; (sum.answered, sum.pairs) == (2, 2));
     Ok(())

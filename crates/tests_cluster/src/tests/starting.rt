@@ -202,9 +202,9 @@ pub(crate) fn rows_after<N: Naming, R: AllocGlobal + Wait>(
     Ok(rows)
 }
 
-/// The requests of the first record, if it is begun.
-pub(crate) fn requests<N: Naming>(rows: &[Phase<N>]) -> &[Request<N>] {
-    match rows.first() {
+/// The requests for the record of this row, if it is begun.
+pub(crate) fn requests<N: Naming>(rows: &[Phase<N>], row: usize) -> &[Request<N>] {
+    match rows.get(row) {
         Some(Phase::Begun(begun)) => begun.requests(),
         _ => &[],
     }

@@ -5,6 +5,7 @@ ghost use Rattle.std.specs.Prelude.{◌≡◌};
 use crate::tests::commits::Commit;
 use crate::tests::of_commits::commit_in_order;
 use crate::tests::of_gates::hold_back;
+use crate::tests::of_held_requests::ask_later_first;
 use crate::tests::of_meetings::meet_twice;
 use crate::tests::of_phases::go_in_odd_order;
 use crate::tests::of_refusals::misplace;
@@ -53,6 +54,8 @@ pub(crate) enum InboxStory {
     Gated,
     /// Requests are asked again.
     Repeated,
+    /// Requests for a later record come before those for an earlier one.
+    LaterFirst,
     /// Proxies follow a plan.
     Planned(&'static Trial),
 }
@@ -135,6 +138,7 @@ fn tell_with<
         InboxStory::Misplaced => misplace(rt, alloc, cluster, inboxes),
         InboxStory::Gated => hold_back(rt, alloc, cluster, inboxes),
         InboxStory::Repeated => repeat(rt, alloc, cluster, inboxes),
+        InboxStory::LaterFirst => ask_later_first(rt, alloc, cluster, inboxes),
         InboxStory::Planned(trial) => try_out(rt, alloc, cluster, inboxes, *trial),
     }
 }

@@ -5,7 +5,7 @@ use Rattle.dated_owners.proofs.merging.add_merged.Goals as goal
 
 pub returns-in_ok-insert-in-len1-up : goal.returns-in_ok-insert-in-len1-up
 returns-in_ok-insert-in-len1-up c =
-    first_put_in c.args.merged.now.items c.args.owners.now c.insert.new.self.items c.place_for-place.result (omega arith)
+    first_put_in c.args.merged.now.items c.args.owners.now c.insert.new.self.items c.place_within_date-place.result (omega arith)
     c.in_ok-insert-in-len1-up.ensures.items (search rules) (search rules) (search rules)
 
 pub returns-else-not-comes_again : goal.returns-else-not-comes_again

@@ -26,8 +26,8 @@ loop-side-preserved g c =
       count = omega (arith, size, l.invariant.count, c.in-Some.ensures.steps.1);
       same = c.check.ensures.same ∙ l.invariant.same;
       delivered = All-push (IsSideDelivered config records workers) l.yielded side l.invariant.delivered
-          (side_delivered config records workers l.workers.items side c.proxy.result c.records_of-messages.result (c.records_of-messages.result + 1)
-          c.proxy.ensures c.records_of-messages.ensures.value refl l.invariant.same c.check.ensures.kept.senders c.in_ok-check.ensures.checked);
+          (side_delivered config records workers l.workers.items side c.proxy.result c.count_records_of-messages.result (c.count_records_of-messages.result + 1)
+          c.proxy.ensures c.count_records_of-messages.ensures.value refl l.invariant.same c.check.ensures.kept.senders c.in_ok-check.ensures.checked);
     }
 
 pub returns-clause-checked : goal.returns-clause-checked
@@ -48,7 +48,7 @@ returns-in_err-check-clause-err g c =
     let is : c.from_residual.result ≡ Err c.in_err-check.field-0.0 = search rules in
     subst (λ (r : Result ⊤ RunFault). IfErr r (FailsCheckOf (All (IsSideDelivered config records workers) c.args.sides.items))) (sym is) (
       failed.0,
-      λ all. side_not_delivered config records workers l.workers.items side c.proxy.result c.records_of-messages.result (c.records_of-messages.result + 1)
-          c.proxy.ensures c.records_of-messages.ensures.value refl l.invariant.same failed.1
+      λ all. side_not_delivered config records workers l.workers.items side c.proxy.result c.count_records_of-messages.result (c.count_records_of-messages.result + 1)
+          c.proxy.ensures c.count_records_of-messages.ensures.value refl l.invariant.same failed.1
           (next_of_all (IsSideDelivered config records workers) l.yielded side (into_iter_items l.side-iterator) (into_iter_items c.next.new.self) c.args.sides.items c.in-Some.ensures.steps.0 l.invariant.left all),
     )

@@ -2,7 +2,7 @@ use Rattle.std.proofs.Common.{arith, List}
 use Rattle.std.specs.Prelude.{string_bytes}
 use Rattle.serde_json.specs.Data.{object}
 use Rattle.fold_run.specs.Folding.{AreFolded}
-use Rattle.fold_run.specs.declared.folding.FoldedRows.{FoldedRows}
+use Rattle.fold_run.specs.declared.folded_rows.FoldedRows.{FoldedRows}
 use Rattle.fold_run.specs.declared.script.RawRow.{RawRow}
 use Rattle.fold_run.proofs.FoldingLemmas.{text_of_script}
 use Rattle.fold_run.proofs.StreamLemmas.{fields_of_script}

@@ -2,7 +2,7 @@ use Rattle.std.proofs.Common.{arith, List}
 use Rattle.std.specs.Prelude.{string_bytes}
 use Rattle.serde_json.specs.Data.{object}
 use Rattle.turns_run.specs.CarryingOut.{AreCarriedOut}
-use Rattle.turns_run.specs.declared.carrying_out.CarriedOut.{CarriedOut}
+use Rattle.turns_run.specs.declared.carried_out.CarriedOut.{CarriedOut}
 use Rattle.turns_run.specs.declared.script.RawEvent.{RawEvent}
 use Rattle.turns_run.proofs.CarryingOutLemmas.{text_of_script}
 use Rattle.turns_run.proofs.StreamLemmas.{script_of_fields}
