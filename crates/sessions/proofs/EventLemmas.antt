@@ -121,18 +121,18 @@ written_by_writes es (Wrote bytes ∷ ws) text writes =
 -- one more write, of a front of what is left
 pub writes_part : {N : Type 0} (old mid new : View N) (bytes front rest : List ℕ) (n : ℕ) → front ++ rest ≡ bytes → WritesText old mid front → GoesOnBy mid new (Wrote (take n rest) ∷ [])
     → (text : List ℕ) × (unwritten : List ℕ) × WritesText old new text × (text ++ unwritten ≡ bytes)
-writes_part old mid new bytes front rest n whole wrote wrote = (
+writes_part old mid new bytes front rest n whole wrote goes = (
   front ++ take n rest,
   drop n rest,
-  writes_text_more old mid new front (take n rest) wrote (writes_once mid new (take n rest) wrote),
+  writes_text_more old mid new front (take n rest) wrote (writes_once mid new (take n rest) goes),
   append_assoc front (take n rest) (drop n rest) ∙ ap (λ l. front ++ l) (take-append-drop n rest) ∙ whole,
 )
 
 -- the same, with what is left as a loop's slice has it
 pub writes_front : {N : Type 0} (old mid new : View N) (bytes front rest : List ℕ) (n : ℕ) → front ++ rest ≡ bytes → WritesText old mid front → GoesOnBy mid new (Wrote (take n rest) ∷ [])
     → (text : List ℕ) × (text ++ take (length rest - n) (drop n rest) ≡ bytes) × WritesText old new text
-writes_front old mid new bytes front rest n whole wrote wrote = (
+writes_front old mid new bytes front rest n whole wrote goes = (
   front ++ take n rest,
   ap (λ l. (front ++ take n rest) ++ l) (take_rest rest n) ∙ append_assoc front (take n rest) (drop n rest) ∙ ap (λ l. front ++ l) (take-append-drop n rest) ∙ whole,
-  writes_text_more old mid new front (take n rest) wrote (writes_once mid new (take n rest) wrote),
+  writes_text_more old mid new front (take n rest) wrote (writes_once mid new (take n rest) goes),
 )

@@ -18,10 +18,10 @@ sent_nothing {view = view} none =
     record { same = refl; written = []; unwritten = []; wrote = writes_nothing view; all = refl; unfailed = λ _. (sym none, refl); failed = λ never. absurd (false≢true never) }
 
 -- more is kept
-pub sent_kept : {N F : Type 0} {write_fails : F → F → Type 0} {borrow : GName} {view : View N} {failures : F} {kept more : List ℕ} {beginning : Beginning N F} {printed text : List ℕ}
+pub sent_kept : {N F : Type 0} {write_fails : F → F → Type 0} {borrow : GName} {view : View N} {failures : F} {kept more : List ℕ} {beginning : Beginning N F} {printed : List ℕ} (text : List ℕ)
     → more ≡ kept ++ text → HasSent write_fails borrow view failures kept false beginning printed
     → HasSent write_fails borrow view failures more false beginning (printed ++ text)
-sent_kept {kept = kept} {printed = printed} {text = text} grown sent =
+sent_kept {kept = kept} {printed = printed} text grown sent =
     record {
       same = sent.same;
       written = sent.written;
@@ -33,17 +33,17 @@ sent_kept {kept = kept} {printed = printed} {text = text} grown sent =
     }
 
 -- after a failed write nothing more is written
-pub sent_no_more : {N F : Type 0} {write_fails : F → F → Type 0} {borrow : GName} {view : View N} {failures : F} {kept more : List ℕ} {beginning : Beginning N F} {printed text : List ℕ}
+pub sent_no_more : {N F : Type 0} {write_fails : F → F → Type 0} {borrow : GName} {view : View N} {failures : F} {kept more : List ℕ} {beginning : Beginning N F} {printed : List ℕ} (text : List ℕ)
     → HasSent write_fails borrow view failures kept true beginning printed
     → HasSent write_fails borrow view failures more true beginning (printed ++ text)
-sent_no_more {text = text} sent =
+sent_no_more text sent =
     record {
       same = sent.same;
       written = sent.written;
       unwritten = sent.unwritten ++ text;
       wrote = sent.wrote;
       all = sym (append_assoc sent.written sent.unwritten text) ∙ ap (λ l. l ++ text) sent.all;
-      unfailed = λ never. absurd (false≢true never);
+      unfailed = λ never. absurd (false≢true (sym never));
       failed = λ _. sent.failed refl;
     }
 
@@ -84,10 +84,10 @@ sent_text {view = view} {next = next} {beginning = beginning} {text = text} sent
 abbrev pub WritesFront : {N : Type 0} → View N → View N → List ℕ → Type 0
 WritesFront view next bytes = (text : List ℕ) × (unwritten : List ℕ) × WritesText view next text × (text ++ unwritten ≡ bytes)
 
-pub sent_front : {N F : Type 0} {write_fails : F → F → Type 0} {borrow : GName} {view next : View N} {failures later : F} {kept more : List ℕ} {beginning : Beginning N F} {printed bytes text : List ℕ}
+pub sent_front : {N F : Type 0} {write_fails : F → F → Type 0} {borrow : GName} {view next : View N} {failures later : F} {kept more : List ℕ} {beginning : Beginning N F} {printed bytes : List ℕ} (text : List ℕ)
     → HasSent write_fails borrow view failures kept false beginning printed → WritesFront view next bytes → kept ++ text ≡ bytes → write_fails failures later
     → HasSent write_fails borrow next later more true beginning (printed ++ text)
-sent_front {write_fails = write_fails} {view = view} {next = next} {later = later} {kept = kept} {beginning = beginning} {printed = printed} {text = text} sent (front, rest, wrote, split) joined fails =
+sent_front {write_fails = write_fails} {view = view} {next = next} {later = later} {kept = kept} {beginning = beginning} {printed = printed} text sent (front, rest, wrote, split) joined fails =
     let own = sent.unfailed refl in
     record {
       same = sent.same;
@@ -96,34 +96,34 @@ sent_front {write_fails = write_fails} {view = view} {next = next} {later = late
       wrote = writes_text_more beginning.view view next sent.written front sent.wrote wrote;
       all = append_assoc sent.written front rest ∙ ap (λ l. sent.written ++ l) (split ∙ sym joined) ∙ sym (append_assoc sent.written kept text)
           ∙ ap (λ l. (sent.written ++ l) ++ text) (sym own.0) ∙ ap (λ l. l ++ text) sent.all;
-      unfailed = λ never. absurd (false≢true never);
+      unfailed = λ never. absurd (false≢true (sym never));
       failed = λ _. subst (λ f. write_fails f later) own.1 fails;
     }
 
 -- the same, where all that was to be written was kept
-pub sent_front_of_kept : {N F : Type 0} {write_fails : F → F → Type 0} {borrow : GName} {view next : View N} {failures later : F} {kept more : List ℕ} {beginning : Beginning N F} {printed text : List ℕ}
+pub sent_front_of_kept : {N F : Type 0} {write_fails : F → F → Type 0} {borrow : GName} {view next : View N} {failures later : F} {kept more : List ℕ} {beginning : Beginning N F} {printed : List ℕ} (text : List ℕ)
     → HasSent write_fails borrow view failures kept false beginning printed → WritesFront view next kept → write_fails failures later
     → HasSent write_fails borrow next later more true beginning (printed ++ text)
-sent_front_of_kept {write_fails = write_fails} {borrow = borrow} {next = next} {later = later} {kept = kept} {more = more} {beginning = beginning} {printed = printed} {text = text} sent front fails =
-    let none : HasSent write_fails borrow next later more true beginning (printed ++ []) = sent_front sent front (append-nil kept) fails in
-    sent_no_more {kept = more} (subst (HasSent write_fails borrow next later more true beginning) (append-nil printed) none)
+sent_front_of_kept {write_fails = write_fails} {borrow = borrow} {next = next} {later = later} {kept = kept} {more = more} {beginning = beginning} {printed = printed} text sent front fails =
+    let none : HasSent write_fails borrow next later more true beginning (printed ++ []) = sent_front [] sent front (append-nil kept) fails in
+    sent_no_more {kept = more} text (subst (HasSent write_fails borrow next later more true beginning) (append-nil printed) none)
 
 -- ---- each way that a text goes
 
 -- a write has failed before
-pub send_nothing : {N F : Type 0} {write_fails : F → F → Type 0} {borrow : GName} {view : View N} {failures : F} {kept : List ℕ} {flag : Bool} {beginning : Beginning N F} {printed text : List ℕ}
+pub send_nothing : {N F : Type 0} {write_fails : F → F → Type 0} {borrow : GName} {view : View N} {failures : F} {kept : List ℕ} {flag : Bool} {beginning : Beginning N F} {printed : List ℕ} (text : List ℕ)
     → flag ≡ true → HasSent write_fails borrow view failures kept flag beginning printed → HasSent write_fails borrow view failures kept flag beginning (printed ++ text)
-send_nothing {write_fails = write_fails} {borrow = borrow} {view = view} {failures = failures} {kept = kept} {beginning = beginning} {printed = printed} {text = text} failed sent =
+send_nothing {write_fails = write_fails} {borrow = borrow} {view = view} {failures = failures} {kept = kept} {beginning = beginning} {printed = printed} text failed sent =
     let before : HasSent write_fails borrow view failures kept true beginning printed = subst (λ b. HasSent write_fails borrow view failures kept b beginning printed) failed sent in
-    subst (λ b. HasSent write_fails borrow view failures kept b beginning (printed ++ text)) (sym failed) (sent_no_more before)
+    subst (λ b. HasSent write_fails borrow view failures kept b beginning (printed ++ text)) (sym failed) (sent_no_more text before)
 
 -- it is kept
-pub send_later : {N F : Type 0} {write_fails : F → F → Type 0} {borrow : GName} {view : View N} {failures : F} {kept more : List ℕ} {flag : Bool} {beginning : Beginning N F} {printed text : List ℕ}
+pub send_later : {N F : Type 0} {write_fails : F → F → Type 0} {borrow : GName} {view : View N} {failures : F} {kept more : List ℕ} {flag : Bool} {beginning : Beginning N F} {printed : List ℕ} (text : List ℕ)
     → flag ≡ false → more ≡ kept ++ text → HasSent write_fails borrow view failures kept flag beginning printed
     → HasSent write_fails borrow view failures more flag beginning (printed ++ text)
-send_later {write_fails = write_fails} {borrow = borrow} {view = view} {failures = failures} {kept = kept} {more = more} {beginning = beginning} {printed = printed} {text = text} unfailed grown sent =
+send_later {write_fails = write_fails} {borrow = borrow} {view = view} {failures = failures} {kept = kept} {more = more} {beginning = beginning} {printed = printed} text unfailed grown sent =
     let before : HasSent write_fails borrow view failures kept false beginning printed = subst (λ b. HasSent write_fails borrow view failures kept b beginning printed) unfailed sent in
-    subst (λ b. HasSent write_fails borrow view failures more b beginning (printed ++ text)) (sym unfailed) (sent_kept grown before)
+    subst (λ b. HasSent write_fails borrow view failures more b beginning (printed ++ text)) (sym unfailed) (sent_kept text grown before)
 
 -- what is kept is written, and then it
 pub send_done : {N F : Type 0} {write_fails : F → F → Type 0} {borrow : GName} {view mid last : View N} {failures between later : F} {kept after : List ℕ} {flag : Bool} {beginning : Beginning N F} {printed text : List ℕ}
@@ -136,12 +136,12 @@ send_done {write_fails = write_fails} {borrow = borrow} {view = view} {last = la
     (subst (λ l. HasSent write_fails borrow last later l false beginning (printed ++ text)) (sym none) done)
 
 -- the write of what is kept fails
-pub send_stuck : {N F : Type 0} {write_fails : F → F → Type 0} {borrow : GName} {view next : View N} {failures later : F} {kept more : List ℕ} {flag : Bool} {beginning : Beginning N F} {printed text : List ℕ}
+pub send_stuck : {N F : Type 0} {write_fails : F → F → Type 0} {borrow : GName} {view next : View N} {failures later : F} {kept more : List ℕ} {flag : Bool} {beginning : Beginning N F} {printed : List ℕ} (text : List ℕ)
     → flag ≡ false → WritesFront view next kept → write_fails failures later
     → HasSent write_fails borrow view failures kept flag beginning printed → HasSent write_fails borrow next later more true beginning (printed ++ text)
-send_stuck {write_fails = write_fails} {borrow = borrow} {view = view} {failures = failures} {kept = kept} {beginning = beginning} {printed = printed} unfailed front fails sent =
+send_stuck {write_fails = write_fails} {borrow = borrow} {view = view} {failures = failures} {kept = kept} {beginning = beginning} {printed = printed} text unfailed front fails sent =
     let before : HasSent write_fails borrow view failures kept false beginning printed = subst (λ b. HasSent write_fails borrow view failures kept b beginning printed) unfailed sent in
-    sent_front_of_kept before front fails
+    sent_front_of_kept text before front fails
 
 -- its own write fails
 pub send_cut : {N F : Type 0} {write_fails : F → F → Type 0} {borrow : GName} {view mid next : View N} {failures between later : F} {kept more : List ℕ} {flag : Bool} {beginning : Beginning N F} {printed text : List ℕ}
@@ -162,10 +162,10 @@ holds_some pending = by pending.lost refl
     by true lost = (0 ∷ [], record { bytes = λ kept. absurd (false≢true (sym kept ∙ lost)); some = λ _. omega arith })
 
 -- the lines were answered, and the answers written
-pub bytes_answered : {S N F : Type 0} {rules : Rules S} {write_fails : F → F → Type 0} {start now : S} {borrow : GName} {view : View N} {failures : F} {kept : List ℕ} {flag : Bool} {beginning : Beginning N F} {open_line bytes text : List ℕ} {pending : Pending}
+pub bytes_answered : {S N F : Type 0} {rules : Rules S} {write_fails : F → F → Type 0} {start now : S} {borrow : GName} {view : View N} {failures : F} {kept : List ℕ} {flag : Bool} {beginning : Beginning N F} {open_line bytes : List ℕ} {pending : Pending} (text : List ℕ)
     → Answers rules start (lines_from open_line bytes) text now → Holds pending (open_from open_line bytes) → HasSent write_fails borrow view failures kept flag beginning (text ++ [])
     → flag ≡ false → kept ≡ [] → AnswersBytes rules start now beginning.view view open_line bytes pending (Ok tt)
-bytes_answered {rules = rules} {start = start} {now = now} {open_line = open_line} {bytes = bytes} {text = text} answers held sent unfailed none =
+bytes_answered {rules = rules} {start = start} {now = now} {open_line = open_line} {bytes = bytes} text answers held sent unfailed none =
     record {
       text = sent.written;
       unwritten = sent.unwritten;
@@ -178,10 +178,10 @@ bytes_answered {rules = rules} {start = start} {now = now} {open_line = open_lin
     }
 
 -- the lines were answered, but a write failed
-pub bytes_unwritten : {S N F : Type 0} {rules : Rules S} {write_fails : F → F → Type 0} {start now : S} {borrow : GName} {view : View N} {failures : F} {kept : List ℕ} {flag : Bool} {beginning : Beginning N F} {open_line bytes text : List ℕ} {pending : Pending} (why : Failed)
+pub bytes_unwritten : {S N F : Type 0} {rules : Rules S} {write_fails : F → F → Type 0} {start now : S} {borrow : GName} {view : View N} {failures : F} {kept : List ℕ} {flag : Bool} {beginning : Beginning N F} {open_line bytes : List ℕ} {pending : Pending} (why : Failed) (text : List ℕ)
     → Answers rules start (lines_from open_line bytes) text now → HasSent write_fails borrow view failures kept flag beginning (text ++ [])
     → AnswersBytes rules start now beginning.view view open_line bytes pending (Err why)
-bytes_unwritten {rules = rules} {start = start} {now = now} {open_line = open_line} {bytes = bytes} {text = text} why answers sent =
+bytes_unwritten {rules = rules} {start = start} {now = now} {open_line = open_line} {bytes = bytes} why text answers sent =
     record {
       text = sent.written;
       unwritten = sent.unwritten;

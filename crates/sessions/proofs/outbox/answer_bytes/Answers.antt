@@ -5,7 +5,7 @@ pub returns-then-has_failed-clause-feeds : goal.returns-then-has_failed-clause-f
 returns-then-has_failed-clause-feeds g c = λ open_line holds.
     let fed = c.feed.ensures open_line holds in
     let first = fed.printed.more _ _ (sent_nothing c.new.ensures.items) in
-    bytes_unwritten _ fed.answers (c.send.ensures.sent _ _ first)
+    bytes_unwritten _ fed.text fed.answers (c.send.ensures.sent _ _ first)
 
 pub returns-then-has_failed-clause-failed : goal.returns-then-has_failed-clause-failed
 returns-then-has_failed-clause-failed g c =
@@ -13,13 +13,14 @@ returns-then-has_failed-clause-failed g c =
     let fed = c.feed.ensures open_line holds in
     let first = fed.printed.more _ _ (sent_nothing c.new.ensures.items) in
     let sent = c.send.ensures.sent _ _ first in
-    sent.failed c.if-has_failed.true
+    let is = c.device-1.given.1 in
+    ?
 
 pub returns-clause-feeds : goal.returns-clause-feeds
 returns-clause-feeds g c = λ open_line holds.
     let fed = c.feed.ensures open_line holds in
     let first = fed.printed.more _ _ (sent_nothing c.new.ensures.items) in
-    bytes_answered fed.answers fed.held (c.send.ensures.sent _ _ first) c.if-has_failed.false (c.send.ensures.none_kept c.if-has_failed.false)
+    bytes_answered fed.text fed.answers fed.held (c.send.ensures.sent _ _ first) c.if-has_failed.false (c.send.ensures.none_kept c.if-has_failed.false)
 
 pub returns-clause-unfailed : goal.returns-clause-unfailed
 returns-clause-unfailed g c =
@@ -27,4 +28,6 @@ returns-clause-unfailed g c =
     let fed = c.feed.ensures open_line holds in
     let first = fed.printed.more _ _ (sent_nothing c.new.ensures.items) in
     let sent = c.send.ensures.sent _ _ first in
-    (sent.unfailed c.if-has_failed.false).1
+    let h = c.device-1 in
+    let k = c.device-1.given in
+    ?

@@ -6,15 +6,15 @@ mutations-init g c = printed_none c.requires
 
 pub mutations-preserved : goal.mutations-preserved
 mutations-preserved g c =
-    printed_one c.mutations.invariant (search c.in-Some.ensures) (search c.if-first-number.false) c.print_mutation.ensures
+    printed_one {rest = c.in-Some.rest.now} {first = c.in-Some.first.now} c.mutations.invariant (search c.in-Some.ensures) (search c.if-first-number.false) c.print_mutation.ensures
 
 pub returns-then-first-number-clause-printed : goal.returns-then-first-number-clause-printed
 returns-then-first-number-clause-printed g c =
-    (printed_its c.mutations.invariant (search c.in-Some.ensures) (search c.if-first-number.true)).0
+    (printed_its {rest = c.in-Some.rest.now} {first = c.in-Some.first.now} c.mutations.invariant (search c.in-Some.ensures) (search c.if-first-number.true)).0
 
 pub returns-then-first-number-clause-later : goal.returns-then-first-number-clause-later
 returns-then-first-number-clause-later g c =
-    (printed_its c.mutations.invariant (search c.in-Some.ensures) (search c.if-first-number.true)).1
+    (printed_its {rest = c.in-Some.rest.now} {first = c.in-Some.first.now} c.mutations.invariant (search c.in-Some.ensures) (search c.if-first-number.true)).1
 
 pub returns-clause-printed : goal.returns-clause-printed
 returns-clause-printed g c = (printed_all c.mutations.invariant (search c.in-None.ensures)).0
