@@ -185,7 +185,7 @@ impl Metadata {
         ensures err { OnErr result (self.new ≡ self.old) }
     {
         let started = self.start_without_runs(rows, last)?;
-        Ok(started.with_hidden_runs(self.entries.map()))
+        Ok(started.with_runs(self.entries.map()))
     }
 
     /// Starts to apply the rows as [`Metadata::start_rows`] does, for a caller that finishes them

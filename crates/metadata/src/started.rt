@@ -47,7 +47,7 @@ impl Model for StartedRows {
 impl StartedRows {
     /// The same, with runs of what is to be removed from these entries, so that a look-up takes a step
     /// for each run. Some runs are left out if memory runs out.
-    pub(crate) fn with_hidden_runs(mut self, entries: &EntryMap) -> StartedRows
+    pub(crate) fn with_runs(mut self, entries: &EntryMap) -> StartedRows
         ensures { result ≡ self }
     {
         self.runs = KeyRuns::of(entries, &self.removed);
@@ -55,7 +55,7 @@ impl StartedRows {
     }
 
     /// Whether the database was locked before the last of the rows. Does not allocate.
-    pub fn was_locked_before_last_row(&self) -> bool
+    pub fn was_locked(&self) -> bool
         ensures { result ≡ self.now.locked }
     {
         self.locked

@@ -83,7 +83,7 @@ fn threads_text_in<N: Naming + Send + Sync, R: Threads + Wait + Sync>(
     Ok(run.into_text())
 }
 
-/// What the script comes to in this cluster over these inboxes: a run that went by them.
+/// The outcome of the script in this cluster over these inboxes: a run that went by them.
 fn text_over<N: Naming + Send + Sync, M: Channels + Send + Sync, R: Threads + Wait + Sync>(
     rt: &R,
     alloc: Global,
