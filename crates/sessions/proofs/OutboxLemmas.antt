@@ -147,9 +147,9 @@ send_stuck {write_fails = write_fails} {borrow = borrow} {view = view} {failures
 pub send_cut : {N F : Type 0} {write_fails : F → F → Type 0} {borrow : GName} {view mid next : View N} {failures between later : F} {kept more : List ℕ} {flag : Bool} {beginning : Beginning N F} {printed text : List ℕ}
     → flag ≡ false → WritesText view mid kept → between ≡ failures → WritesFront mid next text → write_fails between later
     → HasSent write_fails borrow view failures kept flag beginning printed → HasSent write_fails borrow next later more true beginning (printed ++ text)
-send_cut {write_fails = write_fails} {borrow = borrow} {view = view} {failures = failures} {kept = kept} {beginning = beginning} {printed = printed} unfailed first same front fails sent =
+send_cut {write_fails = write_fails} {borrow = borrow} {view = view} {failures = failures} {kept = kept} {beginning = beginning} {printed = printed} {text = text} unfailed first same front fails sent =
     let before : HasSent write_fails borrow view failures kept false beginning printed = subst (λ b. HasSent write_fails borrow view failures kept b beginning printed) unfailed sent in
-    sent_front (sent_all before first same) front refl fails
+    sent_front text (sent_all before first same) front refl fails
 
 -- ---- all bytes of a read
 
@@ -192,6 +192,12 @@ bytes_unwritten {rules = rules} {start = start} {now = now} {open_line = open_li
       state = tt;
       kept = tt;
     }
+
+-- the same of the device as its loan leaves it
+pub answered_at_end : {D S N : Type 0} {rules : Rules S} {start now : S} {old : View N} {open_line bytes : List ℕ} {pending : Pending} {result : Result (Unit {0}) Failed} {last there : D} (view : D → View N)
+    → last ≡ there → AnswersBytes rules start now old (view there) open_line bytes pending result → AnswersBytes rules start now old (view last) open_line bytes pending result
+answered_at_end {rules = rules} {start = start} {now = now} {old = old} {open_line = open_line} {bytes = bytes} {pending = pending} {result = result} view same answered =
+    subst (λ d. AnswersBytes rules start now old (view d) open_line bytes pending result) (sym same) answered
 
 -- there was no line to answer
 pub nothing_answered : {S N : Type 0} (rules : Rules S) (start : S) (view : View N) (open_line : List ℕ) (pending : Pending) → open_line ≡ [] → Holds pending open_line
