@@ -4,7 +4,7 @@ use Rattle.pages.specs.Printing.{Prints}
 use Rattle.pages.proofs.Prints.{prints_as, prints_both, prints_nothing}
 use Rattle.sessions.specs.Answers.{Rules, Answers, out_of_memory}
 use Rattle.sessions.specs.Feeds.{AnswersLine, Feeds}
-use Rattle.sessions.specs.Lines.{lines_from, open_from}
+use Rattle.sessions.specs.Lines.{open_from}
 use Rattle.sessions.specs.Pending.{Holds}
 use Rattle.sessions.specs.declared.pending.Pending.{Pending}
 use Rattle.sessions.proofs.AnswerLemmas.{answers_one, answers_join}

@@ -1,6 +1,5 @@
-use Rattle.std.proofs.Common.{◌∙◌, sym, subst}
+use Rattle.std.proofs.Common.{◌∙◌, sym}
 use Rattle.std.proofs.lemmas.Bool.{false≢true}
-use Rattle.sessions.specs.Feeds.{AnswersBytes}
 use Rattle.sessions.proofs.OutboxLemmas.{line_end_some, nothing_answered}
 use Rattle.sessions.proofs.outbox.finish.Goals as goal
 
