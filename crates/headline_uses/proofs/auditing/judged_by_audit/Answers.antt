@@ -10,7 +10,7 @@ use Rattle.locked_resolvers.specs.Resolvers.{LockedResolverView}
 use Rattle.headline_uses.specs.Resolvers.{AreInOrder}
 use Rattle.headline_uses.specs.Verdicts.{HaveJudged}
 use Rattle.headline_uses.proofs.JudgedCells.{has_verdicts}
-use Rattle.headline_uses.proofs.auditing.audit_in_order.Goals as goal
+use Rattle.headline_uses.proofs.auditing.judged_by_audit.Goals as goal
 
 -- each resolver that has reached the proxy's version has its verdicts
 have_judged : (config : Config) (v : LockedProxyView) (resolvers : List LockedResolverView) → HaveReached config v resolvers → HaveJudged config (reached_records v) resolvers
