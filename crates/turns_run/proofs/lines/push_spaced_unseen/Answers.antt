@@ -1,4 +1,4 @@
-use Rattle.std.proofs.Common.{List, map, arith}
+use Rattle.std.proofs.Common.{ℕ, List, map, arith}
 use Rattle.std.specs.List.{flat_map}
 use Rattle.std.proofs.lemmas.List.{at_drop_all, at_drop_more}
 use Rattle.pages.proofs.Prints.{leaves_all, leaves_less, leaves_none}

@@ -17,7 +17,7 @@ returns-then-first-number-clause-later g c =
     (printed_its {rest = c.in-Some.rest.now} {first = c.in-Some.first.now} c.mutations.invariant (search c.in-Some.ensures) (search c.if-first-number.true)).1
 
 pub returns-clause-printed : goal.returns-clause-printed
-returns-clause-printed g c = (printed_all c.mutations.invariant (search c.in-None.ensures)).0
+returns-clause-printed g c = (printed_all c.mutations.invariant (search c.in_default.ensures)).0
 
 pub returns-clause-later : goal.returns-clause-later
-returns-clause-later g c = (printed_all c.mutations.invariant (search c.in-None.ensures)).1
+returns-clause-later g c = (printed_all c.mutations.invariant (search c.in_default.ensures)).1
