@@ -20,14 +20,14 @@ returns-in-Ok-clause-text g c =
     let answer = answered c.args.world.now event c.in-Ok.answer c.in-Ok.ensures.answer in
     prints_as c.print_answer.ensures (ap (λ finishing. answer_text finishing (event_answer_of c.in-Ok.answer)) c.finishing_proxy-finishing.ensures ∙ sym (ap (event_text event) answer))
 
-pub returns-in-Err-clause-text : goal.returns-in-Err-clause-text
-returns-in-Err-clause-text g c =
+pub returns-in_ok-check_numbered-in-Err-clause-text : goal.returns-in_ok-check_numbered-in-Err-clause-text
+returns-in_ok-check_numbered-in-Err-clause-text g c =
     prints_as c.print_refusal.ensures
-    (sym (refused c.args.world.now (event_of c.args.event) c.in-Err.refusal c.in_ok-check_numbered.ensures c.in-Err.ensures.answer).0)
+    (sym (refused c.args.world.now (event_of c.args.event) c.in-Err.refusal c.in_ok-check_numbered-in-Err.ensures c.in-Err.ensures.answer).0)
 
-pub returns-in-Err-clause-world : goal.returns-in-Err-clause-world
-returns-in-Err-clause-world g c =
-    c.in-Err.ensures.err ∙ (refused c.args.world.now (event_of c.args.event) c.in-Err.refusal c.in_ok-check_numbered.ensures c.in-Err.ensures.answer).1
+pub returns-in_ok-check_numbered-in-Err-clause-world : goal.returns-in_ok-check_numbered-in-Err-clause-world
+returns-in_ok-check_numbered-in-Err-clause-world g c =
+    c.in-Err.ensures.err ∙ (refused c.args.world.now (event_of c.args.event) c.in-Err.refusal c.in_ok-check_numbered-in-Err.ensures c.in-Err.ensures.answer).1
 
-pub returns-in_err-check_numbered-clause-unprinted : goal.returns-in_err-check_numbered-clause-unprinted
-returns-in_err-check_numbered-clause-unprinted g c = prints_nothing _
+pub returns-in_err-check_numbered-in-Err-clause-unprinted : goal.returns-in_err-check_numbered-in-Err-clause-unprinted
+returns-in_err-check_numbered-in-Err-clause-unprinted g c = prints_nothing c.args.page.now

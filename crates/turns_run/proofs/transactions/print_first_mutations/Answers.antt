@@ -1,3 +1,4 @@
+use Rattle.std.proofs.lemmas.List.{nil_from_length}
 use Rattle.turns_run.proofs.OrderLemmas.{printed_all, printed_its, printed_none, printed_one}
 use Rattle.turns_run.proofs.transactions.print_first_mutations.Goals as goal
 
@@ -17,7 +18,7 @@ returns-then-first-number-clause-later g c =
     (printed_its {rest = c.in-Some.rest.now} {first = c.in-Some.first.now} c.mutations.invariant (search c.in-Some.ensures) (search c.if-first-number.true)).1
 
 pub returns-clause-printed : goal.returns-clause-printed
-returns-clause-printed g c = (printed_all c.mutations.invariant (search c.in_default.ensures)).0
+returns-clause-printed g c = (printed_all c.mutations.invariant (nil_from_length c.mutations.later.now c.in_default.ensures.cases)).0
 
 pub returns-clause-later : goal.returns-clause-later
-returns-clause-later g c = (printed_all c.mutations.invariant (search c.in_default.ensures)).1
+returns-clause-later g c = (printed_all c.mutations.invariant (nil_from_length c.mutations.later.now c.in_default.ensures.cases)).1
