@@ -1,4 +1,4 @@
-use Rattle.std.proofs.Common.{◌∙◌, ◌++◌, ◌∷◌, [], ap}
+use Rattle.std.proofs.Common.{◌∙◌, ap, rules}
 use Rattle.pages.proofs.Prints.{prints_as, prints_both, prints_nothing}
 use Rattle.session_run.specs.Session.{with_empty_line}
 use Rattle.session_run.proofs.answers.print_fault.Goals as goal
@@ -8,4 +8,5 @@ returns-clause-text g c =
     prints_as (prints_both c.push.ensures c.push-2.ensures) (ap with_empty_line (c.as_str.ensures.value ∙ c.in_ok-output.ensures.output.text))
 
 pub returns-in_err-output-clause-unprinted : goal.returns-in_err-output-clause-unprinted
-returns-in_err-output-clause-unprinted g c = prints_nothing _
+returns-in_err-output-clause-unprinted g c =
+    search (rules, prints_nothing {has_printed = g.P.Page.has_printed} c.args.page.now)

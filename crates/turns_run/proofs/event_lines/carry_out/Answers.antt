@@ -1,4 +1,4 @@
-use Rattle.std.proofs.Common.{◌∙◌, ap, subst, sym}
+use Rattle.std.proofs.Common.{◌∙◌, ap, rules, subst, sym}
 use Rattle.pages.proofs.Prints.{prints_as, prints_nothing}
 use Rattle.turn_world.specs.Events.{event_answer_of, event_of}
 use Rattle.turns_run.specs.Lines.{answer_text, event_text, finishing_proxy}
@@ -30,4 +30,5 @@ returns-in_ok-check_numbered-in-Err-clause-world g c =
     c.in-Err.ensures.err ∙ (refused c.args.world.now (event_of c.args.event) c.in-Err.refusal c.in_ok-check_numbered-in-Err.ensures c.in-Err.ensures.answer).1
 
 pub returns-in_err-check_numbered-in-Err-clause-unprinted : goal.returns-in_err-check_numbered-in-Err-clause-unprinted
-returns-in_err-check_numbered-in-Err-clause-unprinted g c = prints_nothing c.args.page.now
+returns-in_err-check_numbered-in-Err-clause-unprinted g c =
+    search (rules, prints_nothing {has_printed = g.P.Page.has_printed} c.args.page.now)
