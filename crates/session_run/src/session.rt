@@ -1,6 +1,9 @@
 //! A session with a cluster without threads.
 
-ghost use Rattle.std.specs.Prelude.{◌≡◌, [], IfSome, MatchOption, None, OnErr, OnOk, Option, Some};
+ghost use Rattle.std.specs.Prelude.{◌≡◌, ◌++◌, [], IfSome, MatchOption, None, OnErr, OnOk};
+ghost use Rattle.std.specs.Prelude.{Option, Some};
+ghost use Rattle.cluster_lines.specs.MetadataLines.{metadata_text, proxy_line};
+ghost use Rattle.model.specs.Metadata.{metadata as metadata_of};
 ghost use Rattle.model.specs.Serial.{IsSerial};
 ghost use Rattle.model.specs.Turns.{TurnCluster};
 ghost use Rattle.pages.specs.Printing.{Prints};
@@ -16,7 +19,7 @@ use pages::Page;
 use sessions::Answering;
 use std::alloc::Global;
 use system_keys::OutOfMemory;
-use turn_world::{Event, Refusal, TurnWorld};
+use turn_world::{Event, Proxy, Refusal, TurnWorld};
 use turns_run::{carry_out, print_proxy, print_refusal};
 
 /// A session: the cluster that a line has begun, if there is one.
@@ -117,11 +120,13 @@ impl Session {
         ensures unprinted { OnErr result (Prints P.has_printed page.old page.new []) }
         ensures unchanged { OnErr result (self.new.cluster ≡ self.old.cluster) }
     {
-        let Some(cluster) = &mut self.cluster else {
-            print_no_cluster(page);
-            return Ok(());
-        };
-        carry_out(event, cluster, page)
+        match &mut self.cluster {
+            Some(cluster) => carry_out(event, cluster, page),
+            None => {
+                print_no_cluster(page);
+                Ok(())
+            }
+        }
     }
 
     /// Prints a proxy.
@@ -178,10 +183,27 @@ fn print_show<P: Page>(
         (show_text cluster.now show.now.proxy show.now.ask)) }
     ensures unprinted { OnErr result (Prints P.has_printed page.old page.new []) }
 {
-    let Some(proxy) = cluster.proxy(show.proxy) else {
-        print_refusal(page, &Refusal::NoSuchProxy);
-        return Ok(());
-    };
+    match cluster.proxy(show.proxy) {
+        Some(proxy) => print_found(alloc, proxy, show, page),
+        None => {
+            print_refusal(page, &Refusal::NoSuchProxy);
+            Ok(())
+        }
+    }
+}
+
+/// Prints a proxy that the cluster has.
+fn print_found<P: Page>(
+    alloc: Global,
+    proxy: &Proxy,
+    show: &Show,
+    page: &mut P,
+) -> Result<(), OutOfMemory>
+    ensures text { OnOk result (Prints P.has_printed page.old page.new
+        (proxy_line show.now.proxy
+        ++ metadata_text proxy.now.version (metadata_of proxy.now.journal) show.now.ask)) }
+    ensures unprinted { OnErr result (Prints P.has_printed page.old page.new []) }
+{
     let mut text = String::new(alloc);
     print_proxy(alloc, &mut text, show.proxy, proxy, show.ask.as_slice())?;
     page.push(text.as_str());
