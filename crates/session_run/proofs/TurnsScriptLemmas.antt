@@ -23,16 +23,16 @@ use Rattle.session_run.specs.TurnsScripts.{AnswersScript, AsksForScript, asks_ev
 use Rattle.session_run.specs.declared.line.Line.{Line}
 use Rattle.session_run.specs.declared.line.Line.TheVariants as lines
 
-joined : List (List ℕ) → List ℕ
+abbrev joined : List (List ℕ) → List ℕ
 joined parts = flat_map (λ part. part) parts
 
 -- ---- events
 
-event_parts : TurnCluster → List Event → List (List ℕ)
+abbrev event_parts : TurnCluster → List Event → List (List ℕ)
 event_parts now [] = []
 event_parts now (event ∷ events) = carried_out_text now (event_of event) ∷ event_parts (after_event now (event_of event)) events
 
-after_events : TurnCluster → List Event → TurnCluster
+abbrev after_events : TurnCluster → List Event → TurnCluster
 after_events now [] = now
 after_events now (event ∷ events) = after_events (after_event now (event_of event)) events
 
@@ -59,7 +59,7 @@ events_answered now (event ∷ events) (line ∷ given) rest same =
 
 -- ---- proxies
 
-show_parts : TurnCluster → List Key → List ℕ → List (List ℕ)
+abbrev show_parts : TurnCluster → List Key → List ℕ → List (List ℕ)
 show_parts now ask numbers = map (λ p. show_text now p ask) numbers
 
 shows_answered : (now : TurnCluster) (script : TurnsScript) (numbers : List ℕ) (given : List (List ℕ)) → map line_of given ≡ map (asks_show script) numbers
