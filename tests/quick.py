@@ -11,6 +11,7 @@ import tempfile
 from tests.parts import ROOT, Part
 
 UNPROVED = os.path.join(ROOT, "out", "proxy_run_unproved")
+UNPROVED_SESSION = os.path.join(ROOT, "out", "proxy_session_unproved")
 PROVED = os.path.join(ROOT, "crates", "proxy_run", "out", "proxy_run")
 
 # Where the commit is written whose program was proved last.
@@ -43,11 +44,18 @@ def program():
     return None, "there is no program: the tools alone were tried"
 
 
+def is_session_built():
+    """Builds the program that answers line by line."""
+    return subprocess.run(["tools/unproved_program", "proxy_session"], cwd=ROOT, stdin=subprocess.DEVNULL).returncode == 0
+
+
 def parts_on(tried):
     """The parts of the run, started side by side, each with the file that has what it prints."""
     commands = {"tools": ["tests/tools/run", tried or "--without-program"]}
     if tried:
         commands["scripts"] = ["tests/scripts/run", tried]
+    if tried == UNPROVED and is_session_built():
+        commands["sessions"] = ["tests/sessions/run", UNPROVED_SESSION]
     with tempfile.TemporaryDirectory(prefix="tests-") as folder:
         parts = [Part(name) for name in commands]
         for part in parts:

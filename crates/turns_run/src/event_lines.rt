@@ -1,9 +1,11 @@
 //! Each event of a script is carried out, and its answer or its refusal is printed: which line that
 //! is, and the lines of a finish.
 
-ghost use Rattle.std.specs.Prelude.{◌≡◌, ◌++◌, IsSome, OnOk, string_bytes, map, true};
+ghost use Rattle.std.specs.Prelude.{◌≡◌, ◌++◌, [], IsSome, OnErr, OnOk};
+ghost use Rattle.std.specs.Prelude.{string_bytes, map, true};
 ghost use Rattle.model.specs.Turns.{after_event};
 ghost use Rattle.model.specs.World.{answers, handle_event, world_after};
+ghost use Rattle.pages.specs.Printing.{Prints};
 ghost use Rattle.turn_world.specs.Events.{event_answer_of, event_of, refusal_number};
 ghost use Rattle.turns_run.specs.Lines.{answer_text, finished_batch_text, event_text, events_text};
 ghost use Rattle.turns_run.specs.Lines.{finish_text, finished_text, finishing_proxy};
@@ -11,11 +13,12 @@ ghost use Rattle.turns_run.specs.Lines.{refusal_line, refusal_value};
 ghost use Rattle.turns_run.specs.OrderOfMutations.{are_in_order, FitsFinish};
 
 use crate::lines::{print_move, print_offer, print_sequence};
-use crate::numbers::push_numbered;
+use crate::pieces::{push_number_and_name, push_numbered};
 use crate::transactions::print_transactions;
-use cluster_lines::push_number_and_name;
 use model::{Finished, ProxyNumber, Version};
-use std::fmt::Write;
+use pages::{Page, TextPage};
+use std::alloc::Global;
+use std::mem;
 use system_keys::{Items, OutOfMemory};
 use turn_world::{Answer, Event, OfferAnswer, Refusal, TurnWorld};
 
@@ -40,7 +43,8 @@ pub(crate) fn carry_out_events(
     Ok(())
 }
 
-/// Carries out the event, of which nothing is copied, and prints its lines.
+/// Carries out the event, of which nothing is copied, and prints its lines. Fails only with
+/// `OutOfMemory`.
 pub(crate) fn carry_out_event(
     text: &mut String,
     event: Event,
@@ -51,11 +55,47 @@ pub(crate) fn carry_out_event(
         ++ event_text given (handle_event before.config before.world given).answer) }
     ensures world { OnOk result (world.new ≡ after_event world.old (event_of event)) }
 {
+    let alloc: Global = *text.allocator();
+    let mut page = TextPage::of(mem::replace(text, String::new(alloc)));
+    carry_out(event, world, &mut page)?;
+    *text = page.into_text()?;
+    Ok(())
+}
+
+/// Carries out the event, of which nothing is copied, and prints its lines, which takes no memory.
+/// Fails only with `OutOfMemory`; then nothing is printed, and the cluster is unchanged.
+pub fn carry_out<P: Page>(
+    event: Event,
+    world: &mut TurnWorld,
+    page: &mut P,
+) -> Result<(), OutOfMemory>
+    ensures text { let given = event_of event in let before = world.old in
+        OnOk result (Prints P.has_printed page.old page.new
+        (event_text given (handle_event before.config before.world given).answer)) }
+    ensures world { OnOk result (world.new ≡ after_event world.old (event_of event)) }
+    ensures unprinted { OnErr result (Prints P.has_printed page.old page.new []) }
+    ensures unchanged { OnErr result (world.new ≡ world.old) }
+{
     let finishing = finishing_proxy(&event);
     match world.step_owned(event) {
-        Ok(answer) => print_answer(text, finishing, &answer),
-        Err(refusal) => print_refusal(text, &refusal),
+        Ok(answer) => {
+            print_answer(page, finishing, &answer);
+            Ok(())
+        }
+        Err(refusal) => {
+            check_numbered(&refusal)?;
+            print_refusal(page, &refusal);
+            Ok(())
+        }
     }
+}
+
+/// Whether the refusal has a number: all have one but `OutOfMemory`.
+fn check_numbered(refusal: &Refusal) -> Result<(), OutOfMemory>
+    ensures { OnOk result (IsSome (refusal_number refusal.now)) }
+{
+    refusal.number().ok_or(OutOfMemory)?;
+    Ok(())
 }
 
 /// The proxy that finishes a record, if the event is a finish.
@@ -69,96 +109,76 @@ fn finishing_proxy(event: &Event) -> Option<ProxyNumber>
 }
 
 /// Prints the lines of an event that was carried out; if it was a finish, its proxy is given.
-fn print_answer(
-    text: &mut String,
-    finishing: Option<ProxyNumber>,
-    answer: &Answer,
-) -> Result<(), OutOfMemory>
+fn print_answer<P: Page>(page: &mut P, finishing: Option<ProxyNumber>, answer: &Answer)
     requires { FitsFinish finishing (event_answer_of answer.now) }
-    ensures { OnOk result (string_bytes text.new
-        ≡ string_bytes text.old ++ answer_text finishing (event_answer_of answer.now)) }
+    ensures { Prints P.has_printed page.old page.new
+        (answer_text finishing (event_answer_of answer.now)) }
 {
     match answer {
-        Answer::Sequenced { row, version } => print_sequence(text, *row, *version),
-        Answer::Moved { date } => print_move(text, *date),
-        Answer::Offered(OfferAnswer::Judged(reply)) => print_offer(text, "judged", reply),
-        Answer::Offered(OfferAnswer::Again(reply)) => print_offer(text, "again", reply),
-        Answer::Finished(finished) => print_finished_batch(text, finishing, finished),
+        Answer::Sequenced { row, version } => print_sequence(page, *row, *version),
+        Answer::Moved { date } => print_move(page, *date),
+        Answer::Offered(OfferAnswer::Judged(reply)) => print_offer(page, "judged", reply),
+        Answer::Offered(OfferAnswer::Again(reply)) => print_offer(page, "again", reply),
+        Answer::Finished(finished) => print_finished_batch(page, finishing, finished),
     }
 }
 
 // Prints a finished record, whose proxy is given.
-fn print_finished_batch(
-    text: &mut String,
-    finishing: Option<ProxyNumber>,
-    finished: &Finished,
-) -> Result<(), OutOfMemory>
+fn print_finished_batch<P: Page>(page: &mut P, finishing: Option<ProxyNumber>, finished: &Finished)
     requires finish { IsSome finishing }
     requires in_order { are_in_order 0 finished.now.tagged ≡ true }
-    ensures { OnOk result (string_bytes text.new
-        ≡ string_bytes text.old ++ finished_batch_text finishing finished.now) }
+    ensures { Prints P.has_printed page.old page.new (finished_batch_text finishing finished.now) }
 {
     match finishing {
-        Some(proxy) => print_finished(text, proxy, finished),
+        Some(proxy) => print_finished(page, proxy, finished),
         None => unreachable!(),
     }
 }
 
 /// Prints the line of a finish, and then those of the transactions of its batch.
-fn print_finished(
-    text: &mut String,
-    proxy: ProxyNumber,
-    finished: &Finished,
-) -> Result<(), OutOfMemory>
+fn print_finished<P: Page>(page: &mut P, proxy: ProxyNumber, finished: &Finished)
     requires { are_in_order 0 finished.now.tagged ≡ true }
-    ensures { OnOk result (string_bytes text.new
-        ≡ string_bytes text.old ++ finished_text proxy finished.now) }
+    ensures { Prints P.has_printed page.old page.new (finished_text proxy finished.now) }
 {
-    push_finish(text, proxy, finished.version)?;
-    text.push_str("\n")?;
+    push_finish(page, proxy, finished.version);
+    page.push("\n");
     print_transactions(
-        text,
+        page,
         finished.tagged.as_slice(),
         finished.outcomes.as_slice(),
-    )
+    );
 }
 
 /// Appends the line of a finish.
-fn push_finish(text: &mut String, proxy: ProxyNumber, version: Version) -> Result<(), OutOfMemory>
-    ensures { OnOk result (string_bytes text.new
-        ≡ string_bytes text.old ++ finish_text proxy version) }
+fn push_finish<P: Page>(page: &mut P, proxy: ProxyNumber, version: Version)
+    ensures { Prints P.has_printed page.old page.new (finish_text proxy version) }
 {
-    push_numbered(text, "finish proxy ", proxy as u64)?;
-    push_numbered(text, " version ", version)?;
-    Ok(())
+    push_numbered(page, "finish proxy ", proxy as u64);
+    push_numbered(page, " version ", version);
 }
 
-// Fails also for the refusal `OutOfMemory`, which has no number.
-fn print_refusal(text: &mut String, refusal: &Refusal) -> Result<(), OutOfMemory>
-    ensures numbered { OnOk result (IsSome (refusal_number refusal.now)) }
-    ensures text { OnOk result (string_bytes text.new
-        ≡ string_bytes text.old ++ refusal_line refusal.now) }
+/// Prints the line of a refusal.
+pub fn print_refusal<P: Page>(page: &mut P, refusal: &Refusal)
+    ensures { Prints P.has_printed page.old page.new (refusal_line refusal.now) }
 {
-    let number = refusal.number().ok_or(OutOfMemory)?;
-    push_number_and_name(text, number, refusal.name())?;
-    push_refusal_value(text, refusal)?;
-    text.push_str("\n")?;
-    Ok(())
+    push_number_and_name(page, refusal.number(), refusal.name());
+    push_refusal_value(page, refusal);
+    page.push("\n");
 }
 
 /// Appends what a refusal carries after a space, if it carries anything.
-fn push_refusal_value(text: &mut String, refusal: &Refusal) -> Result<(), OutOfMemory>
-    ensures { OnOk result (string_bytes text.new
-        ≡ string_bytes text.old ++ refusal_value refusal.now) }
+#[tactic(auto, using(pages::proofs::Prints::prints_nothing))]
+fn push_refusal_value<P: Page>(page: &mut P, refusal: &Refusal)
+    ensures { Prints P.has_printed page.old page.new (refusal_value refusal.now) }
 {
     match refusal {
-        Refusal::Early { version } => write!(text, " {version}")?,
-        Refusal::GivenUp { acknowledged } => write!(text, " {acknowledged}")?,
+        Refusal::Early { version } => push_numbered(page, " ", *version),
+        Refusal::GivenUp { acknowledged } => push_numbered(page, " ", *acknowledged),
         Refusal::OutOfTurn {
             expected: Some(row),
-        } => write!(text, " {row}")?,
-        Refusal::OutOfTurn { expected: None } => text.push_str(" none")?,
-        Refusal::MissingReply { resolver } => write!(text, " {resolver}")?,
+        } => push_numbered(page, " ", *row),
+        Refusal::OutOfTurn { expected: None } => page.push(" none"),
+        Refusal::MissingReply { resolver } => push_numbered(page, " ", *resolver as u64),
         Refusal::NoSuchResolver
         | Refusal::NoSuchProxy
         | Refusal::WrongResolver
@@ -166,5 +186,4 @@ fn push_refusal_value(text: &mut String, refusal: &Refusal) -> Result<(), OutOfM
         | Refusal::VersionsEnd
         | Refusal::OutOfMemory => {}
     }
-    Ok(())
 }

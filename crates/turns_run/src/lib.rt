@@ -9,7 +9,7 @@ mod checks;
 mod event_lines;
 mod event_streams;
 mod lines;
-mod numbers;
+mod pieces;
 mod proxies;
 mod reading;
 mod run;
@@ -19,6 +19,8 @@ mod text;
 mod transactions;
 mod turns_fields;
 
+pub use event_lines::{carry_out, print_refusal};
+pub use proxies::print_proxy;
 pub use reading::{read_turns, stream_turns};
 pub use run::run_turns;
-pub use script::TurnsScript;
+pub use script::{RawEvent, TurnsScript};

@@ -34,8 +34,9 @@ pub fn print_proxies(
     Ok(())
 }
 
-/// Prints the lines of one proxy.
-fn print_proxy(
+/// Prints one proxy: its number, its routing, and the tags of the asked keys. Fails only with
+/// `OutOfMemory`.
+pub fn print_proxy(
     alloc: Global,
     text: &mut String,
     number: usize,

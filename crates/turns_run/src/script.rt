@@ -48,9 +48,9 @@ pub(crate) struct RawTurns {
     pub(crate) ask: Items<Bytes>,
 }
 
-/// An event as it is written.
+/// An event as it is written, before its keys, values and ranges are checked.
 #[derive(Drop)]
-pub(crate) enum RawEvent {
+pub enum RawEvent {
     /// A batch gets its record.
     Sequence {
         /// The number of the proxy.

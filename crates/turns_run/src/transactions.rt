@@ -1,158 +1,129 @@
 //! The lines of a finished batch: each transaction's outcome, then its mutations with their tags and
 //! private copies.
 
-ghost use Rattle.std.specs.Prelude.{◌≡◌, ◌++◌, IfOk, OnOk, string_bytes, flat_map, true};
-ghost use Rattle.scripts.specs.Lines.{line, quoted, spaced, tag_text};
+ghost use Rattle.std.specs.Prelude.{◌≡◌, flat_map, true};
+ghost use Rattle.pages.specs.Printing.{Prints};
 ghost use Rattle.turns_run.specs.Lines.{copy_line, mutation_line, mutation_text, mutations_of};
 ghost use Rattle.turns_run.specs.Lines.{outcome_numbers, private_text};
 ghost use Rattle.turns_run.specs.Lines.{outcome_text, transaction_line, transactions_text};
 ghost use Rattle.turns_run.specs.OrderOfMutations.{IsAfter, are_in_order};
 
-use crate::numbers::push_numbered;
+use crate::pieces::{push_numbered, push_quoted, push_tag, push_tags};
 use cluster_lines::outcome_name;
 use model::{Outcome, PrivateCopy, Tagged};
-use scripts::{push_quoted, push_tag, push_tags};
-use system_keys::OutOfMemory;
+use pages::Page;
 
 /// Prints the outcome of each transaction of a batch, and after it the tags and the private copy of
-/// each of its mutations, which are in the order of their transactions: each is looked at once. Fails
-/// only with `OutOfMemory`.
-pub(crate) fn print_transactions(
-    text: &mut String,
-    tagged: &[Tagged],
-    outcomes: &[Outcome],
-) -> Result<(), OutOfMemory>
+/// each of its mutations, which are in the order of their transactions: each is looked at once.
+pub(crate) fn print_transactions<P: Page>(page: &mut P, tagged: &[Tagged], outcomes: &[Outcome])
     requires { are_in_order 0 tagged.now ≡ true }
-    ensures { OnOk result (string_bytes text.new
-        ≡ string_bytes text.old ++ transactions_text tagged.now 0 outcomes.now) }
+    ensures { Prints P.has_printed page.old page.new (transactions_text tagged.now 0 outcomes.now) }
 {
     let mut rest = tagged;
     let mut number = 0;
     for outcome in outcomes {
-        print_transaction(text, number, *outcome)?;
-        rest = print_first_mutations(text, number, rest)?;
+        print_transaction(page, number, *outcome);
+        rest = print_first_mutations(page, number, rest);
         number += 1;
     }
-    Ok(())
 }
 
 // Prints the mutations of this transaction, which come first, and returns those after them.
-fn print_first_mutations<'a>(
-    text: &mut String,
+fn print_first_mutations<'a, P: Page>(
+    page: &mut P,
     number: usize,
     tagged: &'a [Tagged],
-) -> Result<&'a [Tagged], OutOfMemory>
+) -> &'a [Tagged]
     requires { are_in_order number tagged.now ≡ true }
-    ensures printed { OnOk result (string_bytes text.new
-        ≡ string_bytes text.old ++ flat_map mutation_text (mutations_of number tagged.now)) }
-    ensures later { IfOk result (λ later. IsAfter number tagged.now later.now) }
+    ensures printed { Prints P.has_printed page.old page.new
+        (flat_map mutation_text (mutations_of number tagged.now)) }
+    ensures later { IsAfter number tagged.now result.now }
 {
     let mut later = tagged;
     'mutations: while let Some((first, rest)) = later.split_first() {
         if first.number != number {
-            return Ok(later);
+            return later;
         }
-        print_mutation(text, first)?;
+        print_mutation(page, first);
         later = rest;
     }
-    Ok(later)
+    later
 }
 
 /// Prints the line of a transaction: its number and its outcome.
-fn print_transaction(text: &mut String, number: usize, outcome: Outcome) -> Result<(), OutOfMemory>
-    ensures { OnOk result (string_bytes text.new
-        ≡ string_bytes text.old ++ transaction_line number outcome) }
+fn print_transaction<P: Page>(page: &mut P, number: usize, outcome: Outcome)
+    ensures { Prints P.has_printed page.old page.new (transaction_line number outcome) }
 {
-    push_numbered(text, "txn ", number as u64)?;
-    text.push_str(" ")?;
-    push_outcome(text, outcome)?;
-    text.push_str("\n")?;
-    Ok(())
+    push_numbered(page, "txn ", number as u64);
+    page.push(" ");
+    push_outcome(page, outcome);
+    page.push("\n");
 }
 
 /// Appends the name of an outcome.
-fn push_outcome(text: &mut String, outcome: Outcome) -> Result<(), OutOfMemory>
-    ensures { OnOk result (string_bytes text.new ≡ string_bytes text.old ++ outcome_text outcome) }
+#[tactic(auto, using(pages::proofs::Prints::prints_both))]
+fn push_outcome<P: Page>(page: &mut P, outcome: Outcome)
+    ensures { Prints P.has_printed page.old page.new (outcome_text outcome) }
 {
-    text.push_str(outcome_name(outcome))?;
-    push_outcome_numbers(text, outcome)
+    page.push(outcome_name(outcome));
+    push_outcome_numbers(page, outcome)
 }
 
 /// Appends the numbers of an outcome that has some.
-fn push_outcome_numbers(text: &mut String, outcome: Outcome) -> Result<(), OutOfMemory>
-    ensures { OnOk result (string_bytes text.new
-        ≡ string_bytes text.old ++ outcome_numbers outcome) }
+#[tactic(auto, using(pages::proofs::Prints::prints_both))]
+fn push_outcome_numbers<P: Page>(page: &mut P, outcome: Outcome)
+    ensures { Prints P.has_printed page.old page.new (outcome_numbers outcome) }
 {
     match outcome {
         Outcome::Committed { version, number } => {
-            push_numbered(text, " ", version)?;
-            push_numbered(text, " ", number as u64)?;
+            push_numbered(page, " ", version);
+            push_numbered(page, " ", number as u64);
         }
-        Outcome::Conflict => text.push_str(" 1020")?,
-        Outcome::TooOld => text.push_str(" 1007")?,
-        Outcome::Locked => text.push_str(" 1038")?,
+        Outcome::Conflict => page.push(" 1020"),
+        Outcome::TooOld => page.push(" 1007"),
+        Outcome::Locked => page.push(" 1038"),
     }
-    Ok(())
 }
 
 /// Prints the line of a mutation of a finished batch, with its tags, and after it its private copy.
-fn print_mutation(text: &mut String, mutation: &Tagged) -> Result<(), OutOfMemory>
-    ensures { OnOk result (string_bytes text.new
-        ≡ string_bytes text.old ++ mutation_text mutation.now) }
+fn print_mutation<P: Page>(page: &mut P, mutation: &Tagged)
+    ensures { Prints P.has_printed page.old page.new (mutation_text mutation.now) }
 {
-    print_tags(text, mutation)?;
-    print_private(text, mutation)
+    print_tags(page, mutation);
+    print_private(page, mutation)
 }
 
 /// Prints the tags of a mutation.
-fn print_tags(text: &mut String, mutation: &Tagged) -> Result<(), OutOfMemory>
-    ensures { OnOk result (string_bytes text.new
-        ≡ string_bytes text.old ++ mutation_line mutation.now) }
+fn print_tags<P: Page>(page: &mut P, mutation: &Tagged)
+    ensures { Prints P.has_printed page.old page.new (mutation_line mutation.now) }
 {
-    push_numbered(text, "mutation ", mutation.number as u64)?;
-    push_numbered(text, " ", mutation.place as u64)?;
-    text.push_str(" tags ")?;
-    push_tags(text, mutation.tags.as_slice())?;
-    text.push_str("\n")?;
-    Ok(())
+    push_numbered(page, "mutation ", mutation.number as u64);
+    push_numbered(page, " ", mutation.place as u64);
+    page.push(" tags ");
+    push_tags(page, mutation.tags.as_slice());
+    page.push("\n");
 }
 
 /// Prints the private copy of a mutation, if it has one.
-fn print_private(text: &mut String, mutation: &Tagged) -> Result<(), OutOfMemory>
-    ensures { OnOk result (string_bytes text.new ≡ string_bytes text.old
-        ++ private_text mutation.now.number mutation.now.place mutation.now.private) }
+fn print_private<P: Page>(page: &mut P, mutation: &Tagged)
+    ensures { Prints P.has_printed page.old page.new
+        (private_text mutation.now.number mutation.now.place mutation.now.private) }
 {
     match &mutation.private {
-        Some(copy) => print_copy(text, mutation.number, mutation.place, copy),
-        None => Ok(()),
+        Some(copy) => print_copy(page, mutation.number, mutation.place, copy),
+        None => {}
     }
 }
 
 /// Prints a private copy of a mutation: its key and its tag.
-fn print_copy(
-    text: &mut String,
-    number: usize,
-    place: usize,
-    copy: &PrivateCopy,
-) -> Result<(), OutOfMemory>
-    ensures { OnOk result (string_bytes text.new
-        ≡ string_bytes text.old ++ copy_line number place copy.now) }
+fn print_copy<P: Page>(page: &mut P, number: usize, place: usize, copy: &PrivateCopy)
+    ensures { Prints P.has_printed page.old page.new (copy_line number place copy.now) }
 {
-    push_numbered(text, "private ", number as u64)?;
-    push_numbered(text, " ", place as u64)?;
-    push_copy(text, copy)
-}
-
-/// Appends the key and the tag of a private copy, up to the end of its line.
-fn push_copy(text: &mut String, copy: &PrivateCopy) -> Result<(), OutOfMemory>
-    ensures { OnOk result (string_bytes text.new ≡ string_bytes text.old
-        ++ spaced (quoted copy.now.key) ++ line (spaced (tag_text copy.now.tag))) }
-{
-    let alloc = *text.allocator();
-    text.push_str(" ")?;
-    push_quoted(alloc, text, copy.key.as_slice())?;
-    text.push_str(" ")?;
-    push_tag(text, &copy.tag)?;
-    text.push_str("\n")?;
-    Ok(())
+    push_numbered(page, "private ", number as u64);
+    push_numbered(page, " ", place as u64);
+    page.push(" ");
+    push_quoted(page, copy.key.as_slice());
+    page.push(" ");
+    push_tag(page, &copy.tag);
+    page.push("\n");
 }

@@ -1,15 +1,5 @@
--- The words and the numbers, one after another.
-use Rattle.std.proofs.Common.{◌++◌, ◌∙◌, append_assoc}
-use Rattle.std.specs.Prelude.{string_bytes, codes}
-use Rattle.std.specs.Fmt.{decimal}
+use Rattle.pages.proofs.Prints.{prints_both}
 use Rattle.turns_run.proofs.event_lines.push_finish.Goals as goal
 
 pub returns : goal.returns
-returns c =
-    let before = string_bytes c.args.text.now in
-    let first = before ++ codes "finish proxy " in
-    let last = codes " version " ++ decimal c.args.version in
-    rw (c.in_ok-push_numbered-2.ensures, c.in_ok-push_numbered.ensures)
-    (append_assoc (first ++ decimal c.args.proxy) (codes " version ") (decimal c.args.version)
-    ∙ append_assoc first (decimal c.args.proxy) last
-    ∙ append_assoc before (codes "finish proxy ") (decimal c.args.proxy ++ last))
+returns g c = prints_both c.push_numbered.ensures c.push_numbered-2.ensures

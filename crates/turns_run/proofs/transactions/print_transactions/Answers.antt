@@ -1,17 +1,25 @@
-use Rattle.std.proofs.Common.{◌∙◌, ◌+◌, ap, add-one}
-use Rattle.std.proofs.lemmas.List.{drop_more}
-use Rattle.turns_run.proofs.OrderLemmas.{printed_transaction}
+use Rattle.std.proofs.Common.{◌+◌, ap, add-one, arith}
+use Rattle.std.proofs.lemmas.List.{at_drop_all, drop_more}
+use Rattle.pages.proofs.Prints.{leaves_all, leaves_less, leaves_none, prints_both}
+use Rattle.turns_run.specs.Lines.{transactions_text}
+use Rattle.turns_run.proofs.OrderLemmas.{next_transaction}
 use Rattle.turns_run.proofs.transactions.print_transactions.Goals as goal
 
+pub loop-outcome-init : goal.loop-outcome-init
+loop-outcome-init g c = record { told = leaves_all _ _; in_order = c.requires; count = omega arith }
+
 pub loop-outcome-preserved : goal.loop-outcome-preserved
-loop-outcome-preserved c =
+loop-outcome-preserved g c =
     let l = c.loop-outcome in
-    let line = c.in_ok-print_transaction.ensures in
-    let first = c.in_ok-rest.ensures in
+    let after = c.print_first_mutations-rest.ensures.later in
     let split = drop_more c.args.outcomes.now l.outcome-index _ c.loop-outcome-test.true in
-    let text = printed_transaction l.number l.rest.now c.in_ok-rest.rest.now _ _ _ _ _ _ split first.later line first.printed in
     record {
-      told = text ∙ l.invariant.told;
-      in_order = rw add-one first.later.in_order;
+      told = leaves_less l.invariant.told (prints_both c.print_transaction.ensures c.print_first_mutations-rest.ensures.printed) (next_transaction l.number l.rest.now c.print_first_mutations-rest.result.now _ _ _ split after);
+      in_order = rw add-one after.in_order;
       count = ap (λ n. n + 1) l.invariant.count;
     }
+
+pub returns : goal.returns
+returns g c =
+    let l = c.loop-outcome in
+    leaves_none l.invariant.told (at_drop_all (transactions_text l.rest.now l.number) c.args.outcomes.now l.outcome-index (omega arith))

@@ -1,0 +1,6 @@
+pub mod TurnsScriptLemmas
+pub mod LineLemmas
+pub mod AnswerLemmas
+pub mod ShowLemmas
+pub mod RunLemmas
+pub mod ShapeLemmas

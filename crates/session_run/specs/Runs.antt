@@ -1,0 +1,34 @@
+-- What a session over a source and a sink leaves (this project's profile).
+use Rattle.std.specs.Prelude.{◌≡◌, ℕ, List, None, Option}
+use Rattle.std.specs.Io.KnownBytes.{Appends, Consumes}
+use Rattle.scripts.specs.Devices.{IsIncremented}
+use Rattle.sessions.specs.Events.{Event, bytes_came, bytes_written}
+use Rattle.sessions.specs.Sessions.{AnswersBeforeReads, AnswersKnown, MatchesStatus, NeverAhead}
+use Rattle.sessions.specs.declared.status.SessionStatus.{SessionStatus}
+use Rattle.session_run.specs.Session.{State, session_rules}
+
+-- A session read and wrote these events, from the state without a cluster to the state `now`: before
+-- each read exactly the answers to the lines that were whole by then had been written. What the source
+-- has left and what the sink holds, where they are known, is by these events.
+pub record RunsSession
+    (remaining_old remaining_new written_old written_new : Option (List ℕ)) (status : SessionStatus) :
+    Type 0 where
+  pub events : List Event
+  pub now : State
+  pub read : Consumes remaining_old remaining_new (bytes_came events)
+  pub written : Appends written_old written_new (bytes_written events)
+  pub in_turn : AnswersBeforeReads session_rules None events
+  pub never_ahead : NeverAhead session_rules None events
+  pub ends : MatchesStatus session_rules None events now status
+
+-- once it is done, each line of a known input was answered, in order
+abbrev pub AnswersInput : Option (List ℕ) → Option (List ℕ) → Option (List ℕ) → SessionStatus → Type 0
+AnswersInput input old new status =
+    (now : State) × AnswersKnown session_rules None now input old new status
+
+-- a read failed, or a write, by the counts of failed reads and of failed writes
+abbrev pub ReadFails : ℕ × ℕ → ℕ × ℕ → Type 0
+ReadFails old new = IsIncremented old.0 new.0 × (new.1 ≡ old.1)
+
+abbrev pub WriteFails : ℕ × ℕ → ℕ × ℕ → Type 0
+WriteFails old new = (new.0 ≡ old.0) × IsIncremented old.1 new.1

@@ -1,0 +1,70 @@
+-- The form of a line: an object has all its fields and no other, in any order, and the numbers of a
+-- cluster are within their limits (this project's profile).
+use Rattle.std.specs.Prelude.{codes, if◌then◌else◌, Option, Some, None, Result, Err, Bool, true, false}
+use Rattle.serde_json.specs.Data.{Data}
+use Rattle.serde_json.specs.Find.{get}
+use Rattle.model.specs.Configs.{Config}
+use Rattle.cluster_scripts.specs.Shapes.{config_shape}
+use Rattle.scripts.specs.Shapes.{◌>>=◌, number_shape, bytes_shape, list_shape}
+use Rattle.scripts.specs.Shapes.{has_fields, field_shape}
+use Rattle.scripts.specs.declared.script_fault.ScriptFault.{ScriptFault}
+use Rattle.scripts.specs.declared.script_fault.ScriptFault.TheVariants as faults
+use Rattle.turns_run.specs.Shapes.{event_shape}
+use Rattle.session_run.specs.declared.line.RawLine.{RawLine}
+use Rattle.session_run.specs.declared.line.RawLine.TheVariants.{Cluster, Event, Show}
+use Rattle.session_run.specs.declared.line.Show.{Show as Shown}
+
+-- `{"proxies":N,"resolvers":N,"window":N,"step":N}`
+abbrev pub cluster_shape : Data → Option Config
+cluster_shape d = if has_fields 4 d then config_shape d else None
+
+-- `{"proxy":N,"ask":[..]}`
+abbrev pub show_fields : Data → Option Shown
+show_fields d = do
+  proxy ← field_shape number_shape (codes "proxy") d
+  ask ← field_shape (list_shape bytes_shape) (codes "ask") d
+  Some (record { proxy = proxy; ask = ask })
+
+abbrev pub show_shape : Data → Option Shown
+show_shape d = if has_fields 2 d then show_fields d else None
+
+-- an event of a turns script
+abbrev pub event_line : Data → Option RawLine
+event_line d = do
+  event ← event_shape d
+  Some (Event event)
+
+-- `{"show":..}`
+abbrev pub show_line : Data → Option RawLine
+show_line d = do
+  show ← field_shape show_shape (codes "show") d
+  Some (Show show)
+
+abbrev pub cluster_line : Data → Option RawLine
+cluster_line numbers = do
+  config ← cluster_shape numbers
+  Some (Cluster config)
+
+-- what the field that is there stands for, and otherwise the other line
+abbrev pub or_line : Option Data → (Data → Option RawLine) → Option RawLine → Option RawLine
+or_line None shape other = other
+or_line (Some value) shape other = shape value
+
+-- an object of one field: `{"cluster":..}` or `{"show":..}`
+abbrev pub other_line : Data → Option RawLine
+other_line d =
+    if has_fields 1 d then or_line (get (codes "cluster") d) cluster_line (show_line d) else None
+
+-- the first of two lines that is there
+abbrev pub first_line : Option RawLine → Option RawLine → Option RawLine
+first_line None other = other
+first_line (Some line) other = Some line
+
+-- an event of a turns script, `{"cluster":..}` or `{"show":..}`
+abbrev pub line_shape : Data → Option RawLine
+line_shape d = first_line (event_line d) (other_line d)
+
+-- a word of a private clause: what was read is that a value does not have the shape
+abbrev pub is_bad_shape : Result RawLine ScriptFault → Bool
+is_bad_shape (Err faults.BadShape) = true
+is_bad_shape read = false

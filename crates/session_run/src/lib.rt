@@ -1,0 +1,23 @@
+//! A session with a cluster without threads: each line of the input is an event of a turns script, or
+//! begins a cluster, or shows a proxy, and is answered before the next read.
+//!
+//! Source: this project's profile (lines, answers and statuses of sessions).
+#![tactic(auto)]
+
+mod answers;
+mod checks;
+mod joined;
+mod laws;
+mod line;
+mod reading;
+mod run;
+mod session;
+mod shapes;
+mod streams;
+
+pub use laws::{lines_give_turns, text_answers_lines};
+pub use line::{Line, Show};
+pub use reading::read_line;
+pub use run::run_session;
+pub use session::Session;
+pub use sessions::{Answering, SessionStatus};

@@ -1,0 +1,68 @@
+-- The lines of bytes that come in pieces.
+use Rattle.std.proofs.Common.{◌≡◌, ◌≢◌, ℕ, List, [], ◌∷◌, ◌++◌, ◌==◌, true, false, cond, refl, ap, ◌∙◌, append-nil, append_assoc, sym, inl, inr, flat_map}
+use Rattle.std.proofs.lemmas.Bool.{ne_eqb}
+use Rattle.std.proofs.lemmas.Bool.Decides.{eqb_tells}
+use Rattle.sessions.specs.Lines.{HasNoFeed, Splits, lines_from, open_from, open_line_of, whole_lines}
+
+-- a piece after another
+pub lines_append : (open_line xs ys : List ℕ) → lines_from open_line (xs ++ ys) ≡ lines_from open_line xs ++ lines_from (open_from open_line xs) ys
+lines_append open_line [] ys = refl
+lines_append open_line (x ∷ xs) ys =
+    elim (x == 10) as (λ b. cond b (open_line ∷ lines_from [] (xs ++ ys)) (lines_from (open_line ++ x ∷ []) (xs ++ ys))
+    ≡ cond b (open_line ∷ lines_from [] xs) (lines_from (open_line ++ x ∷ []) xs) ++ lines_from (cond b (open_from [] xs) (open_from (open_line ++ x ∷ []) xs)) ys)
+    [ true ↦ ap (λ l. open_line ∷ l) (lines_append [] xs ys) | false ↦ lines_append (open_line ++ x ∷ []) xs ys ]
+
+pub open_append : (open_line xs ys : List ℕ) → open_from open_line (xs ++ ys) ≡ open_from (open_from open_line xs) ys
+open_append open_line [] ys = refl
+open_append open_line (x ∷ xs) ys =
+    elim (x == 10) as (λ b. cond b (open_from [] (xs ++ ys)) (open_from (open_line ++ x ∷ []) (xs ++ ys))
+    ≡ open_from (cond b (open_from [] xs) (open_from (open_line ++ x ∷ []) xs)) ys)
+    [ true ↦ open_append [] xs ys | false ↦ open_append (open_line ++ x ∷ []) xs ys ]
+
+-- a byte that ends no line
+pub lines_within : (open_line : List ℕ) (byte : ℕ) → byte ≢ 10 → lines_from open_line (byte ∷ []) ≡ []
+lines_within open_line byte other = let e : (byte == 10) ≡ false = ne_eqb byte 10 other in rw e refl
+
+pub open_within : (open_line : List ℕ) (byte : ℕ) → byte ≢ 10 → open_from open_line (byte ∷ []) ≡ open_line ++ byte ∷ []
+open_within open_line byte other = let e : (byte == 10) ≡ false = ne_eqb byte 10 other in rw e refl
+
+-- one more byte
+pub lines_more : (open_line taken : List ℕ) (byte : ℕ) → byte ≢ 10 → lines_from open_line (taken ++ byte ∷ []) ≡ lines_from open_line taken
+lines_more open_line taken byte other =
+    lines_append open_line taken (byte ∷ []) ∙ ap (λ l. lines_from open_line taken ++ l) (lines_within (open_from open_line taken) byte other)
+    ∙ append-nil (lines_from open_line taken)
+
+pub open_more : (open_line taken : List ℕ) (byte : ℕ) → byte ≢ 10 → open_from open_line (taken ++ byte ∷ []) ≡ open_from open_line taken ++ byte ∷ []
+open_more open_line taken byte other = open_append open_line taken (byte ∷ []) ∙ open_within (open_from open_line taken) byte other
+
+-- ---- what the lines are
+
+no_feed_more : (bytes : List ℕ) (byte : ℕ) → HasNoFeed bytes → byte ≢ 10 → HasNoFeed (bytes ++ byte ∷ [])
+no_feed_more [] byte none other = (other, tt)
+no_feed_more (x ∷ bytes) byte none other = (none.0, no_feed_more bytes byte none.1 other)
+
+lines_split_from : (open_line bytes : List ℕ) → HasNoFeed open_line → Splits (open_line ++ bytes) (lines_from open_line bytes) (open_from open_line bytes)
+lines_split_from open_line [] none = record { whole = append-nil open_line; each = tt; last = none }
+lines_split_from open_line (x ∷ xs) none =
+    elim (eqb_tells x 10) [
+      | inl same ↦
+          let rest = lines_split_from [] xs tt in
+          let e : (x == 10) ≡ true = same.0 in
+          rw e (record {
+            whole = ap (λ b. open_line ++ b ∷ xs) same.1 ∙ sym (append_assoc open_line (10 ∷ []) xs) ∙ ap (λ l. (open_line ++ 10 ∷ []) ++ l) rest.whole
+                ∙ sym (append_assoc (open_line ++ 10 ∷ []) (flat_map (λ line. line ++ 10 ∷ []) (lines_from [] xs)) (open_from [] xs));
+            each = (none, rest.each);
+            last = rest.last;
+          })
+      | inr other ↦
+          let rest = lines_split_from (open_line ++ x ∷ []) xs (no_feed_more open_line x none other.1) in
+          let e : (x == 10) ≡ false = other.0 in
+          rw e (record {
+            whole = sym (append_assoc open_line (x ∷ []) xs) ∙ rest.whole;
+            each = rest.each;
+            last = rest.last;
+          })
+    ]
+
+pub lines_split : (bytes : List ℕ) → Splits bytes (whole_lines bytes) (open_line_of bytes)
+lines_split bytes = lines_split_from [] bytes tt

@@ -1,0 +1,25 @@
+use Rattle.std.proofs.Common.{take, ◌∙◌, arith}
+use Rattle.sessions.proofs.SessionLemmas.{stands_on, session_fails, session_done, session_fails_at_end}
+use Rattle.sessions.proofs.run.converse.Goals as goal
+use Rattle.sessions.proofs.run.converse.Goals.{in-Ok-finish, in-Err-finish}
+
+pub returns-then-count-eq0-clause-session : goal.returns-then-count-eq0-clause-session
+returns-then-count-eq0-clause-session g c =
+    let came = c.in-Ok.ensures.ended c.if-count-eq0.true (omega arith) in
+    elim c.match-finish.branch [
+      | in-Ok-finish w ↦ rw w.result-is (session_done _ _ _ _ _ _ _ _ c.loop-call.pending c.finish.new.pending c.loop-call._call c.loop-call.invariant.stands came (rw w.in-Ok-finish.is at c.finish.ensures.feeds))
+      | in-Err-finish w ↦ rw w.result-is (session_fails_at_end _ _ _ _ _ _ _ _ c.loop-call.pending c.finish.new.pending c.loop-call._call c.finish.result c.loop-call.invariant.stands came c.finish.ensures.feeds)
+    ]
+
+pub returns-in-Err-answer_bytes-clause-session : goal.returns-in-Err-answer_bytes-clause-session
+returns-in-Err-answer_bytes-clause-session g c =
+    let came = c.in-Ok.ensures.came (omega arith) in
+    session_fails _ _ _ _ _ _ _ _ c.loop-call.pending c.answer_bytes.new.pending c.loop-call._call (take c.in-Ok.count c.read.new.buffer) c.answer_bytes.result c.loop-call.invariant.stands came c.answer_bytes.ensures.feeds
+
+pub loop-call-preserved : goal.loop-call-preserved
+loop-call-preserved g c =
+    let came = c.in-Ok.ensures.came (omega arith) in
+    record {
+      stands = stands_on _ _ _ _ _ _ _ _ c.loop-call.pending c.answer_bytes.new.pending c.loop-call._call (take c.in-Ok.count c.read.new.buffer) c.loop-call.invariant.stands came (rw c.in-Ok-answer_bytes.is at c.answer_bytes.ensures.feeds);
+      unfailed = c.in-Ok-answer_bytes.ensures.unfailed ∙ c.in-Ok.ensures.unfailed ∙ c.loop-call.invariant.unfailed;
+    }

@@ -1,0 +1,20 @@
+//! A session over a device that is read and written: each line of the input is answered before the
+//! next read.
+//!
+//! Source: this project's profile (lines, answers and statuses of sessions).
+#![tactic(auto)]
+
+mod answering;
+mod device;
+mod feed;
+mod lines;
+mod outbox;
+mod pending;
+mod run;
+mod status;
+
+pub use answering::Answering;
+pub use device::{Device, Failed, write_all};
+pub use lines::lines_are_exact;
+pub use run::answer_lines;
+pub use status::SessionStatus;

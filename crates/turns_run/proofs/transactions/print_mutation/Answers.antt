@@ -1,0 +1,5 @@
+use Rattle.pages.proofs.Prints.{prints_both}
+use Rattle.turns_run.proofs.transactions.print_mutation.Goals as goal
+
+pub returns : goal.returns
+returns g c = prints_both c.print_tags.ensures c.print_private.ensures

@@ -1,0 +1,20 @@
+"""A session from Python: each line is given when the answer to the one before is known. Run it at the top of the repository."""
+import json
+import subprocess
+import sys
+
+program = sys.argv[1] if len(sys.argv) > 1 else "out/proxy_session_unproved"
+session = subprocess.Popen([program], stdin=subprocess.PIPE, stdout=subprocess.PIPE, text=True)
+
+
+def answer(line):
+    """Returns the lines of the answer, which ends with an empty line."""
+    session.stdin.write(json.dumps(line) + "\n")
+    session.stdin.flush()
+    return list(iter(lambda: session.stdout.readline().rstrip("\n"), ""))
+
+
+print(answer({"cluster": {"proxies": 1, "resolvers": 1, "window": 100, "step": 10}}))  # ['cluster']
+print(answer({"sequence": {"proxy": 0, "batch": []}}))  # ['sequence row 0 version 10']
+print(answer({"finish": {"proxy": 0}}))  # ['refused 43 MissingReply 0']
+print(answer({"offer": {"row": 0, "resolver": 0}}))  # ['offer row 0 resolver 0 judged none unseen none']
