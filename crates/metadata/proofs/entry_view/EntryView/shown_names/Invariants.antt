@@ -5,7 +5,7 @@ use Rattle.metadata.specs.Overwrites.{entries_without}
 use Rattle.metadata.proofs.ServingEntries.{last_left}
 use Rattle.metadata.proofs.KeptTags.{AreRows, AreKeyServers}
 use Rattle.metadata.proofs.HiddenRuns.{IsFront, own_rows}
-use Rattle.metadata.proofs.entry_view.EntryView.shown_tags.Given as goal
+use Rattle.metadata.proofs.entry_view.EntryView.shown_names.Given as goal
 
 abbrev pub invariant-loop-found : goal.invariant-loop-found
 invariant-loop-found l = record {

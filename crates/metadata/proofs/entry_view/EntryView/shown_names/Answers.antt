@@ -1,4 +1,4 @@
--- The last entry up to the key that is not hidden serves it, and its tags are kept.
+-- The last entry up to the key that is not hidden serves it, and what it names is kept.
 use Rattle.std.proofs.Common.{◌≡◌, ◌∙◌, ap, sym, subst, true, false, [], ◌∷◌, None, ℕ, List, rules}
 use Rattle.std.specs.Global.{Vec}
 use Rattle.std.specs.Option.{option_map}
@@ -7,11 +7,11 @@ use Rattle.model.specs.Metadata.{Entry, Entries, entry_value, serving_entry, key
 use Rattle.metadata.specs.MapEntries.{entry_from, is_serving_up_to}
 use Rattle.metadata.specs.Overwrites.{is_listed, entries_without}
 use Rattle.metadata.specs.HiddenRuns.{Run, is_serving_before}
-use Rattle.metadata.specs.CachedTags.{tags_at, tags_by}
-use Rattle.metadata.proofs.KeptTags.{AreRows, AreKeyServers, rows_passing, key_servers_passing, has_front, has_last, tags_shown_at}
+use Rattle.metadata.specs.CachedTags.{names_at, names_by}
+use Rattle.metadata.proofs.KeptTags.{AreRows, AreKeyServers, rows_passing, key_servers_passing, has_front, has_last, names_shown_at}
 use Rattle.metadata.proofs.HiddenRuns.{IsFront, own_rows, front_up_to, front_stepped, IsJump, jump_to, jump_fewer, one_run}
 use Rattle.metadata.proofs.ServingEntries.{last_left, last_serves, last_hidden, last_shown}
-use Rattle.metadata.proofs.entry_view.EntryView.shown_tags.Goals as goal
+use Rattle.metadata.proofs.entry_view.EntryView.shown_names.Goals as goal
 
 pub loop-found-init : goal.loop-found-init
 loop-found-init c = record {
@@ -79,14 +79,14 @@ returns-then-not-contains c =
     IfOk-weaker c.at.result _ _
     (λ found is.
     is
-    ∙ ap (tags_at c.self.inside.tags.now) c.as_slice-then-not-contains.ensures.value
-    ∙ tags_shown_at c.self.inside.hidden.now c.self.inside.entries.now (tags_at c.self.inside.tags.now) (entry_from last) c.self.invariant.0 shows rows own
-    ∙ ap (option_map (λ (entry : Entry). tags_by (entry_value (entries_without c.self.inside.hidden.now c.self.inside.entries.now)) entry.1))
+    ∙ ap (names_at c.self.inside.tags.now) c.as_slice-then-not-contains.ensures.value
+    ∙ names_shown_at c.self.inside.hidden.now c.self.inside.entries.now (names_at c.self.inside.tags.now) (entry_from last) c.self.invariant.0 shows rows own
+    ∙ ap (option_map (λ (entry : Entry). names_by entry.1))
     (sym (last_shown None c.self.inside.hidden.now c.next_back.new.self last shows) ∙ ap (last_left None c.self.inside.hidden.now) (sym steps) ∙ c.loop-found.invariant.last)
-    ∙ ap (λ (entries : Entries). option_map (λ (entry : Entry). tags_by (entry_value entries) entry.1) (serving_entry (key_servers_entries entries) c.args.key.now)) c.self.view_is)
+    ∙ ap (λ (entries : Entries). option_map (λ (entry : Entry). names_by entry.1) (serving_entry (key_servers_entries entries) c.args.key.now)) c.self.view_is)
     c.at.ensures
 
 pub returns : goal.returns
 returns c =
-    ap (option_map (λ (entry : Entry). tags_by (entry_value (entries_without c.self.inside.hidden.now c.self.inside.entries.now)) entry.1)) (ap (last_left None c.self.inside.hidden.now) (sym c.in_default.ensures.steps.0) ∙ c.loop-found.invariant.last)
-    ∙ ap (λ (entries : Entries). option_map (λ (entry : Entry). tags_by (entry_value entries) entry.1) (serving_entry (key_servers_entries entries) c.args.key.now)) c.self.view_is
+    ap (option_map (λ (entry : Entry). names_by entry.1)) (ap (last_left None c.self.inside.hidden.now) (sym c.in_default.ensures.steps.0) ∙ c.loop-found.invariant.last)
+    ∙ ap (λ (entries : Entries). option_map (λ (entry : Entry). names_by entry.1) (serving_entry (key_servers_entries entries) c.args.key.now)) c.self.view_is

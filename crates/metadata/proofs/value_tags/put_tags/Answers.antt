@@ -1,7 +1,7 @@
 -- A turn of the loop adds one tag.
 use Rattle.std.proofs.Common.{arith}
 use Rattle.metadata.proofs.Tags.{next_tag}
-use Rattle.metadata.proofs.tagging.add_tags.Goals as goal
+use Rattle.metadata.proofs.value_tags.put_tags.Goals as goal
 
 pub loop-tag-preserved : goal.loop-tag-preserved
 loop-tag-preserved c =
