@@ -53,7 +53,6 @@ impl<'a> RowTags<'a> {
     }
 
     /// Adds the tags to a set. Fails only with `OutOfMemory`; some of them may then be added.
-    #[tactic(auto, using(crate::proofs::SortedTags::resorted))]
     pub(crate) fn add_to(&self, tags: &mut BTreeSet<Tag>) -> Result<(), OutOfMemory>
         ensures { OnOk result (tags.new.keys ≡ fold (insert_key tag_cmp) tags.old.keys self.now) }
     {

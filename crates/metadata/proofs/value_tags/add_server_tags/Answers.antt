@@ -6,6 +6,6 @@ use Rattle.metadata.proofs.value_tags.add_server_tags.Goals as goal
 
 pub loop-number-preserved : goal.loop-number-preserved
 loop-number-preserved c =
-    let is : option_to_list c.tag_near.result ≡ tag_listed c.args.table.now.tags (get_or c.args.servers.now c.loop-number.number c.server-item.result) = c.tag_near.ensures ∙ ap (tag_listed c.args.table.now.tags) c.server-item.is in
-    step_at (tag_listed c.args.table.now.tags) c.args.servers.now c.server-item.result c.loop-number.number c.loop-number.tags c.add_tag.new.tags _ (omega arith)
+    let is : option_to_list c.tag_near.result ≡ tag_listed c.args.table.now.tags (get_or c.args.servers.now c.loop-number.number c.index-servers-number.result) = c.tag_near.ensures ∙ ap (tag_listed c.args.table.now.tags) c.index-servers-number.is in
+    step_at (tag_listed c.args.table.now.tags) c.args.servers.now c.index-servers-number.result c.loop-number.number c.loop-number.tags c.add_tag.new.tags _ (omega arith)
     (c.in_ok-add_tag.ensures ∙ ap (added c.loop-number.tags) is) c.loop-number.invariant

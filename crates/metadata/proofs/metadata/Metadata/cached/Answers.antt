@@ -1,5 +1,5 @@
 -- The row at the place has kept what it names, and its tags are those of its key.
-use Rattle.std.proofs.Common.{◌≡◌, ◌∙◌, ap, sym, subst, slice_get, Some, None, Option}
+use Rattle.std.proofs.Common.{◌≡◌, ◌∙◌, ap, sym, subst, slice_get, Some, None, Option, rules}
 use Rattle.std.specs.Option.{option_map}
 use Rattle.model.specs.Metadata.{Entry, Entries, entry_value, key_servers_entries, tags_of_key}
 use Rattle.metadata.specs.CachedTags.{Names}
@@ -18,6 +18,7 @@ returns c =
 pub returns-in_err-names : goal.returns-in_err-names
 returns-in_err-names c =
     let entries = c.self.inside.entries in
-    c.from_residual.ensures
+    let none : c.from_residual.result ≡ None = search rules in
+    none
     ∙ place_known c.self.inside.tags entries c.self.inside.servers.tags c.args.place None c.at_place.ensures.rise c.map-entries.ensures.order c.self.invariant.0 c.self.invariant.4 (servers_give_tags entries c.self.inside.servers.tags c.self.invariant.2) c.in_err-names.ensures.found
     ∙ ap (λ (entries : Entries). option_map (λ (row : Entry). tags_of_key entries row.0) (slice_get (key_servers_entries entries) c.args.place)) c.self.view_is
