@@ -4,7 +4,7 @@ use Rattle.std.specs.Option.{is_some}
 use Rattle.std.specs.Map.{keys_of}
 use Rattle.system_keys.specs.Keys.{Key}
 use Rattle.system_keys.specs.Families.{key_servers_family, is_in}
-use Rattle.model.specs.Metadata.{Entries, IsInOrder, entry_value, is_key_servers}
+use Rattle.model.specs.Metadata.{Entries, IsInOrder, entry_value}
 use Rattle.metadata.specs.Overwrites.{is_listed, entries_without, IsPutOver, TakesBack}
 use Rattle.metadata.specs.CachedTags.{NamesAt, KeyNames, AreNames, HaveRows, names_at, names_by, names_written, displaced_names, named_rows, NamesTakeBack}
 use Rattle.metadata.proofs.EntriesLeft.{without_none}

@@ -1,9 +1,7 @@
 -- The row at the place has kept what it names, and its tags are those of its key.
-use Rattle.std.proofs.Common.{◌≡◌, ◌∙◌, ap, sym, subst, slice_get, Some, None, Option, rules}
+use Rattle.std.proofs.Common.{◌≡◌, ◌∙◌, ap, slice_get, Some, None, rules}
 use Rattle.std.specs.Option.{option_map}
-use Rattle.model.specs.Metadata.{Entry, Entries, entry_value, key_servers_entries, tags_of_key}
-use Rattle.metadata.specs.CachedTags.{Names}
-use Rattle.metadata.specs.ServerTables.{GiveTags, tags_named}
+use Rattle.model.specs.Metadata.{Entry, Entries, key_servers_entries, tags_of_key}
 use Rattle.metadata.proofs.ExactTags.{place_known}
 use Rattle.metadata.proofs.MetadataServers.{servers_give_tags}
 use Rattle.metadata.proofs.metadata.Metadata.cached.Goals as goal
