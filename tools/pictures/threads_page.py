@@ -11,7 +11,7 @@ from tools.pictures.threads_drawing import id_of, name_of, versions_of
 CHECKS = (
     "A meeting compares the versions of two proxies: that of the first is the same, behind or ahead. An audit says whether "
     "each "
-    "resolver has come to the version of the proxy."
+    "resolver has reached the version of the proxy."
 )
 
 

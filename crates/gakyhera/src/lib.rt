@@ -13,7 +13,7 @@ ghost use Rattle.script_texts.specs.Texts.{Places};
 use script_texts::{fold_text, place, turns_text};
 use std::alloc::Global;
 
-/// Places the text that a fold script comes to at the front of `out`, and its length in `made`.
+/// Places the text of a fold script at the front of `out`, and its length in `made`.
 /// Returns the status of the script's run, 0 or 1, with the whole text. Otherwise `out` is unchanged:
 /// returns 6 where it is too small, and then `made` is the length that it needs; 4 if an allocation
 /// failed, and 3 if the script is longer than 4,294,963,200 bytes.
@@ -31,7 +31,7 @@ pub extern "C" fn gakyhera_fold(
     i32::from(place(fold_text(alloc, script), out, made))
 }
 
-/// Places the text that a turns script comes to at the front of `out`, and its length in `made`.
+/// Places the text of a turns script at the front of `out`, and its length in `made`.
 /// Returns the same as `gakyhera_fold`.
 #[unsafe(no_mangle)]
 pub extern "C" fn gakyhera_turns(

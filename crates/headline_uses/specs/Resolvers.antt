@@ -9,7 +9,7 @@ AreInOrder resolvers =
     (place : ℕ) (resolver : LockedResolverView) → slice_get resolvers place ≡ Some resolver
     → resolver.memory.number ≡ place
 
--- each of the resolvers has come to the version
+-- each of the resolvers has reached the version
 abbrev pub AreAtLeast : Version → List LockedResolverView → Type 0
 AreAtLeast version resolvers =
     (place : ℕ) (resolver : LockedResolverView) → slice_get resolvers place ≡ Some resolver

@@ -61,8 +61,8 @@ pub fn records_of_answer<'a, N: Naming>(
     answer.records()
 }
 
-/// Whether a proxy has come to the version of an answer, as it has exactly if it confirms the answer.
-pub fn has_come_to<N: Naming>(proxy: &ProxyGuard<'_, N>, answer: &NotedFinished<N>) -> bool
+/// Whether a proxy has reached the version of an answer, as it has exactly if it confirms the answer.
+pub fn has_reached<N: Naming>(proxy: &ProxyGuard<'_, N>, answer: &NotedFinished<N>) -> bool
     ensures { IsTrue result ↔ (answer.now.finished.version ≤ proxy.now.proxy.version) }
 {
     proxy.confirm(answer)

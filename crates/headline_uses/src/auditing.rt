@@ -25,7 +25,7 @@ pub fn columns_of_proxy<'a, N: Naming>(
 /// Audits a proxy. If that succeeds, each resolver has given its verdicts on each record up to the
 /// proxy's version. If it fails, and the resolvers stand in the order of their numbers, so have those
 /// before the one that is named.
-pub fn audit_in_order<N: Naming>(
+pub fn judged_by_audit<N: Naming>(
     proxy: &ProxyGuard<'_, N>,
     resolvers: &[ResolverGuard<'_, N>],
 ) -> Result<(), BehindBy>

@@ -10,8 +10,8 @@ mod committing;
 mod promising;
 mod showing;
 
-pub use answering::{has_come_to, records_of_answer, sent_mutations, tags_by_proxy};
-pub use auditing::{audit_in_order, columns_of_proxy, resolver_to_wait_for};
+pub use answering::{has_reached, records_of_answer, sent_mutations, tags_by_proxy};
+pub use auditing::{columns_of_proxy, judged_by_audit, resolver_to_wait_for};
 pub use committing::commit_by_own_inboxes;
 pub use promising::{metadata_at_one_version, records_of_proxy, routing_of_history};
 pub use showing::{columns_of_answer, journal_of_other, records_of_routing};

@@ -97,7 +97,7 @@ answer_version config answer noted =
     ∙ (versions_at config answer.records answer.finished.row noted.rec noted.history noted.there).1
     ∙ ap (λ (k : ℕ). k * config.step) (omega arith)
 
--- a proxy that has come to the version of an answer knows its row
+-- a proxy that has reached the version of an answer knows its row
 pub row_is_known : (config : Config) (v : LockedProxyView) (answer : NotedFinishedView) → IsLockedProxy config v → IsNotedFinished config answer → answer.finished.version ≤ v.proxy.version → answer.finished.row + 1 ≤ length v.proxy.journal
 row_is_known config v answer keeps noted reached =
     let mine = keeps.version in

@@ -33,7 +33,7 @@ pub record IsAudited (config : Config) (v : LockedProxyView) : Type 0 where
   pub verdicts : AreVerdicts config (reached_records v) v.columns
   pub serial : IsSerial config (reached_records v)
 
--- The resolver has come to the proxy's version or further. Its own records begin with those of the
+-- The resolver has reached the proxy's version or further. Its own records begin with those of the
 -- proxy, and it has given the definition's verdicts on each of them.
 pub record HasReached (config : Config) (v : LockedProxyView) (resolver : LockedResolverView) :
     Type 0 where
@@ -64,7 +64,7 @@ pub record IsFirstBehind
 
 -- ---- a confirmation
 
--- The proxy has come to the version of the answer or further. The answer is the definition's for the
+-- The proxy has reached the version of the answer or further. The answer is the definition's for the
 -- record of its row among the records up to the proxy's version, by the verdicts of their history.
 pub record IsConfirmed (config : Config) (v : LockedProxyView) (answer : NotedFinishedView) :
     Type 0 where

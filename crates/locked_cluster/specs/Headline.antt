@@ -92,7 +92,7 @@ pub record IsTrueAnswer (config : Config) (answer : NotedFinishedView) : Type 0 
   pub serial : IsSerial config answer.records
 
 -- The proxy, whose metadata these entries are, and the answer are of one history: the records of the
--- one that has come less far begin those of the other. A proxy that has come to the version of the
+-- one that has come less far begin those of the other. A proxy that has reached the version of the
 -- answer confirms it. At that very version the tags and the private copies of the answer are those that
 -- the proxy's metadata gives.
 pub record MeetsAnswer

@@ -183,7 +183,7 @@ abbrev pub IsResolveRefusal : Config → ResolverNumber → RequestView → Refu
 IsResolveRefusal config r request refusal =
     IsNotEarly refusal × WasRefusedBy config r request refusal
 
--- The resolver that is shown is the one that replied. It is open, has come to the reply's version or
+-- The resolver that is shown is the one that replied. It is open, has reached the reply's version or
 -- further, and has the records and the cells that the reply was made by.
 pub record ShowsReply
     (request : RequestView) (noted : NotedReplyView) (v : LockedResolverView) : Type 0 where

@@ -11,8 +11,8 @@ use thiserror::Error;
 /// name stand in printed text; `OutOfMemory` has no number and is never printed.
 #[derive(Clone, Copy, Debug, PartialEq, Eq, Error)]
 pub enum Refusal {
-    /// The request comes too early: the resolver has come to `version` only.
-    #[error("the request is early, since the resolver has come to {version}")]
+    /// The request comes too early: the resolver has reached `version` only.
+    #[error("the request is early, since the resolver has reached {version}")]
     Early { version: Version },
     /// The proxy has acknowledged the reply: it has received everything up to `acknowledged`.
     #[error("the reply is given up, since the proxy acknowledged {acknowledged}")]
@@ -23,9 +23,9 @@ pub enum Refusal {
     /// The resolver is not below the number of resolvers, or the request is to another one.
     #[error("the request is to another resolver, or there is no such resolver")]
     WrongResolver,
-    /// The request does not continue the resolver's chain of versions, which has come to `version`,
+    /// The request does not continue the resolver's chain of versions, which has reached `version`,
     /// and no reply to it is kept.
-    #[error("the request is outside the chain of versions, which has come to {version}")]
+    #[error("the request is outside the chain of versions, which has reached {version}")]
     OutsideChain { version: Version },
     /// The record, or a request, is of another proxy.
     #[error("the record, or a request, is of another proxy")]
@@ -37,8 +37,8 @@ pub enum Refusal {
     /// begun.
     #[error("the record is not the one that is finished next")]
     OutOfTurn { expected: Option<RowNumber> },
-    /// The proxy has come to `version` only.
-    #[error("the proxy has come to {version} only")]
+    /// The proxy has reached `version` only.
+    #[error("the proxy has reached {version} only")]
     NotReached { version: Version },
     /// The verdict cell held verdicts before.
     #[error("the cell is taken")]

@@ -1,4 +1,4 @@
-//! Texts of scripts in memory: the bytes of a script come to a text and a status, without devices of
+//! Texts of scripts in memory: the bytes of a script have a text and a status, without devices of
 //! the caller.
 //!
 //! Source: this project's profile (scripts, lines and statuses).

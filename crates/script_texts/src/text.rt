@@ -13,7 +13,7 @@ use scripts::{Reader, RunStatus, Sink, Source};
 use std::alloc::Global;
 use turns_run::run_turns;
 
-/// What a script comes to.
+/// The text and the status of a script.
 #[derive(Debug, Drop)]
 pub struct ScriptText {
     /// The whole text.

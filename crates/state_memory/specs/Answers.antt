@@ -97,7 +97,7 @@ abbrev pub IsAfterAnswer : (before : ResolverView) (q : Request) (after : Resolv
 IsAfterAnswer before q after (answers.Judged reply) = GainsRequest before q after
 IsAfterAnswer before q after (answers.Again reply) = after ≡ before
 
--- the resolver has come to the version of a request that was judged, and a repeat leaves its version
+-- the resolver has reached the version of a request that was judged, and a repeat leaves its version
 abbrev pub ComesTo : (before : ResolverView) (q : Request) (after : ResolverView) → Answer → Type 0
 ComesTo before q after (answers.Judged reply) = after.version ≡ q.version
 ComesTo before q after (answers.Again reply) = after.version ≡ before.version

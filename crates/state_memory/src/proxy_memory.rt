@@ -40,7 +40,7 @@ impl ProxyMemory {
         }
     }
 
-    /// What the resolver, which has come to version `last`, does with a repeat of this version.
+    /// What the resolver, which has reached version `last`, does with a repeat of this version.
     pub(crate) fn decide_repeat(&self, version: Version, last: Version) -> Result<Course, Refusal>
         requires { RepliesIncrease self.now.replies.items }
         ensures { let kept = reply_at version (kept_of self.now).replies in

@@ -17,15 +17,15 @@ pub enum Refusal {
     /// The proxy is not below the number of proxies.
     #[error("there is no such proxy")]
     NoSuchProxy,
-    /// The request does not continue the resolver's chain of versions, which has come to `version`,
+    /// The request does not continue the resolver's chain of versions, which has reached `version`,
     /// and no reply to it is kept.
-    #[error("the request is outside the chain of versions, which has come to {version}")]
+    #[error("the request is outside the chain of versions, which has reached {version}")]
     OutsideChain { version: Version },
     /// The proxy has acknowledged the reply: it has received everything up to `acknowledged`.
     #[error("the reply is given up, since the proxy acknowledged {acknowledged}")]
     GivenUp { acknowledged: Version },
-    /// The request comes too early: the resolver has come to `version` only.
-    #[error("the request is early, since the resolver has come to {version}")]
+    /// The request comes too early: the resolver has reached `version` only.
+    #[error("the request is early, since the resolver has reached {version}")]
     Early { version: Version },
     /// An allocation failed.
     #[error("out of memory")]

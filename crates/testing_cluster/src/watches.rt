@@ -23,7 +23,7 @@ pub fn reaches<R: Clock>(rt: &R, count: &AtomicU64, wanted: u64, millis: u64) ->
     false
 }
 
-/// Whether `done` comes to 1 within half a minute of sleep. If it does not, threads wait for one another.
+/// Whether `done` becomes 1 within half a minute of sleep. If it does not, threads wait for one another.
 pub fn ends_in_time<R: Clock>(rt: &R, done: &AtomicU64) -> bool {
     reaches(rt, done, 1, 30_000)
 }

@@ -1,4 +1,4 @@
-//! Runs of the program by its words over devices in memory: each script comes to the text that was worked
+//! Runs of the program by its words over devices in memory: each script has the text that was worked
 //! out by hand from docs/FORMATS.md, or to its lines in their order, and to its status. They stand in files
 //! in `tests/worked`, which the Python tests read too.
 
@@ -88,7 +88,7 @@ fn run<R: AllocGlobal + Threads + Wait + Sync>(
     (status, text)
 }
 
-/// Each script comes to what is expected, by these words.
+/// Each script has the text and the status that are expected, by these words.
 fn assert_worked<R: Abort + AllocGlobal + Threads + Wait + Sync>(
     rt: &R,
     words: &[&str],

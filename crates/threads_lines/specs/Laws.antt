@@ -53,7 +53,7 @@ pub record VersionsHaveEnded : Type 0 where
 
 -- ---- the line of an audit
 
--- each of the resolvers has come to the proxy's version or further
+-- each of the resolvers has reached the proxy's version or further
 abbrev pub HaveVersionOf : LockedProxyView → List LockedResolverView → Type 0
 HaveVersionOf v resolvers =
     (place : ℕ) (w : LockedResolverView) → slice_get resolvers place ≡ Some w
@@ -63,7 +63,7 @@ HaveVersionOf v resolvers =
 abbrev pub reached_by_all : Result ⊤ BehindBy
 reached_by_all = Ok tt
 
--- the line of a proxy says `ok` if each resolver has come to its version
+-- the line of a proxy says `ok` if each resolver has reached its version
 abbrev pub AnAuditIsOkIfAllHaveReached : Type 0
 AnAuditIsOkIfAllHaveReached =
     (config : Config) (proxies : List LockedProxyView) (resolvers : List LockedResolverView)

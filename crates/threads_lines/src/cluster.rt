@@ -18,7 +18,7 @@ use threads_scripts::UndatedMove;
 
 /// The sequencer, and all resolvers and proxies in the order of their numbers.
 #[derive(Drop)]
-pub struct Cluster<'l, N: Naming> {
+pub struct RunCluster<'l, N: Naming> {
     /// The sequencer.
     pub sequencer: Sequencer<'l, N>,
     /// The resolvers.
@@ -31,15 +31,15 @@ pub struct Cluster<'l, N: Naming> {
     ghost resolver_count: { length resolvers.items ≡ N.cells.config.resolvers },
 }
 
-impl<'l, N: Naming> Cluster<'l, N> {
+impl<'l, N: Naming> RunCluster<'l, N> {
     /// The cluster before its first batch. Fails only with `OutOfMemory`.
-    pub fn new(alloc: Global, ledger: &'l Ledger<N>) -> Result<Cluster<'l, N>, OutOfMemory>
+    pub fn new(alloc: Global, ledger: &'l Ledger<N>) -> Result<RunCluster<'l, N>, OutOfMemory>
         ensures proxies { IfOk result (λ made.
             length made.proxies.items ≡ N.cells.config.proxies) }
         ensures resolvers { IfOk result (λ made.
             length made.resolvers.items ≡ N.cells.config.resolvers) }
     {
-        Ok(Cluster {
+        Ok(RunCluster {
             sequencer: Sequencer::new(alloc, ledger)?,
             resolvers: shared_resolvers(alloc, ledger)?,
             proxies: shared_proxies(alloc, ledger)?,

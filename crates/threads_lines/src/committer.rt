@@ -46,7 +46,7 @@ pub struct AnsweredLines<N: Naming> {
     pub history: RunHistory<N>,
 }
 
-/// What a commit came to that does not end the run.
+/// The outcome of a commit that does not end the run.
 #[derive(Drop)]
 enum Committed<N: Naming> {
     /// The batch is finished.

@@ -11,7 +11,7 @@ pub fn end_law()
     ensures ended { VersionsHaveEnded }
 {}
 
-/// The line of an audit says `ok` exactly if each resolver has come to the proxy's version.
+/// The line of an audit says `ok` exactly if each resolver has reached the proxy's version.
 pub fn audit_law()
     ensures reached { AnAuditIsOkIfAllHaveReached }
     ensures ok { AllHaveReachedIfAnAuditIsOk }

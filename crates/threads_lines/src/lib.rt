@@ -21,7 +21,7 @@ mod run_history;
 mod worker_threads;
 
 pub use checks::{check_answered, check_moves, check_proxies, check_resolvers, count_records_of};
-pub use cluster::Cluster;
+pub use cluster::RunCluster;
 pub use committer::{AnsweredLines, Committer};
 pub use faults::{RunFault, status_of};
 pub use laws::{audit_law, end_law};

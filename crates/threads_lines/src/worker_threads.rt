@@ -27,7 +27,7 @@ pub trait ServesInbox<E, L> {
         requires { can_serve self.now end };
 }
 
-/// What proxies and those who served them came to.
+/// The outcomes of proxies and of those who served them.
 #[derive(Drop)]
 pub struct RunOutcome<N: Naming, D: Drop, L: Drop> {
     /// The lines of the answers, or why there are none, as far as the proxies know.

@@ -1,6 +1,6 @@
 -- What was sent through an end and what a worker took, from what is counted of them.
 use Rattle.std.proofs.Common.{◌≡◌, ◌∙◌, ◌++◌, ◌+◌, ◌-◌, ◌^◌, ◌<◌, ◌≤◌, ℕ, List, [], ◌∷◌, sym, ap, subst, length, length-append, append-nil, get_or, inl, inr, arith}
-use Rattle.std.specs.Prelude.{◌⊎◌, ⊤, All, false, min, slice_get, slice_set, Some, Result, Ok, Err, IfErr, OnOk}
+use Rattle.std.specs.Prelude.{◌⊎◌, ⊤, All, false, slice_get, slice_set, Some, Result, Ok, Err, IfErr, OnOk}
 use Rattle.std.proofs.Math.Nat.{min-eq_left, min-eq_right}
 use Rattle.std.proofs.lemmas.List.{nil_from_length, set-get_or}
 use Rattle.std.proofs.lemmas.Bool.{cases_order}

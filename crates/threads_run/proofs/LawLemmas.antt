@@ -48,7 +48,7 @@ own_below config h p is =
 last_is : (config : Config) (h : List Record) → IsHistory config h → last_version h ≡ length h * config.step
 last_is config h is = ap last_version (sym (take_all h (length h) (omega arith))) ∙ version_before config h (length h) is (omega arith)
 
--- each resolver has come to the version of each proxy
+-- each resolver has reached the version of each proxy
 all_reached : (script : ThreadsScript) (text : List ℕ) (is : IsThreadsText script text) (p : ℕ) (v : LockedProxyView)
     → slice_get is.proxies p ≡ Some v → HaveVersionOf v is.resolvers
 all_reached script text is p v at place w there =

@@ -18,7 +18,7 @@ use threads_scripts::read_threads;
 
 /// Reads a threads script from the source to its end, commits its batches in a thread for each
 /// proxy, and writes its text. Nothing is written before all threads have ended,
-/// nor if a read fails, the limit on read calls is passed, or the threads come to no text.
+/// nor if a read fails, the limit on read calls is passed, or the threads have no text.
 pub fn run_threads<R: Threads + Wait + Sync, S: Source, T: Sink>(
     rt: &R,
     alloc: Global,

@@ -16,7 +16,7 @@ use std::alloc::Global;
 use std::sync::Wait;
 use system_keys::OutOfMemory;
 use threads_lines::{
-    AnsweredLines, Cluster, CommitsBatches, Committer, EndsProxies, RunFault, RunHistory,
+    AnsweredLines, CommitsBatches, Committer, EndsProxies, RunCluster, RunFault, RunHistory,
     ServesInbox,
 };
 use workers::{Open, PendingRequest, ProxyInboxes, ResolverWorker};
@@ -95,7 +95,7 @@ fn were_cut_off<N: Naming, M: Channels>(workers: &[Ended<N, M>]) -> bool
 #[derive(Drop)]
 pub(crate) struct Running<'a, 'l, N: Naming, M: Channels> {
     pub(crate) ledger: &'a Ledger<N>,
-    pub(crate) cluster: &'a Cluster<'l, N>,
+    pub(crate) cluster: &'a RunCluster<'l, N>,
     pub(crate) inboxes: Vec<ProxyInboxes<N, M>>,
     pub(crate) alloc: Global,
     ghost as_many: { length inboxes.items ≡ length cluster.now.proxies.items },

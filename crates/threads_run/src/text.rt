@@ -22,7 +22,7 @@ use std::sync::Wait;
 use std::thread::Threads;
 use system_keys::{Bytes, Items, OutOfMemory};
 use threads_lines::{
-    AnsweredLines, Cluster, RunFault, RunOutcome, check_answered, check_moves, check_proxies,
+    AnsweredLines, RunCluster, RunFault, RunOutcome, check_answered, check_moves, check_proxies,
     check_resolvers, commit_over_workers, print_audits, print_meetings,
 };
 use threads_scripts::ThreadsScript;
@@ -76,19 +76,19 @@ fn threads_text_in<N: Naming + Send + Sync, R: Threads + Wait + Sync>(
     ensures { IfOk result (λ text. IsThreadsText script.now (string_bytes text)) }
 {
     let ledger = blank.named::<N>();
-    let cluster = Cluster::new(alloc, &ledger)?;
+    let cluster = RunCluster::new(alloc, &ledger)?;
     cluster.move_ranges(rt, script.moves.as_slice())?;
     let inboxes = BlankInboxes::new(alloc, &ledger)?;
     let run = text_over::<N, Brand, R>(rt, alloc, &ledger, &cluster, inboxes, script)?;
     Ok(run.into_text())
 }
 
-/// What the script comes to in this cluster over these inboxes: a run that went by them.
+/// The outcome of the script in this cluster over these inboxes: a run that went by them.
 fn text_over<N: Naming + Send + Sync, M: Channels + Send + Sync, R: Threads + Wait + Sync>(
     rt: &R,
     alloc: Global,
     ledger: &Ledger<N>,
-    cluster: &Cluster<'_, N>,
+    cluster: &RunCluster<'_, N>,
     blank: BlankInboxes<N, PendingRequest<N>>,
     script: &ThreadsScript,
 ) -> Result<DeliveredRun<N>, RunFault>
@@ -142,7 +142,7 @@ fn answers_over<N: Naming + Send + Sync, M: Channels + Send + Sync, R: Threads +
     rt: &R,
     alloc: Global,
     ledger: &Ledger<N>,
-    cluster: &Cluster<'_, N>,
+    cluster: &RunCluster<'_, N>,
     blank: BlankInboxes<N, PendingRequest<N>>,
     work: &[Items<Batch>],
 ) -> Result<AnsweredRun<N, M>, RunFault>

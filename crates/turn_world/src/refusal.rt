@@ -14,8 +14,8 @@ pub enum Refusal {
     /// A range is to move to a resolver that the cluster does not have.
     #[error("the cluster has no such resolver to move to")]
     NoSuchResolver,
-    /// The request comes too early: the resolver has come to `version` only.
-    #[error("the request is early, since the resolver has come to {version}")]
+    /// The request comes too early: the resolver has reached `version` only.
+    #[error("the request is early, since the resolver has reached {version}")]
     Early { version: Version },
     /// The proxy has acknowledged the reply: it has received everything up to `acknowledged`.
     #[error("the reply is given up, since the proxy acknowledged {acknowledged}")]

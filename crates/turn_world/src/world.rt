@@ -174,7 +174,7 @@ impl TurnWorld {
 
     /// Carries out what is left, in the order of [`TurnWorld::events_left`], and returns the results:
     /// none of these events is refused. Afterwards each proxy has finished all its records. No run
-    /// comes to that with fewer events, and each one ends in the same cluster.
+    /// reaches that with fewer events, and each one ends in the same cluster.
     ///
     /// It stops early as [`TurnWorld::run`] does; call it again to go on.
     pub fn finish_all(&mut self, alloc: Global) -> Result<Vec<Result<Answer, Refusal>>, Stopped>

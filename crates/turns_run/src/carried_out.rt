@@ -18,7 +18,7 @@ use scripts::{Checked, Streamed, begin_array};
 use std::alloc::Global;
 use turn_world::{Event, TurnWorld};
 
-/// What the events of a script come to: what is printed of them, and the cluster that they leave.
+/// The outcome of the events of a script: what is printed of them, and the cluster that they leave.
 #[derive(Drop)]
 pub(crate) struct CarriedOut {
     /// The lines of the events.

@@ -22,7 +22,7 @@ pub record IsAnswerTo (rec : Record) (ready : ReadyView) (noted : NotedFinishedV
   pub there : slice_get noted.records noted.finished.row ≡ Some rec
 
 -- The two records were the first ones begun, in this order, and are so no longer. The answers are to
--- them, and their versions increase. Both records are of the proxy, which has come to the version of
+-- them, and their versions increase. Both records are of the proxy, which has reached the version of
 -- the second.
 pub record FinishesBoth
     (before : LockedProxyView) (first second : ReadyView)

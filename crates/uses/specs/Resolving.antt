@@ -13,7 +13,7 @@ use Rattle.locked_resolvers.specs.Resolvers.{HasOffered, IsOfferRefusal, after_r
 use Rattle.locked_resolvers.specs.declared.refusal.Refusal.{Refusal}
 use Rattle.locked_resolvers.specs.declared.refusal.Refusal.TheVariants as refusals
 
--- The reply is to the request, and the resolver that it is to is open and has come to its version. The
+-- The reply is to the request, and the resolver that it is to is open and has reached its version. The
 -- verdicts of the reply stand in the resolver's cell of the row, and the resolver has the records that
 -- the reply was made by.
 pub record StandsInItsCell

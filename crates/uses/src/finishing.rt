@@ -99,7 +99,7 @@ fn begin_batch<N: Naming, R: Wait>(
     ensures number { guard.new.proxy.number ≡ guard.old.proxy.number }
     ensures refused { IfErr result (WasNotCommitted N.cells guard.old.proxy.number batch) }
 {
-    let ticket = sequence_batch(rt, sequencer, guard.number(), batch)?;
+    let ticket = sequence_or_drop(rt, sequencer, guard.number(), batch)?;
     // (its contract says what the type keeps of the ticket)
     let _row = ticket.row();
     match guard.begin(ticket) {
@@ -109,7 +109,7 @@ fn begin_batch<N: Naming, R: Wait>(
 }
 
 /// Gives the batch its record, under the sequencer's lock. A refused batch is dropped.
-fn sequence_batch<N: Naming, R: Wait>(
+fn sequence_or_drop<N: Naming, R: Wait>(
     rt: &R,
     sequencer: &Sequencer<'_, N>,
     proxy: ProxyNumber,

@@ -22,4 +22,4 @@ pub use refused::Refused;
 pub use resolving::{offer_and_look, offer_twice, resolve_and_look};
 pub use running::{at_one_version, metadata_after, metadata_at_end, numbers_of, run_on, step_of};
 pub use sequencing::{record_of, sequence_around_move, sequence_two};
-pub use whole_cluster::{Shown, promise_from_nothing};
+pub use whole_cluster::{Shown, whole_cluster_from_nothing};

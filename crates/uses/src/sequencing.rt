@@ -35,8 +35,8 @@ pub fn sequence_two<N: Naming>(
     ensures refused { IfErr result
         (RefusesOneOfTwo N.cells guard.old proxy batch next_proxy guard.new) }
 {
-    let first = sequence_batch(guard, proxy, batch)?;
-    let second = sequence_batch(guard, next_proxy, next_batch)?;
+    let first = sequence_or_drop(guard, proxy, batch)?;
+    let second = sequence_or_drop(guard, next_proxy, next_batch)?;
     Ok((first, second))
 }
 
@@ -65,9 +65,9 @@ pub fn sequence_around_move<N: Naming>(
     ensures refused { IfErr result
         (RefusesAroundMove N.cells guard.old proxy batch range.now dest guard.new) }
 {
-    let first = sequence_batch(guard, proxy, batch)?;
+    let first = sequence_or_drop(guard, proxy, batch)?;
     guard.move_range(range, dest)?;
-    let second = sequence_batch(guard, proxy, next_batch)?;
+    let second = sequence_or_drop(guard, proxy, next_batch)?;
     Ok((first, second))
 }
 
@@ -83,7 +83,7 @@ pub fn record_of<'a, N: Naming>(ledger: &'a Ledger<N>, ticket: &Ticket<N>) -> &'
 }
 
 /// Gives the batch its record. A refused batch is dropped.
-fn sequence_batch<N: Naming>(
+fn sequence_or_drop<N: Naming>(
     guard: &mut SequencerGuard<'_, N>,
     proxy: ProxyNumber,
     batch: Batch,

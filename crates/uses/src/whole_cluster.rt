@@ -44,7 +44,7 @@ pub struct Shown {
 /// Fails with `BadConfig` exactly if a ledger cannot have that number of rows. Otherwise, if there is no second
 /// proxy, fails only with `NoSuchProxy` or `OutOfMemory`; and if there is one, only with `OutOfMemory`
 /// or with a refusal of the commit of one of the batches.
-pub fn promise_from_nothing<R: Wait>(
+pub fn whole_cluster_from_nothing<R: Wait>(
     rt: &R,
     alloc: Global,
     rows: usize,

@@ -317,7 +317,7 @@ impl<N: Naming> LockedProxy<N> {
         }
     }
 
-    /// Whether the proxy has come to the version of an answer, of any proxy of the cluster. The
+    /// Whether the proxy has reached the version of an answer, of any proxy of the cluster. The
     /// outcomes, the tags and the private copies of the answer are then those that the proxy's records
     /// and verdict cells give for its row. Needs no memory.
     pub fn confirm(&self, answer: &NotedFinished<N>) -> bool

@@ -54,7 +54,7 @@ const FIRST_AT_20: Outcome = Outcome::Committed {
     number: 0,
 };
 
-/// What the three batches come to, over one resolver and over two.
+/// The outcomes of the three batches, over one resolver and over two.
 const WANTED: [Commit; 3] = [
     Ok(((10, 10), [Some(FIRST_AT_10), Some(SECOND_AT_10)], 3, TAG)),
     Ok((

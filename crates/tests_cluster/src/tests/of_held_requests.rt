@@ -97,7 +97,7 @@ struct LaterFirst<'a, 'l, N: Naming> {
     /// The requests for record 1, which is of proxy 0.
     later: &'a [Request<N>],
     progress: &'a Progress,
-    /// What the calls came to, in their order.
+    /// The outcomes of the calls, in order.
     calls: &'a Mutex<Vec<Called>>,
 }
 

@@ -137,7 +137,7 @@ fn nine(alloc: Global, proxy: usize) -> Result<Vec<Batch>, Fail> {
 /// What a test compares of the commits of a proxy: a bit for each row, that of row 0 being bit 1.
 type Rows = Option<u64>;
 
-/// Whether the batch of this number comes to what it is to come to. The server has its tag once the first
+/// Whether the batch of this number has the outcome that is wanted. The server has its tag once the first
 /// one is committed, which the batches of the same proxy follow.
 fn is_own_commit(number: usize, seen: Seen) -> bool {
     let ((version, shown), outcomes, mutations, tag) = seen;
@@ -149,7 +149,7 @@ fn is_own_commit(number: usize, seen: Seen) -> bool {
         && (tag == Some(TAG) || may_lack_tag)
 }
 
-/// The rows with that of the batch of this number, if it comes to what it is to come to, and to a later
+/// The rows with that of the batch of this number, if it has the outcome that is wanted, at a later
 /// row than those before.
 fn with_row(rows: u64, number: usize, commit: Commit) -> Rows {
     let seen = commit.ok()?;
@@ -213,7 +213,7 @@ fn closed(version: u64) -> Commit {
     Ok(((version, version), [None, None], 0, None))
 }
 
-/// Each proxy commits an empty batch, which comes to what is wanted.
+/// Each proxy commits an empty batch, with the outcome that is wanted.
 fn close_each<N: Naming, R: Abort + AllocGlobal + Wait>(
     rt: &R,
     alloc: Global,

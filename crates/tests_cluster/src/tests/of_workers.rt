@@ -201,7 +201,7 @@ pub(crate) struct Trial {
     wanted: Summary,
 }
 
-/// Runs the trial, which comes to what is wanted.
+/// Runs the trial, which has the outcome that is wanted.
 pub(crate) fn try_out<
     N: Naming + Send + Sync,
     M: Channels + Send + Sync,

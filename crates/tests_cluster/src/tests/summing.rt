@@ -9,7 +9,7 @@ use std::test::Fail;
 use testing::room;
 use workers::{EndedWorker, Gate, PendingRequest};
 
-/// What each proxy does before it ends, and what it is to come to.
+/// What each proxy does before it ends, and the outcome that is wanted.
 #[derive(Clone, Copy)]
 pub(crate) struct Plan {
     /// How often it closes all resolvers.
@@ -24,11 +24,11 @@ pub(crate) struct Plan {
     pub(crate) rows: usize,
 }
 
-/// What a call of a proxy came to: the version of a commit, or how many replies came twice. Otherwise
+/// The outcome of a call of a proxy: the version of a commit, or how many replies came twice. Otherwise
 /// the number of the refusal, 0 for `OutOfMemory`.
 pub(crate) type Called = Result<u64, u32>;
 
-/// What is left of the threads of a run: the workers, the sending ends, and what the calls came to.
+/// What is left of the threads of a run: the workers, the sending ends, and the outcomes of the calls.
 #[derive(Drop)]
 pub(crate) struct Left<N: Naming, M: Channels, G: Gate + Drop> {
     pub(crate) workers: Mutex<Vec<EndedWorker<N, M, G>>>,

@@ -23,7 +23,7 @@ const OF_RESOLVERS: &[(state_memory::Refusal, &str)] = &[
     (state_memory::Refusal::NoSuchProxy, "there is no such proxy"),
     (
         state_memory::Refusal::OutsideChain { version: 7 },
-        "the request is outside the chain of versions, which has come to 7",
+        "the request is outside the chain of versions, which has reached 7",
     ),
     (
         state_memory::Refusal::GivenUp { acknowledged: 7 },
@@ -31,7 +31,7 @@ const OF_RESOLVERS: &[(state_memory::Refusal, &str)] = &[
     ),
     (
         state_memory::Refusal::Early { version: 7 },
-        "the request is early, since the resolver has come to 7",
+        "the request is early, since the resolver has reached 7",
     ),
     (state_memory::Refusal::OutOfMemory, "out of memory"),
 ];
@@ -79,7 +79,7 @@ const OF_THE_WORLD: &[(turn_world::Refusal, &str)] = &[
     ),
     (
         turn_world::Refusal::Early { version: 7 },
-        "the request is early, since the resolver has come to 7",
+        "the request is early, since the resolver has reached 7",
     ),
     (
         turn_world::Refusal::GivenUp { acknowledged: 7 },

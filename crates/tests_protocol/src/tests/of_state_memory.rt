@@ -297,7 +297,7 @@ impl Copied for Resolver {
     }
 }
 
-/// The resolver comes to version 30, and a copy of it stays at 20 and comes to 40.
+/// The resolver reaches version 30, and a copy of it stays at 20 and reaches 40.
 fn goes_beside_copy<R: Abort + AllocGlobal>(
     rt: &R,
     resolver: &mut Resolver,

@@ -78,7 +78,7 @@ pub(crate) struct Work {
     threads: [(usize, usize); 3],
     /// How many askers go on before that of each row.
     before: &'static [u64],
-    /// What the rows of all threads come to.
+    /// The outcomes of the rows of all threads.
     rows: u64,
 }
 

@@ -6,14 +6,14 @@ use std::alloc::Global;
 use std::sync::Wait;
 use std::test::Fail;
 use testing::batch;
-use uses::{Refused, promise_from_nothing};
+use uses::{Refused, whole_cluster_from_nothing};
 
 #[test]
 fn two_proxies_of_a_cluster_from_nothing_show_their_metadata(rt: HostRuntime) -> Result<(), Fail> {
     let alloc = rt.alloc();
     let config = Config::new(2, 3, 1000, 10)?;
     let (first, second) = (batch(alloc, FIRST)?, batch(alloc, SECOND)?);
-    let shown = promise_from_nothing(&rt, alloc, 2, config, first, second)?;
+    let shown = whole_cluster_from_nothing(&rt, alloc, 2, config, first, second)?;
     assert!(rt; has_rows(&shown.mine) == [true, false]);
     assert!(rt; has_rows(&shown.theirs) == [true, true]);
     assert!(rt; seen(&shown.finished) == (10, 2, true));
@@ -30,7 +30,7 @@ fn refused<R: Wait>(
 ) -> Result<Option<Refused>, Fail> {
     let config = Config::new(proxies, 3, 1000, 10)?;
     let (first, second) = (batch(alloc, FIRST)?, batch(alloc, SECOND)?);
-    Ok(promise_from_nothing(rt, alloc, rows, config, first, second).err())
+    Ok(whole_cluster_from_nothing(rt, alloc, rows, config, first, second).err())
 }
 
 #[test]

@@ -5,7 +5,7 @@ use crate::calling::stories::{Story, tell};
 use crate::calling::values::{FIRST, TAG, has_rows};
 use agreed_ledger::Naming;
 use headline_uses::{
-    audit_in_order, has_come_to, journal_of_other, metadata_at_one_version, records_of_answer,
+    has_reached, journal_of_other, judged_by_audit, metadata_at_one_version, records_of_answer,
     records_of_proxy, records_of_routing, resolver_to_wait_for, routing_of_history, sent_mutations,
     tags_by_proxy,
 };
@@ -26,8 +26,8 @@ fn look_at_two<N: Naming, R: Abort>(
 ) -> Result<(), Fail> {
     assert!(rt; metadata_at_one_version(one, other, answer).is_none());
     assert!(rt; journal_of_other(one, other).is_none());
-    assert!(rt; has_come_to(one, answer));
-    assert!(rt; !has_come_to(other, answer));
+    assert!(rt; has_reached(one, answer));
+    assert!(rt; !has_reached(other, answer));
     assert!(rt; records_of_proxy(one, other, answer).end() == 1);
     assert!(rt; records_of_answer(one, other, answer).end() == 1);
     let sent = sent_mutations(one, other, answer);
@@ -78,7 +78,7 @@ fn look_at_audits<N: Naming, R: Abort>(
     resolvers: &[ResolverGuard<'_, N>],
     behind: Option<BehindBy>,
 ) {
-    assert!(rt; audit_in_order(proxy, resolvers).err() == behind);
+    assert!(rt; judged_by_audit(proxy, resolvers).err() == behind);
     let number = match behind {
         Some(behind) => Some(behind.resolver),
         None => None,

@@ -141,7 +141,7 @@ fn copy_once<N: Naming>(
     }
 }
 
-/// What setting the first row of a new column of resolver 0 with a copy comes to, the second time
+/// The outcome of setting the first row of a new column of resolver 0 with a copy, the second time
 /// after a failed allocation, and how many rows the column has then.
 fn copied<N: Naming>(
     alloc: Global,
@@ -195,7 +195,7 @@ fn extended_by_part<N: Naming>(
 }
 
 /// Whether the part of the column that is extended from another part, again after a failed
-/// allocation, comes to this.
+/// allocation, has this outcome.
 fn extends<N: Naming>(
     alloc: Global,
     ledger: &Ledger<N>,
@@ -275,7 +275,7 @@ fn extended_by_records<N: Naming>(
 }
 
 /// Whether the part of the records that is extended from another part, again after a failed
-/// allocation, comes to this.
+/// allocation, has this outcome.
 fn extends_records<N: Naming>(
     alloc: Global,
     ledger: &Ledger<N>,

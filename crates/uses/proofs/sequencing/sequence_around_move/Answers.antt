@@ -9,7 +9,7 @@ pub returns-in_err-first-clause-refused : goal.returns-in_err-first-clause-refus
 returns-in_err-first-clause-refused g c =
     let refusal = c.in_err-first.field-0.0 in
     let is : c.from_residual.result ≡ Err refusal = search rules in
-    if_err (RefusesAroundMove g.N.Naming.cells c.args.guard.now c.args.proxy c.args.batch c.args.range.now c.args.dest c.sequence_batch.new.guard) c.from_residual.result refusal is
+    if_err (RefusesAroundMove g.N.Naming.cells c.args.guard.now c.args.proxy c.args.batch c.args.range.now c.args.dest c.sequence_or_drop.new.guard) c.from_residual.result refusal is
     (inl c.in_err-first.ensures.refused)
 
 pub returns-in_err-move_range-clause-refused : goal.returns-in_err-move_range-clause-refused
@@ -18,11 +18,11 @@ returns-in_err-move_range-clause-refused g c =
     let is : c.from_residual-in_err-move_range.result ≡ Err refusal = search rules in
     let refused = c.in_err-move_range.ensures.refused in
     if_err (RefusesAroundMove g.N.Naming.cells c.args.guard.now c.args.proxy c.args.batch c.args.range.now c.args.dest c.move_range.new.self) c.from_residual-in_err-move_range.result refusal is
-    (inr (c.sequence_batch.new.guard, c.in_ok-first.first, c.in_ok-first.ensures.sequenced, inl (c.in_err-move_range.ensures.unchanged, refused.0, refused.1)))
+    (inr (c.sequence_or_drop.new.guard, c.in_ok-first.first, c.in_ok-first.ensures.sequenced, inl (c.in_err-move_range.ensures.unchanged, refused.0, refused.1)))
 
 pub returns-in_err-second-clause-refused : goal.returns-in_err-second-clause-refused
 returns-in_err-second-clause-refused g c =
     let refusal = c.in_err-second.field-0.0 in
     let is : c.from_residual-in_err-second.result ≡ Err refusal = search rules in
-    if_err (RefusesAroundMove g.N.Naming.cells c.args.guard.now c.args.proxy c.args.batch c.args.range.now c.args.dest c.sequence_batch-2.new.guard) c.from_residual-in_err-second.result refusal is
-    (inr (c.sequence_batch.new.guard, c.in_ok-first.first, c.in_ok-first.ensures.sequenced, inr (c.move_range.new.self, c.in_ok-move_range.field-0, c.in_ok-move_range.ensures.moved, c.in_err-second.ensures.refused)))
+    if_err (RefusesAroundMove g.N.Naming.cells c.args.guard.now c.args.proxy c.args.batch c.args.range.now c.args.dest c.sequence_or_drop-2.new.guard) c.from_residual-in_err-second.result refusal is
+    (inr (c.sequence_or_drop.new.guard, c.in_ok-first.first, c.in_ok-first.ensures.sequenced, inr (c.move_range.new.self, c.in_ok-move_range.field-0, c.in_ok-move_range.ensures.moved, c.in_err-second.ensures.refused)))

@@ -6,7 +6,7 @@ use Rattle.metadata.specs.MapEntries.{bytes_of_keys}
 use Rattle.metadata.specs.Overwrites.{lent_ranges, is_held}
 use Rattle.metadata.proofs.HeldKeys.{Joins, joins_anew, joins_between, held_next, held_more, held_already}
 use Rattle.metadata.proofs.entry_map.EntryMap.keys_in_any.Goals as goal
-use Rattle.metadata.proofs.entry_map.EntryMap.keys_in_any.Goals.{then-not-is_between, else-not-is_between, then-precedes+in_ok-list_keys_between, else-precedes}
+use Rattle.metadata.proofs.entry_map.EntryMap.keys_in_any.Goals.{then-not-is_between, else-not-is_between, then-is_key_below+in_ok-list_keys_between, else-is_key_below}
 
 pub loop-range-preserved : goal.loop-range-preserved
 loop-range-preserved c =
@@ -24,14 +24,14 @@ loop-range-preserved c =
     let next : (key : Key) → is_held after key ≡ (is_held done key || holds range key) =
     λ key. held_next ranges c.loop-range.range-index c.range-item.result key c.loop-range-test.true ∙ ap (λ (r : Bor Range). is_held done key || holds r.now key) (sym c.range-item.is) in
     elim c.if-is_key_below.branch [
-      | then-precedes+in_ok-list_keys_between w ↦
-          held_more c.if-not-is_between.from.now c.if-not-is_between.up_to.now w.end-then-precedes.result.now c.if-is_key_below.up_to.now done after range
-          (bytes_of_keys c.loop-range.keys.items) (bytes_of_keys c.if-is_key_below.keys.items) c.args.self.now c.args.self.now joins w.end-then-precedes.ensures.value
+      | then-is_key_below+in_ok-list_keys_between w ↦
+          held_more c.if-not-is_between.from.now c.if-not-is_between.up_to.now w.end-then-is_key_below.result.now c.if-is_key_below.up_to.now done after range
+          (bytes_of_keys c.loop-range.keys.items) (bytes_of_keys c.if-is_key_below.keys.items) c.args.self.now c.args.self.now joins w.end-then-is_key_below.ensures.value
           (ap (λ (key : Bor Key). key.now) w.up_to-is ∙ w.end-up_to.ensures.value) (ap (λ (keys : Vec (Vec ℕ)). bytes_of_keys keys.items) w.keys-is ∙ w.in_ok-list_keys_between.ensures) refl
           next c.loop-range.invariant.listed
-      | else-precedes w ↦
+      | else-is_key_below w ↦
           held_already c.if-not-is_between.from.now c.if-not-is_between.up_to.now c.end.result.now c.if-is_key_below.up_to.now done after range
-          (bytes_of_keys c.loop-range.keys.items) (bytes_of_keys c.if-is_key_below.keys.items) c.args.self.now joins (sym c.is_key_below.ensures ∙ w.if-precedes.false) c.end.ensures.value
+          (bytes_of_keys c.loop-range.keys.items) (bytes_of_keys c.if-is_key_below.keys.items) c.args.self.now joins (sym c.is_key_below.ensures ∙ w.if-is_key_below.false) c.end.ensures.value
           (ap (λ (key : Bor Key). key.now) w.up_to-is) (ap (λ (keys : Vec (Vec ℕ)). bytes_of_keys keys.items) w.keys-is)
           next c.loop-range.invariant.listed
     ]

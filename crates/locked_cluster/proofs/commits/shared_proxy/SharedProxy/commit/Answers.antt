@@ -3,7 +3,7 @@ use Rattle.std.proofs.Common.{◌≡◌, sym, subst, rules}
 use Rattle.std.specs.Prelude.{MatchResult, Result, Err}
 use Rattle.locked_resolvers.specs.Asking.{IsAskAllRefusal}
 use Rattle.locked_cluster.specs.Begun.{BegunView}
-use Rattle.locked_cluster.specs.Commits.{HandsBack, HoldsBatch, IsCommitted}
+use Rattle.locked_cluster.specs.Commits.{HandsBack, HoldsBatch, IsCommitted, TakesProxy}
 use Rattle.locked_cluster.proofs.commits.shared_proxy.SharedProxy.commit.Goals as goal
 
 -- what holds of an error holds of the result that is this error

@@ -1,4 +1,4 @@
--- The proxy has come to the version of the answer, or it has not.
+-- The proxy has reached the version of the answer, or it has not.
 use Rattle.std.proofs.Common.{◌≡◌, ◌<◌, Bool, true, false, refl, ap, nat_le, arith}
 use Rattle.std.specs.Prelude.{MatchBool}
 use Rattle.std.proofs.lemmas.Bool.{leb-true, leb-false}

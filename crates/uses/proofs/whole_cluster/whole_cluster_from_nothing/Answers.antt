@@ -9,7 +9,7 @@ use Rattle.uses.specs.declared.refused.Refused.TheVariants.{ByCluster, ByLedger}
 use Rattle.uses.proofs.CommitRefusals.{if_err}
 use Rattle.uses.proofs.RefusedStarts.{only_alone, only_bad}
 use Rattle.uses.proofs.StartRefusals.{no_cluster, no_ledger}
-use Rattle.uses.proofs.whole_cluster.promise_from_nothing.Goals as goal
+use Rattle.uses.proofs.whole_cluster.whole_cluster_from_nothing.Goals as goal
 
 pub returns-in_err-blank-clause-refused : goal.returns-in_err-blank-clause-refused
 returns-in_err-blank-clause-refused g c =

@@ -1,4 +1,4 @@
--- Resolvers that have come to the proxy's version have their verdicts on the proxy's records. After a
+-- Resolvers that have reached the proxy's version have their verdicts on the proxy's records. After a
 -- failed audit these are those before the first that is behind.
 use Rattle.std.proofs.Common.{◌∙◌, sym, subst, ℕ, List, take}
 use Rattle.std.specs.Prelude.{Result, Ok, Err, MatchResult}
@@ -10,9 +10,9 @@ use Rattle.locked_resolvers.specs.Resolvers.{LockedResolverView}
 use Rattle.headline_uses.specs.Resolvers.{AreInOrder}
 use Rattle.headline_uses.specs.Verdicts.{HaveJudged}
 use Rattle.headline_uses.proofs.JudgedCells.{has_verdicts}
-use Rattle.headline_uses.proofs.auditing.audit_in_order.Goals as goal
+use Rattle.headline_uses.proofs.auditing.judged_by_audit.Goals as goal
 
--- each resolver that has come to the proxy's version has its verdicts
+-- each resolver that has reached the proxy's version has its verdicts
 have_judged : (config : Config) (v : LockedProxyView) (resolvers : List LockedResolverView) → HaveReached config v resolvers → HaveJudged config (reached_records v) resolvers
 have_judged config v resolvers reached place resolver there =
     let one = reached place resolver there in

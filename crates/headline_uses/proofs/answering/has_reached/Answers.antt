@@ -5,7 +5,7 @@ use Rattle.model.specs.Configs.{Config}
 use Rattle.locked_cluster.specs.Answers.{NotedFinishedView}
 use Rattle.locked_cluster.specs.Audits.{IsConfirmed}
 use Rattle.locked_cluster.specs.Proxies.{LockedProxyView}
-use Rattle.headline_uses.proofs.answering.has_come_to.Goals as goal
+use Rattle.headline_uses.proofs.answering.has_reached.Goals as goal
 
 -- by whether the proxy confirms the answer
 by : (config : Config) (v : LockedProxyView) (answer : NotedFinishedView) (confirms : Bool) → MatchBool confirms (IsConfirmed config v answer) (v.proxy.version < answer.finished.version) → IsTrue confirms ↔ (answer.finished.version ≤ v.proxy.version)

@@ -1,6 +1,6 @@
 -- The resolvers stand in the places of their numbers.
 use Rattle.threads_lines.proofs.GuardLemmas.{all_resolvers}
-use Rattle.threads_lines.proofs.cluster.Cluster.lock_resolvers.Goals as goal
+use Rattle.threads_lines.proofs.cluster.RunCluster.lock_resolvers.Goals as goal
 
 pub returns : goal.returns
 returns g c =

@@ -1,6 +1,6 @@
 -- The proxies stand in the places of their numbers.
 use Rattle.threads_lines.proofs.GuardLemmas.{all_proxies}
-use Rattle.threads_lines.proofs.cluster.Cluster.lock_proxies.Goals as goal
+use Rattle.threads_lines.proofs.cluster.RunCluster.lock_proxies.Goals as goal
 
 pub returns : goal.returns
 returns g c =
