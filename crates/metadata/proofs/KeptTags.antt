@@ -13,7 +13,7 @@ use Rattle.metadata.proofs.RouteEntries.{same_route}
 use Rattle.metadata.specs.OwnRoutes.{own_routes}
 use Rattle.metadata.specs.MapEntries.{entry_from, entries_of}
 use Rattle.metadata.specs.Overwrites.{is_same_key, is_listed, entries_without}
-use Rattle.metadata.specs.CachedTags.{TagLists, AreTags, tags_by}
+use Rattle.metadata.specs.CachedTags.{Names, NamesAt, AreNames, names_by, tags_by}
 use Rattle.metadata.proofs.KeyValues.{same_key, none_behind, first_behind, rest_in_order, first_value}
 use Rattle.metadata.proofs.EntriesLeft.{value_without}
 use Rattle.metadata.proofs.Tags.{added}
@@ -62,10 +62,10 @@ has_front es fs entry has = subst (λ (found : Entries). Has found entry) (sym (
 pub has_last : (es : List (Vec ℕ × List ℕ)) (e : Vec ℕ × List ℕ) → Has (entries_of (es ++ e ∷ [])) (entry_from e)
 has_last es e = subst (λ (found : Entries). Has found (entry_from e)) (sym (both_of es (e ∷ []))) (Has-append_right (entries_of es) (entries_of (e ∷ [])) (entry_from e) (inl refl))
 
--- the tags kept for a row that is not hidden
-pub tags_shown_at : (hidden : List Key) (rows : Entries) (lists : TagLists) (entry : Entry) → AreTags lists (entry_value (entries_without hidden rows)) → is_listed hidden entry.0 ≡ false → entry_value rows entry.0 ≡ Some entry.1 → is_key_servers entry ≡ true
-    → lists entry.0 ≡ Some (tags_by (entry_value (entries_without hidden rows)) entry.1)
-tags_shown_at hidden rows lists entry are shows there own =
+-- what is kept for a row that is not hidden
+pub names_shown_at : (hidden : List Key) (rows : Entries) (lists : NamesAt) (entry : Entry) → AreNames lists (entry_value (entries_without hidden rows)) → is_listed hidden entry.0 ≡ false → entry_value rows entry.0 ≡ Some entry.1 → is_key_servers entry ≡ true
+    → lists entry.0 ≡ Some (names_by entry.1)
+names_shown_at hidden rows lists entry are shows there own =
     are entry.0 entry.1 own (value_without hidden rows entry.0 ∙ ap (λ (t : Bool). if t then None else entry_value rows entry.0) shows ∙ there)
 
 -- ---- the tags of a change
@@ -139,8 +139,8 @@ row_at row rest before total own first is =
     let here : slice_get (key_servers_entries (row ∷ rest)) 0 ≡ Some (behind_prefix row) = rw own refl in
     sym here ∙ ap (slice_get (key_servers_entries (row ∷ rest))) (sym first) ∙ is
 
-pub some_tags : (a b : List Tag) → Some a ≡ Some b → a ≡ b
-some_tags a b h = cc
+pub some_names : (a b : Names) → Some a ≡ Some b → a ≡ b
+some_names a b h = cc
 
 -- the route that is added is the own route of the entry
 pub route_added : (all : Entries) (key : Key) (value : List ℕ) (found : List Tag) (route : Route) → is_in key_servers_family key ≡ true → found ≡ tags_by (entry_value all) value

@@ -1,9 +1,9 @@
 pub mod AppliedLaws
 pub mod BlankedKeys
 pub mod CachedTags
-pub mod ChosenTags
 pub mod EntriesLeft
 pub mod ExactTags
+pub mod GatheredTags
 pub mod HeldKeys
 pub mod HiddenRuns
 pub mod KeptInOrder
@@ -14,12 +14,12 @@ pub mod ListedKeys
 pub mod MapEntries
 pub mod MetadataServers
 pub mod MetadataTags
+pub mod NamedRows
 pub mod Outcomes
 pub mod OverwrittenEntries
 pub mod PrivateCopies
 pub mod PutEntries
 pub mod RangeEntries
-pub mod RawIds
 pub mod RouteEntries
 pub mod ServerTables
 pub mod ServingEntries

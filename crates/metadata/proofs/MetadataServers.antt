@@ -68,7 +68,12 @@ pub servers_left : (keys : List Key) (entries left : Entries) (old new : ServerT
 servers_left keys entries left old new same refreshed are =
     servers_refreshed keys (entry_value entries) (entry_value left) old new (λ id size out. sym (value_left keys entries left (key_of id) false out same)) refreshed are
 
--- ---- entries that are hidden
+-- ---- the tags that are listed
+
+-- the servers give the tags of all entries
+pub servers_give_tags : (entries : Entries) (servers : ServerTags) → AreServers servers (entry_value entries) → GiveTags servers entries
+unfolding server_tags
+servers_give_tags entries servers are id size = listed_tag servers entries id size are
 
 -- the tags of the servers are still listed, if no hidden entry may give one
 pub removed_give_tags : (keys : List Key) (entries : Entries) (servers : ServerTags) → may_tag_some entries keys ≡ false → AreServers servers (entry_value entries) → GiveTags servers (entries_without keys entries)

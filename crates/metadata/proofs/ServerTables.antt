@@ -13,8 +13,8 @@ use Rattle.system_keys.specs.declared.refusal.RowFault.{RowFault}
 use Rattle.model.specs.Metadata.{Entry, Entries, entry_value, one_tag, tag_of}
 use Rattle.metadata.specs.MapEntries.{bytes_of_keys}
 use Rattle.metadata.specs.Overwrites.{is_same_key, is_listed, has_entry}
-use Rattle.metadata.specs.CachedTags.{Values, names_server, tag_by, values_over}
-use Rattle.metadata.specs.ServerTables.{ServerTags, TaggedServers, EntriesOver, values_after, decoded_tag, server_at, server_by, AreServers, AreServerKeys, AreRefreshed, HasPlaces}
+use Rattle.metadata.specs.CachedTags.{Values, names_server, tag_by}
+use Rattle.metadata.specs.ServerTables.{ServerTags, TaggedServers, decoded_tag, server_at, server_by, tag_listed, AreServers, AreServerKeys, AreRefreshed, HasPlaces}
 use Rattle.metadata.proofs.KeyValues.{same_key, same_itself}
 
 abbrev key_of : Id → Key
@@ -187,7 +187,7 @@ none_kept false l = refl
 pub all_keys : (rows : Entries) (keys : List Key) → AreKeysSoFar rows [] keys → AreServerKeys keys rows
 all_keys rows keys done key = sym (none_kept (names_server key) (is_listed keys key)) ∙ done key
 
--- ---- servers after entries are put over others
+-- ---- the tag of a server
 
 from_result : (r : Result Tag RowFault) → option_to_list (result_ok r) ≡ one_tag r
 from_result (Ok tag) = refl
@@ -198,32 +198,12 @@ row_tag None = refl
 row_tag (Some value) = from_result (tag_at value)
 
 -- the tag listed for a server is that of its row
-pub listed_tag : (servers : ServerTags) (entries : Entries) (id : Id) → length id ≡ server_id_length → AreServers servers (entry_value entries) → option_to_list (option_flatten (server_at servers id)) ≡ tag_by (entry_value entries) id
+pub listed_tag : (servers : ServerTags) (entries : Entries) (id : Id) → length id ≡ server_id_length → AreServers servers (entry_value entries) → tag_listed servers id ≡ tag_by (entry_value entries) id
 listed_tag servers entries id size are = flat (server_at servers id) ∙ ap beside (are id size) ∙ row_tag (entry_value entries (key_of id))
   where
     flat : (found : Option (Option Tag)) → option_to_list (option_flatten found) ≡ beside found
     flat None = refl
     flat (Some tag) = refl
-
-none_first : (found other : Option (List ℕ)) → None ≡ option_map decoded_tag found → tag_of other ≡ tag_of (option_or found other)
-none_first None other h = refl
-none_first (Some value) other h = absurd (cc)
-
-some_first : (found other : Option (List ℕ)) (tag : Option Tag) → Some tag ≡ option_map decoded_tag found → tag_of found ≡ tag_of (option_or found other)
-some_first None other tag h = absurd (cc)
-some_first (Some value) other tag h = refl
-
-pub put_tag : (over : EntriesOver) (puts : ServerTags) (id : Id) (tag : Option Tag) → length id ≡ server_id_length → AreServers puts (entry_value over.puts) → Some tag ≡ server_at puts id → option_to_list tag ≡ tag_by (values_after over) id
-put_tag over puts id tag size are is =
-    let key = key_of id in
-    let row : Some tag ≡ server_by (entry_value over.puts) id = is ∙ are id size in
-    ap beside row ∙ row_tag (entry_value over.puts key) ∙ some_first (entry_value over.puts key) (entry_value over.others key) tag row
-
-pub other_tag : (over : EntriesOver) (puts others : ServerTags) (id : Id) (found : Option (Option Tag)) → length id ≡ server_id_length → AreServers puts (entry_value over.puts) → AreServers others (entry_value over.others) → None ≡ server_at puts id → found ≡ server_at others id
-    → beside found ≡ tag_by (values_after over) id
-other_tag over puts others id found size are others_are none is =
-    let key = key_of id in
-    ap beside (is ∙ others_are id size) ∙ row_tag (entry_value over.others key) ∙ none_first (entry_value over.puts key) (entry_value over.others key) (none ∙ are id size)
 
 pub there_mapped : (found : Option (List ℕ)) → is_some (option_map decoded_tag found) ≡ is_some found
 there_mapped None = refl
@@ -232,15 +212,3 @@ there_mapped (Some value) = refl
 -- a server is listed exactly if it has a row
 pub row_there : (servers : ServerTags) (entries : Entries) (id : Id) → length id ≡ server_id_length → AreServers servers (entry_value entries) → is_some (server_at servers id) ≡ has_entry entries (server_tag_family.prefix ++ id)
 row_there servers entries id size are = ap is_some (are id size) ∙ there_mapped (entry_value entries (key_of id))
-
--- no servers, of no entries
-pub no_servers : (servers : ServerTags) (entries : Entries) → servers ≡ [] → entries ≡ [] → AreServers servers (entry_value entries)
-no_servers servers entries none no_rows id size = ap (λ (list : ServerTags). server_at list id) none ∙ sym (ap (λ (rows : Entries). server_by (entry_value rows) id) no_rows)
-
-pub or_none : (found : Option (List ℕ)) → option_or found None ≡ found
-or_none None = refl
-or_none (Some value) = refl
-
-pub over_none : (entries none : Entries) → none ≡ [] → values_over entries none ≡ entry_value entries
-over_none entries none no_rows =
-    ap (λ (others : Entries). values_over entries others) no_rows ∙ (λ i key. or_none (entry_value entries key) i)

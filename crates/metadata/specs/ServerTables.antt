@@ -1,6 +1,6 @@
 -- The table of the servers' tags that is kept beside the entries, and what brings it up to date.
 use Rattle.std.specs.Prelude.{◌≡◌, ℕ, ◌≤◌, List, ◌++◌, length, true, false, ◌&&◌, Option, ◌⊎◌}
-use Rattle.std.specs.Prelude.{if◌then◌else◌, option_map, option_to_list, bytes_eq}
+use Rattle.std.specs.Prelude.{if◌then◌else◌, flat_map, option_map, option_to_list, bytes_eq}
 use Rattle.std.specs.Option.{is_some, option_flatten}
 use Rattle.std.specs.Result.{result_ok}
 use Rattle.std.specs.Map.{lookup}
@@ -8,9 +8,9 @@ use Rattle.system_keys.specs.declared.tag.Tag.{Tag}
 use Rattle.system_keys.specs.Keys.{Key}
 use Rattle.system_keys.specs.Families.{server_tag_family, server_id_length}
 use Rattle.system_keys.specs.Rows.{Id, tag_at}
-use Rattle.model.specs.Metadata.{Entries, server_tags}
+use Rattle.model.specs.Metadata.{Entries, server_tags, sorted_tags}
 use Rattle.metadata.specs.Overwrites.{is_listed, has_entry}
-use Rattle.metadata.specs.CachedTags.{Values, names_server, values_over}
+use Rattle.metadata.specs.CachedTags.{Names, Values, names_server}
 
 -- servers, each with its tag if it has one
 abbrev pub ServerTags : Type 0
@@ -39,23 +39,25 @@ abbrev pub AreServers : ServerTags → Values → Type 0
 AreServers servers values =
     (id : Id) → length id ≡ server_id_length → server_at servers id ≡ server_by values id
 
+-- the tag listed for a server, if it has one
+abbrev pub tag_listed : ServerTags → Id → List Tag
+tag_listed servers id = option_to_list (option_flatten (server_at servers id))
+
+-- the tags of a keyServers row by what it names, in the order of its value: those listed for the
+-- servers that it names, or those that it lists itself
+abbrev pub gathered : ServerTags → Names → List Tag
+gathered servers names = flat_map (tag_listed servers) names.servers ++ names.tags
+
+-- the tags of a keyServers row by what it names, strictly increasing
+unfoldable pub tags_named : ServerTags → Names → List Tag
+tags_named servers names = sorted_tags (gathered servers names)
+
 -- The tag listed for a server is that which the entries give it. A server may be listed without a
 -- tag though it has no serverTag row.
 abbrev pub GiveTags : ServerTags → Entries → Type 0
 GiveTags servers entries =
     (id : Id) → length id ≡ server_id_length
-    → option_to_list (option_flatten (server_at servers id)) ≡ server_tags entries id
-
--- ---- entries that are put over others
-
--- entries, and others that they are put over
-pub record EntriesOver : Type 0 where
-  pub puts : Entries
-  pub others : Entries
-
--- the value at each key after they are put
-abbrev pub values_after : EntriesOver → Values
-values_after over = values_over over.puts over.others
+    → tag_listed servers id ≡ server_tags entries id
 
 -- ---- serverTag rows that change
 

@@ -5,7 +5,7 @@ use Rattle.model.specs.declared.journal.JournalRow.{JournalRow}
 use Rattle.model.specs.Metadata.{Entries, IsInOrder, AreKept, entry_value}
 use Rattle.model.specs.Metadata.{after_journal_row}
 use Rattle.metadata.specs.Overwrites.{TakesBack, entries_without}
-use Rattle.metadata.specs.CachedTags.{KeyTags, TagsTakeBack, may_tag_some}
+use Rattle.metadata.specs.CachedTags.{KeyNames, NamesTakeBack, may_tag_some}
 use Rattle.metadata.specs.ServerTables.{ServersTakeBack}
 
 -- the metadata after some rows of the journal, one after another
@@ -14,25 +14,25 @@ after_rows entries rows = fold after_journal_row entries rows
 
 -- What contracts see of rows that were started: the keys whose entries are still to be removed; the
 -- keys at which an entry was put and there was none; the entries that were displaced by others; the
--- tags that were displaced; the keys of the serverTag entries that were put; and the lock before the
+-- names that were displaced; the keys of the serverTag entries that were put; and the lock before the
 -- last row.
 pub record Started : Type 0 where
   pub removed : List Key
   pub missing : List Key
   pub displaced : Entries
-  pub tags : List KeyTags
+  pub names : List KeyNames
   pub servers : List Key
   pub locked : Bool
 
 -- The metadata is `now` because rows were started. It was `before`, and what takes back the entries
 -- that were put gives that again; without those that are still to be removed it is `after`. None of
--- these gives a server a tag, so the tags kept for the rows are already those after.
+-- these gives a server a tag, so the tags of the rows are already those after.
 pub record IsStarted (started : Started) (before after now : Entries) : Type 0 where
   pub left : entries_without started.removed now ≡ after
   pub takes : TakesBack started.missing started.displaced before now
   pub order : IsInOrder before
   pub kept : AreKept before
-  pub tags : TagsTakeBack started.tags (entry_value before) (entry_value now)
+  pub names : NamesTakeBack started.names (entry_value before) (entry_value now)
   pub servers : ServersTakeBack started.servers (entry_value before) (entry_value now)
   pub blank : may_tag_some now started.removed ≡ false
 

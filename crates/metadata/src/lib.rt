@@ -7,7 +7,6 @@
 #![tactic(auto)]
 
 mod applying;
-mod changed_tags;
 mod entry_map;
 mod entry_view;
 mod journal_fold;
@@ -15,12 +14,12 @@ mod kept_entries;
 mod key_runs;
 mod key_set;
 mod metadata;
+mod named_rows;
 mod order;
 mod private_copies;
-mod raw_ids;
 mod routes;
+mod row_names;
 mod server_table;
-mod servers_after_puts;
 mod staged;
 mod started;
 mod tag_key;
@@ -35,3 +34,4 @@ pub use metadata::Metadata;
 pub use private_copies::private_of;
 pub use started::StartedRows;
 pub use tagging::tags_of;
+pub use value_tags::RowTags;

@@ -11,38 +11,39 @@ ghost use Rattle.model.specs.Metadata.{IsInOrder, AreKept, entry_value, is_locke
 ghost use Rattle.model.specs.Metadata.{is_applied, after_journal_row, key_servers_entries};
 ghost use Rattle.model.specs.Metadata.{Entries, routing, tags, tags_of_key};
 ghost use Rattle.model.specs.PrivateCopies.{private_copy};
-ghost use Rattle.metadata.specs.CachedTags.{TagsTakeBack, changed_tags, may_tag_some};
+ghost use Rattle.metadata.specs.CachedTags.{NamesTakeBack, may_tag_some};
 ghost use Rattle.metadata.specs.Overwrites.{IsOverwritten, IsPutOver, TakesBack};
 ghost use Rattle.metadata.specs.Overwrites.{entries_without};
 ghost use Rattle.metadata.specs.HiddenRuns.{AreHiddenRuns};
-ghost use Rattle.metadata.specs.ServerTables.{AreServerKeys, ServersTakeBack};
+ghost use Rattle.metadata.specs.ServerTables.{ServersTakeBack};
 ghost use Rattle.metadata.specs.Started.{after_rows, IsStarted, HasStarted};
 
 use crate::applying::{any_applied, only_change};
-use crate::changed_tags::{all_tags, changed_tags};
 use crate::entry_view::EntryView;
 use crate::kept_entries::KeptEntries;
 use crate::key_runs::KeyRuns;
 use crate::key_set::KeySet;
+use crate::named_rows::named_rows;
 use crate::private_copies::private_of;
 use crate::routes::routes;
 use crate::server_table::ServerTable;
-use crate::servers_after_puts::ServersAfterPuts;
 use crate::staged::Staged;
 use crate::started::{Put, StartedRows};
-use crate::tag_map::{TagMap, TagRow};
+use crate::tag_map::TagMap;
 use crate::tagging::{tags_of, tags_of_key};
+use crate::value_tags::RowTags;
 use model::{JournalRow, PrivateCopy, Routing, Version};
 use std::alloc::Global;
 use std::marker::Model;
 use system_keys::{Bytes, Change, Items, KeyRange, OutOfMemory, Tag, is_kept};
 
 /// The kept entries in the order of their keys: which storage servers have which keys, their tags,
-/// the lock, and the version of the metadata (release 7.1); and the tags of each keyServers entry.
+/// the lock, and the version of the metadata (release 7.1); and what each keyServers entry names, and
+/// the tag of each server, so that tags are gathered without reading values.
 #[derive(Drop)]
 pub struct Metadata {
     entries: KeptEntries,
-    /// The tags of each keyServers entry at its key, and no others.
+    /// What each keyServers entry names, at its key, and nothing else.
     tags: TagMap,
     /// The tag of each server that has a serverTag entry.
     servers: ServerTable,
@@ -55,14 +56,14 @@ pub struct Metadata {
 impl Model for Metadata {
     ghost use Rattle.std.specs.Prelude.{◌≡◌, []};
     ghost use Rattle.model.specs.Metadata.{Entries, entry_value};
-    ghost use Rattle.metadata.specs.CachedTags.{AreTags, HaveRows, tags_at};
+    ghost use Rattle.metadata.specs.CachedTags.{AreNames, HaveRows, names_at};
     ghost use Rattle.metadata.specs.ServerTables.{AreServers};
 
     ghost Value = { Entries };
 
     ghost view = { λ m. m.entries };
 
-    ghost invariant = { λ m. AreTags (tags_at m.tags) (entry_value m.entries) × (m.none ≡ []) × AreServers m.servers.tags (entry_value m.entries) × (m.no_runs ≡ []) × HaveRows (tags_at m.tags) (entry_value m.entries) };
+    ghost invariant = { λ m. AreNames (names_at m.tags) (entry_value m.entries) × (m.none ≡ []) × AreServers m.servers.tags (entry_value m.entries) × (m.no_runs ≡ []) × HaveRows (names_at m.tags) (entry_value m.entries) };
 }
 
 impl Metadata {
@@ -79,7 +80,7 @@ impl Metadata {
         }
     }
 
-    /// The entries, with the tags of each and the table of the servers. Fails only with `OutOfMemory`.
+    /// The entries, with what each names and the table of the servers. Fails only with `OutOfMemory`.
     pub(crate) fn of(entries: KeptEntries) -> Result<Metadata, OutOfMemory>
         ensures { IfOk result (λ made. made ≡ entries) }
     {
@@ -87,7 +88,7 @@ impl Metadata {
         let alloc = map.alloc();
         let keys = map.server_tag_keys()?;
         let servers = ServerTable::of(&keys, map)?;
-        let rows = all_tags(map, &servers)?;
+        let rows = named_rows(map, &servers)?;
         let tags = TagMap::of(alloc, rows)?;
         Ok(Metadata {
             entries,
@@ -229,13 +230,13 @@ impl Metadata {
         })
     }
 
-    /// Puts the entries over those of the metadata, with the tags that change. Fails only with
+    /// Puts the entries over those of the metadata, with what they name. Fails only with
     /// `OutOfMemory`; the metadata is then unchanged.
     fn put_over(&mut self, puts: KeptEntries) -> Result<Put, OutOfMemory>
         ensures ok { OnOk result (IsPutOver puts self.old self.new) }
         ensures undo { IfOk result (λ put. TakesBack put.undo.0 put.undo.1 self.old self.new) }
-        ensures tags { IfOk result (λ put.
-            TagsTakeBack put.tags.items (entry_value self.old) (entry_value self.new)) }
+        ensures names { IfOk result (λ put.
+            NamesTakeBack put.names.items (entry_value self.old) (entry_value self.new)) }
         ensures servers { IfOk result (λ put.
             ServersTakeBack put.servers (entry_value self.old) (entry_value self.new)) }
         ensures was_in_order { OnOk result (IsInOrder self.old) }
@@ -244,12 +245,14 @@ impl Metadata {
         ensures kept { OnOk result (AreKept self.new) }
         ensures err { OnErr result (self.new ≡ self.old) }
     {
+        // (gives the proof that the entries are in order)
+        let _others = self.entries.map();
         let servers = puts.map().server_tag_keys()?;
-        let changed = self.changed_by(&puts, &servers)?;
-        let displaced = self.tags.displaced_tags(&changed)?;
+        let named = named_rows(puts.map(), &self.servers)?;
+        let displaced = self.tags.displaced_tags(&named)?;
         self.servers.reserve(&servers)?;
         let undo = self.entries.put_over(puts)?;
-        let Ok(()) = self.tags.put_each(changed) else {
+        let Ok(()) = self.tags.put_each(named) else {
             let added = self.entries.take_back(undo);
             self.tags.take_back(added, displaced);
             return Err(OutOfMemory);
@@ -257,23 +260,9 @@ impl Metadata {
         self.servers.refresh(&servers, self.entries.map());
         Ok(Put {
             undo,
-            tags: displaced,
+            names: displaced,
             servers,
         })
-    }
-
-    /// The tags that change when the entries are put over those of the metadata, by the keys of the
-    /// serverTag entries among them. Fails only with `OutOfMemory`.
-    fn changed_by(&self, puts: &KeptEntries, keys: &KeySet) -> Result<Vec<TagRow>, OutOfMemory>
-        requires { AreServerKeys keys.now puts.now }
-        ensures changed { IfOk result (λ rows. rows.items ≡ changed_tags puts.now self.now) }
-        ensures order { IsInOrder self.now }
-        ensures kept { AreKept self.now }
-    {
-        let others = self.entries.map();
-        let put_servers = ServerTable::of(keys, puts.map())?;
-        let over = ServersAfterPuts::new(puts.map(), &put_servers, others, &self.servers);
-        changed_tags(&over)
     }
 
     /// The entries of the metadata after the rows that were started. Does not allocate.
@@ -323,11 +312,11 @@ impl Metadata {
     {
         let Put {
             undo,
-            tags,
+            names,
             servers,
         } = started.put;
         let missing = self.entries.take_back(undo);
-        self.tags.take_back(missing, tags);
+        self.tags.take_back(missing, names);
         self.servers.refresh(&servers, self.entries.map());
     }
 
@@ -438,21 +427,21 @@ impl Metadata {
             version,
             locked: self.is_locked(),
             metadata_version: self.entries.metadata_version()?,
-            routes: routes(self.entries.map(), &self.tags)?,
+            routes: routes(self.entries.map(), &self.tags, &self.servers)?,
         })
     }
 
-    /// The tags kept for the keyServers entry at this place, in the order of keys and counted from
+    /// The tags of the keyServers entry at this place, in the order of keys and counted from
     /// 0: those of a Set of the key that follows the prefix of its key. None exactly if there are
     /// no more than `place` keyServers entries. Does not allocate; takes a step for each entry before.
-    pub fn cached(&self, place: usize) -> Option<&[Tag]>
-        ensures { option_map (λ tags. tags.now) result
-            ≡ option_map (λ entry. tags_of_key self.now entry.0)
+    pub fn cached(&self, place: usize) -> Option<RowTags<'_>>
+        ensures { result ≡ option_map (λ entry. tags_of_key self.now entry.0)
             (slice_get (key_servers_entries self.now) place) }
     {
         // (gives the proof that the entries are in order)
         let _entries = self.entries.map();
-        self.tags.at_place(place)
+        let names = self.tags.at_place(place)?;
+        Some(RowTags::new(names, &self.servers))
     }
 
     /// Returns a deep copy. Fails only with `OutOfMemory`.

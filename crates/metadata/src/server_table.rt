@@ -2,11 +2,12 @@
 
 ghost use Rattle.std.specs.Prelude.{◌≡◌, ◌+◌, ◌≤◌, ◌++◌, [], ◌∷◌, None, IsSome, IfSome, IfOk, OnOk};
 ghost use Rattle.std.specs.Prelude.{length};
+ghost use Rattle.std.specs.Option.{option_to_list};
 ghost use Rattle.system_keys.specs.Families.{server_id_length, server_tag_family};
 ghost use Rattle.system_keys.specs.Rows.{Id};
 ghost use Rattle.model.specs.Metadata.{entry_value};
 ghost use Rattle.metadata.specs.ServerTables.{server_at, AreRefreshed, AreServers, AreServerKeys};
-ghost use Rattle.metadata.specs.ServerTables.{HasPlaces};
+ghost use Rattle.metadata.specs.ServerTables.{HasPlaces, tag_listed};
 
 use crate::entry_map::EntryMap;
 use crate::key_set::KeySet;
@@ -49,6 +50,25 @@ impl ServerTable {
     {
         let tag = self.tags.get(&server.0)?;
         Some(*tag)
+    }
+
+    /// The tag of a server, if it has one. It is looked for at the place first, and then by its id.
+    /// Does not allocate.
+    pub(crate) fn tag_near(&self, place: u32, server: &ServerId) -> Option<Tag>
+        ensures { option_to_list result ≡ tag_listed self.now.tags server.now }
+    {
+        match self.tags.get_index(place as usize) {
+            Some((id, tag)) if *id == server.0 => *tag,
+            _ => self.get(server).flatten(),
+        }
+    }
+
+    /// Where a server stands, or any place if it is not listed. Does not allocate.
+    pub(crate) fn place_of(&self, server: &ServerId) -> u32 {
+        match self.tags.get_index_of(&server.0) {
+            Some(place) => u32::try_from(place).unwrap_or(0),
+            None => 0,
+        }
     }
 
     /// Makes room for as many servers more as there are keys. Fails only with `OutOfMemory`.

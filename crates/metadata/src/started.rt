@@ -20,11 +20,11 @@ pub struct StartedRows {
     pub(crate) locked: bool,
 }
 
-/// What takes back what was put: the entries, the tags, and the servers.
+/// What takes back what was put: the entries, what rows named, and the servers.
 #[derive(Drop)]
 pub(crate) struct Put {
     pub(crate) undo: Undo,
-    pub(crate) tags: Vec<TagRow>,
+    pub(crate) names: Vec<TagRow>,
     /// The keys of the serverTag entries that were put.
     pub(crate) servers: KeySet,
 }
@@ -38,7 +38,7 @@ impl Model for StartedRows {
       removed = s.removed;
       missing = s.put.undo.0;
       displaced = s.put.undo.1;
-      tags = s.put.tags.items;
+      names = s.put.names.items;
       servers = s.put.servers;
       locked = s.locked;
     } };

@@ -1,7 +1,6 @@
-//! The tags of a change: those kept for the keyServers entries that it touches.
+//! The tags of a change: those of the keyServers entries that it touches.
 
-ghost use Rattle.std.specs.Prelude.{◌≡◌, List, true, false, Some, IfOk, OnOk, filter, fold};
-ghost use Rattle.system_keys.specs.declared.tag.Tag.{Tag};
+ghost use Rattle.std.specs.Prelude.{◌≡◌, true, false, Some, IfOk, OnOk, filter, fold};
 ghost use Rattle.std.specs.List.{flat_map};
 ghost use Rattle.std.specs.Option.{option_to_list};
 ghost use Rattle.std.specs.BTreeSet.{insert_key};
@@ -9,12 +8,15 @@ ghost use Rattle.system_keys.specs.declared.change.Change.TheVariants.{Clear};
 ghost use Rattle.model.specs.Metadata.{key_servers_entries, is_entry_inside, entry_tags};
 ghost use Rattle.model.specs.Metadata.{serving_entry, tags, tags_of_key};
 ghost use Rattle.system_keys.specs.ListedTags.{tag_cmp};
-ghost use Rattle.metadata.specs.CachedTags.{tags_at};
+ghost use Rattle.metadata.specs.CachedTags.{Names, names_at};
 ghost use Rattle.metadata.specs.Overwrites.{is_listed};
+ghost use Rattle.metadata.specs.ServerTables.{tags_named};
 
 use crate::entry_view::EntryView;
 use crate::key_set::KeySet;
-use crate::tag_map::{TagSteps, copy_tags};
+use crate::server_table::ServerTable;
+use crate::tag_map::TagSteps;
+use crate::value_tags::RowTags;
 use std::alloc::Global;
 use std::collections::BTreeSet;
 use system_keys::{Change, Items, KeyRange, OutOfMemory, Tag};
@@ -34,7 +36,7 @@ pub(crate) fn tags_of_key(entries: &EntryView, key: &[u8]) -> Result<Items<Tag>,
     ensures { IfOk result (λ found. found ≡ tags_of_key entries.now key.now) }
 {
     match entries.serving_tags(key)? {
-        Some(tags) => copy_tags(entries.alloc(), tags),
+        Some(tags) => tags.list(entries.alloc()),
         None => Ok(Items::from(Vec::new(entries.alloc()))),
     }
 }
@@ -60,7 +62,7 @@ fn add_tags_of_key(
         (option_to_list (serving_entry (key_servers_entries entries.now) key.now)))) }
 {
     match entries.serving_tags(key)? {
-        Some(list) => add_tags(list, tags),
+        Some(list) => list.add_to(tags),
         None => Ok(()),
     }
 }
@@ -80,7 +82,7 @@ fn add_tags_inside(
     let mut kept = TagSteps::new(entries.tags);
     let mut inside = entries.entries.serving_inside(range)?;
     while let Some((key, _)) = inside.next() {
-        add_unless_hidden(entries.hidden, &mut kept, key, tags)?;
+        add_unless_hidden(entries.hidden, entries.servers, &mut kept, key, tags)?;
         if let Some((_, last)) = entries.runs.run_of(key) {
             inside = entries.entries.serving_after(last, range)?;
         }
@@ -88,9 +90,10 @@ fn add_tags_inside(
     Ok(())
 }
 
-/// Adds the tags kept at a key, if it is not hidden. Fails only with `OutOfMemory`.
+/// Adds the tags of the row at a key, if it is not hidden. Fails only with `OutOfMemory`.
 fn add_unless_hidden(
     hidden: &KeySet,
+    servers: &ServerTable,
     kept: &mut TagSteps<'_>,
     key: &Vec<u8>,
     tags: &mut BTreeSet<Tag>,
@@ -98,9 +101,10 @@ fn add_unless_hidden(
     ensures kept { kept.new ≡ kept.old }
     ensures hides { is_listed hidden.now key.now.items ≡ true
         → OnOk result (tags.new.keys ≡ tags.old.keys) }
-    ensures shows { (some : List Tag) → is_listed hidden.now key.now.items ≡ false
-        → tags_at kept.old key.now.items ≡ Some some
-        → OnOk result (tags.new.keys ≡ fold (insert_key tag_cmp) tags.old.keys some) }
+    ensures shows { (names : Names) → is_listed hidden.now key.now.items ≡ false
+        → names_at kept.old key.now.items ≡ Some names
+        → OnOk result (tags.new.keys
+        ≡ fold (insert_key tag_cmp) tags.old.keys (tags_named servers.now.tags names)) }
 {
     // (also at a hidden key, so that the next one is one step away)
     let there = kept.at(key.as_slice())?;
@@ -108,20 +112,9 @@ fn add_unless_hidden(
         return Ok(());
     }
     match there {
-        Some(list) => add_tags(list, tags),
+        Some(names) => RowTags::new(names, servers).add_to(tags),
         None => Ok(()),
     }
-}
-
-/// Adds the tags. Fails only with `OutOfMemory`.
-fn add_tags(list: &[Tag], tags: &mut BTreeSet<Tag>) -> Result<(), OutOfMemory>
-    ensures { OnOk result (tags.new.keys
-        ≡ fold (insert_key tag_cmp) tags.old.keys list.now) }
-{
-    for tag in list {
-        tags.insert(*tag)?;
-    }
-    Ok(())
 }
 
 /// The tags of a set, in their order. Fails only with `OutOfMemory`.

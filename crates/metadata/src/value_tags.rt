@@ -1,79 +1,121 @@
-//! The tags of a keyServers value: those of the servers that it names, or those that it lists.
+//! The tags of a keyServers row, gathered when they are read.
 
-ghost use Rattle.std.specs.Prelude.{◌≡◌, ◌++◌, IsOk, IfOk, OnOk, fold};
-ghost use Rattle.std.specs.List.{flat_map, list_any};
+ghost use Rattle.std.specs.Prelude.{◌≡◌, IfOk, OnOk, fold};
+ghost use Rattle.std.specs.List.{flat_map};
 ghost use Rattle.std.specs.Option.{option_to_list};
 ghost use Rattle.std.specs.BTreeSet.{insert_key};
-ghost use Rattle.system_keys.specs.declared.refusal.RowFault.{RowFault};
-ghost use Rattle.system_keys.specs.Families.{server_tag_family};
-ghost use Rattle.system_keys.specs.Locations.{location_at};
-ghost use Rattle.model.specs.Metadata.{servers_of, listed_tags};
 ghost use Rattle.system_keys.specs.ListedTags.{tag_cmp};
-ghost use Rattle.metadata.specs.CachedTags.{names_put, tag_by, tags_by};
-ghost use Rattle.metadata.specs.Overwrites.{has_entry};
-ghost use Rattle.metadata.specs.ServerTables.{values_after};
+ghost use Rattle.metadata.specs.ServerTables.{gathered, tag_listed, tags_named};
 
-use crate::raw_ids::may_name_put;
-use crate::servers_after_puts::ServersAfterPuts;
+use crate::row_names::{PLACES, RowNames};
+use crate::server_table::ServerTable;
 use crate::tag_list::TagList;
-use system_keys::{Items, Location, OutOfMemory, RowFault, ServerId, Tag, decode_location};
+use std::alloc::Global;
+use std::collections::BTreeSet;
+use std::marker::Model;
+use system_keys::{Items, Location, OutOfMemory, ServerId, Tag};
 
-/// The tags of a keyServers value after the entries are put over the others, strictly increasing:
-/// those of the servers that it names, or those that it lists. Fails only with `OutOfMemory`.
-#[tactic(auto, unfolding(crate::specs::CachedTags::tags_by))]
-pub(crate) fn value_tags(
-    over: &ServersAfterPuts<'_>,
-    value: &[u8],
-) -> Result<Items<Tag>, OutOfMemory>
-    ensures { IfOk result (λ found. found ≡ tags_by (values_after over.now) value.now) }
-{
-    let mut tags = TagList::new(over.alloc());
-    add_value_tags(over, value, &mut tags)?;
-    Ok(tags.into_items())
+/// The tags of a keyServers row: those of the servers that it names, or those that it lists. They are
+/// gathered when they are read. Contracts see the list of them, strictly increasing.
+#[derive(Drop)]
+pub struct RowTags<'a> {
+    names: &'a RowNames,
+    servers: &'a ServerTable,
 }
 
-/// Adds the tags of the servers that a keyServers value names, its sources and its destinations
-/// (release 7.1), or those that it lists. A value that does not decode has none (this project's
-/// profile).
-///
-/// A value that does not decode does not allocate. Fails only with `OutOfMemory`.
-#[tactic(auto, using(crate::proofs::Tags::named_tags, crate::proofs::Tags::listed_both))]
-fn add_value_tags(
-    over: &ServersAfterPuts<'_>,
-    value: &[u8],
-    tags: &mut TagList,
-) -> Result<(), OutOfMemory>
-    ensures ok { OnOk result (tags.new ≡ fold (insert_key tag_cmp) tags.old
-        (flat_map (tag_by (values_after over.now)) (servers_of value.now)
-        ++ listed_tags value.now)) }
-    ensures no_allocation { (fault : RowFault) → location_at value.now ≡ Err fault → IsOk result }
-{
-    match decode_location(over.alloc(), value) {
-        Ok(Location::Servers(teams)) => {
-            add_server_tags(over, teams.sources(), tags)?;
-            add_server_tags(over, teams.destinations(), tags)
-        }
-        Ok(Location::Tags(teams)) => {
-            tags.add_all(teams.sources())?;
-            tags.add_all(teams.destinations())
-        }
-        Err(RowFault::OutOfMemory) => Err(OutOfMemory),
-        Err(_) => Ok(()),
+impl<'a> Model for RowTags<'a> {
+    ghost use Rattle.std.specs.Prelude.{List};
+    ghost use Rattle.system_keys.specs.declared.tag.Tag.{Tag};
+    ghost use Rattle.metadata.specs.ServerTables.{tags_named};
+
+    ghost Value = { List Tag };
+
+    ghost view = { λ t. tags_named t.servers.now.tags t.names.now };
+}
+
+impl<'a> RowTags<'a> {
+    /// The tags of the servers that are named, by this table, or those that are listed. Does not
+    /// allocate.
+    pub(crate) fn new(names: &'a RowNames, servers: &'a ServerTable) -> RowTags<'a>
+        ensures { result ≡ tags_named servers.now.tags names.now }
+    {
+        RowTags { names, servers }
+    }
+
+    /// The list of the tags. Fails only with `OutOfMemory`.
+    #[tactic(auto, unfolding(crate::specs::ServerTables::tags_named))]
+    pub fn list(&self, alloc: Global) -> Result<Items<Tag>, OutOfMemory>
+        ensures { IfOk result (λ list. list ≡ self.now) }
+    {
+        let mut tags = TagList::new(alloc);
+        gather(self.names, self.servers, &mut tags)?;
+        Ok(tags.into_items())
+    }
+
+    /// Adds the tags to a set. Fails only with `OutOfMemory`; some of them may then be added.
+    pub(crate) fn add_to(&self, tags: &mut BTreeSet<Tag>) -> Result<(), OutOfMemory>
+        ensures { OnOk result (tags.new.keys ≡ fold (insert_key tag_cmp) tags.old.keys self.now) }
+    {
+        gather_into(self.names, self.servers, tags)
     }
 }
 
-/// Adds the tags of the servers. Fails only with `OutOfMemory`.
+/// Adds the tags of the servers that are named, its sources and its destinations (release 7.1), or
+/// those that are listed. Fails only with `OutOfMemory`.
+#[tactic(auto, using(crate::proofs::Tags::named_tags, crate::proofs::Tags::listed_both))]
+fn gather(names: &RowNames, servers: &ServerTable, tags: &mut TagList) -> Result<(), OutOfMemory>
+    ensures { OnOk result (tags.new
+        ≡ fold (insert_key tag_cmp) tags.old (gathered servers.now.tags names.now)) }
+{
+    match &names.location {
+        Some(Location::Servers(teams)) => {
+            add_server_tags(servers, teams.sources(), &names.sources, tags)?;
+            add_server_tags(servers, teams.destinations(), &names.destinations, tags)
+        }
+        Some(Location::Tags(teams)) => {
+            tags.add_all(teams.sources())?;
+            tags.add_all(teams.destinations())
+        }
+        None => Ok(()),
+    }
+}
+
+/// The same, into a set.
+#[tactic(auto, using(crate::proofs::Tags::named_tags, crate::proofs::Tags::listed_both))]
+fn gather_into(
+    names: &RowNames,
+    servers: &ServerTable,
+    tags: &mut BTreeSet<Tag>,
+) -> Result<(), OutOfMemory>
+    ensures { OnOk result (tags.new.keys
+        ≡ fold (insert_key tag_cmp) tags.old.keys (gathered servers.now.tags names.now)) }
+{
+    match &names.location {
+        Some(Location::Servers(teams)) => {
+            put_server_tags(servers, teams.sources(), &names.sources, tags)?;
+            put_server_tags(servers, teams.destinations(), &names.destinations, tags)
+        }
+        Some(Location::Tags(teams)) => {
+            put_tags(teams.sources(), tags)?;
+            put_tags(teams.destinations(), tags)
+        }
+        None => Ok(()),
+    }
+}
+
+/// Adds the tags of the servers, which may stand at these places. Fails only with `OutOfMemory`.
 #[tactic(auto, using(crate::proofs::Tags::next_tags))]
 fn add_server_tags(
-    over: &ServersAfterPuts<'_>,
+    table: &ServerTable,
     servers: &[ServerId],
+    places: &[u32; PLACES],
     tags: &mut TagList,
 ) -> Result<(), OutOfMemory>
     ensures { OnOk result (tags.new ≡ fold (insert_key tag_cmp) tags.old
-        (flat_map (tag_by (values_after over.now)) servers.now)) }
+        (flat_map (tag_listed table.now.tags) servers.now)) }
 {
-    for server in servers {
-        add_tag(tags, over.tag(server))?;
+    for (number, server) in servers.iter().enumerate() {
+        add_tag(tags, table.tag_near(place_at(places, number), server))?;
     }
     Ok(())
 }
@@ -88,34 +130,48 @@ fn add_tag(tags: &mut TagList, tag: Option<Tag>) -> Result<(), OutOfMemory>
     Ok(())
 }
 
-/// Whether a keyServers value names a server of which an entry is put; a value that lists tags and one
-/// that does not decode name none. Allocates only for a value that decodes, and among whose ids one of
-/// such a server stands. Fails only with `OutOfMemory`.
-pub(crate) fn names_put(over: &ServersAfterPuts<'_>, value: &[u8]) -> Result<bool, OutOfMemory>
-    ensures { IfOk result (λ named. named ≡ names_put over.now.puts value.now) }
+/// Adds the tags of the servers, which may stand at these places, to a set. Fails only with
+/// `OutOfMemory`.
+fn put_server_tags(
+    table: &ServerTable,
+    servers: &[ServerId],
+    places: &[u32; PLACES],
+    tags: &mut BTreeSet<Tag>,
+) -> Result<(), OutOfMemory>
+    ensures { OnOk result (tags.new.keys ≡ fold (insert_key tag_cmp) tags.old.keys
+        (flat_map (tag_listed table.now.tags) servers.now)) }
 {
-    if !may_name_put(over, value) {
-        return Ok(false);
+    for (number, server) in servers.iter().enumerate() {
+        put_tag(tags, table.tag_near(place_at(places, number), server))?;
     }
-    match decode_location(over.alloc(), value) {
-        Ok(Location::Servers(teams)) => {
-            Ok(any_put(over, teams.sources()) || any_put(over, teams.destinations()))
-        }
-        Ok(Location::Tags(_)) => Ok(false),
-        Err(RowFault::OutOfMemory) => Err(OutOfMemory),
-        Err(_) => Ok(false),
-    }
+    Ok(())
 }
 
-/// Whether an entry of one of these servers is put.
-fn any_put(over: &ServersAfterPuts<'_>, servers: &[ServerId]) -> bool
-    ensures { result
-        ≡ list_any (λ id. has_entry over.now.puts (server_tag_family.prefix ++ id)) servers.now }
+fn put_tag(tags: &mut BTreeSet<Tag>, tag: Option<Tag>) -> Result<(), OutOfMemory>
+    ensures { OnOk result (tags.new.keys
+        ≡ fold (insert_key tag_cmp) tags.old.keys (option_to_list tag)) }
 {
-    for server in servers {
-        if over.is_put(server) {
-            return true;
-        }
+    if let Some(tag) = tag {
+        tags.insert(tag)?;
     }
-    false
+    Ok(())
+}
+
+/// Adds the tags to a set. Fails only with `OutOfMemory`.
+fn put_tags(list: &[Tag], tags: &mut BTreeSet<Tag>) -> Result<(), OutOfMemory>
+    ensures { OnOk result (tags.new.keys
+        ≡ fold (insert_key tag_cmp) tags.old.keys list.now) }
+{
+    for tag in list {
+        tags.insert(*tag)?;
+    }
+    Ok(())
+}
+
+/// The place at this number, and 0 where none is remembered.
+fn place_at(places: &[u32; PLACES], number: usize) -> u32 {
+    match places.get(number) {
+        Some(place) => *place,
+        None => 0,
+    }
 }

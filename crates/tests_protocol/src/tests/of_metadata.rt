@@ -7,7 +7,7 @@ use crate::tests::{Copied, copy_of};
 use proxy_state::{JournalRow, Metadata, Verdict};
 use std::process::Abort;
 use std::test::Fail;
-use system_keys::{Change, OutOfMemory, Tag};
+use system_keys::{Change, Items, OutOfMemory, Tag};
 use testing::{MutationLine, StateLine, change, journal_row, twice, twice_on};
 
 const ROW_OF_B: &[u8] = b"\xff/keyServers/b";
@@ -45,23 +45,57 @@ fn has_entries(metadata: &Metadata, entries: Entries) -> bool {
     true
 }
 
-fn has_cached(metadata: &Metadata, cached: Cached) -> bool {
+/// The tags kept at the place, if there are some.
+fn cached_at<R: AllocGlobal>(
+    rt: &R,
+    metadata: &Metadata,
+    place: usize,
+) -> Result<Option<Items<Tag>>, OutOfMemory> {
+    match metadata.cached(place) {
+        Some(tags) => Ok(Some(tags.list(rt.alloc())?)),
+        None => Ok(None),
+    }
+}
+
+fn are_these(found: &Option<Items<Tag>>, tags: Option<&[Tag]>) -> bool {
+    match found {
+        Some(list) => Some(list.as_slice()) == tags,
+        None => tags.is_none(),
+    }
+}
+
+fn has_cached<R: AllocGlobal>(
+    rt: &R,
+    metadata: &Metadata,
+    cached: Cached,
+) -> Result<bool, OutOfMemory> {
     for (place, tags) in cached.iter().enumerate() {
-        if metadata.cached(place) != *tags {
-            return false;
+        if !are_these(&cached_at(rt, metadata, place)?, *tags) {
+            return Ok(false);
         }
     }
-    true
+    Ok(true)
 }
 
 /// Whether both have the same value, or none, at each key of these tests, and the same kept tags.
-fn are_same(metadata: &Metadata, other: &Metadata) -> bool {
+fn are_same<R: AllocGlobal>(
+    rt: &R,
+    metadata: &Metadata,
+    other: &Metadata,
+) -> Result<bool, OutOfMemory> {
     for (place, key) in KEYS.iter().enumerate() {
-        if metadata.row(*key) != other.row(*key) || metadata.cached(place) != other.cached(place) {
-            return false;
+        let tags = cached_at(rt, other, place)?;
+        let tags = match &tags {
+            Some(list) => Some(list.as_slice()),
+            None => None,
+        };
+        if metadata.row(*key) != other.row(*key)
+            || !are_these(&cached_at(rt, metadata, place)?, tags)
+        {
+            return Ok(false);
         }
     }
-    true
+    Ok(true)
 }
 
 impl Copied for Metadata {
@@ -95,7 +129,7 @@ fn apply_after<R: Abort + AllocGlobal, A: Applied>(
     before: &Metadata,
     applied: &A,
 ) -> Result<(), OutOfMemory> {
-    twice_on!(rt; are_same(metadata, before), applied.apply_to(metadata), OutOfMemory)
+    twice_on!(rt; are_same(rt, metadata, before)?, applied.apply_to(metadata), OutOfMemory)
 }
 
 /// Applies this. A failed allocation leaves the metadata unchanged.
@@ -216,7 +250,7 @@ const STAGES: &[Stage] = &[
 fn pass_stages<R: Abort + AllocGlobal>(rt: &R, metadata: &mut Metadata) -> Result<(), Fail> {
     for (place, (steps, entries, cached)) in STAGES.iter().enumerate() {
         apply_all(rt, metadata, *steps)?;
-        let has_both = has_entries(metadata, *entries) && has_cached(metadata, *cached);
+        let has_both = has_entries(metadata, *entries) && has_cached(rt, metadata, *cached)?;
         assert!(rt; has_both, "after stage {place}");
     }
     Ok(())
@@ -230,7 +264,7 @@ fn pass_stages_alone<R: Abort + AllocGlobal>(
 ) -> Result<(), Fail> {
     pass_stages(rt, metadata)?;
     assert!(rt; has_entries(copy, OF_TWO_SERVERS));
-    assert!(rt; has_cached(copy, CACHED_OF_TWO_SERVERS));
+    assert!(rt; has_cached(rt, copy, CACHED_OF_TWO_SERVERS)?);
     Ok(())
 }
 
@@ -440,6 +474,15 @@ const TAGS_AFTER_KEYS: &[(MutationLine<'static>, Cached)] = &[
         MutationLine::Set(TAG_ROW_2, b"\x00\x00\x00"),
         &[Some(&[TAG_1]), Some(&[TAG_0, TAG_1]), None],
     ),
+    // a server that is gone and comes again, so that both are listed in the other order
+    (
+        MutationLine::Clear(TAG_ROW_1, TAG_ROW_2),
+        &[Some(&[]), Some(&[TAG_0]), None],
+    ),
+    (
+        MutationLine::Set(TAG_ROW_1, b"\x00\x00\x02"),
+        &[Some(&[TAG_2]), Some(&[TAG_0, TAG_2]), None],
+    ),
     (
         MutationLine::Clear(b"\xff/serverTag/", b"\xff/serverTag0"),
         &[Some(&[]), Some(&[]), None],
@@ -452,7 +495,10 @@ fn pass_tags_after_keys<R: Abort + AllocGlobal>(
 ) -> Result<(), Fail> {
     for (place, (step, cached)) in TAGS_AFTER_KEYS.iter().enumerate() {
         apply_states(rt, metadata, &[(&[COMMITTED], (&[*step], false))])?;
-        assert!(rt; has_cached(metadata, *cached), "the tags after row {place}");
+        assert!(rt;
+            has_cached(rt, metadata, *cached)?,
+            "the tags after row {place}"
+        );
     }
     Ok(())
 }

@@ -2,7 +2,7 @@
 use Rattle.std.proofs.Common.{◌∙◌, ◌++◌, sym, ap, subst, append-nil, Some, ℕ, List}
 use Rattle.std.specs.Global.{Vec}
 use Rattle.model.specs.Metadata.{Entries, entry_value}
-use Rattle.metadata.specs.CachedTags.{KeyTags, AreTags, tags_at}
+use Rattle.metadata.specs.CachedTags.{KeyNames, AreNames, names_at}
 use Rattle.metadata.specs.MapEntries.{entry_from, entries_of}
 use Rattle.metadata.proofs.KeptTags.{all_rows, row_first, rows_rest}
 use Rattle.metadata.specs.OwnRoutes.{own_routes}
@@ -27,7 +27,7 @@ loop-key-init c =
     }
 
 pub add_route-requires-clause-are : goal.add_route-requires-clause-are
-add_route-requires-clause-are c = subst (λ (kept : List KeyTags). AreTags (tags_at kept) (entry_value c.args.entries.now)) (sym c.loop-key.invariant.kept) c.requires
+add_route-requires-clause-are c = subst (λ (kept : List KeyNames). AreNames (names_at kept) (entry_value c.args.entries.now)) (sym c.loop-key.invariant.kept) c.requires.names
 
 pub add_route-requires-clause-there : goal.add_route-requires-clause-there
 add_route-requires-clause-there c =

@@ -1,11 +1,13 @@
--- A turn of the loop adds the tags kept for a row, unless it is hidden, and goes on after the run that the row is in.
-use Rattle.std.proofs.Common.{◌∙◌, ap, sym, Some, flat_map, filter, ℕ, List}
+-- A turn of the loop adds the tags of a row, unless it is hidden, and goes on after the run that the row is in.
+use Rattle.std.proofs.Common.{◌∙◌, ap, sym, subst, flat_map, filter, ℕ, List}
 use Rattle.std.specs.Global.{Vec}
-use Rattle.model.specs.Metadata.{Entries, entry_value, entry_tags}
+use Rattle.model.specs.Metadata.{Entries, entry_tags}
+use Rattle.metadata.specs.ServerTables.{GiveTags}
+use Rattle.metadata.proofs.GatheredTags.{tags_gathered}
 use Rattle.metadata.specs.MapEntries.{entry_from, entries_of, is_serving_inside}
-use Rattle.metadata.specs.CachedTags.{KeyTags, tags_at, tags_by}
+use Rattle.metadata.specs.CachedTags.{KeyNames, names_at, names_by}
 use Rattle.metadata.proofs.Tags.{added}
-use Rattle.metadata.proofs.KeptTags.{rows_passing, key_servers_passing, row_first, own_first, rows_rest, own_rest, tags_shown_at, row_added}
+use Rattle.metadata.proofs.KeptTags.{rows_passing, key_servers_passing, row_first, own_first, rows_rest, own_rest, names_shown_at, row_added}
 use Rattle.metadata.specs.HiddenRuns.{Run, is_serving_after}
 use Rattle.metadata.proofs.HiddenRuns.{whole_back, back_stepped, inside_rows, IsJumpOn, jump_on, jump_on_fewer, one_run, run_inside, own_after}
 use Rattle.metadata.proofs.ServingEntries.{is_left, tags_left, inside_next}
@@ -28,16 +30,17 @@ loop-key-preserved c =
     let entry : Vec ℕ × List ℕ = (c.in-Some.key.now, c.in-Some.field-0-1.now) in
     let steps = c.in-Some.ensures.steps in
     let view = c.args.entries.now in
+    let servers = c.entries.inside.servers.now.tags in
     let rows = row_first c.entries.inside.entries.now entry c.next.new.self c.loop-key.inside steps c.loop-key.invariant.rows in
     let own = own_first entry c.next.new.self c.loop-key.inside steps c.loop-key.invariant.own in
     let so_far =
     inside_next view (entries_of c.next.new.self) c.entries.inside.hidden.now (entry_from entry) c.loop-key.tags.keys c.add_unless_hidden.new.tags.keys _
     (λ hides. c.in_ok-add_unless_hidden.ensures.hides hides)
     (λ shows.
-    c.in_ok-add_unless_hidden.ensures.shows (tags_by (entry_value view) c.in-Some.field-0-1.now) shows
-    (ap (λ (rows : List KeyTags). tags_at rows c.in-Some.key.now.items) c.loop-key.invariant.kept
-    ∙ tags_shown_at c.entries.inside.hidden.now c.entries.inside.entries.now (tags_at c.entries.inside.tags.now) (entry_from entry) c.entries.invariant.0 shows rows own
-    ∙ ap (λ (entries : Entries). Some (tags_by (entry_value entries) c.in-Some.field-0-1.now)) c.entries.view_is)
+    c.in_ok-add_unless_hidden.ensures.shows (names_by c.in-Some.field-0-1.now) shows
+    (ap (λ (rows : List KeyNames). names_at rows c.in-Some.key.now.items) c.loop-key.invariant.kept
+    ∙ names_shown_at c.entries.inside.hidden.now c.entries.inside.entries.now (names_at c.entries.inside.tags.now) (entry_from entry) c.entries.invariant.0 shows rows own)
+    ∙ ap (added c.loop-key.tags.keys) (tags_gathered servers view c.in-Some.field-0-1.now (subst (GiveTags servers) c.entries.view_is c.entries.invariant.2))
     ∙ row_added view c.loop-key.tags.keys (entry_from entry))
     (ap (λ (es : List (Vec ℕ × List ℕ)). added c.loop-key.tags.keys (flat_map (entry_tags view) (filter (is_left c.entries.inside.hidden.now) (entries_of es)))) (sym steps) ∙ c.loop-key.invariant.added) in
     record {
@@ -65,16 +68,17 @@ loop-key-preserved-in-Some-run_of c =
     let entry : Vec ℕ × List ℕ = (c.in-Some.key.now, c.in-Some.field-0-1.now) in
     let steps = c.in-Some.ensures.steps in
     let view = c.args.entries.now in
+    let servers = c.entries.inside.servers.now.tags in
     let rows = row_first c.entries.inside.entries.now entry c.next.new.self c.loop-key.inside steps c.loop-key.invariant.rows in
     let own = own_first entry c.next.new.self c.loop-key.inside steps c.loop-key.invariant.own in
     let so_far =
     inside_next view (entries_of c.next.new.self) c.entries.inside.hidden.now (entry_from entry) c.loop-key.tags.keys c.add_unless_hidden.new.tags.keys _
     (λ hides. c.in_ok-add_unless_hidden.ensures.hides hides)
     (λ shows.
-    c.in_ok-add_unless_hidden.ensures.shows (tags_by (entry_value view) c.in-Some.field-0-1.now) shows
-    (ap (λ (rows : List KeyTags). tags_at rows c.in-Some.key.now.items) c.loop-key.invariant.kept
-    ∙ tags_shown_at c.entries.inside.hidden.now c.entries.inside.entries.now (tags_at c.entries.inside.tags.now) (entry_from entry) c.entries.invariant.0 shows rows own
-    ∙ ap (λ (entries : Entries). Some (tags_by (entry_value entries) c.in-Some.field-0-1.now)) c.entries.view_is)
+    c.in_ok-add_unless_hidden.ensures.shows (names_by c.in-Some.field-0-1.now) shows
+    (ap (λ (rows : List KeyNames). names_at rows c.in-Some.key.now.items) c.loop-key.invariant.kept
+    ∙ names_shown_at c.entries.inside.hidden.now c.entries.inside.entries.now (names_at c.entries.inside.tags.now) (entry_from entry) c.entries.invariant.0 shows rows own)
+    ∙ ap (added c.loop-key.tags.keys) (tags_gathered servers view c.in-Some.field-0-1.now (subst (GiveTags servers) c.entries.view_is c.entries.invariant.2))
     ∙ row_added view c.loop-key.tags.keys (entry_from entry))
     (ap (λ (es : List (Vec ℕ × List ℕ)). added c.loop-key.tags.keys (flat_map (entry_tags view) (filter (is_left c.entries.inside.hidden.now) (entries_of es)))) (sym steps) ∙ c.loop-key.invariant.added) in
     record {

@@ -1,17 +1,23 @@
--- Where nothing is hidden, the last of the rows up to the key serves it.
-use Rattle.std.proofs.Common.{◌∙◌, ap}
+-- The tags of the row that serves the key are gathered by what it names.
+use Rattle.std.proofs.Common.{◌≡◌, ◌∙◌, ap, sym, subst, Some, None, Option}
 use Rattle.std.specs.Option.{option_map}
-use Rattle.model.specs.Metadata.{Entry, Entries, entry_value, serving_entry, key_servers_entries}
-use Rattle.metadata.specs.CachedTags.{tags_by}
-use Rattle.metadata.proofs.Outcomes.{if_ok_both}
-use Rattle.metadata.proofs.ExactTags.{serving_known}
+use Rattle.model.specs.Metadata.{Entries, serving_entry, key_servers_entries}
+use Rattle.metadata.specs.CachedTags.{Names}
+use Rattle.metadata.specs.ServerTables.{GiveTags, tags_named}
+use Rattle.metadata.proofs.GatheredTags.{found_gathered}
 use Rattle.metadata.proofs.entry_view.EntryView.serving_tags.Goals as goal
 
-pub returns-then-is_empty : goal.returns-then-is_empty
-returns-then-is_empty c =
-    if_ok_both c.serving.result _ _
-    (λ found is rise.
-    is
-    ∙ serving_known c.self.inside.tags.now c.self.inside.hidden.now c.self.inside.entries.now c.args.key.now (c.is_empty.ensures c.if-is_empty.true) rise c.self.invariant.4 c.self.invariant.0 c.self.invariant.3
-    ∙ ap (λ (entries : Entries). option_map (λ (entry : Entry). tags_by (entry_value entries) entry.1) (serving_entry (key_servers_entries entries) c.args.key.now)) c.self.view_is)
-    c.serving.ensures.found c.serving.ensures.rise
+pub returns-in-Some : goal.returns-in-Some
+returns-in-Some c =
+    let servers = c.self.inside.servers.now.tags in
+    let give = subst (GiveTags servers) c.self.view_is c.self.invariant.2 in
+    ap Some c.new.ensures
+    ∙ found_gathered servers c.args.self.now (Some c.in-Some.names.now) (serving_entry (key_servers_entries c.args.self.now) c.args.key.now) give
+    (ap (option_map (λ names. names.now)) (sym c.in-Some.is) ∙ c.in_ok-names.ensures)
+
+pub returns-in-None : goal.returns-in-None
+returns-in-None c =
+    let servers = c.self.inside.servers.now.tags in
+    let give = subst (GiveTags servers) c.self.view_is c.self.invariant.2 in
+    found_gathered servers c.args.self.now None (serving_entry (key_servers_entries c.args.self.now) c.args.key.now) give
+    (ap (option_map (λ names. names.now)) (sym c.in-None.is) ∙ c.in_ok-names.ensures)

@@ -8,7 +8,7 @@ returns-clause-ok c = λ after order over. record {
   takes = c.in_ok-put.ensures.undo;
   order = c.in_ok-put.ensures.was_in_order;
   kept = c.in_ok-put.ensures.was_kept;
-  tags = c.in_ok-put.ensures.tags;
+  names = c.in_ok-put.ensures.names;
   servers = c.in_ok-put.ensures.servers;
   blank = blanked_no_tag c.keys_lacked-removed.result c.args.staged.puts c.blank.new.self c.args.self.now c.put_over.new.self c.in_ok-blank.ensures c.in_ok-put.ensures.ok c.in_ok-put.ensures.kept;
 }

@@ -1,13 +1,13 @@
--- The entries, the tags and the servers are those before.
+-- The entries, what rows name and the servers are those before.
 use Rattle.std.proofs.Common.{◌≡◌, sym, subst}
 use Rattle.model.specs.Metadata.{Entries, entry_value}
 use Rattle.metadata.specs.MapEntries.{bytes_of_keys}
 use Rattle.metadata.specs.Started.{Started}
 use Rattle.metadata.specs.Overwrites.{TakesBack}
-use Rattle.metadata.specs.CachedTags.{tags_at, TagsTakeBack}
+use Rattle.metadata.specs.CachedTags.{names_at, NamesTakeBack}
 use Rattle.metadata.specs.ServerTables.{AreRefreshed, ServersTakeBack}
 use Rattle.metadata.proofs.MetadataServers.{places_taken_back, servers_taken_back}
-use Rattle.metadata.proofs.MetadataTags.{tags_taken_back, only_rows_back}
+use Rattle.metadata.proofs.MetadataTags.{names_taken_back, only_rows_back}
 use Rattle.metadata.proofs.metadata.Metadata.take_back_rows.Goals as goal
 
 pub invariant_of-self : goal.invariant_of-self
@@ -15,12 +15,12 @@ invariant_of-self c =
     let takes : TakesBack c.started.inside.put.undo.0 c.started.inside.put.undo.1 c.requires.before c.self.inside.entries =
     subst (λ (started : Started). TakesBack started.missing started.displaced c.requires.before c.self.inside.entries) (sym c.started.view_is)
     (subst (λ (entries : Entries). TakesBack c.args.started.missing c.args.started.displaced c.requires.before entries) (sym c.self.view_is) c.requires.is.takes) in
-    let tags : TagsTakeBack c.started.inside.put.tags.items (entry_value c.requires.before) (entry_value c.self.inside.entries) =
-    subst (λ (started : Started). TagsTakeBack started.tags (entry_value c.requires.before) (entry_value c.self.inside.entries)) (sym c.started.view_is)
-    (subst (λ (entries : Entries). TagsTakeBack c.args.started.tags (entry_value c.requires.before) (entry_value entries)) (sym c.self.view_is) c.requires.is.tags) in
+    let names : NamesTakeBack c.started.inside.put.names.items (entry_value c.requires.before) (entry_value c.self.inside.entries) =
+    subst (λ (started : Started). NamesTakeBack started.names (entry_value c.requires.before) (entry_value c.self.inside.entries)) (sym c.started.view_is)
+    (subst (λ (entries : Entries). NamesTakeBack c.args.started.names (entry_value c.requires.before) (entry_value entries)) (sym c.self.view_is) c.requires.is.names) in
     let same : c.take_back-missing.new.self ≡ c.requires.before = c.take_back-missing.ensures.old c.requires.before c.requires.is.order takes in (
-      tags_taken_back (bytes_of_keys c.take_back-missing.result.items) c.started.inside.put.undo.0 c.started.inside.put.undo.1 c.requires.before c.self.inside.entries c.take_back-missing.new.self c.started.inside.put.tags.items
-          (tags_at c.self.inside.tags) (tags_at c.take_back.new.self) c.take_back-missing.ensures.missing takes tags same c.take_back.ensures c.self.invariant.0,
+      names_taken_back (bytes_of_keys c.take_back-missing.result.items) c.started.inside.put.undo.0 c.started.inside.put.undo.1 c.requires.before c.self.inside.entries c.take_back-missing.new.self c.started.inside.put.names.items
+          (names_at c.self.inside.tags) (names_at c.take_back.new.self) c.take_back-missing.ensures.missing takes names same c.take_back.ensures c.self.invariant.0,
       c.self.invariant.1,
       servers_taken_back c.started.inside.put.servers c.requires.before c.self.inside.entries c.take_back-missing.new.self c.self.inside.servers.tags c.refresh.new.self.tags
           (subst (λ (started : Started). ServersTakeBack started.servers (entry_value c.requires.before) (entry_value c.self.inside.entries)) (sym c.started.view_is)
@@ -29,8 +29,8 @@ invariant_of-self c =
           (subst (λ (entries : Entries). AreRefreshed c.started.inside.put.servers (entry_value entries) c.self.inside.servers.tags c.refresh.new.self.tags) c.map.ensures.entries c.refresh.ensures)
           c.self.invariant.2,
       c.self.invariant.3,
-      only_rows_back (bytes_of_keys c.take_back-missing.result.items) c.started.inside.put.undo.0 c.started.inside.put.undo.1 c.requires.before c.self.inside.entries c.take_back-missing.new.self c.started.inside.put.tags.items
-          (tags_at c.self.inside.tags) (tags_at c.take_back.new.self) c.take_back-missing.ensures.missing takes tags same c.take_back.ensures c.self.invariant.0 c.self.invariant.4,
+      only_rows_back (bytes_of_keys c.take_back-missing.result.items) c.started.inside.put.undo.0 c.started.inside.put.undo.1 c.requires.before c.self.inside.entries c.take_back-missing.new.self c.started.inside.put.names.items
+          (names_at c.self.inside.tags) (names_at c.take_back.new.self) c.take_back-missing.ensures.missing takes names same c.take_back.ensures c.self.invariant.0 c.self.invariant.4,
     )
 
 pub refresh-requires : goal.refresh-requires

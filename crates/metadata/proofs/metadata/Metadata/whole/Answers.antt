@@ -2,7 +2,7 @@
 use Rattle.std.proofs.Common.{◌∙◌, sym, subst}
 use Rattle.model.specs.Metadata.{Entries, entry_value}
 use Rattle.metadata.specs.Overwrites.{entries_without}
-use Rattle.metadata.specs.CachedTags.{AreTags, tags_at}
+use Rattle.metadata.specs.CachedTags.{AreNames, names_at}
 use Rattle.metadata.specs.HiddenRuns.{AreHiddenRuns}
 use Rattle.metadata.specs.ServerTables.{GiveTags}
 use Rattle.metadata.proofs.EntriesLeft.{without_none}
@@ -12,8 +12,8 @@ use Rattle.metadata.proofs.metadata.Metadata.whole.Goals as goal
 
 pub new-requires-clause-tags : goal.new-requires-clause-tags
 new-requires-clause-tags c =
-    subst (λ (entries : Entries). AreTags (tags_at c.self.inside.tags) (entry_value (entries_without c.self.inside.none entries))) (sym c.map-entries.ensures.entries)
-    (none_hidden c.self.inside.none c.self.inside.entries (tags_at c.self.inside.tags) c.self.invariant.1 c.self.invariant.0)
+    subst (λ (entries : Entries). AreNames (names_at c.self.inside.tags) (entry_value (entries_without c.self.inside.none entries))) (sym c.map-entries.ensures.entries)
+    (none_hidden c.self.inside.none c.self.inside.entries (names_at c.self.inside.tags) c.self.invariant.1 c.self.invariant.0)
 
 pub new-requires-clause-runs : goal.new-requires-clause-runs
 new-requires-clause-runs c = subst (AreHiddenRuns c.self.inside.none c.map-entries.result.now) (sym c.self.invariant.3) tt

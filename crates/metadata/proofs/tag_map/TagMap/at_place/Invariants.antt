@@ -3,5 +3,5 @@ use Rattle.std.proofs.Common.{◌≡◌, slice_get}
 use Rattle.metadata.specs.TagEntries.{rows_of}
 use Rattle.metadata.proofs.tag_map.TagMap.at_place.Given as goal
 
-abbrev pub invariant-loop-tags : goal.invariant-loop-tags
-invariant-loop-tags l = slice_get (rows_of l.tags-iterator) l.before ≡ slice_get l.self l.place
+abbrev pub invariant-loop-names : goal.invariant-loop-names
+invariant-loop-names l = slice_get (rows_of l.names-iterator) l.before ≡ slice_get l.self l.place
