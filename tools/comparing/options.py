@@ -90,7 +90,8 @@ def add_ends(add):
     add("--keep-going", type=count, default=1, metavar="N", help="stops at the Nth difference [default: 1]")
     add(
         "--json", action="store_true",
-        help="prints one JSON object on a line for each difference, and all else on standard error",
+        help="prints one JSON object on a line for each difference (name, mode, source, kind, line, script, right, "
+             "theirs, status, explanation, folder), and all else on standard error",
     )
     add("--folder", default=FOLDER, help="where scripts and texts that differ are left [default: out/compare]")
     add(

@@ -19,7 +19,7 @@ ABOUT = (
     "whom that asks, and what decided a refusal. A text of threads says less, and its pictures show less. The pages are "
     "HTML files:",
     "open them in a browser, from a copy of the repository. `tools/picture --all` writes them and the diagram",
-    "[two_proxies.svg](turns_two_proxies.svg), and [you can draw your own](../USING.md#drawing-a-script).",
+    "[two_proxies.svg](turns_two_proxies.svg), and [you can draw your own](../../examples/README.md#drawing-a-script).",
 )
 INDEX = """# Pictures
 

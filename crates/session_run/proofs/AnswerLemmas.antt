@@ -29,12 +29,12 @@ pub faulty_state : (state : State) (asked : Result Line ScriptFault) (fault : Sc
 faulty_state state asked fault is = sym (ap (after_read state) is)
 
 -- what was printed for a line with a fault, and the state after it
-pub faulty_printed : {P O : Type 0} {has_printed : P → O → List ℕ → Type 0} (state : State) (asked : Result Line ScriptFault) (fault : ScriptFault) (result : Result (Unit {0}) OutOfMemory) (old new : P)
+pub faulty_printed : {P O : Type 0} (has_printed : P → O → List ℕ → Type 0) (state : State) (asked : Result Line ScriptFault) (fault : ScriptFault) (result : Result (Unit {0}) OutOfMemory) (old new : P)
     → IsFaultIfAllocated (script_fault fault) asked → OnOk result (IsSome (fault_number fault)) → OnOk result (Prints has_printed old new (with_empty_line (refused_output fault).text))
     → OnOk result (Prints has_printed old new (with_empty_line (read_text state asked)))
-faulty_printed state asked fault (Ok done) old new fails numbered printed =
+faulty_printed has_printed state asked fault (Ok done) old new fails numbered printed =
     prints_as printed (ap with_empty_line (sym (faulty_text state asked fault (fault_is asked fault fails numbered))))
-faulty_printed state asked fault (Err memory) old new fails numbered printed = tt
+faulty_printed has_printed state asked fault (Err memory) old new fails numbered printed = tt
 
 pub faulty_after : (state : State) (asked : Result Line ScriptFault) (fault : ScriptFault) (result : Result (Unit {0}) OutOfMemory)
     → IsFaultIfAllocated (script_fault fault) asked → OnOk result (IsSome (fault_number fault)) → OnOk result (state ≡ after_read state asked)

@@ -10,24 +10,24 @@ use Rattle.session_run.specs.declared.line.RawLine.{RawLine}
 -- it is an event, or memory is out
 pub reads_event : (read : Result RawLine ScriptFault) (event other : Option RawLine) → IsReadAs (λ found. found) read (or_bad_shape event) → is_bad_shape read ≡ false
     → IsReadAs (λ found. found) read (or_bad_shape (first_line event other))
-reads_event (Ok line) None other is no = cc
-reads_event (Ok line) (Some found) other is no = is
-reads_event (Err faults.NotJson) None other is no = cc
-reads_event (Err faults.NotJson) (Some found) other is no = cc
-reads_event (Err faults.BadShape) event other is no = cc
-reads_event (Err (faults.Refused refusal)) None other is no = cc
-reads_event (Err (faults.Refused refusal)) (Some found) other is no = cc
-reads_event (Err faults.NoSuchResolver) None other is no = cc
-reads_event (Err faults.NoSuchResolver) (Some found) other is no = cc
-reads_event (Err faults.OutOfMemory) event other is no = tt
+reads_event (Ok line) None other is differs = cc
+reads_event (Ok line) (Some found) other is differs = is
+reads_event (Err faults.NotJson) None other is differs = cc
+reads_event (Err faults.NotJson) (Some found) other is differs = cc
+reads_event (Err faults.BadShape) event other is differs = cc
+reads_event (Err (faults.Refused refusal)) None other is differs = cc
+reads_event (Err (faults.Refused refusal)) (Some found) other is differs = cc
+reads_event (Err faults.NoSuchResolver) None other is differs = cc
+reads_event (Err faults.NoSuchResolver) (Some found) other is differs = cc
+reads_event (Err faults.OutOfMemory) event other is differs = tt
 
 -- it is no event
 pub reads_other : (read : Result RawLine ScriptFault) (event other : Option RawLine) (result : Result RawLine ScriptFault) → IsReadAs (λ found. found) read (or_bad_shape event) → is_bad_shape read ≡ true
     → IsReadAs (λ found. found) result (or_bad_shape other) → IsReadAs (λ found. found) result (or_bad_shape (first_line event other))
-reads_other (Err faults.BadShape) None other result is yes fine = fine
-reads_other (Err faults.BadShape) (Some found) other result is yes fine = absurd (let no : ⊥ = cc in no)
-reads_other (Ok line) event other result is yes fine = absurd (let no : ⊥ = cc in no)
-reads_other (Err faults.NotJson) event other result is yes fine = absurd (let no : ⊥ = cc in no)
-reads_other (Err (faults.Refused refusal)) event other result is yes fine = absurd (let no : ⊥ = cc in no)
-reads_other (Err faults.NoSuchResolver) event other result is yes fine = absurd (let no : ⊥ = cc in no)
-reads_other (Err faults.OutOfMemory) event other result is yes fine = absurd (let no : ⊥ = cc in no)
+reads_other (Err faults.BadShape) None other result is same fine = fine
+reads_other (Err faults.BadShape) (Some found) other result is same fine = absurd (let none : ⊥ = cc in none)
+reads_other (Ok line) event other result is same fine = absurd (let none : ⊥ = cc in none)
+reads_other (Err faults.NotJson) event other result is same fine = absurd (let none : ⊥ = cc in none)
+reads_other (Err (faults.Refused refusal)) event other result is same fine = absurd (let none : ⊥ = cc in none)
+reads_other (Err faults.NoSuchResolver) event other result is same fine = absurd (let none : ⊥ = cc in none)
+reads_other (Err faults.OutOfMemory) event other result is same fine = absurd (let none : ⊥ = cc in none)

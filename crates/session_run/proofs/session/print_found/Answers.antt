@@ -9,9 +9,9 @@ printed_alone made text before shown same added none = same ∙ added ∙ ap (λ
 
 pub returns-clause-text : goal.returns-clause-text
 returns-clause-text g c =
-    prints_as c.push.ensures
-    (printed_alone c.as_str.result.now _ _ (proxy_line c.args.show.now.proxy ++ metadata_text c.args.proxy.now.version (metadata c.args.proxy.now.journal) c.args.show.now.ask)
-    c.as_str.ensures.value c.in_ok-print_proxy.ensures c.new-text.ensures.bytes)
+    let printed : c.as_str.result.now ≡ proxy_line c.args.show.now.proxy ++ metadata_text c.args.proxy.now.version (metadata c.args.proxy.now.journal) c.as_slice.result.now =
+    printed_alone _ _ _ _ c.as_str.ensures.value c.in_ok-print_proxy.ensures c.new-text.ensures.bytes in
+    prints_as c.push.ensures (rw c.as_slice.ensures at printed)
 
 pub returns-in_err-print_proxy-clause-unprinted : goal.returns-in_err-print_proxy-clause-unprinted
 returns-in_err-print_proxy-clause-unprinted g c =

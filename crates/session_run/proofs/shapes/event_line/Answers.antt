@@ -1,4 +1,4 @@
-use Rattle.std.proofs.Common.{◌≡◌, Result, Ok, Err, Option, Some, None, refl, ap}
+use Rattle.std.proofs.Common.{◌≡◌, Result, Ok, Err, Option, Some, None, refl, ap, rules}
 use Rattle.system_keys.specs.AsSpecified.{IsFaultIfAllocated}
 use Rattle.scripts.specs.ScriptFaults.{script_fault}
 use Rattle.scripts.specs.Shapes.{◌>>=◌, or_bad_shape}
@@ -30,7 +30,9 @@ line_missing faults.NoSuchResolver (Some e) is = cc
 line_missing faults.OutOfMemory event is = tt
 
 pub returns-in_err-from_value : goal.returns-in_err-from_value
-returns-in_err-from_value c = line_missing _ _ c.in_err-from_value.ensures
+returns-in_err-from_value c =
+    let is : c.from_residual.result ≡ Err c.in_err-from_value.field-0.0 = search rules in
+    rw is (line_missing c.in_err-from_value.field-0.0 _ c.in_err-from_value.ensures)
 
 pub returns : goal.returns
 returns c = line_found _ _ c.in_ok-from_value.ensures
