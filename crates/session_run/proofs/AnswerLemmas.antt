@@ -1,6 +1,6 @@
 -- The answers to lines.
-use Rattle.std.proofs.Common.{◌≡◌, ◌∙◌, ℕ, List, [], ◌∷◌, ◌++◌, ap, refl, sym, inl}
-use Rattle.std.specs.Prelude.{None, Result, Ok, Err, IfOk, OnOk, IsSome}
+use Rattle.std.proofs.Common.{◌≡◌, ℕ, List, [], ◌∷◌, ap, refl, sym, inl}
+use Rattle.std.specs.Prelude.{None, Result, Ok, Err, OnOk, IsSome}
 use Rattle.system_keys.specs.declared.memory.OutOfMemory.{OutOfMemory}
 use Rattle.system_keys.specs.AsSpecified.{IsFaultIfAllocated}
 use Rattle.pages.specs.Printing.{Prints}

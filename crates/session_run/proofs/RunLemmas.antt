@@ -1,5 +1,5 @@
 -- A session over a source and a sink.
-use Rattle.std.proofs.Common.{◌≡◌, ℕ, List, None}
+use Rattle.std.proofs.Common.{None}
 use Rattle.sessions.specs.Events.{View}
 use Rattle.sessions.specs.Sessions.{AnswersWhole, IsSession}
 use Rattle.sessions.specs.declared.status.SessionStatus.{SessionStatus}

@@ -1,6 +1,6 @@
 -- A session to which a turns script is given line by line.
-use Rattle.std.proofs.Common.{◌≡◌, ◌<◌, ◌≤◌, ◌+◌, ◌∙◌, ℕ, zero, suc, List, [], ◌∷◌, ◌++◌, map, refl, sym, ap, ap₂, append_assoc, arith}
-use Rattle.std.specs.Prelude.{Some, None, Ok, Err, Result, nat_le, false}
+use Rattle.std.proofs.Common.{◌≡◌, ◌≤◌, ◌+◌, ◌∙◌, ℕ, zero, suc, List, [], ◌∷◌, ◌++◌, map, refl, sym, ap, ap₂, arith}
+use Rattle.std.specs.Prelude.{Some, None, Ok, nat_le, false}
 use Rattle.std.specs.List.{flat_map}
 use Rattle.std.proofs.lemmas.Bool.{lt-leb}
 use Rattle.std.proofs.lemmas.Grind.{flat_map-append}
@@ -8,19 +8,17 @@ use Rattle.std.proofs.lemmas.List.{map-append}
 use Rattle.model.specs.Configs.{Config}
 use Rattle.model.specs.Shares.{each_below}
 use Rattle.model.specs.Turns.{TurnCluster, after_event}
-use Rattle.model.specs.World.{answers, handle_event, initial_world, world_after}
+use Rattle.model.specs.World.{answers, initial_world, world_after}
 use Rattle.system_keys.specs.Keys.{Key}
-use Rattle.scripts.specs.declared.script_fault.ScriptFault.{ScriptFault}
 use Rattle.sessions.specs.Answers.{answers_to}
 use Rattle.turn_world.specs.Events.{event_of}
 use Rattle.turn_world.specs.declared.event.Event.{Event}
 use Rattle.turns_run.specs.Lines.{events_text}
-use Rattle.turns_run.specs.Text.{printed_text, proxies_text, proxy_text}
+use Rattle.turns_run.specs.Text.{proxy_text}
 use Rattle.turns_run.specs.declared.script.TurnsScript.{TurnsScript}
 use Rattle.session_run.specs.Lines.{line_of}
-use Rattle.session_run.specs.Session.{State, with_empty_line, carried_out_text, cluster_text, session_rules, show_text}
+use Rattle.session_run.specs.Session.{with_empty_line, carried_out_text, cluster_text, session_rules, show_text}
 use Rattle.session_run.specs.TurnsScripts.{AnswersScript, AsksForScript, asks_event, asks_show}
-use Rattle.session_run.specs.declared.line.Line.{Line}
 use Rattle.session_run.specs.declared.line.Line.TheVariants as lines
 
 abbrev joined : List (List ℕ) → List ℕ
