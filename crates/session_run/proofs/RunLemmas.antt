@@ -13,10 +13,10 @@ abbrev pub IsSerialIfBegun : State → Type 0
 IsSerialIfBegun state = IfSome state (λ (cluster : TurnCluster). IsSerial cluster.config cluster.world.history)
 
 -- what the cluster says of itself
-pub serial_if_begun : (state lent : State) → MatchOption lent (state ≡ None) (λ cluster. state ≡ Some cluster)
-    → IfSome lent (λ (cluster : TurnCluster). IsSerial cluster.config cluster.world.history) → IsSerialIfBegun state
-serial_if_begun state None is serial = let e : state ≡ None = is in rw e tt
-serial_if_begun state (Some cluster) is serial = let e : state ≡ Some cluster = is in rw e serial
+pub serial_if_begun : {R : Type 0} (now : R → TurnCluster) (state : State) (lent : Option R) → MatchOption lent (state ≡ None) (λ cluster. state ≡ Some (now cluster))
+    → IfSome lent (λ cluster. IsSerial (now cluster).config (now cluster).world.history) → IsSerialIfBegun state
+serial_if_begun now state None is serial = let e : state ≡ None = is in rw e tt
+serial_if_begun now state (Some cluster) is serial = let e : state ≡ Some (now cluster) = is in rw e serial
 
 pub runs : {N : Type 0} (old new : View N) (now : State) (status : SessionStatus) → IsSession session_rules None now old new status → IsSerialIfBegun now → RunsSession old.remaining new.remaining old.written new.written status
 runs old new now status session serial =
