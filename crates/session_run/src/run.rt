@@ -12,7 +12,7 @@ use std::alloc::Global;
 
 /// Reads lines from the source to its end, and writes the answer to each to the sink before the next
 /// read.
-#[tactic(auto, using(crate::proofs::RunLemmas::runs, crate::proofs::RunLemmas::answers))]
+#[tactic(auto, using(crate::proofs::RunLemmas::answers))]
 pub fn run_session<S: Source, T: Sink>(alloc: Global, source: &mut S, sink: &mut T) -> SessionStatus
     ensures session { RunsSession (S.remaining source.old) (S.remaining source.new)
         (T.written sink.old) (T.written sink.new) result }
