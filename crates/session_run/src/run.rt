@@ -24,6 +24,8 @@ pub fn run_session<S: Source, T: Sink>(alloc: Global, source: &mut S, sink: &mut
     let mut session = Session::new();
     let mut joined = Joined { source, sink };
     let status = answer_lines(alloc, &mut session, &mut joined);
+    // (gives the proof that its records obey the rule of commit)
+    let _ = session.cluster();
     let Joined { source, sink } = joined;
     let _ = &*source;
     let _ = &*sink;
