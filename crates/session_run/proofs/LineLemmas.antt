@@ -1,12 +1,11 @@
 -- Lines, as their tokens come.
-use Rattle.std.proofs.Common.{◌≡◌, ℕ, List, refl}
+use Rattle.std.proofs.Common.{ℕ, List, refl}
 use Rattle.json.specs.Token.{Token}
 use Rattle.scripts.specs.Streams.{Takes}
 use Rattle.scripts.proofs.StreamLemmas.{taken_data, takes_data}
 use Rattle.turns_run.specs.Shapes.{event_shape}
 use Rattle.turns_run.specs.declared.script.RawEvent.{RawEvent}
 use Rattle.session_run.specs.Shapes.{line_shape}
-use Rattle.session_run.specs.declared.line.RawLine.{RawLine}
 use Rattle.session_run.specs.declared.line.RawLine.TheVariants as raw
 
 -- an event is a line

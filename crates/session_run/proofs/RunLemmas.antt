@@ -1,21 +1,35 @@
 -- A session over a source and a sink.
-use Rattle.std.proofs.Common.{◌≡◌, ℕ, List, None}
+use Rattle.std.proofs.Common.{◌≡◌, IfSome, None, Option, Some}
+use Rattle.std.specs.Prelude.{MatchOption}
+use Rattle.model.specs.Serial.{IsSerial}
+use Rattle.model.specs.Turns.{TurnCluster}
 use Rattle.sessions.specs.Events.{View}
 use Rattle.sessions.specs.Sessions.{AnswersWhole, IsSession}
 use Rattle.sessions.specs.declared.status.SessionStatus.{SessionStatus}
 use Rattle.session_run.specs.Runs.{AnswersInput, RunsSession}
 use Rattle.session_run.specs.Session.{State, session_rules}
 
-pub runs : {N : Type 0} (old new : View N) (now : State) (status : SessionStatus) → IsSession session_rules None now old new status → RunsSession old.remaining new.remaining old.written new.written status
-runs old new now status session =
+abbrev pub IsSerialIfBegun : State → Type 0
+IsSerialIfBegun state = IfSome state (λ (cluster : TurnCluster). IsSerial cluster.config cluster.world.history)
+
+-- what the cluster says of itself
+pub serial_if_begun : {R : Type 0} (now : R → TurnCluster) (state : State) (lent : Option R) → MatchOption lent (state ≡ None) (λ cluster. state ≡ Some (now cluster))
+    → IfSome lent (λ cluster. IsSerial (now cluster).config (now cluster).world.history) → IsSerialIfBegun state
+serial_if_begun now state None is serial = let e : state ≡ None = is in rw e tt
+serial_if_begun now state (Some cluster) is serial = let e : state ≡ Some (now cluster) = is in rw e serial
+
+pub runs : {N : Type 0} (old new : View N) (now : State) (status : SessionStatus) → IsSession session_rules None now old new status → IsSerialIfBegun now → RunsSession old.remaining new.remaining old.written new.written status
+runs old new now status session serial =
     record {
       events = session.events;
       now = now;
       read = session.leads.remaining;
+      end = session.leads.end;
       written = session.leads.written;
       in_turn = session.in_turn;
       never_ahead = session.never_ahead;
       ends = session.ends;
+      serial = serial;
     }
 
 pub answers : {N : Type 0} (old new : View N) (now : State) (status : SessionStatus) → AnswersWhole session_rules None now old new status → AnswersInput old.remaining old.written new.written status

@@ -1,10 +1,14 @@
 -- What is read of the value of a line.
-use Rattle.std.proofs.Common.{◌≡◌, Result, Ok, Err, Option, Some, None, true, false}
+use Rattle.serde_json.specs.Data.{Data}
+use Rattle.std.proofs.Common.{◌≡◌, refl, Result, Ok, Err, Option, Some, None, true, false}
 use Rattle.scripts.specs.ScriptFaults.{IsReadAs}
 use Rattle.scripts.specs.Shapes.{or_bad_shape}
 use Rattle.scripts.specs.declared.script_fault.ScriptFault.{ScriptFault}
 use Rattle.scripts.specs.declared.script_fault.ScriptFault.TheVariants as faults
-use Rattle.session_run.specs.Shapes.{first_line, is_bad_shape}
+use Rattle.session_run.specs.Shapes.{first_line, is_bad_shape, line_shape}
+use Rattle.turns_run.specs.Shapes.{event_shape}
+use Rattle.turns_run.specs.declared.script.RawEvent.{RawEvent}
+use Rattle.session_run.specs.declared.line.RawLine.TheVariants as raw
 use Rattle.session_run.specs.declared.line.RawLine.{RawLine}
 
 -- it is an event, or memory is out
@@ -31,3 +35,7 @@ reads_other (Err faults.NotJson) event other result is same fine = absurd (let n
 reads_other (Err (faults.Refused refusal)) event other result is same fine = absurd (let none : ⊥ = cc in none)
 reads_other (Err faults.NoSuchResolver) event other result is same fine = absurd (let none : ⊥ = cc in none)
 reads_other (Err faults.OutOfMemory) event other result is same fine = absurd (let none : ⊥ = cc in none)
+
+-- an event of a script as a line
+pub event_is_line : (d : Data) (event : RawEvent) → event_shape d ≡ Some event → line_shape d ≡ Some (raw.Event event)
+event_is_line d event is = rw is refl

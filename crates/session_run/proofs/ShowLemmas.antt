@@ -1,5 +1,5 @@
 -- A proxy that is shown.
-use Rattle.std.proofs.Common.{◌≡◌, ◌<◌, ◌≤◌, ◌++◌, ℕ, List, ap, ap₂, sym, ◌∙◌, true, false, nat_le, refl}
+use Rattle.std.proofs.Common.{◌≡◌, ◌<◌, ◌≤◌, ◌++◌, ℕ, List, ap₂, true, false, nat_le, refl}
 use Rattle.std.proofs.lemmas.Bool.{le-leb, lt-leb}
 use Rattle.system_keys.specs.Keys.{Key}
 use Rattle.model.specs.Finishing.{ProxyView}
@@ -8,7 +8,6 @@ use Rattle.model.specs.Turns.{TurnCluster, IsProxyOf}
 use Rattle.cluster_lines.specs.MetadataLines.{metadata_text, proxy_line}
 use Rattle.turn_world.specs.declared.refusal.Refusal.TheVariants as refusals
 use Rattle.turns_run.specs.Lines.{refusal_line}
-use Rattle.turns_run.specs.Text.{proxy_text}
 use Rattle.session_run.specs.Session.{show_text}
 
 pub shown_missing : (cluster : TurnCluster) (p : ℕ) (ask : List Key) → cluster.config.proxies ≤ p → refusal_line refusals.NoSuchProxy ≡ show_text cluster p ask

@@ -1,26 +1,28 @@
 -- A session to which a turns script is given line by line.
-use Rattle.std.proofs.Common.{◌≡◌, ◌<◌, ◌≤◌, ◌+◌, ◌∙◌, ℕ, zero, suc, List, [], ◌∷◌, ◌++◌, map, refl, sym, ap, ap₂, append_assoc, arith}
-use Rattle.std.specs.Prelude.{Some, None, Ok, Err, Result, nat_le, false}
+use Rattle.std.proofs.Common.{◌≡◌, ◌≤◌, ◌+◌, ◌∙◌, ℕ, zero, suc, List, [], ◌∷◌, ◌++◌, map, refl, sym, ap, ap₂, arith}
+use Rattle.std.specs.Prelude.{Some, None, Ok, nat_le, false}
 use Rattle.std.specs.List.{flat_map}
 use Rattle.std.proofs.lemmas.Bool.{lt-leb}
 use Rattle.std.proofs.lemmas.Grind.{flat_map-append}
 use Rattle.std.proofs.lemmas.List.{map-append}
+use Rattle.std.proofs.lemmas.List.Folds.{flat_map-map}
 use Rattle.model.specs.Configs.{Config}
 use Rattle.model.specs.Shares.{each_below}
 use Rattle.model.specs.Turns.{TurnCluster, after_event}
-use Rattle.model.specs.World.{answers, handle_event, initial_world, world_after}
+use Rattle.model.specs.World.{answers, initial_world, world_after}
 use Rattle.system_keys.specs.Keys.{Key}
-use Rattle.scripts.specs.declared.script_fault.ScriptFault.{ScriptFault}
+use Rattle.scripts.specs.Outputs.{done, output_for}
 use Rattle.sessions.specs.Answers.{answers_to}
+use Rattle.sessions.specs.Lines.{lines_of}
 use Rattle.turn_world.specs.Events.{event_of}
 use Rattle.turn_world.specs.declared.event.Event.{Event}
 use Rattle.turns_run.specs.Lines.{events_text}
-use Rattle.turns_run.specs.Text.{printed_text, proxies_text, proxy_text}
+use Rattle.turns_run.specs.Scripts.{script_of}
+use Rattle.turns_run.specs.Text.{printed_text, proxy_text, turns_text}
 use Rattle.turns_run.specs.declared.script.TurnsScript.{TurnsScript}
 use Rattle.session_run.specs.Lines.{line_of}
-use Rattle.session_run.specs.Session.{State, with_empty_line, carried_out_text, cluster_text, session_rules, show_text}
+use Rattle.session_run.specs.Session.{with_empty_line, carried_out_text, cluster_text, session_rules, session_text, show_text}
 use Rattle.session_run.specs.TurnsScripts.{AnswersScript, AsksForScript, asks_event, asks_show}
-use Rattle.session_run.specs.declared.line.Line.{Line}
 use Rattle.session_run.specs.declared.line.Line.TheVariants as lines
 
 abbrev joined : List (List ℕ) → List ℕ
@@ -108,3 +110,18 @@ script_answered script lines_given asks =
       text = flat_map-append (λ part. part) events shows ∙ ap₂ (λ text more. text ++ more) (event_parts-text start script.events) (shows_text script.config ends script.ask script.config.proxies refl (omega arith));
       answers = ap (answers_to session_rules None) asks.all ∙ first ∙ ap (λ l. with_empty_line cluster_text ∷ l) (answered ∙ sym (map-append with_empty_line events shows));
     }
+
+-- ---- the same of bytes
+
+text_of_script : (bytes : List ℕ) (script : TurnsScript) → script_of bytes ≡ Ok script → (turns_text bytes).text ≡ printed_text script
+unfolding turns_text
+text_of_script bytes script is = rw is refl
+
+pub session_is_turns : (bytes given : List ℕ) (script : TurnsScript) → script_of bytes ≡ Ok script → AsksForScript script (lines_of given)
+    → (parts : List (List ℕ)) × ((turns_text bytes).text ≡ flat_map (λ part. part) parts) × (session_text given ≡ flat_map with_empty_line (cluster_text ∷ parts))
+session_is_turns bytes given script is asks =
+    let told = script_answered script (lines_of given) asks in (
+      told.parts,
+      text_of_script bytes script is ∙ sym told.text,
+      ap joined told.answers ∙ flat_map-map (λ part. part) with_empty_line (cluster_text ∷ told.parts),
+    )

@@ -1,25 +1,31 @@
 -- What a session over a source and a sink leaves (this project's profile).
-use Rattle.std.specs.Prelude.{◌≡◌, ℕ, List, None, Option}
-use Rattle.std.specs.Io.KnownBytes.{Appends, Consumes}
+use Rattle.std.specs.Prelude.{◌≡◌, ℕ, IfSome, List, None, Option}
+use Rattle.std.specs.Io.KnownBytes.{Appends, Consumes, IsAtEnd}
+use Rattle.model.specs.Serial.{IsSerial}
+use Rattle.model.specs.Turns.{TurnCluster}
 use Rattle.scripts.specs.Devices.{IsIncremented}
-use Rattle.sessions.specs.Events.{Event, bytes_came, bytes_written}
+use Rattle.sessions.specs.Events.{Event, HasEnded, bytes_came, bytes_written}
 use Rattle.sessions.specs.Sessions.{AnswersBeforeReads, AnswersKnown, MatchesStatus, NeverAhead}
 use Rattle.sessions.specs.declared.status.SessionStatus.{SessionStatus}
 use Rattle.session_run.specs.Session.{State, session_rules}
 
 -- A session read and wrote these events, from the state without a cluster to the state `now`: before
 -- each read exactly the answers to the lines that were whole by then had been written. What the source
--- has left and what the sink holds, where they are known, is by these events.
+-- has left and what the sink holds, where they are known, is by these events. (A source and a sink apart
+-- keep no order of their calls: that is the contract of `answer_lines` over a device that has a history.) The
+-- records of the cluster at the end obey the rule of commit.
 pub record RunsSession
     (remaining_old remaining_new written_old written_new : Option (List ℕ)) (status : SessionStatus) :
     Type 0 where
   pub events : List Event
   pub now : State
   pub read : Consumes remaining_old remaining_new (bytes_came events)
+  pub end : HasEnded events → IfSome remaining_old (λ _. IsAtEnd remaining_new)
   pub written : Appends written_old written_new (bytes_written events)
   pub in_turn : AnswersBeforeReads session_rules None events
   pub never_ahead : NeverAhead session_rules None events
   pub ends : MatchesStatus session_rules None events now status
+  pub serial : IfSome now (λ (cluster : TurnCluster). IsSerial cluster.config cluster.world.history)
 
 -- once it is done, each line of a known input was answered, in order
 abbrev pub AnswersInput : Option (List ℕ) → Option (List ℕ) → Option (List ℕ) → SessionStatus → Type 0

@@ -1,6 +1,6 @@
 -- The form of a line: an object has all its fields and no other, in any order, and the numbers of a
 -- cluster are within their limits (this project's profile).
-use Rattle.std.specs.Prelude.{codes, if◌then◌else◌, Option, Some, None, Result, Err, Bool, true, false}
+use Rattle.std.specs.Prelude.{◌≡◌, codes, if◌then◌else◌, Option, Some, None, Result, Err, Bool, true, false}
 use Rattle.serde_json.specs.Data.{Data}
 use Rattle.serde_json.specs.Find.{get}
 use Rattle.model.specs.Configs.{Config}
@@ -10,6 +10,7 @@ use Rattle.scripts.specs.Shapes.{has_fields, field_shape}
 use Rattle.scripts.specs.declared.script_fault.ScriptFault.{ScriptFault}
 use Rattle.scripts.specs.declared.script_fault.ScriptFault.TheVariants as faults
 use Rattle.turns_run.specs.Shapes.{event_shape}
+use Rattle.turns_run.specs.declared.script.RawEvent.{RawEvent}
 use Rattle.session_run.specs.declared.line.RawLine.{RawLine}
 use Rattle.session_run.specs.declared.line.RawLine.TheVariants.{Cluster, Event, Show}
 use Rattle.session_run.specs.declared.line.Show.{Show as Shown}
@@ -68,3 +69,8 @@ line_shape d = first_line (event_line d) (other_line d)
 abbrev pub is_bad_shape : Result RawLine ScriptFault → Bool
 is_bad_shape (Err faults.BadShape) = true
 is_bad_shape read = false
+
+-- an event as it stands in the list of a turns script is that event as a line
+abbrev pub EventsAreLines : Type 0
+EventsAreLines =
+    (d : Data) (event : RawEvent) → event_shape d ≡ Some event → line_shape d ≡ Some (Event event)

@@ -3,11 +3,13 @@ use Rattle.std.specs.Prelude.{◌≡◌, ℕ, List, ◌∷◌, ◌++◌, map, fl
 use Rattle.model.specs.Shares.{each_below}
 use Rattle.scripts.specs.declared.script_fault.ScriptFault.{ScriptFault}
 use Rattle.sessions.specs.Answers.{answers_to}
+use Rattle.sessions.specs.Lines.{lines_of}
 use Rattle.turn_world.specs.declared.event.Event.{Event}
-use Rattle.turns_run.specs.Text.{printed_text}
+use Rattle.turns_run.specs.Scripts.{script_of}
+use Rattle.turns_run.specs.Text.{printed_text, turns_text}
 use Rattle.turns_run.specs.declared.script.TurnsScript.{TurnsScript}
 use Rattle.session_run.specs.Lines.{line_of}
-use Rattle.session_run.specs.Session.{with_empty_line, cluster_text, session_rules}
+use Rattle.session_run.specs.Session.{with_empty_line, cluster_text, session_rules, session_text}
 use Rattle.session_run.specs.declared.line.Line.{Line}
 use Rattle.session_run.specs.declared.line.Line.TheVariants as lines
 
@@ -41,3 +43,12 @@ abbrev pub LinesGiveTurns : Type 0
 LinesGiveTurns =
     (script : TurnsScript) (lines_given : List (List ℕ)) → AsksForScript script lines_given
     → AnswersScript script lines_given
+
+-- The same of bytes: the text of a session is that of turns in parts, an empty line after each, behind the answer to
+-- the cluster.
+abbrev pub SessionGivesTurns : Type 0
+SessionGivesTurns =
+    (bytes given : List ℕ) (script : TurnsScript) → script_of bytes ≡ Ok script
+    → AsksForScript script (lines_of given)
+    → (parts : List (List ℕ)) × ((turns_text bytes).text ≡ flat_map (λ part. part) parts)
+    × (session_text given ≡ flat_map with_empty_line (cluster_text ∷ parts))

@@ -7,13 +7,13 @@ ghost use Rattle.session_run.specs.Runs.{ReadFails, WriteFails};
 use scripts::{Failed as CallFailed, Sink, Source};
 use sessions::{Device, Failed};
 
-/// A source and a sink, each borrowed.
-pub(crate) struct Joined<'a, S: Source, T: Sink> {
+/// A source and a sink, each borrowed for a lifetime of its own: so a proof knows both at the end.
+pub(crate) struct Joined<'a, 'b, S: Source, T: Sink> {
     pub(crate) source: &'a mut S,
-    pub(crate) sink: &'a mut T,
+    pub(crate) sink: &'b mut T,
 }
 
-impl<S: Source, T: Sink> Device for Joined<'_, S, T> {
+impl<S: Source, T: Sink> Device for Joined<'_, '_, S, T> {
     ghost Name = { GName × GName };
 
     ghost view = { λ joined. record {

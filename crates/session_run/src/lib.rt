@@ -15,7 +15,9 @@ mod session;
 mod shapes;
 mod streams;
 
-pub use laws::{lines_give_turns, text_answers_lines};
+pub use laws::{
+    events_are_lines, lines_give_turns, lines_or_nothing, session_gives_turns, text_answers_lines,
+};
 pub use line::{Line, Show};
 pub use reading::read_line;
 pub use run::run_session;

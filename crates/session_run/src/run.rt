@@ -12,7 +12,7 @@ use std::alloc::Global;
 
 /// Reads lines from the source to its end, and writes the answer to each to the sink before the next
 /// read.
-#[tactic(auto, using(crate::proofs::RunLemmas::runs, crate::proofs::RunLemmas::answers))]
+#[tactic(auto, using(crate::proofs::RunLemmas::answers))]
 pub fn run_session<S: Source, T: Sink>(alloc: Global, source: &mut S, sink: &mut T) -> SessionStatus
     ensures session { RunsSession (S.remaining source.old) (S.remaining source.new)
         (T.written sink.old) (T.written sink.new) result }
@@ -24,6 +24,8 @@ pub fn run_session<S: Source, T: Sink>(alloc: Global, source: &mut S, sink: &mut
     let mut session = Session::new();
     let mut joined = Joined { source, sink };
     let status = answer_lines(alloc, &mut session, &mut joined);
+    // (gives the proof that its records obey the rule of commit)
+    let _ = session.cluster();
     let Joined { source, sink } = joined;
     let _ = &*source;
     let _ = &*sink;

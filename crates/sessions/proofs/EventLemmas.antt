@@ -1,6 +1,6 @@
 -- Views that go on by events, and events that are writes.
-use Rattle.std.proofs.Common.{◌≡◌, ◌⊎◌, ℕ, List, [], ◌∷◌, ◌++◌, Option, Some, None, IfSome, refl, sym, ap, ◌∙◌, append_assoc, append-nil, ◌-◌, length, take, drop, take-append-drop, subst, inl, inr}
-use Rattle.std.proofs.lemmas.List.{take_rest}
+use Rattle.std.proofs.Common.{◌≡◌, ◌≢◌, ◌<◌, ◌≤◌, arith, ◌+◌, ◌⊎◌, ℕ, List, [], ◌∷◌, ◌++◌, Option, Some, None, IfSome, refl, sym, ap, ◌∙◌, append_assoc, append-nil, ◌-◌, length, take, drop, take-append-drop, subst, inl, inr}
+use Rattle.std.proofs.lemmas.List.{length-take-le, take_rest}
 use Rattle.std.specs.Io.KnownBytes.{Appends, Consumes, IsAtEnd}
 use Rattle.std.proofs.KnownBytes.{Appends-nil, Appends-trans, Consumes-nil, Consumes-trans}
 use Rattle.sessions.specs.Events.{Event, Read, End, Wrote, bytes_came, bytes_read, bytes_written, reads_of, HasEnded, Writes, View, GoesOnBy, with_events, WritesText}
@@ -103,6 +103,16 @@ came_before_writes es [] text writes = refl
 came_before_writes es (Read bytes ∷ ws) text writes = absurd writes
 came_before_writes es (End ∷ ws) text writes = absurd writes
 came_before_writes es (Wrote bytes ∷ ws) text writes = came_before_writes es ws writes.0 writes.1
+
+-- the front of a buffer that a read filled
+pub takes_some : (n : ℕ) (buffer : List ℕ) → 0 < n → n ≤ length buffer → take n buffer ≢ []
+takes_some n buffer some within none =
+    let e : n ≡ 0 = sym (length-take-le n buffer within) ∙ ap length none in omega arith
+
+-- a read that brought bytes
+pub reads_one_more : (bytes : List ℕ) (es : List Event) → bytes ≢ [] → reads_of (Read bytes ∷ es) ≡ reads_of es + 1
+reads_one_more [] es some = absurd (some refl)
+reads_one_more (byte ∷ bytes) es some = refl
 
 pub reads_before_writes : (es ws : List Event) (text : List ℕ) → Writes ws text → reads_of (ws ++ es) ≡ reads_of es
 reads_before_writes es [] text writes = refl

@@ -2,7 +2,7 @@
 use Rattle.std.proofs.Common.{◌≡◌, ◌≢◌, ℕ, List, [], ◌∷◌, ◌++◌, ◌==◌, true, false, cond, refl, ap, ◌∙◌, append-nil, append_assoc, sym, inl, inr, flat_map}
 use Rattle.std.proofs.lemmas.Bool.{ne_eqb}
 use Rattle.std.proofs.lemmas.Bool.Decides.{eqb_tells}
-use Rattle.sessions.specs.Lines.{HasNoFeed, Splits, lines_from, open_from, open_line_of, whole_lines}
+use Rattle.sessions.specs.Lines.{HasNoFeed, Splits, closed, line_end, lines_from, lines_of, open_from, open_line_of, whole_lines}
 
 -- a piece after another
 pub lines_append : (open_line xs ys : List ℕ) → lines_from open_line (xs ++ ys) ≡ lines_from open_line xs ++ lines_from (open_from open_line xs) ys
@@ -66,3 +66,48 @@ lines_split_from open_line (x ∷ xs) none =
 
 pub lines_split : (bytes : List ℕ) → Splits bytes (whole_lines bytes) (open_line_of bytes)
 lines_split bytes = lines_split_from [] bytes tt
+
+-- ---- the last line
+
+-- bytes without a line feed stay in the open line
+lines_plain : (open_line bytes : List ℕ) → HasNoFeed bytes → lines_from open_line bytes ≡ []
+lines_plain open_line [] none = refl
+lines_plain open_line (x ∷ xs) none = let e : (x == 10) ≡ false = ne_eqb x 10 none.0 in rw e (lines_plain (open_line ++ x ∷ []) xs none.1)
+
+open_plain : (open_line bytes : List ℕ) → HasNoFeed bytes → open_from open_line bytes ≡ open_line ++ bytes
+open_plain open_line [] none = sym (append-nil open_line)
+open_plain open_line (x ∷ xs) none =
+    let e : (x == 10) ≡ false = ne_eqb x 10 none.0 in
+    rw e (open_plain (open_line ++ x ∷ []) xs none.1 ∙ append_assoc open_line (x ∷ []) xs)
+
+-- after a line feed no line is open
+open_after_feed : (bytes : List ℕ) → open_line_of (bytes ++ 10 ∷ []) ≡ []
+open_after_feed bytes = open_append [] bytes (10 ∷ [])
+
+end_of_some : (line : List ℕ) → line ≢ [] → line_end line ≡ 10 ∷ []
+end_of_some [] some = absurd (some refl)
+end_of_some (x ∷ line) some = refl
+
+closed_whole : (bytes : List ℕ) → closed (bytes ++ 10 ∷ []) ≡ bytes ++ 10 ∷ []
+closed_whole bytes = ap (λ l. (bytes ++ 10 ∷ []) ++ line_end l) (open_after_feed bytes) ∙ append-nil (bytes ++ 10 ∷ [])
+
+open_last : (bytes line : List ℕ) → HasNoFeed line → open_line_of ((bytes ++ 10 ∷ []) ++ line) ≡ line
+open_last bytes line none =
+    open_append [] (bytes ++ 10 ∷ []) line ∙ ap (λ l. open_from l line) (open_after_feed bytes) ∙ open_plain [] line none
+
+lines_last : (bytes line : List ℕ) → HasNoFeed line → whole_lines ((bytes ++ 10 ∷ []) ++ line) ≡ whole_lines (bytes ++ 10 ∷ [])
+lines_last bytes line none =
+    lines_append [] (bytes ++ 10 ∷ []) line ∙ ap (λ l. whole_lines (bytes ++ 10 ∷ []) ++ l) (lines_plain (open_line_of (bytes ++ 10 ∷ [])) line none)
+    ∙ append-nil (whole_lines (bytes ++ 10 ∷ []))
+
+last_open_line : (bytes line : List ℕ) → HasNoFeed line → line ≢ [] → lines_of ((bytes ++ 10 ∷ []) ++ line) ≡ whole_lines (bytes ++ 10 ∷ []) ++ line ∷ []
+last_open_line bytes line none some =
+    let all = (bytes ++ 10 ∷ []) ++ line in
+    let open_is : open_line_of all ≡ line = open_last bytes line none in
+    ap (λ l. whole_lines (all ++ line_end l)) open_is ∙ ap (λ l. whole_lines (all ++ l)) (end_of_some line some)
+    ∙ lines_append [] all (10 ∷ []) ∙ ap (λ l. whole_lines all ++ l ∷ []) open_is ∙ ap (λ l. l ++ line ∷ []) (lines_last bytes line none)
+
+pub last_line : (bytes line : List ℕ)
+    → (lines_of (bytes ++ 10 ∷ []) ≡ whole_lines (bytes ++ 10 ∷ []))
+    × (HasNoFeed line → line ≢ [] → lines_of ((bytes ++ 10 ∷ []) ++ line) ≡ whole_lines (bytes ++ 10 ∷ []) ++ line ∷ [])
+last_line bytes line = (ap whole_lines (closed_whole bytes), last_open_line bytes line)

@@ -1,5 +1,5 @@
 -- What a session keeps from one read to the next.
-use Rattle.std.proofs.Common.{◌≡◌, ℕ, List, [], ◌∷◌, ◌++◌, Result, Ok, refl, sym, ap, ◌∙◌, append_assoc, append-nil, subst, ◌+◌, ◌-◌, ◌^◌}
+use Rattle.std.proofs.Common.{◌≡◌, ℕ, List, [], ◌∷◌, ◌++◌, Result, Ok, refl, sym, ap, ◌∙◌, append_assoc, append-nil, subst, ◌+◌, ◌-◌, ◌^◌, ◌≢◌}
 use Rattle.sessions.specs.Answers.{Rules, Answers}
 use Rattle.sessions.specs.Events.{Event, Read, End, Wrote, View, GoesOnBy, HasEnded, bytes_came, bytes_read, bytes_written, lines_read, reads_of, Writes}
 use Rattle.sessions.specs.Feeds.{AnswersBytes}
@@ -10,7 +10,7 @@ use Rattle.sessions.specs.declared.pending.Pending.{Pending}
 use Rattle.sessions.specs.declared.status.SessionStatus.TheVariants.{Done, ReadFailed, WriteFailed, Unended}
 use Rattle.sessions.specs.declared.device.Failed.{Failed}
 use Rattle.sessions.proofs.AnswerLemmas.{answers_join}
-use Rattle.sessions.proofs.EventLemmas.{goes_on_by_nothing, goes_on_by_more, read_before_writes, came_before_writes, reads_before_writes, written_by_writes}
+use Rattle.sessions.proofs.EventLemmas.{goes_on_by_nothing, goes_on_by_more, read_before_writes, came_before_writes, reads_before_writes, reads_one_more, written_by_writes}
 use Rattle.sessions.proofs.LineLemmas.{lines_append, open_append}
 
 -- before a read: all whole lines are answered
@@ -103,10 +103,10 @@ whole rules start end events unwritten answers none =
 
 -- bytes came, and the lines that they ended were answered
 pub stands_on : {S N : Type 0} (rules : Rules S) (start now next : S) (old mid came new : View N) (pending after : Pending) (calls : ℕ) (bytes : List ℕ)
-    → Standing rules start now old mid pending calls → GoesOnBy mid came (Read bytes ∷ [])
+    → bytes ≢ [] → Standing rules start now old mid pending calls → GoesOnBy mid came (Read bytes ∷ [])
     → ((open_line : List ℕ) → Holds pending open_line → AnswersBytes rules now next came new open_line bytes after (Ok tt))
     → Standing rules start next old new after (calls + 1)
-stands_on rules start now next old mid came new pending after calls bytes stands grew feeds =
+stands_on rules start now next old mid came new pending after calls bytes some stands grew feeds =
     let es = stands.events in
     let fed = feeds (open_line_of (bytes_read es)) stands.kept in
     let (ws, wrote, writes) = fed.wrote in
@@ -119,7 +119,7 @@ stands_on rules start now next old mid came new pending after calls bytes stands
       answered = subst (HasAnswered rules start (ws ++ Read bytes ∷ es)) (sym fed.state) (whole rules start fed.end (ws ++ Read bytes ∷ es) fed.unwritten done.answers fed.all);
       kept = subst (Holds after) (sym done.open_line) fed.kept;
       not_ended = read_before_writes (Read bytes ∷ es) ws fed.text writes ∙ ap (λ l. l ++ bytes) stands.not_ended ∙ sym (came_before_writes (Read bytes ∷ es) ws fed.text writes);
-      counted = reads_before_writes (Read bytes ∷ es) ws fed.text writes ∙ ap (λ n. n + 1) stands.counted;
+      counted = reads_before_writes (Read bytes ∷ es) ws fed.text writes ∙ reads_one_more bytes es some ∙ ap (λ n. n + 1) stands.counted;
     }
 
 -- a write failed after bytes came

@@ -1,5 +1,5 @@
 -- The answers to lines, one after another.
-use Rattle.std.specs.Prelude.{◌≡◌, ◌⊎◌, ℕ, List, [], ◌∷◌, ◌++◌, codes, flat_map}
+use Rattle.std.specs.Prelude.{◌≡◌, ◌⊎◌, ℕ, List, [], ◌∷◌, ◌++◌, codes, flat_map, fold}
 
 -- how lines are answered: the text for a line in a state, and the state after it
 pub record Rules (S : Type 0) : Type 0 where
@@ -34,3 +34,16 @@ answers_to rules old (line ∷ lines) =
 -- their text
 abbrev pub text_of_lines : {S : Type 0} → Rules S → S → List (List ℕ) → List ℕ
 text_of_lines rules old lines = flat_map (λ answer. answer) (answers_to rules old lines)
+
+-- ---- the state after them
+
+-- some of these lines, in their order
+abbrev pub IsSomeOf : List (List ℕ) → List (List ℕ) → Type 0
+IsSomeOf kept [] = kept ≡ []
+IsSomeOf kept (line ∷ lines) =
+    IsSomeOf kept lines ⊎ ((rest : List (List ℕ)) × (kept ≡ line ∷ rest) × IsSomeOf rest lines)
+
+-- whatever was answered `out of memory`: the state is that after some of the lines, carried out in order
+abbrev pub CarriesOutSome : {S : Type 0} → Rules S → S → List (List ℕ) → S → Type 0
+CarriesOutSome rules old lines new =
+    (kept : List (List ℕ)) × IsSomeOf kept lines × (new ≡ fold rules.after old kept)

@@ -42,7 +42,8 @@ bytes_written (Wrote bytes ∷ before) = bytes_written before ++ bytes
 -- how many reads brought bytes
 abbrev pub reads_of : List Event → ℕ
 reads_of [] = 0
-reads_of (Read bytes ∷ before) = reads_of before + 1
+reads_of (Read [] ∷ before) = reads_of before
+reads_of (Read (byte ∷ bytes) ∷ before) = reads_of before + 1
 reads_of (End ∷ before) = reads_of before
 reads_of (Wrote bytes ∷ before) = reads_of before
 

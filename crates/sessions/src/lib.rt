@@ -15,6 +15,6 @@ mod status;
 
 pub use answering::Answering;
 pub use device::{Device, Failed, write_all};
-pub use lines::lines_are_exact;
+pub use lines::{last_line_counts, lines_are_exact};
 pub use run::answer_lines;
 pub use status::SessionStatus;

@@ -1,4 +1,4 @@
-use Rattle.std.proofs.Common.{◌≡◌, Result, Ok, Err, Option, Some, None, refl, ap, rules}
+use Rattle.std.proofs.Common.{◌≡◌, Ok, Err, Option, Some, None, refl, ap, rules}
 use Rattle.system_keys.specs.AsSpecified.{IsFaultIfAllocated}
 use Rattle.scripts.specs.ScriptFaults.{script_fault}
 use Rattle.scripts.specs.Shapes.{◌>>=◌, or_bad_shape}

@@ -1,4 +1,5 @@
 use Rattle.std.proofs.Common.{take, ◌∙◌, arith}
+use Rattle.sessions.proofs.EventLemmas.{takes_some}
 use Rattle.sessions.proofs.SessionLemmas.{stands_on, session_fails, session_done, session_fails_at_end}
 use Rattle.sessions.proofs.run.converse.Goals as goal
 use Rattle.sessions.proofs.run.converse.Goals.{in-Ok-finish, in-Err-finish}
@@ -18,8 +19,9 @@ returns-in-Err-answer_bytes-clause-session g c =
 
 pub loop-call-preserved : goal.loop-call-preserved
 loop-call-preserved g c =
+    let some = takes_some c.in-Ok.count c.read.new.buffer (omega arith) c.in-Ok.ensures.bound.0 in
     let came = c.in-Ok.ensures.came (omega arith) in
     record {
-      stands = stands_on _ _ _ _ _ _ _ _ c.loop-call.pending c.answer_bytes.new.pending c.loop-call._call (take c.in-Ok.count c.read.new.buffer) c.loop-call.invariant.stands came (rw c.in-Ok-answer_bytes.is at c.answer_bytes.ensures.feeds);
+      stands = stands_on _ _ _ _ _ _ _ _ c.loop-call.pending c.answer_bytes.new.pending c.loop-call._call (take c.in-Ok.count c.read.new.buffer) some c.loop-call.invariant.stands came (rw c.in-Ok-answer_bytes.is at c.answer_bytes.ensures.feeds);
       unfailed = c.in-Ok-answer_bytes.ensures.unfailed ∙ c.in-Ok.ensures.unfailed ∙ c.loop-call.invariant.unfailed;
     }
