@@ -13,6 +13,8 @@ LOGS = os.path.join(ROOT, "examples", "sessions")
 
 # how many lines a long log has, and how many more kilobytes it may take than a short one
 LONG, MORE = 5_000, 8_000
+# how many lines of a log differ, and so many times as many may take so many times the processor's time
+WRONG, TIMES, MOST_TIMES = 5_000, 4, 8
 
 BROKEN = (
     b"{", b"[]", b"7", b'{"event":{"finish":{"proxy":0}},"got":["a"]} {}', b'{"got":[]}', b'{"event":{},"show":{}}',
@@ -72,6 +74,64 @@ def differences(program):
             raise Wrong("a difference has no cause: %r" % found)
 
 
+OFFER = b'{"offer":{"row":0,"resolver":0}}'
+MOVE = b'{"move":{"range":["a","b"],"resolver":1}}'
+WIDE = b'{"cluster":{"proxies":3,"resolvers":1,"window":5,"step":1}}'
+CLUSTERS = [
+    CLUSTER, SEQUENCE, OFFER, FINISH, MOVE, SHOW, b'{"event":1}', OFFER, b'{"cluster":7}', SEQUENCE, WIDE, OFFER,
+    SEQUENCE, OFFER, FINISH, SHOW, CLUSTER, MOVE, b'{"finish":{"proxy":9}}', b'{"show":{"proxy":9,"ask":[]}}',
+]
+
+
+def causes_of(program, lines):
+    """For each line of a log that differs its number and its cause."""
+    with tempfile.NamedTemporaryFile() as log:
+        log.writelines(lines)
+        log.flush()
+        _, text, _ = check(program, "--keep-going", "--json", log.name)
+    return [(found["line"], found["why"]) for found in map(json.loads, text.splitlines())]
+
+
+def causes(program):
+    """Of many lines that differ each has the cause that it has alone, in clusters one after another."""
+    right = [b"\n  " + line for line in log_of(CLUSTERS)]
+    wrong = [b"\r\n  " + line for line in log_of(CLUSTERS, lambda got: [*got[:-1], got[-1] + " "])]
+    alone = [causes_of(program, [*right[:at], line, *right[at + 1:]]) for at, line in enumerate(wrong)]
+    expect("the causes", causes_of(program, wrong), [found for one in alone for found in one])
+    expect("differences that have a cause", [len(why) > 0 for one in alone for _, why in one], [True] * len(CLUSTERS))
+
+
+def many_differences(program):
+    """Lines that all differ take time in proportion to their number, and the first ones are explained."""
+    def seconds(count):
+        with tempfile.NamedTemporaryFile() as log, tempfile.TemporaryFile() as text:
+            log.writelines(log_of([CLUSTER]))
+            log.writelines([b'{"event":{"finish":{"proxy":0}},"got":["refused 42 OutOfTurn 0"]}\n'] * count)
+            log.flush()
+            process = subprocess.Popen([TOOL, "--keep-going", "--json", "--program", program, log.name],
+                                       stdout=text, stderr=subprocess.DEVNULL)
+            _, status, used = os.wait4(process.pid, 0)
+            text.seek(0)
+            found = [json.loads(line)["why"][0] for line in text]
+            expect("many differences", (os.waitstatus_to_exitcode(status), len(found)), (1, count))
+            expect("the first ones", found[:2], ["Event %d finishes a batch of proxy 0." % event for event in (0, 1)])
+            return used.ru_utime + used.ru_stime
+
+    few, many = seconds(WRONG), seconds(TIMES * WRONG)
+    if many > MOST_TIMES * few:
+        raise Wrong("%d lines that differ take %.1f s, and %d take %.1f s" % (WRONG, few, TIMES * WRONG, many))
+
+
+def logs_read_once(program):
+    """Of a log that cannot be read again, its differences are found."""
+    log = b"".join(log_of([CLUSTER, SEQUENCE], lambda got: [*got, "more"]))
+    for words in (["-"], ["/dev/stdin"]):
+        status, text, errors = check(program, *words, log=log)
+        wanted = 1, "1 answer of the log checked, 1 differ", ""
+        expect("a log from %s" % words, (status, text.splitlines()[-1], errors), wanted)
+        expect("that it is not explained", "of a log that cannot be read again" in text, True)
+
+
 def without_answers(program):
     """Lines without `got`, and empty lines, are not compared."""
     log = b'\n{"cluster":{"proxies":1,"resolvers":1,"window":1,"step":1}}\r\n{"event":{"finish":{"proxy":0}}}\n\n'
@@ -105,4 +165,6 @@ def long_logs(program):
         raise Wrong("a long log takes %d kilobytes, and a short one %d" % (long, short))
 
 
-TRIALS = (examples, differences, without_answers, broken_logs, long_logs)
+TRIALS = (
+    examples, differences, causes, many_differences, logs_read_once, without_answers, broken_logs, long_logs,
+)

@@ -6,6 +6,7 @@ import random
 import resource
 import select
 import subprocess
+import tempfile
 import time
 
 from tests.sessions.reference import Session, answers
@@ -20,6 +21,18 @@ SMALL_SPACE, LONG_LINE = 2**25, 2**25
 
 # so many transactions make a long answer
 MANY = 220
+# so many mutations make a line of three megabytes, and so many spaces are before another one
+MUTATIONS, SPACES = 30_000, 3_000_000
+# how many bytes a read call asks for
+READ_SIZE = 4_096
+
+USAGE = b"""usage: proxy_session
+
+Answers each line of standard input before it reads the next one. A line is one JSON value:
+  {"cluster":{"proxies":N,"resolvers":N,"window":N,"step":N}}
+  {"show":{"proxy":N,"ask":[BYTES..]}}
+  or an event of a turns script
+"""
 
 OUT_OF_MEMORY = b"out of memory\n\n"
 CLUSTER = b'{"cluster":{"proxies":2,"resolvers":2,"window":100,"step":10}}'
@@ -51,29 +64,41 @@ class Program:
     def __init__(self, path, shim, mark):
         self.path, self.shim, self.mark, self.runs = path, shim, mark, 0
 
-    def run(self, given, **refused):
-        """Status and output of a run on these bytes."""
+    def refusing(self, refused):
+        """The environment of a run in which calls are refused, and there is no mark of one yet."""
         self.runs += 1
-        how = {**os.environ, "LD_PRELOAD": self.shim, "REFUSE_MARK": self.mark, **refused} if refused else None
         if os.path.exists(self.mark):
             os.remove(self.mark)
-        ended = subprocess.run([self.path], input=given, capture_output=True, timeout=LIMIT, env=how)
+        return {**os.environ, "LD_PRELOAD": self.shim, "REFUSE_MARK": self.mark, **refused} if refused else None
+
+    def run(self, given, **refused):
+        """Status and output of a run on these bytes."""
+        return self.ended(refused, input=given)
+
+    def run_on_file(self, given, **refused):
+        """The same of a run on a file, each read of which takes as many bytes as it asks for, up to the end."""
+        with tempfile.TemporaryFile() as file:
+            file.write(given)
+            file.seek(0)
+            return self.ended(refused, stdin=file)
+
+    def ended(self, refused, **source):
+        ended = subprocess.run([self.path], capture_output=True, timeout=LIMIT, env=self.refusing(refused), **source)
         expect("standard error", ended.stderr, b"")
         return ended.returncode, ended.stdout
 
     def has_refused(self):
         return os.path.exists(self.mark)
 
-    def talk(self):
-        self.runs += 1
-        return Talk(self.path)
+    def talk(self, **refused):
+        return Talk(self.path, self.refusing(refused))
 
 
 class Talk:
     """A running program, and the answers that it has not given yet."""
 
-    def __init__(self, path):
-        self.process = subprocess.Popen([path], stdin=subprocess.PIPE, stdout=subprocess.PIPE)
+    def __init__(self, path, how):
+        self.process = subprocess.Popen([path], stdin=subprocess.PIPE, stdout=subprocess.PIPE, env=how)
         os.set_blocking(self.process.stdout.fileno(), False)
 
     def __enter__(self):
@@ -207,6 +232,35 @@ def endless_line(program):
     expect("a long line", (process.returncode, text), (0, b"cluster\n\n" + OUT_OF_MEMORY + answers([CLUSTER, SEQUENCE])[9:]))
 
 
+def long_lines(program):
+    """A line of three megabytes, and one with as many spaces before it, are answered as short ones are."""
+    mutations = [{"set": ["key%06d" % number, "value" * 16]} for number in range(MUTATIONS)]
+    writing = {"snapshot": 0, "reads": [], "writes": [], "mutations": mutations, "lock_aware": False}
+    long = json.dumps({"sequence": {"proxy": 0, "batch": [writing]}}).encode()
+    expect("a long line has three megabytes", len(long) >= SPACES, True)
+    offers = [b'{"offer":{"row":%d,"resolver":%d}}' % (row, resolver) for row in (0, 1) for resolver in (0, 1)]
+    lines = [CLUSTER, long, *offers[:2], FINISH, b" " * SPACES + SEQUENCE, *offers[2:], FINISH, SHOW]
+    expect("long lines", program.run(b"\n".join(lines)), (0, answers(lines)))
+
+
+def calls(program):
+    """The answer to a line that comes alone is one write call, and a read call asks for so many bytes."""
+    for number, is_refused in ((len(LINES), True), (len(LINES) + 1, False)):
+        with program.talk(REFUSE_WRITE=str(number)) as talk:
+            for line in LINES[:-1]:
+                talk.send(line + b"\n")
+                expect("one write call for %r" % line, talk.answer()[-2:], b"\n\n")
+            talk.send(LINES[-1] + b"\n")
+            expect("write calls, status", talk.end(), 3 if is_refused else 0)
+            expect("%d lines, write call %d" % (len(LINES), number), program.has_refused(), is_refused)
+    for size, reads in ((READ_SIZE - 1, 2), (3 * READ_SIZE, 4), (3 * READ_SIZE + 1, 5)):
+        given = CLUSTER + b"\n" + SHOW.rjust(size - len(CLUSTER) - 1)
+        for number, is_refused in ((reads, True), (reads + 1, False)):
+            ended = program.run_on_file(given, REFUSE_READ=str(number))
+            expect("%d bytes, read call %d" % (size, number), program.has_refused(), is_refused)
+        expect("%d bytes" % size, ended, (0, answers(given.split(b"\n"))))
+
+
 def empty_inputs(program):
     expect("no line", program.run(b""), (0, b""))
     expect("an empty line", program.run(b"\n"), (0, b"refused 70 NotJson\n\n"))
@@ -217,7 +271,7 @@ def refused_words(program):
     for words in (["turns"], ["--help"], [""], ["--"], [b"\xff"]):
         program.runs += 1
         ended = subprocess.run([program.path, *words], input=CLUSTER, capture_output=True, timeout=LIMIT)
-        expect("words %r" % words, (ended.returncode, ended.stdout, ended.stderr[:6]), (2, b"", b"usage:"))
+        expect("words %r" % words, (ended.returncode, ended.stdout, ended.stderr), (2, b"", USAGE))
 
 
 # ---- where memory or a device fails

@@ -12,9 +12,12 @@ class BadEntry(Exception):
 
 
 class Entry(NamedTuple):
-    """An entry: its line, what it asks as it is written, and the lines that the implementation printed, if it has them."""
+    """An entry: the number of its line and the place of its first byte, what it asks as it is written, and the lines
+    that the implementation printed, if it has them.
+    """
 
     number: int
+    place: int
     kind: str
     asked: str
     got: Optional[list]
@@ -24,15 +27,16 @@ class Entry(NamedTuple):
         return self.asked if self.kind == "event" else '{"%s":%s}' % (self.kind, self.asked)
 
 
-def entries_of(lines):
-    """The entries of a log, one after another: of a long log only one is in memory."""
-    for number, line in enumerate(lines, 1):
+def entries_of(lines, number=1, place=0):
+    """The entries of a log from a line on, one after another: of a long log only one is in memory."""
+    for line in lines:
         text = line.decode(errors="surrogateescape").strip(SPACE)
         if text:
-            yield entry_of(number, text)
+            yield entry_of(number, place, text)
+        number, place = number + 1, place + len(line)
 
 
-def entry_of(number, text):
+def entry_of(number, place, text):
     values = {}
     for name, value in members_of(text):
         if name not in (*KINDS, "got") or name in values:
@@ -42,7 +46,7 @@ def entry_of(number, text):
     if len(values) != 1:
         raise BadEntry("has not exactly one of the fields cluster, event and show")
     (kind, asked), = values.items()
-    return Entry(number, kind, asked, None if got is None else lines_got(got))
+    return Entry(number, place, kind, asked, None if got is None else lines_got(got))
 
 
 def lines_got(text):
