@@ -193,7 +193,7 @@ class Session:
 
     def __init__(self):
         self.inside = None
-        self.inside = ProgramSession() if library is None else LibrarySession()
+        self.inside = LibrarySession() if library else ProgramSession()
 
     def line(self, line):
         """Carries out a line (bytes, or a str as UTF-8), and returns the bytes of its answer, which ends with an empty line.

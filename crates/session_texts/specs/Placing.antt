@@ -5,13 +5,14 @@ use Rattle.session_texts.specs.Sessions.{SessionView, after_line, after_lost_lin
 
 -- An answer is placed at the front of the room (status 0), or is longer than the room, which is then
 -- unchanged (6). The number is its length.
-pub record PlacesAnswer (answer : List ℕ) (status : ℕ) (out_old out_new : List ℕ) (made : ℕ) :
+pub record PlacesAnswer (answer : List ℕ) (status : ℕ) (out_old out_new : List ℕ)
+    (made_new : ℕ) :
     Type 0 where
   pub statuses : (status ≡ 0) ⊎ (status ≡ 6)
   pub text : status ≡ 0 → IsPlaced answer out_old out_new
   pub too_small : status ≡ 6 → length out_old < length answer
   pub unwritten : status ≡ 6 → out_new ≡ out_old
-  pub made : made ≡ length answer
+  pub made : made_new ≡ length answer
 
 -- What a call leaves that gives a line to a session. The line is carried out once, and its answer placed
 -- as above and kept (0, 6); or an allocation failed, and nothing is changed (4); or the line is carried

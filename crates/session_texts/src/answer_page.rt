@@ -43,10 +43,14 @@ impl Page for AnswerPage {
 
     ghost has_printed = { HoldsAnswer };
 
-    #[tactic(auto, using(crate::proofs::PageLemmas::held_more))]
+    #[tactic(auto, using(crate::proofs::PageLemmas::printed_lost, crate::proofs::PageLemmas::printed_kept, crate::proofs::PageLemmas::printed_failed))]
     fn push(&mut self, text: &str) {
-        if !self.is_lost && self.bytes.extend_from_slice(text.as_bytes()).is_err() {
-            self.is_lost = true;
+        if self.is_lost {
+            return;
+        }
+        match self.bytes.extend_from_slice(text.as_bytes()) {
+            Ok(()) => {}
+            Err(_) => self.is_lost = true,
         }
     }
 }
