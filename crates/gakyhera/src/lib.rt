@@ -60,8 +60,8 @@ pub extern "C" fn gakyhera_session_new(alloc: Global, handle: &mut Handle) -> i3
     ensures unchanged { result ≡ pos 4 → handle.new.session ≡ handle.old.session }
 {
     match Box::new(alloc, TextSession::new(alloc)) {
-        Ok(session) => {
-            handle.put(alloc, session);
+        Ok(begun) => {
+            handle.put(alloc, begun);
             i32::from(DONE)
         }
         Err(_) => i32::from(OUT_OF_MEMORY),
@@ -117,14 +117,12 @@ pub extern "C" fn gakyhera_session_answer(
     ensures unwritten { result ≡ pos 7 → out.new ≡ out.old }
     ensures unmade { result ≡ pos 7 → made.new ≡ made.old }
 {
-    match handle.take(alloc) {
-        Some(session) => {
-            let status = session.place_answer(out, made);
-            handle.put(alloc, session);
-            i32::from(status)
-        }
-        None => i32::from(NO_SESSION),
-    }
+    let Some(kept) = handle.take(alloc) else {
+        return i32::from(NO_SESSION);
+    };
+    let status = kept.place_answer(out, made);
+    handle.put(alloc, kept);
+    i32::from(status)
 }
 
 /// Frees the session, if there is one. The handle is then empty, and may be freed or begun again.
