@@ -1,5 +1,5 @@
 -- What a call leaves of the room and of the number that its caller gave, and of the session.
-use Rattle.std.specs.Prelude.{◌≡◌, ◌<◌, ◌≤◌, ◌⊎◌, ℕ, List, length, Option, Some}
+use Rattle.std.specs.Prelude.{◌≡◌, ◌<◌, ◌⊎◌, ℕ, List, length, Option, Some}
 use Rattle.script_texts.specs.Texts.{IsPlaced}
 use Rattle.session_texts.specs.Sessions.{SessionView, after_line, after_lost_line, answer_to}
 
