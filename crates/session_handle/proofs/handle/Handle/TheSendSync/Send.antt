@@ -76,64 +76,64 @@ system_keys-Bytes-sync : IsSync system_keys-Bytes
 system_keys-Bytes-sync = search (crosses, sendable) depth 60 fits 20000
 
 system_keys-Begin-send : IsSend system_keys-Begin
-system_keys-Begin-send = search (system_keys-Bytes-send, system_keys-Bytes-sync, crosses, sendable) depth 60 fits 20000
+system_keys-Begin-send = search (system_keys-Bytes-send, crosses, sendable) depth 60 fits 20000
 
 system_keys-Begin-sync : IsSync system_keys-Begin
-system_keys-Begin-sync = search (system_keys-Bytes-send, system_keys-Bytes-sync, crosses, sendable) depth 60 fits 20000
+system_keys-Begin-sync = search (system_keys-Bytes-sync, crosses, sendable) depth 60 fits 20000
 
 system_keys-KeyRange-send : IsSend system_keys-KeyRange
-system_keys-KeyRange-send = search (system_keys-Bytes-send, system_keys-Bytes-sync, system_keys-Begin-send, system_keys-Begin-sync, crosses, sendable) depth 60 fits 20000
+system_keys-KeyRange-send = search (system_keys-Bytes-send, crosses, sendable) depth 60 fits 20000
 
 system_keys-KeyRange-sync : IsSync system_keys-KeyRange
-system_keys-KeyRange-sync = search (system_keys-Bytes-send, system_keys-Bytes-sync, system_keys-Begin-send, system_keys-Begin-sync, crosses, sendable) depth 60 fits 20000
+system_keys-KeyRange-sync = search (system_keys-Bytes-sync, crosses, sendable) depth 60 fits 20000
 
 system_keys-Change-send : IsSend system_keys-Change
-system_keys-Change-send = search (system_keys-Bytes-send, system_keys-Bytes-sync, system_keys-KeyRange-send, system_keys-KeyRange-sync, crosses, sendable) depth 60 fits 20000
+system_keys-Change-send = search (system_keys-Bytes-send, system_keys-KeyRange-send, crosses, sendable) depth 60 fits 20000
 
 system_keys-Change-sync : IsSync system_keys-Change
-system_keys-Change-sync = search (system_keys-Bytes-send, system_keys-Bytes-sync, system_keys-KeyRange-send, system_keys-KeyRange-sync, crosses, sendable) depth 60 fits 20000
+system_keys-Change-sync = search (system_keys-Bytes-sync, system_keys-KeyRange-sync, crosses, sendable) depth 60 fits 20000
 
 system_keys-OrderedKey-send : IsSend system_keys-OrderedKey
 system_keys-OrderedKey-send = search (crosses, sendable) depth 60 fits 20000
 
 model-Move-send : IsSend model-Move
-model-Move-send = search (system_keys-KeyRange-send, system_keys-KeyRange-sync, crosses, sendable) depth 60 fits 20000
+model-Move-send = search (system_keys-KeyRange-send, crosses, sendable) depth 60 fits 20000
 
 model-Move-sync : IsSync model-Move
-model-Move-sync = search (system_keys-KeyRange-send, system_keys-KeyRange-sync, crosses, sendable) depth 60 fits 20000
+model-Move-sync = search (system_keys-KeyRange-sync, crosses, sendable) depth 60 fits 20000
 
 model-Part-send : IsSend model-Part
-model-Part-send = search (system_keys-KeyRange-send, system_keys-KeyRange-sync, Items-send, Items-sync, crosses, sendable) depth 60 fits 20000
+model-Part-send = search (system_keys-KeyRange-send, Items-send, crosses, sendable) depth 60 fits 20000
 
 model-StateTxn-send : IsSend model-StateTxn
-model-StateTxn-send = search (system_keys-Change-send, system_keys-Change-sync, Items-send, Items-sync, crosses, sendable) depth 60 fits 20000
+model-StateTxn-send = search (system_keys-Change-send, Items-send, crosses, sendable) depth 60 fits 20000
 
 model-JournalRow-send : IsSend model-JournalRow
-model-JournalRow-send = search (model-StateTxn-send, Items-send, Items-sync, crosses, sendable) depth 60 fits 20000
+model-JournalRow-send = search (model-StateTxn-send, Items-send, crosses, sendable) depth 60 fits 20000
 
 model-Reply-send : IsSend model-Reply
-model-Reply-send = search (system_keys-Change-send, system_keys-Change-sync, Items-send, Items-sync, crosses, sendable) depth 60 fits 20000
+model-Reply-send = search (system_keys-Change-send, Items-send, crosses, sendable) depth 60 fits 20000
 
 model-StateMark-send : IsSend model-StateMark
-model-StateMark-send = search (system_keys-Change-send, system_keys-Change-sync, Items-send, Items-sync, crosses, sendable) depth 60 fits 20000
+model-StateMark-send = search (system_keys-Change-send, Items-send, crosses, sendable) depth 60 fits 20000
 
 mutation-Ranges-send : IsSend mutation-Ranges
-mutation-Ranges-send = search (system_keys-KeyRange-send, system_keys-KeyRange-sync, Items-send, Items-sync, crosses, sendable) depth 60 fits 20000
+mutation-Ranges-send = search (system_keys-KeyRange-send, Items-send, crosses, sendable) depth 60 fits 20000
 
 mutation-Ranges-sync : IsSync mutation-Ranges
-mutation-Ranges-sync = search (system_keys-KeyRange-send, system_keys-KeyRange-sync, Items-send, Items-sync, crosses, sendable) depth 60 fits 20000
+mutation-Ranges-sync = search (system_keys-KeyRange-sync, Items-sync, crosses, sendable) depth 60 fits 20000
 
 mutation-Stamped-send : IsSend mutation-Stamped
-mutation-Stamped-send = search (system_keys-Change-send, system_keys-Change-sync, mutation-Ranges-send, mutation-Ranges-sync, Items-send, Items-sync, crosses, sendable) depth 60 fits 20000
+mutation-Stamped-send = search (system_keys-Change-send, mutation-Ranges-send, mutation-Ranges-sync, Items-send, crosses, sendable) depth 60 fits 20000
 
 mutation-Stamped-sync : IsSync mutation-Stamped
-mutation-Stamped-sync = search (system_keys-Change-send, system_keys-Change-sync, mutation-Ranges-send, mutation-Ranges-sync, Items-send, Items-sync, crosses, sendable) depth 60 fits 20000
+mutation-Stamped-sync = search (system_keys-Change-sync, mutation-Ranges-send, mutation-Ranges-sync, Items-sync, crosses, sendable) depth 60 fits 20000
 
 dated_owners-LaterOwners-send : IsSend dated_owners-LaterOwners
 dated_owners-LaterOwners-send = search (crosses, sendable) depth 60 fits 20000
 
 dated_owners-OwnerMap-send : IsSend dated_owners-OwnerMap
-dated_owners-OwnerMap-send = search (system_keys-Bytes-send, system_keys-Bytes-sync, dated_owners-LaterOwners-send, crosses, maps.crosses, sendable) depth 60 fits 20000
+dated_owners-OwnerMap-send = search (system_keys-Bytes-send, dated_owners-LaterOwners-send, crosses, maps.crosses, sendable) depth 60 fits 20000
 
 metadata-KeyRuns-send : IsSend metadata-KeyRuns
 metadata-KeyRuns-send = search (crosses, maps.crosses, sendable) depth 60 fits 20000
@@ -145,10 +145,10 @@ metadata-ServerTable-send : IsSend metadata-ServerTable
 metadata-ServerTable-send = search (crosses, maps.crosses, sendable) depth 60 fits 20000
 
 metadata-RowNames-send : IsSend metadata-RowNames
-metadata-RowNames-send = search (Items-send, Items-sync, crosses, sendable) depth 60 fits 20000
+metadata-RowNames-send = search (Items-send, crosses, sendable) depth 60 fits 20000
 
 metadata-EntryMap-send : IsSend metadata-EntryMap
-metadata-EntryMap-send = search (system_keys-Bytes-send, system_keys-Bytes-sync, crosses, maps.crosses, sendable) depth 60 fits 20000
+metadata-EntryMap-send = search (system_keys-Bytes-send, crosses, maps.crosses, sendable) depth 60 fits 20000
 
 metadata-KeptEntries-send : IsSend metadata-KeptEntries
 metadata-KeptEntries-send = search (metadata-EntryMap-send, crosses, sendable) depth 60 fits 20000
@@ -163,7 +163,7 @@ request_builder-Moves-send : IsSend request_builder-Moves
 request_builder-Moves-send = search (model-Move-send, model-Move-sync, Items-send, Items-sync, crosses, sendable) depth 60 fits 20000
 
 request_builder-Share-send : IsSend request_builder-Share
-request_builder-Share-send = search (model-Part-send, Items-send, Items-sync, crosses, sendable) depth 60 fits 20000
+request_builder-Share-send = search (model-Part-send, Items-send, crosses, sendable) depth 60 fits 20000
 
 request_builder-Record-send : IsSend request_builder-Record
 request_builder-Record-send = search (mutation-Stamped-send, mutation-Stamped-sync, request_builder-Moves-send, Items-send, Items-sync, crosses, sendable) depth 60 fits 20000
@@ -181,7 +181,7 @@ state_memory-ProxyMemory-send : IsSend state_memory-ProxyMemory
 state_memory-ProxyMemory-send = search (model-Reply-send, crosses, sendable) depth 60 fits 20000
 
 state_memory-Resolver-send : IsSend state_memory-Resolver
-state_memory-Resolver-send = search (system_keys-Change-send, system_keys-Change-sync, share_judge-WriteHistory-send, state_memory-ProxyMemory-send, Items-send, Items-sync, crosses, sendable) depth 60 fits 20000
+state_memory-Resolver-send = search (system_keys-Change-send, share_judge-WriteHistory-send, state_memory-ProxyMemory-send, Items-send, crosses, sendable) depth 60 fits 20000
 
 proxy_state-OwnedMoves-send : IsSend proxy_state-OwnedMoves
 proxy_state-OwnedMoves-send = search (dated_owners-OwnerMap-send, request_builder-Moves-send, crosses, sendable) depth 60 fits 20000
@@ -190,13 +190,13 @@ proxy_state-ProxyOwners-send : IsSend proxy_state-ProxyOwners
 proxy_state-ProxyOwners-send = search (dated_owners-OwnerMap-send, request_builder-Moves-send, crosses, sendable) depth 60 fits 20000
 
 proxy_state-BegunRecord-send : IsSend proxy_state-BegunRecord
-proxy_state-BegunRecord-send = search (request_builder-Record-send, Items-send, Items-sync, crosses, sendable) depth 60 fits 20000
+proxy_state-BegunRecord-send = search (request_builder-Record-send, Items-send, crosses, sendable) depth 60 fits 20000
 
 proxy_state-Proxy-send : IsSend proxy_state-Proxy
 proxy_state-Proxy-send = search (model-JournalRow-send, metadata-Metadata-send, proxy_state-ProxyOwners-send, proxy_state-BegunRecord-send, crosses, sendable) depth 60 fits 20000
 
 turn_world-SentRequests-send : IsSend turn_world-SentRequests
-turn_world-SentRequests-send = search (model-StateMark-send, request_builder-Share-send, Items-send, Items-sync, crosses, sendable) depth 60 fits 20000
+turn_world-SentRequests-send = search (model-StateMark-send, request_builder-Share-send, Items-send, crosses, sendable) depth 60 fits 20000
 
 turn_world-PastRecord-send : IsSend turn_world-PastRecord.the_row
 turn_world-PastRecord-send = owning_send turn_world-PastRecord.the_type tt (λ d. tt) (λ k. quiet (to turn_world-PastRecord.the_type) (exits_of k (fields turn_world-PastRecord.the_type)) ((struct_send (shape turn_world-PastRecord.the_type) tt).leaving k))
@@ -205,7 +205,7 @@ turn_world-PastRequests-send : IsSend turn_world-PastRequests.the_row
 turn_world-PastRequests-send = owning_send turn_world-PastRequests.the_type tt (λ d. tt) (λ k. quiet (to turn_world-PastRequests.the_type) (exits_of k (fields turn_world-PastRequests.the_type)) ((struct_send (shape turn_world-PastRequests.the_type) tt).leaving k))
 
 turn_world-KeptRecord-send : IsSend turn_world-KeptRecord
-turn_world-KeptRecord-send = search (turn_world-SentRequests-send, turn_world-PastRecord-send, turn_world-PastRequests-send, crosses, sendable) depth 60 fits 20000
+turn_world-KeptRecord-send = search (model-StateMark-send, request_builder-Share-send, turn_world-PastRecord-send, turn_world-PastRequests-send, Items-send, crosses, sendable) depth 60 fits 20000
 
 turn_world-TurnWorld-send : IsSend turn_world-TurnWorld
 turn_world-TurnWorld-send = search (state_memory-Resolver-send, proxy_state-OwnedMoves-send, proxy_state-Proxy-send, turn_world-KeptRecord-send, crosses, sendable) depth 60 fits 20000
@@ -214,7 +214,7 @@ session_run-Session-send : IsSend session_run-Session
 session_run-Session-send = search (turn_world-TurnWorld-send, crosses, sendable) depth 60 fits 20000
 
 text_session_send : IsSend TextSession
-text_session_send = search (session_run-Session-send, crosses, sendable) depth 60 fits 20000
+text_session_send = search (turn_world-TurnWorld-send, session_run-Session-send, crosses, sendable) depth 60 fits 20000
 
 pointer_send : IsSend RawPtr
 pointer_send = search sendable
