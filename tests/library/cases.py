@@ -1,7 +1,16 @@
-"""The example scripts of fold and turns, with the status and the text that each comes to."""
+"""The example scripts of fold and turns, with the status and the text that each comes to; and sessions, with the answers to
+their lines.
+"""
+import json
 import os
+import sys
 
 ROOT = os.path.dirname(os.path.dirname(os.path.dirname(os.path.abspath(__file__))))
+sys.path.insert(0, ROOT)
+
+from tests.sessions.reference import Session
+from tests.sessions.trials import CLUSTER, LINES, SHOW, lines_of
+
 FOLDERS = {"fold": os.path.join(ROOT, "examples"), "turns": os.path.join(ROOT, "examples", "turns")}
 
 
@@ -16,3 +25,35 @@ def examples():
                     lines = text.read().splitlines()
                 status = 1 if len(lines) == 1 and lines[0].startswith("refused ") else 0
                 yield mode, status, path, text_path
+
+
+def answers_of(lines):
+    """The answer to each line, as the second program has it."""
+    session = Session()
+    return [session.answer(line) for line in lines]
+
+
+def example_sessions():
+    """The lines of each example of turns, and their answers, which without `cluster` and the empty lines are its text."""
+    for mode, status, path, text_path in examples():
+        if mode != "turns":
+            continue
+        with open(path, "rb") as script, open(text_path, "rb") as text:
+            lines, right = lines_of(json.load(script)), text.read()
+        answers = answers_of(lines)
+        if not status and b"".join(it[:-1] for it in answers[1:]) != right:
+            raise AssertionError("the second program's answers are not the text of %s" % path)
+        yield os.path.basename(path), lines, answers
+
+
+def other_sessions():
+    """Lines before a cluster, wrong lines, and a long answer; and their answers."""
+    long = b'{"show":{"proxy":1,"ask":[%s]}}' % b",".join([b'"k"'] * 1_000)
+    for name, lines in (("lines", [SHOW, *LINES, *LINES]), ("long", [CLUSTER, long, b"\xff", long, SHOW, CLUSTER])):
+        yield name, lines, answers_of(lines)
+
+
+def sessions():
+    """All sessions: a name, the lines, and their answers."""
+    yield from example_sessions()
+    yield from other_sessions()

@@ -1,70 +1,28 @@
 /* Calls the library on each script of a list on standard input, whose lines are MODE STATUS SCRIPT TEXT, and compares
-   what it gives with the text. It is linked with --wrap=malloc, --wrap=realloc and --wrap=free: with the word `fail` every
-   allocation of a call fails in turn, and with the word `leak` one block that a call gives back is kept. */
+   what it gives with the text. With the word `fail` every allocation of a call fails in turn, and with the word `leak`
+   one block that a call gives back is kept. */
+#include "called.h"
 #include "gakyhera.h"
-#include <stdio.h>
-#include <stdlib.h>
-#include <string.h>
 
-enum { NEVER = -1, MARK = 0xa5, BEHIND = 16, KEPT_BLOCK = 3 };
+enum { KEPT_BLOCK = 3 };
 
 typedef int call(const uint8_t *, size_t, uint8_t *, size_t, size_t *);
-typedef struct { uint8_t *bytes; size_t length; } text;
-
-static long fail_at = NEVER, keep_at = NEVER, asked, freed;
-static int in_call;
-
-void *__real_malloc(size_t), *__real_realloc(void *, size_t);
-void __real_free(void *);
-
-void *__wrap_malloc(size_t size) { return in_call && asked++ == fail_at ? NULL : __real_malloc(size); }
-void *__wrap_realloc(void *block, size_t size) {
-    return in_call && asked++ == fail_at ? NULL : __real_realloc(block, size);
-}
-void __wrap_free(void *block) {
-    if (!(in_call && block && freed++ == keep_at)) __real_free(block);
-}
-
-static void must(int holds, const char *what, const char *where) {
-    if (holds) return;
-    printf("%s: %s\n", where, what);
-    exit(1);
-}
-
-/* The bytes of a file, in a block of just their length. */
-static text read_file(const char *path) {
-    FILE *file = fopen(path, "rb");
-    must(file && !fseek(file, 0, SEEK_END), "cannot be read", path);
-    text read = { NULL, (size_t)ftell(file) };
-    rewind(file);
-    read.bytes = malloc(read.length ? read.length : 1);
-    must(fread(read.bytes, 1, read.length, file) == read.length, "cannot be read", path);
-    fclose(file);
-    return read;
-}
 
 static int called(call *run, text script, uint8_t *out, size_t room, size_t *made) {
-    in_call = 1, asked = freed = 0;
+    begin();
+    in_call = 1;
     int status = run(script.bytes, script.length, out, room, made);
     in_call = 0;
     return status;
 }
 
-static int is_marked(const uint8_t *bytes, size_t length) {
-    for (size_t at = 0; at < length; at++) {
-        if (bytes[at] != MARK) return 0;
-    }
-    return 1;
-}
-
 /* Gives the call so much room, in a block of just that length, and looks at all that it leaves. */
 static int tried(call *run, text script, text right, int status, size_t room, const char *path) {
-    uint8_t *out = malloc(room ? room : 1);
-    size_t made = 12345;
-    memset(out, MARK, room);
+    uint8_t *out = marked(room);
+    size_t made = UNMADE;
     int given = called(run, script, out, room, &made);
     if (given == GAKYHERA_OUT_OF_MEMORY) {
-        must(fail_at != NEVER && made == 12345 && is_marked(out, room), "changed without memory", path);
+        must(fail_at != NEVER && made == UNMADE && is_marked(out, room), "changed without memory", path);
     } else if (room < right.length) {
         must(given == GAKYHERA_TOO_SMALL && made == right.length, "must be too small", path);
         must(is_marked(out, room), "changed where it is too small", path);

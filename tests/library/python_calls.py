@@ -1,11 +1,13 @@
 """Calls the Python binding in one process: on every example, from several threads, and on random scripts, whose texts the
-second program gives.
+second program gives; also line by line, in sessions of the library and of a program.
 
 usage: GAKYHERA_LIBRARY=FILE python3 tests/library/python_calls.py SEEDS
 """
 import itertools
+import json
 import os
 import sys
+import tempfile
 import threading
 import time
 
@@ -15,14 +17,19 @@ sys.dont_write_bytecode = True
 
 import gakyhera
 
-from tests.library.cases import examples
+from tests.library.cases import answers_of, examples, sessions
 from tests.scripts.fold import reference as fold_reference
 from tests.scripts.turns import reference as turns_reference
+from tests.sessions.trials import SHOW, lines_of
 from tools.random_scripts import CYCLES, drawn
 
 SECOND = {"fold": fold_reference.answer, "turns": turns_reference.answer}
 CALLS = {"fold": gakyhera.fold, "turns": gakyhera.turns}
 THREADS = 4
+# stands in for proxy_session
+PROGRAM = """#!/bin/sh
+cd %s && exec %s -B -m tests.sessions.reference
+"""
 
 
 def is_refusal(text):
@@ -54,10 +61,76 @@ def wrong_long_texts():
             yield "%d asked keys: another text" % count
 
 
+def wrong_sessions():
+    """Words about sessions in which an answer differs."""
+    for name, lines, answers in sessions():
+        with gakyhera.Session() as session:
+            for line, right in zip(lines, answers):
+                given = session.line(line)
+                if given != right:
+                    yield "%s, %.200r: is %.200r" % (name, line, given)
+
+
+def wrong_closed_sessions():
+    """Words about lines and sessions that must raise."""
+    session = gakyhera.Session()
+    for line, error in ((b"1\n2", ValueError), (7, TypeError), (None, TypeError)):
+        yield from wrong_error(session, line, error)
+    if session.line("é") != session.line(bytearray("é".encode())):
+        yield "a str is not its bytes"
+    session.close()
+    session.close()
+    yield from wrong_error(session, SHOW, ValueError)
+
+
+def wrong_error(session, line, error):
+    try:
+        yield "%r: is %.200r" % (line, session.line(line))
+    except error:
+        pass
+
+
+def wrong_program_sessions():
+    """The same, where there is no library but a program."""
+    library, gakyhera.library = gakyhera.library, None
+    with tempfile.TemporaryDirectory() as folder:
+        os.environ["GAKYHERA_SESSION"] = path = os.path.join(folder, "proxy_session")
+        with open(path, "w") as file:
+            file.write(PROGRAM % (ROOT, sys.executable))
+        os.chmod(path, 0o700)
+        try:
+            yield from wrong_sessions()
+            yield from wrong_closed_sessions()
+            gakyhera.turns(b"")
+            yield "a script has a text without the library"
+        except ImportError:
+            pass
+        finally:
+            gakyhera.library = library
+
+
+def tried_lines(seeds):
+    """Words about random turns scripts that are given line by line in one session, and differ."""
+    cycle, session, wrong = CYCLES["turns"], gakyhera.Session(), []
+    for seed in range(seeds):
+        script, _ = drawn("turns", cycle[seed % len(cycle)], "session %d" % seed)
+        try:
+            lines = lines_of(json.loads(script))
+        except (ValueError, KeyError, TypeError, AttributeError):
+            continue
+        for line, right in zip(lines, answers_of(lines)):
+            given = session.line(line)
+            if given != right:
+                wrong.append("%.200r: is %.200r, and must be %.200r" % (line, given, right))
+    return wrong
+
+
 def wrong_in_threads():
-    """Words about examples in several threads at once."""
+    """Words about examples and sessions in several threads at once."""
     wrong = []
-    threads = [threading.Thread(target=lambda: wrong.extend(wrong_examples())) for _ in range(THREADS)]
+    threads = [
+        threading.Thread(target=lambda: wrong.extend([*wrong_examples(), *wrong_sessions()])) for _ in range(THREADS)
+    ]
     for it in threads:
         it.start()
     for it in threads:
@@ -94,6 +167,7 @@ def tried_random(seeds):
 def main():
     seeds = int(sys.argv[1])
     wrong = [*wrong_examples(), *wrong_words(), *wrong_long_texts(), *wrong_in_threads(), *tried_random(seeds)]
+    wrong += [*wrong_sessions(), *wrong_closed_sessions(), *wrong_program_sessions(), *tried_lines(seeds)]
     for words in wrong[:20]:
         print(words)
     return 1 if wrong else 0

@@ -6,11 +6,14 @@ import random
 import resource
 import select
 import subprocess
+import sys
 import tempfile
 import time
 
 from tests.sessions.reference import Session, answers
 from tools.random_scripts import KINDS, drawn
+
+BINDING = os.path.join(os.path.dirname(os.path.abspath(__file__)), "..", "..", "bindings", "python")
 
 # how many seconds a run, or one answer, may take: far more than any takes on a busy machine
 LIMIT = 600
@@ -160,6 +163,19 @@ def examples(program, folder):
         texts = in_turn(program, lines_of(script), name)
         if not wanted.startswith(b"refused "):
             expect(name, b"".join(it[:-1] for it in texts[1:]), wanted)
+
+
+def python_binding(program, lines):
+    """The binding for Python gives the same answers over the program, where no library is built."""
+    sys.path.insert(0, BINDING)
+    import gakyhera
+
+    gakyhera.library, os.environ["GAKYHERA_SESSION"] = None, program.path
+    program.runs += 1
+    right = Session()
+    with gakyhera.Session() as session:
+        for line in lines:
+            expect("the binding, %r" % line[:80], session.line(line), right.answer(line))
 
 
 def random_scripts(program, count, seed):

@@ -1,0 +1,38 @@
+-- `empty` makes a handle with the null pointer.
+use Rattle.std.proofs.Common.{◌≡◌, [], ◌∷◌, refl}
+use mir.Val.{Val}
+use base.Logic.{SProp, emp}
+use base.Fml.{ftrue}
+use types.Kit.{‵, raw, ◌⊛◌, ◌$◌, ◌∵◌, !, qed, by, keep, drop, feq_i, use0}
+use types.Run.{lit, no_more, and_then, returns, enter}
+use types.ByLocal.{alloc_all, pass_all, free_all, look_at, sets}
+use types.Part.{agg}
+use contract.Monad.{fact, fact_i}
+use contract.Running.{tables}
+use denote.RattleType.{owns}
+use denote.Signature.{types_at}
+use denote.RawPtr.{Ptr, null_ptr}
+use denote.Steps.{nothing}
+use denote.Triple.Walked.{Stays, walk_of}
+use Rattle.std.specs.Prelude.{Option, None}
+use Rattle.std.proofs.raw_atomic.Walks.{proved_at, leaves}
+use Rattle.session_texts.specs.Sessions.{SessionView}
+use Rattle.session_handle.proofs.Handles.{word, word_good, handle_in}
+use Rattle.session_handle.specs.contracts.handle.Handle.empty.{ended, clauses}
+use Rattle.session_handle.specs.contracts.handle.Handle.empty.Key.{name as #self}
+use Rattle.session_handle.proofs.handle.Handle.empty.Statement.{statement}
+use Rattle.session_handle.proofs.handle.Handle.empty.Code as code
+
+pub empty_spec : {M : Type 1} → statement M
+empty_spec 𝓤 𝓛 𝓜 𝓡 wired =
+    let H = 𝓛.H in let 𝓣 = tables 𝓤 H 𝓜 𝓡 𝓡.env in let c = clauses 𝓛 𝓜.mem 𝓡.returns in
+    let hs : Stays ended.signature.params ended.kept = tt in
+    proved_at 𝓛 ended hs c 𝓜 𝓡 tt #self code.function (code.unfolded 𝓤 H 𝓜 𝓡 wired) (λ z are.
+    let no : Option SessionView = None in let Post : Val → SProp 𝓤 = (walk_of 𝓛 ended hs c).post z in
+    qed 𝓛 ((‵ ftrue ⊛ ‵ (owns (types_at ended.signature.params z.0.0) z.0.3 z.0.4)) ∷ raw ((c z.0.0 z.0.3).requires z.1) ∷ []) ∵ drop ! $ drop ! $
+    enter ! 𝓣.C 𝓣.Λ code.function [] Post $ alloc_all ! (λ l. pass_all ! refl tt $
+    sets ! (agg ! (and_then ! (lit ! tt) (no_more !))) refl (word_good null_ptr) $
+    feq_i ! Ptr null_ptr null_ptr refl $ handle_in ! null_ptr None $
+    use0 𝓛 (raw (fact 𝓤 (no ≡ None))) (fact_i 𝓤 (no ≡ None) (emp 𝓤) refl) $ nothing ! $ nothing ! $
+    returns ! (look_at ! 0 refl) $ free_all ! refl $ keep ! (0 ∷ 1 ∷ 3 ∷ 2 ∷ []) $
+    by ! (leaves 𝓛 ended hs c z (word null_ptr) (record { at = null_ptr; session = None }) tt tt)))
