@@ -61,7 +61,6 @@ use Rattle.turn_world.specs.contracts.past_record.PastRecord as turn_world-PastR
 use Rattle.turn_world.specs.contracts.sent_requests.PastRequests as turn_world-PastRequests
 use Rattle.turn_world.specs.contracts.kept_record.KeptRecord.{the_row as turn_world-KeptRecord}
 use Rattle.turn_world.specs.contracts.world.TurnWorld.{the_row as turn_world-TurnWorld}
-use Rattle.session_run.specs.contracts.session.Session.{the_row as session_run-Session}
 
 Items-send : (T : RattleType) → IsSend T → IsSend (Items T)
 Items-send T s = view_send (inside.the_row T) (items.Items T.Denot) (items.the_code T.Denot T.coded) (seen.view T.Denot) (seen.invariant T.Denot) (search (crosses, sendable) depth 30)
@@ -210,11 +209,8 @@ turn_world-KeptRecord-send = search (model-StateMark-send, request_builder-Share
 turn_world-TurnWorld-send : IsSend turn_world-TurnWorld
 turn_world-TurnWorld-send = search (state_memory-Resolver-send, proxy_state-OwnedMoves-send, proxy_state-Proxy-send, turn_world-KeptRecord-send, crosses, sendable) depth 60 fits 20000
 
-session_run-Session-send : IsSend session_run-Session
-session_run-Session-send = search (turn_world-TurnWorld-send, crosses, sendable) depth 60 fits 20000
-
 text_session_send : IsSend TextSession
-text_session_send = search (turn_world-TurnWorld-send, session_run-Session-send, crosses, sendable) depth 60 fits 20000
+text_session_send = search (turn_world-TurnWorld-send, crosses, sendable) depth 60 fits 20000
 
 pointer_send : IsSend RawPtr
 pointer_send = search sendable
