@@ -4,7 +4,7 @@
    size_t made;
    int status = gakyhera_turns(script, length, out, room, &made);
 
-   Each call returns one of
+   A call for a script returns one of
 
      GAKYHERA_DONE           the script was carried out, and out[0..made) is its whole text;
      GAKYHERA_REFUSED        the script is wrong, and out[0..made) is one line, `refused NUMBER NAME`;
@@ -12,8 +12,9 @@
      GAKYHERA_OUT_OF_MEMORY  an allocation failed: `out` and `made` are unchanged;
      GAKYHERA_TOO_LONG       the script is longer than 4,294,963,200 bytes: `out` and `made` are unchanged.
 
-   What follows the text in `out` is unchanged; no zero byte ends it. Calls keep nothing from one to the next, so threads
-   may call at the same time. All memory comes from malloc and realloc, and is freed before a call returns.
+   What follows the text in `out` is unchanged; no zero byte ends it. Such calls keep nothing from one to the next, so
+   threads may call at the same time, and free all their memory before they return. What a session keeps is freed with
+   it. All memory comes from malloc and realloc.
 
    A caller must see to it that
      - no pointer is null, even if its length is 0;
@@ -59,7 +60,9 @@ typedef struct gakyhera_session {
    GAKYHERA_OUT_OF_MEMORY, and then nothing is changed. */
 int gakyhera_session_new(gakyhera_session *session);
 
-/* Carries out a line, and answers it as proxy_session does: the answer ends with an empty line. Returns one of
+/* Carries out a line, and answers it as proxy_session does: the answer ends with an empty line, and that to a refused
+   line begins with `refused `. A line feed at the end is not needed; those within are white space of the JSON value.
+   Returns one of
 
      GAKYHERA_DONE           out[0..made) is the answer;
      GAKYHERA_TOO_SMALL      the answer needs `made` bytes, which is more than `room`: `out` is unchanged. The line is
@@ -69,7 +72,7 @@ int gakyhera_session_new(gakyhera_session *session);
                              `room`: `out` and `made` are unchanged;
      GAKYHERA_NO_SESSION     before gakyhera_session_new, or after gakyhera_session_free: nothing is changed.
 
-   It allocates `room` bytes, so that no answer is lost that fits. */
+   It allocates `room` bytes, so that no answer is lost that fits: so a room of a few KB is best. */
 int gakyhera_session_line(
     gakyhera_session *session, const uint8_t *line, size_t length, uint8_t *out, size_t room, size_t *made);
 

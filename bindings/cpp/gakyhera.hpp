@@ -75,15 +75,19 @@ public:
         if (gakyhera_session_new(&handle_) != GAKYHERA_DONE) throw std::bad_alloc();
     }
     Session(Session &&other) noexcept { std::swap(handle_.opaque, other.handle_.opaque); }
+    // The session that was here is freed.
     Session &operator=(Session &&other) noexcept {
-        std::swap(handle_.opaque, other.handle_.opaque);
+        if (this != &other) {
+            gakyhera_session_free(&handle_);
+            std::swap(handle_.opaque, other.handle_.opaque);
+        }
         return *this;
     }
     ~Session() { gakyhera_session_free(&handle_); }
 
-    // Carries out a line, and returns its answer, which ends with an empty line. Throws std::bad_alloc if an allocation
-    // fails, and then the session is unchanged; AnswerLost if the line was carried out; std::logic_error if the session
-    // was moved from.
+    // Carries out a line, and returns its answer, which ends with an empty line; that to a refused line begins with
+    // `refused `. Throws std::bad_alloc if an allocation fails, and then the session is unchanged; AnswerLost if the
+    // line was carried out; std::logic_error if the session was moved from.
     std::string line(std::string_view line) {
         using namespace detail;
         std::string out(first_room, '\0');

@@ -47,11 +47,12 @@ static void try_moves(const Case &it) {
         answers += answers_of(moved, it.script.substr(half));
     }).join();
     must(answers == it.text, it.path + ": another answer after a move");
-    must(first.line("") == "refused 70 NotJson\n\n", "an exchanged session: another answer");
-    try {
-        other.line("");
-        must(false, "a session that was moved from has an answer");
-    } catch (const std::logic_error &) {
+    for (gakyhera::Session *left : {&first, &other}) {
+        try {
+            left->line("");
+            must(false, "a session that was moved from has an answer");
+        } catch (const std::logic_error &) {
+        }
     }
 }
 
