@@ -11,7 +11,12 @@ def answer(line):
     """Returns the lines of the answer, which ends with an empty line."""
     session.stdin.write(json.dumps(line) + "\n")
     session.stdin.flush()
-    return list(iter(lambda: session.stdout.readline().rstrip("\n"), ""))
+    lines = []
+    while (read := session.stdout.readline()) != "\n":
+        if not read:
+            raise SystemExit("the session has ended")
+        lines.append(read.rstrip("\n"))
+    return lines
 
 
 print(answer({"cluster": {"proxies": 1, "resolvers": 1, "window": 100, "step": 10}}))  # ['cluster']

@@ -31,7 +31,7 @@ READ_SIZE = 4_096
 
 USAGE = b"""usage: proxy_session
 
-Answers each line of standard input before it reads the next one. A line is one JSON value:
+Answers each line of standard input before it reads on. A line is one JSON value:
   {"cluster":{"proxies":N,"resolvers":N,"window":N,"step":N}}
   {"show":{"proxy":N,"ask":[BYTES..]}}
   or an event of a turns script

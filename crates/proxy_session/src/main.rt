@@ -1,4 +1,4 @@
-//! The program: it answers each line of standard input on standard output, before it reads the next.
+//! The program: it answers each line of standard input on standard output, before it reads on.
 #![tactic(auto)]
 
 use scripts::{Reader, Writer};
@@ -10,7 +10,7 @@ use std::process::ExitCode;
 // Follows a command line with words, since the program takes none.
 const USAGE: &str = "usage: proxy_session
 
-Answers each line of standard input before it reads the next one. A line is one JSON value:
+Answers each line of standard input before it reads on. A line is one JSON value:
   {\"cluster\":{\"proxies\":N,\"resolvers\":N,\"window\":N,\"step\":N}}
   {\"show\":{\"proxy\":N,\"ask\":[BYTES..]}}
   or an event of a turns script
