@@ -188,18 +188,21 @@ class ProgramSession:
 class Session:
     """A session with a cluster, which answers line by line as proxy_session does. One thread at a time may use it.
 
-    Raises MemoryError if an allocation fails, and ImportError if there is neither the library nor the program.
+    Raises MemoryError if an allocation fails, ImportError if there is neither the library nor the program, and OSError
+    if GAKYHERA_SESSION names no program. It cannot be copied. A process that has begun threads must not fork and use it.
     """
 
+    inside = None
+
     def __init__(self):
-        self.inside = None
         self.inside = LibrarySession() if library else ProgramSession()
 
     def line(self, line):
         """Carries out a line (bytes, or a str as UTF-8), and returns the bytes of its answer, which ends with an empty line.
 
         Raises MemoryError if an allocation fails, and then the session is unchanged; AnswerLost if the line was carried
-        out; ValueError if the line has a line feed, or the session is closed; and TypeError if the line is no bytes.
+        out; ValueError if the line has a line feed or is no Unicode text, or the session is closed; TypeError if the line
+        is no bytes; and over the program OSError if it has ended.
         """
         line = bytes_of(line)
         if b"\n" in line:
