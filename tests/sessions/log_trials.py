@@ -14,7 +14,7 @@ LOGS = os.path.join(ROOT, "examples", "sessions")
 # how many lines a long log has, and how many more kilobytes it may take than a short one
 LONG, MORE = 5_000, 8_000
 # how many lines of a log differ, and so many times as many may take so many times the processor's time
-WRONG, TIMES, MOST_TIMES = 5_000, 4, 8
+WRONG, TIMES, MOST_TIMES = 1_000, 4, 8
 
 BROKEN = (
     b"{", b"[]", b"7", b'{"event":{"finish":{"proxy":0}},"got":["a"]} {}', b'{"got":[]}', b'{"event":{},"show":{}}',

@@ -12,8 +12,8 @@ import time
 from tests.sessions.reference import Session, answers
 from tools.random_scripts import KINDS, drawn
 
-# how many seconds a run, or one answer, may take
-LIMIT = 120
+# how many seconds a run, or one answer, may take: far more than any takes on a busy machine
+LIMIT = 600
 # how many seconds are waited to see that no answer comes
 QUIET = 0.3
 # the address space of a program whose line does not end, and how long that line is
