@@ -1,8 +1,10 @@
 /* Gives the library the lines of each session of a list on standard input, whose lines are LINES ANSWERS, and compares
-   each answer. With the word `fail` every allocation of a session fails in turn, and the line is given again; with the
-   word `leak` no session is freed. */
+   each answer. With the word `fail` some fifty allocations of each session fail in turn, or all of a small one, and the
+   line is given again; with the word `leak` no session is freed. */
 #include "called.h"
 #include "gakyhera.h"
+
+enum { SAMPLE = 50 };
 
 static int forgets;
 static long lacked, lost;
@@ -105,10 +107,10 @@ static void whole_session(text lines, text answers, int more, const char *path) 
     must_be_none(&session, lines, path);
 }
 
-/* Lets each allocation of a session fail in turn. */
+/* Lets each allocation of a session fail in turn, or so many of them. */
 static void failed(text lines, text answers, int more, const char *path) {
     long last = 0;
-    for (fail_at = 0; fail_at <= last; fail_at++) {
+    for (fail_at = 0; fail_at <= last; fail_at += 1 + last / SAMPLE) {
         whole_session(lines, answers, more, path);
         last = asked;
     }
