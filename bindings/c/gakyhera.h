@@ -72,7 +72,7 @@ int gakyhera_session_new(gakyhera_session *session);
                              `room`: `out` and `made` are unchanged;
      GAKYHERA_NO_SESSION     before gakyhera_session_new, or after gakyhera_session_free: nothing is changed.
 
-   It allocates `room` bytes, so that no answer is lost that fits: so a room of a few KB is best. */
+   It allocates `room` bytes first, so an answer that fits is never lost. A room of a few KB is best. */
 int gakyhera_session_line(
     gakyhera_session *session, const uint8_t *line, size_t length, uint8_t *out, size_t room, size_t *made);
 
